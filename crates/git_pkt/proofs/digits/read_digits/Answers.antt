@@ -1,0 +1,35 @@
+use Rattle.std.proofs.Common.{arith, rules}
+use Rattle.git_pkt.specs.Digits.{digits_value}
+use Rattle.git_pkt.proofs.DigitFacts.{digits_below-one, digits_below-two, digits_below-three, digits_below-four}
+use Rattle.git_pkt.proofs.digits.read_digits.Goals as goal
+
+pub returns-then-second-eq16 : goal.returns-then-second-eq16
+returns-then-second-eq16 c = record {
+  among = omega arith;
+  there = omega arith;
+  before = digits_below-one _ (omega arith);
+  bad = omega arith;
+}
+
+pub returns-then-third-eq16 : goal.returns-then-third-eq16
+returns-then-third-eq16 c = record {
+  among = omega arith;
+  there = omega arith;
+  before = digits_below-two _ (omega arith) (omega arith);
+  bad = omega arith;
+}
+
+pub returns-then-fourth-eq16 : goal.returns-then-fourth-eq16
+returns-then-fourth-eq16 c = record {
+  among = omega arith;
+  there = omega arith;
+  before = digits_below-three _ (omega arith) (omega arith) (omega arith);
+  bad = omega arith;
+}
+
+pub returns : goal.returns
+unfolding digits_value
+returns c = (
+  record { four = omega arith; digits = digits_below-four _ (omega arith) (omega arith) (omega arith) (omega arith) },
+  search rules,
+)

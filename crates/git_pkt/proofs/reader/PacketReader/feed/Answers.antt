@@ -1,0 +1,67 @@
+use Rattle.std.proofs.Common.{◌≡◌, ◌+◌, ◌-◌, take, length, arith, subst, refl, ◌∙◌}
+use Rattle.std.proofs.lemmas.List.{length-take-le}
+use Rattle.git_pkt.specs.Reading.{position_of, held_of}
+use Rattle.git_pkt.specs.Reading.{ShownByFeed}
+use Rattle.git_pkt.specs.ReaderSteps.{Moves, IsShown}
+use Rattle.git_pkt.specs.declared.reader.Progress.{Progress}
+use Rattle.git_pkt.specs.declared.reader.Progress.TheVariants.{Open, Whole, Failed}
+use Rattle.git_pkt.proofs.ReaderMoves.{whole_uses, whole_behind}
+use Rattle.git_pkt.proofs.Carries.{news_of, carry_open, carry_whole, carry_failed}
+use Rattle.git_pkt.proofs.reader.PacketReader.feed.Goals as goal
+
+pub returns-in-Open : goal.returns-in-Open
+returns-in-Open c =
+    let moves : Moves c.args.self.now (take c.step-step.result.used c.args.piece.now) Open c.step-step.new.self =
+    subst (λ (p : Progress). Moves c.args.self.now (take c.step-step.result.used c.args.piece.now) p c.step-step.new.self) c.in-Open.is c.step-step.ensures.moves in (
+      (
+        refl,
+        (λ _. tt),
+        record {
+          reads = carry_open _ _ _ c.in_default.is moves;
+          tells = (c.step-step.ensures.all c.in-Open.is, moves.arrives.no_fault);
+          news = tt;
+          stays = λ f is. absurd (c.in_default.not-Some f is);
+        },
+      ),
+      record { after = tt; used = c.step-step.ensures.used },
+    )
+
+pub returns-in-Failed : goal.returns-in-Failed
+returns-in-Failed c =
+    let moves : Moves c.args.self.now (take c.step-step.result.used c.args.piece.now) (Failed c.in-Failed.fault) c.step-step.new.self =
+    subst (λ (p : Progress). Moves c.args.self.now (take c.step-step.result.used c.args.piece.now) p c.step-step.new.self) c.in-Failed.is c.step-step.ensures.moves in
+    let shown : ShownByFeed c.in-Failed.fault.kind c.step-step.result.used c.args.piece.now =
+        subst (λ (p : Progress). IsShown p c.step-step.result.used c.args.piece.now) c.in-Failed.is c.step-step.ensures.shown in (
+      (
+        refl,
+        (λ _. tt),
+        record {
+          reads = carry_failed _ _ _ c.in-Failed.fault c.in_default.is moves;
+          tells = moves.arrives.told ∙ (cc);
+          news = news_of _ _ _ _ _ c.in_default.is (cc) shown;
+          stays = λ f is. absurd (c.in_default.not-Some f is);
+        },
+      ),
+      record { after = tt; used = c.step-step.ensures.used },
+    )
+
+pub returns-in-Whole : goal.returns-in-Whole
+returns-in-Whole c =
+    let moves : Moves c.args.self.now (take c.step-step.result.used c.args.piece.now) Whole c.step-step.new.self =
+    subst (λ (p : Progress). Moves c.args.self.now (take c.step-step.result.used c.args.piece.now) p c.step-step.new.self) c.in-Whole.is c.step-step.ensures.moves in
+    let behind = whole_behind c.args.self.now c.step-step.new.self _ moves in
+    let at : (c.step-step.new.self.position - c.len.result) + length (held_of c.step-step.new.self) ≡ position_of c.step-step.new.self =
+    omega (arith, behind, c.len.ensures.value) in
+    let uses = whole_uses c.args.self.now c.step-step.new.self _ _ moves c.packet.ensures in (
+      (
+        refl,
+        (λ _. tt),
+        record {
+          reads = carry_whole _ _ _ _ c.in_default.is moves c.packet.ensures at;
+          tells = (omega (arith, uses, length-take-le c.step-step.result.used c.args.piece.now c.step-step.ensures.used), moves.arrives.no_fault, moves.arrives.closed, c.packet.ensures, at);
+          news = tt;
+          stays = λ f is. absurd (c.in_default.not-Some f is);
+        },
+      ),
+      record { after = tt; used = c.step-step.ensures.used },
+    )

@@ -1,0 +1,9 @@
+pub mod Digits
+pub mod TellsDigits
+pub mod Packets
+pub mod Splits
+pub mod Faults
+pub mod Gathering
+pub mod Reading
+pub mod ReaderSteps
+pub mod Lending

@@ -1,0 +1,87 @@
+-- What a packet reader stands for: the stream so far, its packets, and the rest.
+use Rattle.std.specs.Prelude.{◌≡◌, ℕ, ◌+◌, ◌-◌, ◌<◌, Bool, false, List, [], ◌∷◌, ◌++◌, length, take, Option, Some, None, if◌then◌else◌}
+use Rattle.git_pkt.specs.Packets.{Spells, seen}
+use Rattle.git_pkt.specs.Splits.{Given, Splits}
+use Rattle.git_pkt.specs.Faults.{IsOpen, StopsBy}
+use Rattle.git_pkt.specs.declared.fault.Fault.{Fault}
+use Rattle.git_pkt.specs.declared.fault.Kind.{Kind}
+use Rattle.git_pkt.specs.declared.fault.Kind.TheVariants.{Truncated, StreamTooLong}
+use Rattle.git_pkt.specs.declared.reader.PacketReader.{PacketReader}
+use Rattle.git_pkt.specs.declared.reader.Fed.{Fed}
+use Rattle.git_pkt.specs.declared.reader.Got.{Got}
+use Rattle.git_pkt.specs.declared.reader.Got.TheVariants.{More, Packet, Failed}
+
+-- the offset of the next byte
+abbrev pub position_of : PacketReader → ℕ
+position_of r = r.position
+
+-- a packet has begun and is not whole
+abbrev pub is_open : PacketReader → Bool
+is_open r = r.begun
+
+-- the hold, as it is
+abbrev pub held_of : PacketReader → List ℕ
+held_of r = r.hold.items
+
+-- what has come of the open packet
+abbrev pub rest_of : PacketReader → List ℕ
+rest_of r = if is_open r then held_of r else []
+
+-- the fault that ended the reading
+abbrev pub fault_of : PacketReader → Option Fault
+fault_of r = r.fault
+
+-- how the rest of the stream, at p, stands: open, or with the fault that was told
+abbrev pub StandsAt : Option Fault → ℕ → ℕ → List ℕ → PacketReader → Type 0
+StandsAt None p end rest r = (rest_of r ≡ rest) × IsOpen rest
+StandsAt (Some f) p end rest r = (is_open r ≡ false) × StopsBy p rest end f.kind f.offset
+
+-- the reader has used these bytes of a stream that starts at `start`: they are the packets given, and a rest
+pub record Reads (r : PacketReader) (start : ℕ) (bytes : List ℕ) (given : List Given) (rest : List ℕ) : Type 0 where
+  pub position : position_of r ≡ start + length bytes
+  pub splits : Splits start bytes given rest
+  pub state : StandsAt (fault_of r) (start + length bytes - length rest) (start + length bytes) rest r
+
+-- the packets of an answer
+abbrev pub given_by : Got → List Given
+given_by More = []
+given_by (Packet p offset) = (record { packet = seen p; offset = offset }) ∷ []
+given_by (Failed f) = []
+
+-- whatever the stream was so far, it goes on by the bytes used and the packet given
+abbrev pub ReadsOn : PacketReader → List ℕ → List Given → PacketReader → Type 0
+ReadsOn old used more new =
+    (start : ℕ) (bytes : List ℕ) (given : List Given) (rest : List ℕ) → Reads old start bytes given rest
+    → (later : List ℕ) × Reads new start (bytes ++ used) (given ++ more) later
+
+-- what each answer of `feed` says of the reader
+abbrev pub Tells : Got → ℕ → List ℕ → PacketReader → Type 0
+Tells More used piece new = (used ≡ length piece) × (fault_of new ≡ None)
+Tells (Packet p offset) used piece new =
+    (0 < used) × (fault_of new ≡ None) × (is_open new ≡ false) × Spells (seen p) (held_of new)
+    × (offset + length (held_of new) ≡ position_of new)
+Tells (Failed f) used piece new = fault_of new ≡ Some f
+
+-- a fault that the bytes of a piece show: past the last position there is one more byte, which is not used
+abbrev pub ShownByFeed : Kind → ℕ → List ℕ → Type 0
+ShownByFeed Truncated used piece = ⊥
+ShownByFeed StreamTooLong used piece = used < length piece
+ShownByFeed _ used piece = Unit {0}
+
+-- a reader that had no fault tells only what the piece shows
+abbrev pub IsNews : Got → Option Fault → ℕ → List ℕ → Type 0
+IsNews More before used piece = Unit {0}
+IsNews (Packet p offset) before used piece = Unit {0}
+IsNews (Failed f) None used piece = ShownByFeed f.kind used piece
+IsNews (Failed f) (Some g) used piece = Unit {0}
+
+-- a reader with this fault uses nothing and answers it again
+abbrev pub Repeats : PacketReader → Fed → PacketReader → Type 0
+Repeats old fed new = (f : Fault) → fault_of old ≡ Some f → (fed.used ≡ 0) × (fed.got ≡ Failed f) × (new ≡ old)
+
+-- what a call of `feed` does
+pub record Feeds (old : PacketReader) (piece : List ℕ) (fed : Fed) (new : PacketReader) : Type 0 where
+  pub reads : ReadsOn old (take fed.used piece) (given_by fed.got) new
+  pub tells : Tells fed.got fed.used piece new
+  pub news : IsNews fed.got (fault_of old) fed.used piece
+  pub stays : Repeats old fed new

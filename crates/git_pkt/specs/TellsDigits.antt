@@ -1,0 +1,10 @@
+-- What four bytes say of a packet's length.
+use Rattle.std.specs.Prelude.{◌≡◌, ℕ, List}
+use Rattle.git_pkt.specs.Digits.{HasDigits, digits_value}
+use Rattle.git_pkt.specs.Faults.{FirstBadDigit}
+use Rattle.git_pkt.specs.declared.digits.Digits.{Digits}
+use Rattle.git_pkt.specs.declared.digits.Digits.TheVariants.{Number, Bad}
+
+abbrev pub TellsDigits : List ℕ → Digits → Type 0
+TellsDigits s (Number n) = HasDigits s × (digits_value s ≡ n)
+TellsDigits s (Bad k) = FirstBadDigit s k

@@ -1,0 +1,14 @@
+//! Packets of Git's wire protocol, over pieces of any size.
+#![tactic(auto)]
+
+mod digits;
+mod fault;
+mod hold;
+pub mod laws;
+mod packet;
+mod reader;
+
+pub use fault::{Fault, Kind};
+pub use hold::{Hold, LONGEST_PACKET};
+pub use packet::{Packet, put, text};
+pub use reader::{Fed, Got, PacketReader};

@@ -1,0 +1,76 @@
+//! Packets of the wire, as gitprotocol-common(5) has them, and how they are written.
+
+ghost use Rattle.std.specs.Prelude.{◌≡◌, ◌+◌, ◌≤◌, ◌<◌, ◌++◌, length};
+ghost use Rattle.git_pkt.specs.Digits.{digits_of, digit_of};
+ghost use Rattle.git_pkt.specs.Packets.{body_of, seen, spelling_of, text_of};
+
+use crate::hold::{Hold, append};
+
+/// A packet, whose payload is lent.
+#[derive(Clone, Copy, Debug)]
+pub enum Packet<'a> {
+    /// `0000`, the end of a message.
+    Flush,
+    /// `0001`, between two parts of a message.
+    Delim,
+    /// `0002`, the end of a response on a stateless connection.
+    RespEnd,
+    /// A data packet: its bytes after the four digits, 65,516 at most.
+    Payload(&'a [u8]),
+}
+
+/// Makes the hold the packet's spelling, with its digits in lower case.
+pub fn put(hold: &mut Hold, packet: Packet<'_>)
+    requires { length (body_of (seen packet)) ≤ 65516 }
+    ensures { hold.new.items ≡ spelling_of (seen packet.entry) }
+{
+    match packet {
+        Packet::Flush => spell(hold, 0, b""),
+        Packet::Delim => spell(hold, 1, b""),
+        Packet::RespEnd => spell(hold, 2, b""),
+        Packet::Payload(payload) => spell(hold, payload.len() + 4, payload),
+    }
+}
+
+/// A payload's text: less one LF at its end, if it ends with one.
+pub fn text(payload: &[u8]) -> &[u8]
+    ensures { result.now ≡ text_of payload.now }
+{
+    match payload {
+        [text @ .., b'\n'] => text,
+        _ => payload,
+    }
+}
+
+/// Four digits and the bytes after them.
+fn spell(hold: &mut Hold, field: usize, body: &[u8])
+    requires digits { field < 65536 }
+    requires fits { length body.now ≤ 65516 }
+    ensures { hold.new.items ≡ digits_of field ++ body.now }
+{
+    hold.clear();
+    append(
+        hold,
+        &[
+            lower_digit(field / 4096),
+            lower_digit(field / 256 % 16),
+            lower_digit(field / 16 % 16),
+            lower_digit(field % 16),
+        ],
+    );
+    append(hold, body);
+}
+
+/// The digit, in lower case, of a number below 16.
+#[tactic(auto, unfolding(crate::specs::Digits::digit_of))]
+fn lower_digit(number: usize) -> u8
+    requires { number < 16 }
+    ensures { result ≡ digit_of number }
+{
+    let number = number as u8;
+    if number < 10 {
+        b'0' + number
+    } else {
+        b'a' - 10 + number
+    }
+}
