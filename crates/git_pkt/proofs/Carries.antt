@@ -1,15 +1,14 @@
 -- A step of the reader carries what it stands for.
-use Rattle.std.proofs.Common.{arith, ◌≡◌, ℕ, ◌+◌, ◌-◌, List, [], ◌∷◌, ◌++◌, length, Option, None, Some, ap, sym, ◌∙◌, subst, length-append}
+use Rattle.std.proofs.Common.{arith, ◌≡◌, ℕ, ◌+◌, ◌-◌, List, [], ◌∷◌, ◌++◌, length, Option, None, ap, sym, ◌∙◌, subst, length-append}
 use Rattle.std.proofs.lemmas.List.{append-nil}
 use Rattle.git_pkt.specs.Packets.{Spells}
 use Rattle.git_pkt.specs.Splits.{Given, NoneBegins}
 use Rattle.git_pkt.specs.Faults.{IsOpen, StopsBy}
-use Rattle.git_pkt.specs.Reading.{position_of, held_of, rest_of, fault_of, Reads, StandsAt, ReadsOn, ShownByFeed, IsNews}
+use Rattle.git_pkt.specs.Reading.{position_of, held_of, rest_of, fault_of, Reads, StandsAt, ReadsOn}
 use Rattle.git_pkt.specs.ReaderSteps.{Moves}
 use Rattle.git_pkt.specs.declared.fault.Fault.{Fault}
 use Rattle.git_pkt.specs.declared.reader.PacketReader.{PacketReader}
 use Rattle.git_pkt.specs.declared.reader.Progress.TheVariants.{Open, Whole, Failed}
-use Rattle.git_pkt.specs.declared.reader.Got.TheVariants.{Failed as FailedGot}
 use Rattle.git_pkt.proofs.Spelling.{none_begins_nothing}
 use Rattle.git_pkt.proofs.Streams.{spells_all_more, spells_all_whole}
 use Rattle.git_pkt.proofs.ReaderMoves.{rest_of_shut, rest_is_open, rest_is_partial}
@@ -76,8 +75,3 @@ carry_failed old new u f sound m start bytes given rest r =
         state = subst (λ (o : Option Fault). StandsAt o (start + length (bytes ++ u) - length (rest ++ u)) (start + length (bytes ++ u)) (rest ++ u) new) (sym m.arrives.told) (m.arrives.closed, by);
       },
     )
-
--- what a step shows is the news of the call
-pub news_of : (o : Option Fault) (f g : Fault) (used : ℕ) (piece : List ℕ) → o ≡ None → f ≡ g → ShownByFeed f.kind used piece → IsNews (FailedGot g) o used piece
-news_of None f g used piece e same shown = subst (λ (h : Fault). ShownByFeed h.kind used piece) same shown
-news_of (Some h) f g used piece e same shown = tt

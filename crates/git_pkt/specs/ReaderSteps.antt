@@ -57,4 +57,4 @@ IsOfPacket (Failed f) = (f.kind ≢ Truncated) × (f.kind ≢ StreamTooLong)
 abbrev pub IsShown : Progress → ℕ → List ℕ → Type 0
 IsShown Open used piece = Unit {0}
 IsShown Whole used piece = Unit {0}
-IsShown (Failed f) used piece = ShownByFeed f.kind used piece
+IsShown (Failed f) used piece = ShownByFeed f used piece

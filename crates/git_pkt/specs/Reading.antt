@@ -1,10 +1,9 @@
 -- What a packet reader stands for: the stream so far, its packets, and the rest.
-use Rattle.std.specs.Prelude.{◌≡◌, ℕ, ◌+◌, ◌-◌, ◌<◌, Bool, false, List, [], ◌∷◌, ◌++◌, length, take, Option, Some, None, if◌then◌else◌}
+use Rattle.std.specs.Prelude.{◌≡◌, ◌≢◌, ℕ, ◌+◌, ◌-◌, ◌<◌, Bool, false, List, [], ◌∷◌, ◌++◌, length, take, Option, Some, None, if◌then◌else◌}
 use Rattle.git_pkt.specs.Packets.{Spells, seen}
 use Rattle.git_pkt.specs.Splits.{Given, Splits}
 use Rattle.git_pkt.specs.Faults.{IsOpen, StopsBy}
 use Rattle.git_pkt.specs.declared.fault.Fault.{Fault}
-use Rattle.git_pkt.specs.declared.fault.Kind.{Kind}
 use Rattle.git_pkt.specs.declared.fault.Kind.TheVariants.{Truncated, StreamTooLong}
 use Rattle.git_pkt.specs.declared.reader.PacketReader.{PacketReader}
 use Rattle.git_pkt.specs.declared.reader.Fed.{Fed}
@@ -63,17 +62,13 @@ Tells (Packet p offset) used piece new =
 Tells (Failed f) used piece new = fault_of new ≡ Some f
 
 -- a fault that the bytes of a piece show: past the last position there is one more byte, which is not used
-abbrev pub ShownByFeed : Kind → ℕ → List ℕ → Type 0
-ShownByFeed Truncated used piece = ⊥
-ShownByFeed StreamTooLong used piece = used < length piece
-ShownByFeed _ used piece = Unit {0}
+pub record ShownByFeed (f : Fault) (used : ℕ) (piece : List ℕ) : Type 0 where
+  pub not_the_end : f.kind ≢ Truncated
+  pub one_more : f.kind ≡ StreamTooLong → used < length piece
 
 -- a reader that had no fault tells only what the piece shows
-abbrev pub IsNews : Got → Option Fault → ℕ → List ℕ → Type 0
-IsNews More before used piece = Unit {0}
-IsNews (Packet p offset) before used piece = Unit {0}
-IsNews (Failed f) None used piece = ShownByFeed f.kind used piece
-IsNews (Failed f) (Some g) used piece = Unit {0}
+abbrev pub IsNews : PacketReader → List ℕ → Fed → Type 0
+IsNews old piece fed = (f : Fault) → fault_of old ≡ None → fed.got ≡ Failed f → ShownByFeed f fed.used piece
 
 -- a reader with this fault uses nothing and answers it again
 abbrev pub Repeats : PacketReader → Fed → PacketReader → Type 0
@@ -83,5 +78,5 @@ Repeats old fed new = (f : Fault) → fault_of old ≡ Some f → (fed.used ≡ 
 pub record Feeds (old : PacketReader) (piece : List ℕ) (fed : Fed) (new : PacketReader) : Type 0 where
   pub reads : ReadsOn old (take fed.used piece) (given_by fed.got) new
   pub tells : Tells fed.got fed.used piece new
-  pub news : IsNews fed.got (fault_of old) fed.used piece
+  pub news : IsNews old piece fed
   pub stays : Repeats old fed new

@@ -3,10 +3,11 @@ use Rattle.std.proofs.lemmas.List.{length-take-le}
 use Rattle.git_pkt.specs.Reading.{position_of, held_of}
 use Rattle.git_pkt.specs.Reading.{ShownByFeed}
 use Rattle.git_pkt.specs.ReaderSteps.{Moves, IsShown}
+use Rattle.git_pkt.specs.declared.fault.Fault.{Fault}
 use Rattle.git_pkt.specs.declared.reader.Progress.{Progress}
 use Rattle.git_pkt.specs.declared.reader.Progress.TheVariants.{Open, Whole, Failed}
 use Rattle.git_pkt.proofs.ReaderMoves.{whole_uses, whole_behind}
-use Rattle.git_pkt.proofs.Carries.{news_of, carry_open, carry_whole, carry_failed}
+use Rattle.git_pkt.proofs.Carries.{carry_open, carry_whole, carry_failed}
 use Rattle.git_pkt.proofs.reader.PacketReader.feed.Goals as goal
 
 pub returns-in-Open : goal.returns-in-Open
@@ -19,7 +20,7 @@ returns-in-Open c =
         record {
           reads = carry_open _ _ _ c.in_default.is moves;
           tells = (c.step-step.ensures.all c.in-Open.is, moves.arrives.no_fault);
-          news = tt;
+          news = λ f sound is. absurd (cc);
           stays = λ f is. absurd (c.in_default.not-Some f is);
         },
       ),
@@ -30,15 +31,18 @@ pub returns-in-Failed : goal.returns-in-Failed
 returns-in-Failed c =
     let moves : Moves c.args.self.now (take c.step-step.result.used c.args.piece.now) (Failed c.in-Failed.fault) c.step-step.new.self =
     subst (λ (p : Progress). Moves c.args.self.now (take c.step-step.result.used c.args.piece.now) p c.step-step.new.self) c.in-Failed.is c.step-step.ensures.moves in
-    let shown : ShownByFeed c.in-Failed.fault.kind c.step-step.result.used c.args.piece.now =
-        subst (λ (p : Progress). IsShown p c.step-step.result.used c.args.piece.now) c.in-Failed.is c.step-step.ensures.shown in (
+    let shown : ShownByFeed c.in-Failed.fault c.step-step.result.used c.args.piece.now =
+    subst (λ (p : Progress). IsShown p c.step-step.result.used c.args.piece.now) c.in-Failed.is c.step-step.ensures.shown in (
       (
         refl,
         (λ _. tt),
         record {
           reads = carry_failed _ _ _ c.in-Failed.fault c.in_default.is moves;
           tells = moves.arrives.told ∙ (cc);
-          news = news_of _ _ _ _ _ c.in_default.is (cc) shown;
+          news =
+              λ f sound is.
+              let same : c.in-Failed.fault ≡ f = cc in
+              subst (λ (g : Fault). ShownByFeed g c.step-step.result.used c.args.piece.now) same shown;
           stays = λ f is. absurd (c.in_default.not-Some f is);
         },
       ),
@@ -59,7 +63,7 @@ returns-in-Whole c =
         record {
           reads = carry_whole _ _ _ _ c.in_default.is moves c.packet.ensures at;
           tells = (omega (arith, uses, length-take-le c.step-step.result.used c.args.piece.now c.step-step.ensures.used), moves.arrives.no_fault, moves.arrives.closed, c.packet.ensures, at);
-          news = tt;
+          news = λ f sound is. absurd (cc);
           stays = λ f is. absurd (c.in_default.not-Some f is);
         },
       ),
