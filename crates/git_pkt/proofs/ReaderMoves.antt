@@ -1,6 +1,6 @@
 -- What a step of the reader comes to, from what its parts do.
-use Rattle.std.proofs.Common.{arith, ◌≡◌, ℕ, ◌+◌, ◌-◌, ◌≤◌, ◌<◌, List, [], ◌∷◌, ◌++◌, length, false, true, None, Bool, cond, ap, sym, ◌∙◌, refl, subst, append_assoc, length-append}
-use Rattle.std.proofs.lemmas.List.{append-nil}
+use Rattle.std.proofs.Common.{take, arith, ◌≡◌, ℕ, ◌+◌, ◌-◌, ◌≤◌, ◌<◌, List, [], ◌∷◌, ◌++◌, length, false, true, None, Bool, cond, ap, sym, ◌∙◌, refl, subst, append_assoc, length-append}
+use Rattle.std.proofs.lemmas.List.{append-nil, length-take}
 use Rattle.git_pkt.specs.Reading.{position_of, is_open, held_of, rest_of, fault_of}
 use Rattle.git_pkt.specs.ReaderSteps.{Moves, Arrives, IsStopped}
 use Rattle.git_pkt.specs.declared.fault.Kind.{Kind}
@@ -24,11 +24,11 @@ chosen_second true xs ys e = absurd (cc)
 chosen_second false xs ys e = refl
 
 -- what has come of the open packet, where one is open and where none is
-pub rest_of_open : (r : PacketReader) → is_open r ≡ true → rest_of r ≡ held_of r
-rest_of_open r e = chosen_first r.begun r.hold.items [] e
+pub rest_of_open : (r : PacketReader) → is_open r ≡ true → rest_of r ≡ take r.count (held_of r)
+rest_of_open r e = chosen_first r.begun (take r.count r.hold.items) [] e
 
 pub rest_of_shut : (r : PacketReader) → is_open r ≡ false → rest_of r ≡ []
-rest_of_shut r e = chosen_second r.begun r.hold.items [] e
+rest_of_shut r e = chosen_second r.begun (take r.count r.hold.items) [] e
 
 pub moves_from : (old new : PacketReader) (before u : List ℕ) (progress : Progress) → rest_of old ≡ before → position_of new ≡ position_of old + length u → Arrives progress (before ++ u) new → Moves old u progress new
 moves_from old new before u progress e at arrives = record {
@@ -79,10 +79,10 @@ gathered_is_partial true xs field h = none_in_gathering xs field (h refl)
 gathered_is_partial false xs field h = none_begins_nothing
 
 pub rest_is_open : (r : PacketReader) → IsOpen (rest_of r)
-rest_is_open r = gathered_is_open r.begun r.hold.items r.field r.gathers
+rest_is_open r = gathered_is_open r.begun (take r.count r.hold.items) r.field r.gathers
 
 pub rest_is_partial : (r : PacketReader) → NoneBegins (rest_of r)
-rest_is_partial r = gathered_is_partial r.begun r.hold.items r.field r.gathers
+rest_is_partial r = gathered_is_partial r.begun (take r.count r.hold.items) r.field r.gathers
 
 -- the reader is at the stream's last position, and a byte is offered
 pub stopped_at_last : (old mid new : PacketReader) (u : List ℕ) (progress : Progress) → Moves old u Open mid → IsStopped mid StreamTooLong last_position progress new → position_of mid ≡ last_position → Moves old u progress new
@@ -107,4 +107,6 @@ rest_behind false xs position h = omega arith
 
 pub whole_behind : (old new : PacketReader) (u : List ℕ) → Moves old u Whole new → length (held_of new) ≤ position_of new
 whole_behind old new u m =
-    omega (arith, rest_behind old.begun old.hold.items old.position old.behind, m.position, ap length m.arrives.held, length-append (rest_of old) u)
+    let begins : length (rest_of old) ≤ old.position =
+        rest_behind old.begun (take old.count old.hold.items) old.position (λ e. omega (arith, length-take old.count old.hold.items, old.behind e)) in
+    omega (arith, begins, m.position, ap length m.arrives.held, length-append (rest_of old) u)

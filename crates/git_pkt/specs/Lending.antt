@@ -15,11 +15,13 @@ abbrev pub with_hold_by : (r : PacketReader) → ArrayVec ℕ → (b : Bool) →
 with_hold_by r w true e = r
 with_hold_by r w false e = record {
   hold = w;
+  count = r.count;
   position = r.position;
   field = r.field;
   begun = r.begun;
   fault = r.fault;
   within = r.within;
+  counted = λ h. absurd (true_not_false r.begun e h);
   gathers = λ h. absurd (true_not_false r.begun e h);
   behind = λ h. absurd (true_not_false r.begun e h);
   failed = r.failed;

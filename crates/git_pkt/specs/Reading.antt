@@ -24,7 +24,7 @@ held_of r = r.hold.items
 
 -- what has come of the open packet
 abbrev pub rest_of : PacketReader → List ℕ
-rest_of r = if is_open r then held_of r else []
+rest_of r = if is_open r then take r.count (held_of r) else []
 
 -- the fault that ended the reading
 abbrev pub fault_of : PacketReader → Option Fault

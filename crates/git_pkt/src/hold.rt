@@ -1,6 +1,6 @@
 //! The one buffer of each end.
 
-ghost use Rattle.std.specs.Prelude.{◌≡◌, ◌+◌, ◌≤◌, ◌++◌, length};
+ghost use Rattle.std.specs.Prelude.{◌≡◌, ◌+◌, ◌≤◌, ◌++◌, length, take, drop};
 ghost use Rattle.arrayvec.specs.ArrayVec.{array_vec_len};
 
 use arrayvec::ArrayVec;
@@ -18,4 +18,25 @@ pub(crate) fn append(hold: &mut Hold, bytes: &[u8])
     ensures { hold.new.items ≡ hold.old.items ++ bytes.now }
 {
     let _ = hold.try_extend_from_slice(bytes);
+}
+
+/// Puts bytes at a place of the hold, over what stands there. The hold grows where they end behind it; it is
+/// never emptied first, since that would fill it with zeros.
+pub(crate) fn place(hold: &mut Hold, at: usize, bytes: &[u8])
+    requires within { at ≤ array_vec_len hold.old }
+    requires fits { at + length bytes.now ≤ 65520 }
+    ensures placed { take (at + length bytes.now) hold.new.items ≡ take at hold.old.items ++ bytes.now }
+    ensures long { at + length bytes.now ≤ array_vec_len hold.new }
+{
+    let over = bytes.len().min(hold.len() - at);
+    overwrite(hold.as_mut_slice(), at, &bytes[..over]);
+    append(hold, &bytes[over..]);
+}
+
+/// Puts bytes over those of a slice.
+fn overwrite(slice: &mut [u8], at: usize, bytes: &[u8])
+    requires { at + length bytes.now ≤ length slice.old }
+    ensures { slice.new ≡ take at slice.old ++ bytes.now ++ drop (at + length bytes.now) slice.old }
+{
+    slice[at..at + bytes.len()].copy_from_slice(bytes);
 }

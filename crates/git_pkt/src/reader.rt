@@ -12,7 +12,7 @@ ghost use Rattle.git_pkt.specs.declared.fault.Kind.TheVariants.{Truncated};
 
 use crate::digits::{Digits, digit, read_digits};
 use crate::fault::{Fault, Kind};
-use crate::hold::{Hold, append};
+use crate::hold::{Hold, place};
 use crate::packet::Packet;
 
 /// The last position of a stream.
@@ -57,6 +57,8 @@ pub(crate) struct Step {
 #[derive(Drop)]
 pub struct PacketReader {
     hold: Hold,
+    /// How many bytes of the open packet the hold has, at its front. What stands behind them is of an earlier packet.
+    count: usize,
     /// The offset of the next byte.
     position: u64,
     /// The number in the four digits of the packet in the hold, once they are there.
@@ -65,8 +67,9 @@ pub struct PacketReader {
     begun: bool,
     fault: Option<Fault>,
     ghost within: { position ≤ last_position },
-    ghost gathers: { begun ≡ true → IsGathering hold.items field },
-    ghost behind: { begun ≡ true → length hold.items ≤ position },
+    ghost counted: { begun ≡ true → count ≤ length hold.items },
+    ghost gathers: { begun ≡ true → IsGathering (take count hold.items) field },
+    ghost behind: { begun ≡ true → count ≤ position },
     ghost failed: { begun ≡ true → fault ≡ None },
 }
 
@@ -90,6 +93,7 @@ impl PacketReader {
     {
         PacketReader {
             hold: Hold::new(),
+            count: 0,
             position: offset,
             field: 0,
             begun: false,
@@ -154,7 +158,7 @@ impl PacketReader {
         }
         let fault = Fault {
             kind: Kind::Truncated,
-            offset: self.position - self.hold.len() as u64,
+            offset: self.position - self.count as u64,
         };
         self.begun = false;
         self.fault = Some(fault);
@@ -241,7 +245,7 @@ impl PacketReader {
             return self.begin(piece);
         }
         for (used, byte) in piece.iter().enumerate() {
-            if self.begun && self.hold.len() >= 4 {
+            if self.begun && self.count >= 4 {
                 let step = self.gather_body(&piece[used..]);
                 return Step {
                     used: used + step.used,
@@ -283,19 +287,20 @@ impl PacketReader {
         ensures kind { IsOfPacket result }
     {
         if !self.begun {
-            self.hold.clear();
+            self.count = 0;
         }
         self.begun = false;
-        self.hold.push(byte);
+        place(&mut self.hold, self.count, &[byte]);
+        self.count += 1;
         self.position += 1;
         if digit(byte) == 16 {
             return self.stop(Kind::BadDigit, self.position - 1);
         }
-        if self.hold.len() < 4 {
+        if self.count < 4 {
             self.begun = true;
             return Progress::Open;
         }
-        let Digits::Number(field) = read_digits(self.hold.as_slice()) else {
+        let Digits::Number(field) = read_digits(&self.hold.as_slice()[..self.count]) else {
             unreachable!()
         };
         if let Some(kind) = field_fault(field) {
@@ -303,6 +308,7 @@ impl PacketReader {
         }
         self.field = field;
         if field <= 4 {
+            self.hold.truncate(self.count);
             return Progress::Whole;
         }
         self.begun = true;
@@ -312,23 +318,25 @@ impl PacketReader {
     /// Bytes after the four digits, as many as the packet lacks or the piece has.
     fn gather_body(&mut self, piece: &[u8]) -> Step
         requires begun { is_open self.old ≡ true }
-        requires digits { 4 ≤ length (held_of self.old) }
+        requires digits { 4 ≤ length (rest_of self.old) }
         requires room { position_of self.old + length piece.now ≤ last_position }
         ensures used { result.used ≤ length piece.now }
         ensures all { result.progress ≡ Progress.Open → result.used ≡ length piece.now }
         ensures moves { Moves self.old (take result.used piece.now) result.progress self.new }
         ensures kind { IsOfPacket result.progress }
     {
-        let used = (self.field - self.hold.len()).min(piece.len());
-        append(&mut self.hold, &piece[..used]);
+        let used = (self.field - self.count).min(piece.len());
+        place(&mut self.hold, self.count, &piece[..used]);
+        self.count += used;
         self.position += used as u64;
-        if self.hold.len() < self.field {
+        if self.count < self.field {
             return Step {
                 used,
                 progress: Progress::Open,
             };
         }
         self.begun = false;
+        self.hold.truncate(self.count);
         Step {
             used,
             progress: Progress::Whole,
@@ -364,8 +372,8 @@ impl PacketReader {
             return Step { used: 4, progress };
         }
         let used = field.max(4).min(piece.len());
-        self.hold.clear();
-        append(&mut self.hold, &piece[..used]);
+        place(&mut self.hold, 0, &piece[..used]);
+        self.count = used;
         self.position += used as u64;
         self.field = field;
         if used < field {
@@ -375,6 +383,7 @@ impl PacketReader {
                 progress: Progress::Open,
             };
         }
+        self.hold.truncate(used);
         Step {
             used,
             progress: Progress::Whole,
