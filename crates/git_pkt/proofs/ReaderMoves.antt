@@ -108,5 +108,5 @@ rest_behind false xs position h = omega arith
 pub whole_behind : (old new : PacketReader) (u : List ℕ) → Moves old u Whole new → length (held_of new) ≤ position_of new
 whole_behind old new u m =
     let begins : length (rest_of old) ≤ old.position =
-        rest_behind old.begun (take old.count old.hold.items) old.position (λ e. omega (arith, length-take old.count old.hold.items, old.behind e)) in
+    rest_behind old.begun (take old.count old.hold.items) old.position (λ e. omega (arith, length-take old.count old.hold.items, old.behind e)) in
     omega (arith, begins, m.position, ap length m.arrives.held, length-append (rest_of old) u)

@@ -1,4 +1,4 @@
-use Rattle.std.proofs.Common.{ℕ, subst, arith, ◌≡◌, ◌+◌, ◌≤◌, length, take, refl, ◌∙◌}
+use Rattle.std.proofs.Common.{zero-add, ℕ, subst, arith, ◌≡◌, ◌+◌, ◌≤◌, length, take, refl, ◌∙◌}
 use Rattle.std.proofs.lemmas.List.{length-take-le}
 use Rattle.git_pkt.specs.Faults.{FirstBadDigit}
 use Rattle.git_pkt.specs.TellsDigits.{TellsDigits}
@@ -30,7 +30,7 @@ returns-clause-moves c =
     let within : c.min-used.result ≤ length c.args.piece.now = omega arith in
     let taken : length (take c.min-used.result c.args.piece.now) ≡ c.min-used.result = length-take-le _ _ within in
     let held : c.truncate.new.self.items ≡ take c.min-used.result c.args.piece.now =
-        c.truncate.ensures.items ∙ subst (λ (n : ℕ). take n c.place.new.hold.items ≡ take c.min-used.result c.args.piece.now) taken c.place.ensures.placed in
+    c.truncate.ensures.items ∙ subst (λ (n : ℕ). take n c.place.new.hold.items ≡ take c.min-used.result c.args.piece.now) (zero-add (length (take c.min-used.result c.args.piece.now)) ∙ taken) c.place.ensures.placed in
     moves_from c.args.self.now _ _ _ Whole (rest_of_shut c.args.self.now c.requires.between) (omega arith) (record {
       no_fault = c.requires.sound;
       closed = c.requires.between;
