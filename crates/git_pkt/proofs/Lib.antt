@@ -6,3 +6,4 @@ pub mod ReaderMoves
 pub mod Carries
 pub mod Pieces
 pub mod Written
+pub mod Escapes

@@ -7,3 +7,4 @@ pub mod Gathering
 pub mod Reading
 pub mod ReaderSteps
 pub mod Lending
+pub mod Escape

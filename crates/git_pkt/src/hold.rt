@@ -34,7 +34,7 @@ pub(crate) fn place(hold: &mut Hold, at: usize, bytes: &[u8])
 }
 
 /// Puts bytes over those of a slice.
-fn overwrite(slice: &mut [u8], at: usize, bytes: &[u8])
+pub(crate) fn overwrite(slice: &mut [u8], at: usize, bytes: &[u8])
     requires { at + length bytes.now ≤ length slice.old }
     ensures { slice.new ≡ take at slice.old ++ bytes.now ++ drop (at + length bytes.now) slice.old }
 {

@@ -2,12 +2,14 @@
 #![tactic(auto)]
 
 mod digits;
+mod escape;
 mod fault;
 mod hold;
 pub mod laws;
 mod packet;
 mod reader;
 
+pub use escape::{escape_into, is_plain};
 pub use fault::{Fault, Kind};
 pub use hold::{Hold, LONGEST_PACKET};
 pub use packet::{Packet, put, text};

@@ -1,0 +1,74 @@
+-- The table of escapes, and what a block of bytes comes to.
+use Rattle.std.proofs.Common.{◌≡◌, ℕ, zero, suc, ◌+◌, ◌<◌, ◌≤◌, Bool, true, false, ◌&&◌, ◌||◌, not, nat_eq, nat_le, List, [], ◌∷◌, ◌++◌, length, take, drop, slice_index, refl, sym, ◌∙◌, ap, inl, inr, arith, length-append}
+use Rattle.std.proofs.lemmas.Bool.{and_parts, cases_lt, eqb-true}
+use Rattle.std.proofs.lemmas.List.{take_more, take-append-le, length-take-le, append-nil}
+use Rattle.std.proofs.Math.Seq.{take-append-add}
+use Rattle.std.proofs.lemmas.Grind.{common_steps, flat_map-append}
+use Rattle.git_pkt.specs.Escape.{escape_of, escaped_of}
+
+-- each number below n passes the test
+abbrev pub all_pass : (ℕ → Bool) → ℕ → Bool
+all_pass test zero = true
+all_pass test (suc n) = test n && all_pass test n
+
+-- a number below n
+pub all_pass-at : (test : ℕ → Bool) (n k : ℕ) → all_pass test n ≡ true → k < n → test k ≡ true
+all_pass-at test zero k h lt = absurd (omega arith)
+all_pass-at test (suc n) k h lt =
+    let parts = and_parts (test n) (all_pass test n) h in
+    elim (cases_lt k n) [
+      | inl below ↦ all_pass-at test n k parts.1 below
+      | inr top ↦
+          let e : k ≡ n = omega arith in
+          rw e parts.0
+    ]
+
+-- two lists of bytes are one
+abbrev pub same_bytes : List ℕ → List ℕ → Bool
+same_bytes [] [] = true
+same_bytes [] (y ∷ ys) = false
+same_bytes (x ∷ xs) [] = false
+same_bytes (x ∷ xs) (y ∷ ys) = nat_eq x y && same_bytes xs ys
+
+pub same_bytes-true : (xs ys : List ℕ) → same_bytes xs ys ≡ true → xs ≡ ys
+same_bytes-true [] [] h = refl
+same_bytes-true [] (y ∷ ys) h = absurd (cc)
+same_bytes-true (x ∷ xs) [] h = absurd (cc)
+same_bytes-true (x ∷ xs) (y ∷ ys) h =
+    let parts = and_parts (nat_eq x y) (same_bytes xs ys) h in
+    let first : x ≡ y = eqb-true x y parts.0 in
+    let rest : xs ≡ ys = same_bytes-true xs ys parts.1 in
+    cc
+
+-- one more byte is escaped
+pub escaped_more : (block : List ℕ) (i : ℕ) → i < length block → escaped_of (take (i + 1) block) ≡ escaped_of (take i block) ++ escape_of (slice_index block i)
+escaped_more block i below =
+    ap escaped_of (take_more block i 0 below) ∙ flat_map-append escape_of (take i block) (slice_index block i ∷ [])
+    ∙ ap (λ (l : List ℕ). escaped_of (take i block) ++ l) (append-nil (escape_of (slice_index block i)))
+
+-- a byte that stands for itself
+pub escape_of_plain : (b : ℕ) → ((nat_le 32 b && nat_le b 126) && not (nat_eq b 92)) ≡ true → escape_of b ≡ b ∷ []
+unfolding escape_of
+escape_of_plain b h = grind (arith, common_steps)
+
+-- one more byte that stands for itself
+pub plain_more : (block : List ℕ) (i : ℕ) (other : Bool) → i < length block → (other ≡ false → escaped_of (take i block) ≡ take i block)
+    → (other || not ((nat_le 32 (slice_index block i) && nat_le (slice_index block i) 126) && not (nat_eq (slice_index block i) 92))) ≡ false
+    → escaped_of (take (i + 1) block) ≡ take (i + 1) block
+plain_more block i true below so_far h = absurd (cc)
+plain_more block i false below so_far h =
+    escaped_more block i below ∙ ap (λ (l : List ℕ). l ++ escape_of (slice_index block i)) (so_far refl)
+    ∙ ap (λ (l : List ℕ). take i block ++ l) (escape_of_plain (slice_index block i) (not_false _ h)) ∙ sym (take_more block i 0 below)
+  where
+    not_false : (b : Bool) → not b ≡ false → b ≡ true
+    not_false true h = refl
+    not_false false h = absurd (cc)
+
+-- four bytes put behind the first, of which some count
+pub overwritten : (out four escaped escape : List ℕ) (at n : ℕ) → at ≤ length out → n ≤ length four → take at out ≡ escaped → take n four ≡ escape → take (at + n) (take at out ++ four ++ drop (at + length four) out) ≡ escaped ++ escape
+overwritten out four escaped escape at n within fits e f =
+    let long : length (take at out) ≡ at = length-take-le at out within in
+    let room : at + n ≤ length (take at out ++ four) = omega (arith, length-append (take at out) four) in
+    take-append-le (at + n) (take at out ++ four) (drop (at + length four) out) room
+    ∙ ap (λ (k : ℕ). take (k + n) (take at out ++ four)) (sym long) ∙ take-append-add (take at out) four n
+    ∙ ap (λ (l : List ℕ). l ++ take n four) e ∙ ap (λ (l : List ℕ). escaped ++ l) f

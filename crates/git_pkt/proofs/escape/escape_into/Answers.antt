@@ -1,0 +1,11 @@
+use Rattle.std.proofs.Common.{arith, sym, ◌∙◌}
+use Rattle.git_pkt.proofs.Escapes.{escaped_more, overwritten}
+use Rattle.git_pkt.proofs.escape.escape_into.Goals as goal
+
+pub loop-byte-preserved : goal.loop-byte-preserved
+loop-byte-preserved c = record {
+  within = omega (arith, c.loop-byte.invariant.within, c.look_up-one.ensures.within);
+  escaped =
+      rw c.overwrite.ensures (overwritten c.loop-byte.out c.look_up-one.result.bytes _ _ c.loop-byte.length c.look_up-one.result.length (omega (arith, c.loop-byte.invariant.within)) (omega (arith, c.look_up-one.ensures.four, c.look_up-one.ensures.within)) c.loop-byte.invariant.escaped c.look_up-one.ensures.escaped)
+      ∙ sym (escaped_more c.args.bytes.now c.loop-byte.byte-index c.loop-byte-test.true);
+}
