@@ -7,3 +7,4 @@ pub mod Carries
 pub mod Pieces
 pub mod Written
 pub mod Escapes
+pub mod EngineLemmas

@@ -8,3 +8,6 @@ pub mod Reading
 pub mod ReaderSteps
 pub mod Lending
 pub mod Escape
+pub mod FaultNames
+pub mod Told
+pub mod Engine

@@ -1,6 +1,6 @@
 //! The escapes by which bytes are shown on one line of text.
 
-ghost use Rattle.std.specs.Prelude.{◌≡◌, ◌+◌, ◌*◌, ◌≤◌, length, take, IsTrue};
+ghost use Rattle.std.specs.Prelude.{◌≡◌, ◌+◌, ◌*◌, ◌≤◌, ◌++◌, length, take, IsTrue};
 ghost use Rattle.git_pkt.specs.Escape.{escape_of, escaped_of};
 
 use crate::hold::overwrite;
@@ -296,19 +296,20 @@ fn look_up(byte: u8) -> Escaped
 }
 
 /// Writes the escape of each byte: LF is `\n`, a backslash is two, bytes from 0x20 to 0x7e stand for
-/// themselves and others are `\x` and two digits. Answers how many bytes that are.
-pub fn escape_into(bytes: &[u8], out: &mut [u8]) -> usize
-    requires { 4 * length bytes.now ≤ length out.old }
-    ensures within { result ≤ 4 * length bytes.now }
-    ensures escaped { take result out.new ≡ escaped_of bytes.now }
+/// themselves and others are `\x` and two digits. They are put at a place of `out`, over what stands there; the
+/// answer is where they end.
+pub fn escape_into(bytes: &[u8], out: &mut [u8], at: usize) -> usize
+    requires { at + 4 * length bytes.now ≤ length out.old }
+    ensures within { result ≤ at + 4 * length bytes.now }
+    ensures escaped { take result out.new ≡ take at out.old ++ escaped_of bytes.now }
 {
-    let mut length = 0;
+    let mut end = at;
     for byte in bytes {
         let one = look_up(*byte);
-        overwrite(out, length, &one.bytes);
-        length += one.length;
+        overwrite(out, end, &one.bytes);
+        end += one.length;
     }
-    length
+    end
 }
 
 /// Whether each byte stands for itself. The answer may be false where each does.

@@ -1,48 +1,222 @@
-//! The names of all faults, and where in a stream one stands.
+//! What can be refused, each by a name and a number of its own, and where.
+ghost use Rattle.std.specs.Prelude.{◌≡◌, Some};
+ghost use Rattle.git_pkt.specs.FaultNames.{kind_name, kind_number, fault_text, run_fault_text};
 
-/// What is wrong, by name.
+use std::fmt;
+
+/// Why an input was refused, or why a run over a reader and a writer ended early.
+///
+/// The names and numbers are this project's own. The rules are those of gitprotocol-common(5),
+/// gitprotocol-v2(5), gitprotocol-pack(5) and git-check-ref-format(1).
 #[derive(Clone, Copy, Debug, PartialEq, Eq)]
 pub enum Kind {
+    /// A byte of a packet's length is no hexadecimal digit.
     BadDigit,
+    /// The length digits are `0003`, which no packet has.
     BadLength,
+    /// The length digits are above `fff0`, the longest packet.
     TooLong,
+    /// The input ended inside a packet, or before what was due had come.
     Truncated,
+    /// The stream goes on past the last position, 9,223,372,036,854,775,807.
     StreamTooLong,
+    /// A packet of the packfile section has no band byte.
     NoBand,
+    /// A packet of the packfile section has a band byte other than 1, 2 and 3.
     BadBand,
+    /// A line is no capability line.
     BadCapability,
+    /// The request's command is none that this end knows.
     UnknownCommand,
+    /// The request has a second command line.
     TwoCommands,
+    /// The request has no command line.
     NoCommand,
+    /// A command, a capability or an argument was used that was not advertised.
     NotAdvertised,
+    /// A text that has to be an object name is none.
     BadObjectName,
+    /// A text that has to be a reference name is none.
     BadRefName,
+    /// A text that has to be a number is none, or the number is out of range.
     BadNumber,
+    /// `deepen` stands beside `deepen-since` or `deepen-not`.
     DeepenConflict,
+    /// A fetch asks for no object and no reference.
     NoWants,
+    /// An object-info request does not ask for the size.
     NoSize,
+    /// The object format is not that of this end.
     WrongFormat,
+    /// An argument line is none of the request's command.
     UnknownArgument,
+    /// The request's arguments pass the limit on what is kept.
     TooMuchKept,
+    /// A packet of this kind may not stand here.
     UnexpectedPacket,
+    /// The other end sent an error packet.
     RemoteError,
+    /// The repository does not have a reference that was asked for.
     UnknownRef,
+    /// The repository does not have an object that was asked for.
     NotOurs,
+    /// The source of the pack failed.
     PackSource,
+    /// The other end does not speak version 2 of the protocol.
     NotVersion2,
+    /// A section of a response is unknown, repeated, or out of order.
     UnexpectedSection,
+    /// A line is none that may stand in its section.
     BadLine,
+    /// Memory ran out while an argument was kept.
     OutOfMemory,
+    /// The other end sent a packet of the fatal band.
     RemoteFatal,
+    /// A reader failed.
     ReadFault,
+    /// A writer failed.
     WriteFault,
+    /// All reads that were allowed were made, and the input had not ended.
     ReadLimit,
 }
 
-/// A fault and the offset that it is told with.
+impl Kind {
+    /// The name that users see, as `BadDigit`: also what an error packet says.
+    pub fn name(self) -> &'static str
+        ensures { result.now ≡ kind_name self }
+    {
+        match self {
+            Kind::BadDigit => "BadDigit",
+            Kind::BadLength => "BadLength",
+            Kind::TooLong => "TooLong",
+            Kind::Truncated => "Truncated",
+            Kind::StreamTooLong => "StreamTooLong",
+            Kind::NoBand => "NoBand",
+            Kind::BadBand => "BadBand",
+            Kind::BadCapability => "BadCapability",
+            Kind::UnknownCommand => "UnknownCommand",
+            Kind::TwoCommands => "TwoCommands",
+            Kind::NoCommand => "NoCommand",
+            Kind::NotAdvertised => "NotAdvertised",
+            Kind::BadObjectName => "BadObjectName",
+            Kind::BadRefName => "BadRefName",
+            Kind::BadNumber => "BadNumber",
+            Kind::DeepenConflict => "DeepenConflict",
+            Kind::NoWants => "NoWants",
+            Kind::NoSize => "NoSize",
+            Kind::WrongFormat => "WrongFormat",
+            Kind::UnknownArgument => "UnknownArgument",
+            Kind::TooMuchKept => "TooMuchKept",
+            Kind::UnexpectedPacket => "UnexpectedPacket",
+            Kind::RemoteError => "RemoteError",
+            Kind::UnknownRef => "UnknownRef",
+            Kind::NotOurs => "NotOurs",
+            Kind::PackSource => "PackSource",
+            Kind::NotVersion2 => "NotVersion2",
+            Kind::UnexpectedSection => "UnexpectedSection",
+            Kind::BadLine => "BadLine",
+            Kind::OutOfMemory => "OutOfMemory",
+            Kind::RemoteFatal => "RemoteFatal",
+            Kind::ReadFault => "ReadFault",
+            Kind::WriteFault => "WriteFault",
+            Kind::ReadLimit => "ReadLimit",
+        }
+    }
+
+    /// The number of the refusal, from 1 to 34.
+    pub fn number(self) -> u8
+        ensures { result ≡ kind_number self }
+    {
+        match self {
+            Kind::BadDigit => 1,
+            Kind::BadLength => 2,
+            Kind::TooLong => 3,
+            Kind::Truncated => 4,
+            Kind::StreamTooLong => 5,
+            Kind::NoBand => 6,
+            Kind::BadBand => 7,
+            Kind::BadCapability => 8,
+            Kind::UnknownCommand => 9,
+            Kind::TwoCommands => 10,
+            Kind::NoCommand => 11,
+            Kind::NotAdvertised => 12,
+            Kind::BadObjectName => 13,
+            Kind::BadRefName => 14,
+            Kind::BadNumber => 15,
+            Kind::DeepenConflict => 16,
+            Kind::NoWants => 17,
+            Kind::NoSize => 18,
+            Kind::WrongFormat => 19,
+            Kind::UnknownArgument => 20,
+            Kind::TooMuchKept => 21,
+            Kind::UnexpectedPacket => 22,
+            Kind::RemoteError => 23,
+            Kind::UnknownRef => 24,
+            Kind::NotOurs => 25,
+            Kind::PackSource => 26,
+            Kind::NotVersion2 => 27,
+            Kind::UnexpectedSection => 28,
+            Kind::BadLine => 29,
+            Kind::OutOfMemory => 30,
+            Kind::RemoteFatal => 31,
+            Kind::ReadFault => 32,
+            Kind::WriteFault => 33,
+            Kind::ReadLimit => 34,
+        }
+    }
+}
+
+impl fmt::Display for Kind {
+    ghost output = { λ kind. Some (kind_name kind) };
+
+    fn fmt<W: fmt::Write>(&self, f: &mut fmt::Formatter<W>) -> fmt::Result {
+        f.write_str(self.name())
+    }
+}
+
+/// A refusal and its place.
 #[derive(Clone, Copy, Debug, PartialEq, Eq)]
 pub struct Fault {
+    /// Why the input was refused.
     pub kind: Kind,
-    /// The place in the stream, in bytes from its start.
+    /// The place in the reader's stream, in bytes from its start.
     pub offset: u64,
 }
+
+impl fmt::Display for Fault {
+    ghost output = { λ fault. Some (fault_text fault) };
+
+    fn fmt<W: fmt::Write>(&self, f: &mut fmt::Formatter<W>) -> fmt::Result {
+        write!(f, "{} at {}", self.kind, self.offset)
+    }
+}
+
+impl std::error::Error for Fault {}
+
+/// Why a run over a reader and a writer ended early.
+#[derive(Clone, Copy, Debug, PartialEq, Eq)]
+pub enum RunFault {
+    /// A reader failed.
+    ReadFault,
+    /// A writer failed. Of the bytes of the failing write nothing is said.
+    WriteFault,
+    /// All reads that were allowed were made, and the input had not ended.
+    ReadLimit,
+    /// The input was refused.
+    Refused(Fault),
+}
+
+impl fmt::Display for RunFault {
+    ghost output = { λ fault. Some (run_fault_text fault) };
+
+    fn fmt<W: fmt::Write>(&self, f: &mut fmt::Formatter<W>) -> fmt::Result {
+        match self {
+            RunFault::ReadFault => f.write_str("ReadFault"),
+            RunFault::WriteFault => f.write_str("WriteFault"),
+            RunFault::ReadLimit => f.write_str("ReadLimit"),
+            RunFault::Refused(fault) => write!(f, "{fault}"),
+        }
+    }
+}
+
+impl std::error::Error for RunFault {}

@@ -2,15 +2,19 @@
 #![tactic(auto)]
 
 mod digits;
+mod engine;
 mod escape;
 mod fault;
 mod hold;
 pub mod laws;
 mod packet;
 mod reader;
+mod told;
 
+pub use engine::{flush, receive, send};
 pub use escape::{escape_into, is_plain};
-pub use fault::{Fault, Kind};
+pub use fault::{Fault, Kind, RunFault};
 pub use hold::{Hold, LONGEST_PACKET};
 pub use packet::{Packet, put, text};
 pub use reader::{Fed, Got, PacketReader};
+pub use told::Told;

@@ -1,10 +1,10 @@
-use Rattle.std.proofs.Common.{◌≡◌, ◌*◌, ◌≤◌, take}
+use Rattle.std.proofs.Common.{◌≡◌, ◌+◌, ◌*◌, ◌≤◌, ◌++◌, take}
 use Rattle.git_pkt.specs.Escape.{escaped_of}
 use Rattle.git_pkt.proofs.escape.escape_into.Given as goal
 
 -- the bytes before this one have been escaped
 abbrev pub invariant-loop-byte : goal.invariant-loop-byte
 invariant-loop-byte l = record {
-  within : l.length ≤ 4 * l.byte-index;
-  escaped : take l.length l.out ≡ escaped_of (take l.byte-index l.bytes);
+  within : l.end ≤ l.at + 4 * l.byte-index;
+  escaped : take l.end l.out ≡ take l.at l.fn.out ++ escaped_of (take l.byte-index l.bytes);
 }

@@ -1,0 +1,51 @@
+//! What every run over a reader and a writer does: receive, send, flush, each with its one fault.
+ghost use Rattle.std.specs.Prelude.{◌≡◌, ◌+◌, min, ◌||◌, OnOk, OnErr, IfErr, is_err};
+ghost use Rattle.std.specs.Io.{ReadsAtMost};
+ghost use Rattle.std.specs.Io.KnownBytes.{Appends, Keeps, ReadConsumes};
+ghost use Rattle.git_pkt.specs.Told.{inner_of, reads_of, has_failed, has_ended, gave_nothing, ReadsNothing, AppendsFront};
+
+use crate::fault::RunFault;
+use crate::told::Told;
+use std::io::{Read, Write};
+
+/// Reads once, into the piece's front, and answers how many bytes came: 0 at the input's end.
+///
+/// The fault is `ReadFault`, exactly where the read fails.
+pub fn receive<R: Read>(reader: &mut Told<R>, piece: &mut [u8]) -> Result<usize, RunFault>
+    ensures bound { ReadsAtMost result piece.new }
+    ensures bytes { ReadConsumes (R.remaining (inner_of reader.old)) (R.remaining (inner_of reader.new)) result piece.new }
+    ensures fault { IfErr result (λ fault. fault ≡ RunFault.ReadFault) }
+
+    ensures counted { reads_of reader.new ≡ min (reads_of reader.old + 1) u64.MAX }
+    ensures failed { has_failed reader.new ≡ (has_failed reader.old || is_err result) }
+    ensures ended { has_ended reader.new ≡ (has_ended reader.old || gave_nothing result piece.new) }
+{
+    reader.read(piece).map_err(|_| RunFault::ReadFault)
+}
+
+/// Writes all the bytes.
+///
+/// The fault is `WriteFault`, exactly where the writing fails; a front of the bytes was written then.
+pub fn send<W: Write>(writer: &mut Told<W>, bytes: &[u8]) -> Result<(), RunFault>
+    ensures ok { OnOk result (Appends (W.contents (inner_of writer.old)) (W.contents (inner_of writer.new)) bytes.now) }
+    ensures err { OnErr result (AppendsFront (W.contents (inner_of writer.old)) (W.contents (inner_of writer.new)) bytes.now) }
+    ensures fault { IfErr result (λ fault. fault ≡ RunFault.WriteFault) }
+
+    ensures failed { has_failed writer.new ≡ (has_failed writer.old || is_err result) }
+    ensures reads { ReadsNothing writer.old writer.new }
+{
+    writer.write_all(bytes).map_err(|_| RunFault::WriteFault)
+}
+
+/// Flushes the writer.
+///
+/// The fault is `WriteFault`, exactly where the flush fails.
+pub fn flush<W: Write>(writer: &mut Told<W>) -> Result<(), RunFault>
+    ensures bytes { Keeps (W.contents (inner_of writer.old)) (W.contents (inner_of writer.new)) }
+    ensures fault { IfErr result (λ fault. fault ≡ RunFault.WriteFault) }
+
+    ensures failed { has_failed writer.new ≡ (has_failed writer.old || is_err result) }
+    ensures reads { ReadsNothing writer.old writer.new }
+{
+    writer.flush().map_err(|_| RunFault::WriteFault)
+}

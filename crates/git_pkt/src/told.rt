@@ -1,0 +1,148 @@
+//! Readers and writers that tell what became of the calls made through them.
+ghost use Rattle.std.specs.Prelude.{◌≡◌, ◌+◌, min, ◌||◌, IsTrue, OnOk, OnErr, is_err};
+ghost use Rattle.std.specs.Io.{ReadsAtMost, WritesAtMost};
+ghost use Rattle.std.specs.Io.KnownBytes.{Appends, Keeps, ReadConsumes, WriteAppends};
+ghost use Rattle.git_pkt.specs.Told.{inner_of, reads_of, has_failed, has_ended, gave_nothing, IsNew, ReadsNothing, AppendsFront};
+
+use std::io;
+use std::io::{ErrorKind, Read, Write};
+
+/// A reader or a writer, with what became of the calls made through it: how many reads there were,
+/// whether a call failed, and whether the input ended.
+#[derive(Debug, Drop)]
+pub struct Told<T> {
+    inner: T,
+    reads: u64,
+    has_failed: bool,
+    has_ended: bool,
+}
+
+impl<T> Told<T> {
+    /// Wraps a reader or a writer, before its first call.
+    pub fn new(inner: T) -> Told<T>
+        ensures inner { inner_of result ≡ inner }
+        ensures fresh { IsNew result }
+    {
+        Told {
+            inner,
+            reads: 0,
+            has_failed: false,
+            has_ended: false,
+        }
+    }
+
+    /// How many reads were made, failed ones too. It stays at `u64::MAX`.
+    pub fn reads(&self) -> u64
+        ensures { result ≡ reads_of self.now }
+    {
+        self.reads
+    }
+
+    /// Whether a call made through this has failed.
+    pub fn failed(&self) -> bool
+        ensures { result ≡ has_failed self.now }
+    {
+        self.has_failed
+    }
+
+    /// Whether a read into a buffer that is not empty gave no bytes.
+    pub fn ended(&self) -> bool
+        ensures { result ≡ has_ended self.now }
+    {
+        self.has_ended
+    }
+}
+
+impl<R: Read> Read for Told<R> {
+    ghost remaining = { λ told. R.remaining (inner_of told) };
+
+    fn read(&mut self, buf: &mut [u8]) -> io::Result<usize>
+        ensures bound { ReadsAtMost result buf.new }
+        ensures bytes { ReadConsumes (R.remaining (inner_of self.old)) (R.remaining (inner_of self.new)) result buf.new }
+
+        ensures counted { reads_of self.new ≡ min (reads_of self.old + 1) u64.MAX }
+        ensures failed { has_failed self.new ≡ (has_failed self.old || is_err result) }
+        ensures ended { has_ended self.new ≡ (has_ended self.old || gave_nothing result buf.new) }
+    {
+        self.reads = self.reads.saturating_add(1);
+        match self.inner.read(buf) {
+            Ok(count) => {
+                if count == 0 && !buf.is_empty() {
+                    self.has_ended = true;
+                }
+                Ok(count)
+            }
+            Err(error) => {
+                self.has_failed = true;
+                Err(error)
+            }
+        }
+    }
+}
+
+impl<W: Write> Write for Told<W> {
+    ghost contents = { λ told. W.contents (inner_of told) };
+
+    fn write(&mut self, buf: &[u8]) -> io::Result<usize>
+        ensures bound { WritesAtMost result buf.now }
+        ensures bytes { WriteAppends (W.contents (inner_of self.old)) (W.contents (inner_of self.new)) result buf.now }
+
+        ensures failed { has_failed self.new ≡ (has_failed self.old || is_err result) }
+        ensures reads { ReadsNothing self.old self.new }
+    {
+        let written = self.inner.write(buf);
+        self.has_failed |= written.is_err();
+        written
+    }
+
+    fn flush(&mut self) -> io::Result<()>
+        ensures bytes { Keeps (W.contents (inner_of self.old)) (W.contents (inner_of self.new)) }
+
+        ensures failed { has_failed self.new ≡ (has_failed self.old || is_err result) }
+        ensures reads { ReadsNothing self.old self.new }
+    {
+        let flushed = self.inner.flush();
+        self.has_failed |= flushed.is_err();
+        flushed
+    }
+
+    /// Writes all the bytes, over as many writes as it takes. A write that a signal interrupts is
+    /// made again.
+    fn write_all(&mut self, buf: &[u8]) -> io::Result<()>
+        ensures bytes { OnOk result (Appends (W.contents (inner_of self.old)) (W.contents (inner_of self.new)) buf.now) }
+        ensures front { OnErr result (AppendsFront (W.contents (inner_of self.old)) (W.contents (inner_of self.new)) buf.now) }
+
+        ensures failed { has_failed self.new ≡ (has_failed self.old || is_err result) }
+        ensures reads { ReadsNothing self.old self.new }
+    {
+        let whole = write_whole(&mut self.inner, buf);
+        self.has_failed |= whole.is_err();
+        whole
+    }
+}
+
+// Unlike the trait's own `write_all`, it says what was written where it fails.
+fn write_whole<W: Write>(writer: &mut W, bytes: &[u8]) -> io::Result<()>
+    ensures ok { OnOk result (Appends (W.contents writer.old) (W.contents writer.new) bytes.now) }
+    ensures err { OnErr result (AppendsFront (W.contents writer.old) (W.contents writer.new) bytes.now) }
+{
+    let mut rest = bytes;
+    for _ in 0..u64::MAX {
+        if rest.is_empty() {
+            return Ok(());
+        }
+        match writer.write(rest) {
+            Ok(0) => {
+                let message = "failed to write whole buffer";
+                return Err(io::Error::new(ErrorKind::WriteZero, message));
+            }
+            Ok(written) => rest = &rest[written..],
+            Err(error) => {
+                if error.kind() != ErrorKind::Interrupted {
+                    return Err(error);
+                }
+            }
+        }
+    }
+    Err(io::Error::other("too many tries"))
+}
