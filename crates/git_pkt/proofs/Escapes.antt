@@ -1,5 +1,5 @@
 -- The table of escapes, and what a block of bytes comes to.
-use Rattle.std.proofs.Common.{◌≡◌, ℕ, zero, suc, ◌+◌, ◌<◌, ◌≤◌, Bool, true, false, ◌&&◌, ◌||◌, not, nat_eq, nat_le, List, [], ◌∷◌, ◌++◌, length, take, drop, slice_index, refl, sym, ◌∙◌, ap, inl, inr, arith, length-append}
+use Rattle.std.proofs.Common.{append_assoc, ◌≡◌, ℕ, zero, suc, ◌+◌, ◌<◌, ◌≤◌, Bool, true, false, ◌&&◌, ◌||◌, not, nat_eq, nat_le, List, [], ◌∷◌, ◌++◌, length, take, drop, slice_index, refl, sym, ◌∙◌, ap, inl, inr, arith, length-append}
 use Rattle.std.proofs.lemmas.Bool.{and_parts, cases_lt, eqb-true}
 use Rattle.std.proofs.lemmas.List.{take_more, take-append-le, length-take-le, append-nil}
 use Rattle.std.proofs.Math.Seq.{take-append-add}
@@ -72,3 +72,11 @@ overwritten out four escaped escape at n within fits e f =
     take-append-le (at + n) (take at out ++ four) (drop (at + length four) out) room
     ∙ ap (λ (k : ℕ). take (k + n) (take at out ++ four)) (sym long) ∙ take-append-add (take at out) four n
     ∙ ap (λ (l : List ℕ). l ++ take n four) e ∙ ap (λ (l : List ℕ). escaped ++ l) f
+
+-- one more byte is escaped behind what stands before
+pub escaped_on : (bytes out four front : List ℕ) (i end n : ℕ) → i < length bytes → end ≤ length out → n ≤ length four → take end out ≡ front ++ escaped_of (take i bytes) → take n four ≡ escape_of (slice_index bytes i)
+    → take (end + n) (take end out ++ four ++ drop (end + length four) out) ≡ front ++ escaped_of (take (i + 1) bytes)
+escaped_on bytes out four front i end n below within fits so_far one =
+    overwritten out four (front ++ escaped_of (take i bytes)) (escape_of (slice_index bytes i)) end n within fits so_far one
+    ∙ append_assoc front (escaped_of (take i bytes)) (escape_of (slice_index bytes i))
+    ∙ ap (λ (l : List ℕ). front ++ l) (sym (escaped_more bytes i below))

@@ -1,11 +1,12 @@
-use Rattle.std.proofs.Common.{arith, sym, ◌∙◌, ap, append_assoc, take, List, ℕ, ◌++◌, ◌+◌}
-use Rattle.git_pkt.proofs.Escapes.{escaped_more, overwritten}
+use Rattle.std.proofs.Common.{arith, ◌∙◌, ap, take, List, ℕ, ◌+◌}
+use Rattle.git_pkt.proofs.Escapes.{escaped_on}
 use Rattle.git_pkt.proofs.escape.escape_into.Goals as goal
 
 pub loop-byte-preserved : goal.loop-byte-preserved
 loop-byte-preserved c = record {
   within = omega (arith, c.loop-byte.invariant.within, c.look_up-one.ensures.within);
   escaped =
-      ap (λ (l : List ℕ). take (c.loop-byte.end + c.look_up-one.result.length) l) c.overwrite.ensures ∙ (overwritten c.loop-byte.out c.look_up-one.result.bytes _ _ c.loop-byte.end c.look_up-one.result.length (omega (arith, c.loop-byte.invariant.within)) (omega (arith, c.look_up-one.ensures.four, c.look_up-one.ensures.within)) c.loop-byte.invariant.escaped c.look_up-one.ensures.escaped)
-      ∙ append_assoc _ _ _ ∙ ap (λ (l : List ℕ). take c.args.at c.args.out.now ++ l) (sym (escaped_more c.args.bytes.now c.loop-byte.byte-index c.loop-byte-test.true));
+      ap (λ (l : List ℕ). take (c.loop-byte.end + c.look_up-one.result.length) l) c.overwrite.ensures
+      ∙ escaped_on c.args.bytes.now c.loop-byte.out c.look_up-one.result.bytes (take c.args.at c.args.out.now) c.loop-byte.byte-index c.loop-byte.end c.look_up-one.result.length c.loop-byte-test.true
+      (omega (arith, c.loop-byte.invariant.within)) (omega (arith, c.look_up-one.ensures.four, c.look_up-one.ensures.within)) c.loop-byte.invariant.escaped c.look_up-one.ensures.escaped;
 }
