@@ -1,0 +1,17 @@
+use Rattle.std.proofs.Common.{◌≡◌, ◌-◌, ◌≤◌, length, take, None}
+use Rattle.git_pkt.specs.Told.{inner_of, has_failed}
+use Rattle.git_pkt.specs.Reading.{fault_of}
+use Rattle.git2show_lib.specs.Showing.{Prints}
+use Rattle.git2show_lib.proofs.showing.print_piece.Given as goal
+
+-- the packets of what is done of the piece have been printed, and nothing has failed since the call began
+abbrev pub invariant-loop-done : goal.invariant-loop-done
+invariant-loop-done g l = record {
+  within : l.done ≤ length l.piece;
+  sound : fault_of l.packets ≡ None;
+  writer_sound : has_failed l.writer ≡ has_failed l.fn.writer;
+  prints : Prints l.fn.packets (take l.done l.piece) (g.W.Write.contents (inner_of l.fn.writer)) (g.W.Write.contents (inner_of l.writer)) l.lines l.packets;
+}
+
+abbrev pub decreases-loop-done : goal.decreases-loop-done
+decreases-loop-done g l = length l.piece - l.done

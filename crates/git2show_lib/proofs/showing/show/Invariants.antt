@@ -1,0 +1,19 @@
+-- Each turn is one read, nothing has failed or ended, and the lines of what was read were written.
+use Rattle.std.proofs.Common.{◌≡◌, false, None, []}
+use Rattle.git_pkt.specs.Told.{inner_of, reads_of, has_failed, has_ended}
+use Rattle.git_pkt.specs.Engine.{Exchanges}
+use Rattle.git_pkt.specs.Reading.{fault_of}
+use Rattle.git2show_lib.specs.Showing.{ShowsSoFar}
+use Rattle.git2show_lib.proofs.showing.show.Given as goal
+
+abbrev pub invariant-loop : goal.invariant-loop
+invariant-loop g l = record {
+  reads : reads_of l.reader ≡ l.counter;
+  reader_sound : has_failed l.reader ≡ false;
+  open_ended : has_ended l.reader ≡ false;
+  writer_sound : has_failed l.writer ≡ false;
+  sound : fault_of l.packets ≡ None;
+  empty : l.lines ≡ [];
+  bytes : Exchanges (ShowsSoFar l.packets) (g.R.Read.remaining (inner_of l.fn.reader)) (g.R.Read.remaining (inner_of l.reader))
+      (g.W.Write.contents (inner_of l.fn.writer)) (g.W.Write.contents (inner_of l.writer));
+}

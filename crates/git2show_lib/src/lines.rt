@@ -1,0 +1,200 @@
+//! Lines on their way to a writer.
+
+ghost use Rattle.std.specs.Prelude.{◌≡◌, ◌+◌, ◌≤◌, ◌++◌, [], ◌||◌, length, take, OnOk, OnErr, IfErr, is_err, decimal};
+ghost use Rattle.std.specs.Io.KnownBytes.{Appends};
+ghost use Rattle.git_pkt.specs.Told.{inner_of, has_failed, AppendsFront};
+ghost use Rattle.git_pkt.specs.Packets.{body_of, seen};
+ghost use Rattle.git_pkt.specs.Escape.{escaped_of};
+ghost use Rattle.git2show_lib.specs.Lines.{kind_shown, line_of};
+ghost use Rattle.git2show_lib.specs.Sending.{Emits, EmitsFront};
+
+use git_pkt::{Packet, RunFault, Told, escape_into, flush, is_plain, send};
+use itoa::Buffer;
+use std::io::Write;
+use std::marker::Model;
+
+/// How many bytes wait for the writer at the most.
+const CAPACITY: usize = 65_536;
+
+/// How many bytes are escaped at a time.
+const BLOCK: usize = 32;
+
+/// How many bytes a line has before the payload, at the most.
+const HEAD: usize = 64;
+
+/// A buffer of lines. It lies where its owner does and never allocates.
+#[derive(Drop)]
+pub(crate) struct Lines {
+    bytes: [u8; 65_536],
+    count: usize,
+}
+
+impl Model for Lines {
+    ghost use Rattle.std.specs.Prelude.{◌≡◌, ◌≤◌, ℕ, List, length, take};
+
+    ghost Value = { List ℕ };
+
+    ghost view = { λ lines. take lines.count lines.bytes };
+
+    ghost invariant = { λ lines. lines.count ≤ 65536 };
+}
+
+impl Lines {
+    pub(crate) fn new() -> Self
+        ensures { result ≡ [] }
+    {
+        Lines {
+            bytes: [0; 65_536],
+            count: 0,
+        }
+    }
+
+    /// Sends all that waits.
+    fn drain<W: Write>(&mut self, writer: &mut Told<W>) -> Result<(), RunFault>
+        ensures ok { OnOk result (Appends (W.contents (inner_of writer.old)) (W.contents (inner_of writer.new)) self.old) }
+        ensures empty { OnOk result (self.new ≡ []) }
+        ensures err { OnErr result (AppendsFront (W.contents (inner_of writer.old)) (W.contents (inner_of writer.new)) self.old) }
+        ensures fault { IfErr result (λ fault. fault ≡ RunFault.WriteFault) }
+        ensures failed { has_failed writer.new ≡ (has_failed writer.old || is_err result) }
+    {
+        send(writer, &self.bytes[..self.count])?;
+        self.count = 0;
+        Ok(())
+    }
+
+    /// Sends all that waits, and has the writer pass it on.
+    pub(crate) fn send_all<W: Write>(&mut self, writer: &mut Told<W>) -> Result<(), RunFault>
+        ensures ok { OnOk result (Appends (W.contents (inner_of writer.old)) (W.contents (inner_of writer.new)) self.old) }
+        ensures empty { OnOk result (self.new ≡ []) }
+        ensures err { OnErr result (AppendsFront (W.contents (inner_of writer.old)) (W.contents (inner_of writer.new)) self.old) }
+        ensures fault { IfErr result (λ fault. fault ≡ RunFault.WriteFault) }
+        ensures failed { has_failed writer.new ≡ (has_failed writer.old || is_err result) }
+    {
+        self.drain(writer)?;
+        flush(writer)
+    }
+
+    /// Puts the line of a packet behind the others, and sends them where there is no room.
+    pub(crate) fn put<W: Write>(
+        &mut self,
+        writer: &mut Told<W>,
+        packet: Packet<'_>,
+        offset: u64,
+    ) -> Result<(), RunFault>
+        ensures ok { OnOk result (Emits (W.contents (inner_of writer.old)) (W.contents (inner_of writer.new)) self.old
+            (line_of (record { packet = seen packet.entry; offset = offset })) self.new) }
+        ensures err { OnErr result (EmitsFront (W.contents (inner_of writer.old)) (W.contents (inner_of writer.new)) self.old
+            (line_of (record { packet = seen packet.entry; offset = offset }))) }
+        ensures fault { IfErr result (λ fault. fault ≡ RunFault.WriteFault) }
+        ensures failed { has_failed writer.new ≡ (has_failed writer.old || is_err result) }
+    {
+        let mut head = [0; HEAD];
+        let end = write_head(packet, offset, &mut head);
+        self.emit(writer, &head[..end])?;
+        self.emit_escaped(writer, body(packet))?;
+        self.emit(writer, b"\n")
+    }
+
+    /// Puts a few bytes behind the others.
+    fn emit<W: Write>(&mut self, writer: &mut Told<W>, bytes: &[u8]) -> Result<(), RunFault>
+        requires { length bytes.now ≤ 128 }
+        ensures ok { OnOk result (Emits (W.contents (inner_of writer.old)) (W.contents (inner_of writer.new)) self.old bytes.now self.new) }
+        ensures err { OnErr result (EmitsFront (W.contents (inner_of writer.old)) (W.contents (inner_of writer.new)) self.old bytes.now) }
+        ensures fault { IfErr result (λ fault. fault ≡ RunFault.WriteFault) }
+        ensures failed { has_failed writer.new ≡ (has_failed writer.old || is_err result) }
+    {
+        self.make_room(writer)?;
+        self.count = put_at(&mut self.bytes, self.count, bytes);
+        Ok(())
+    }
+
+    /// Puts the escapes of bytes behind the others, a block at a time.
+    fn emit_escaped<W: Write>(&mut self, writer: &mut Told<W>, bytes: &[u8]) -> Result<(), RunFault>
+        ensures ok { OnOk result (Emits (W.contents (inner_of writer.old)) (W.contents (inner_of writer.new)) self.old (escaped_of bytes.now) self.new) }
+        ensures err { OnErr result (EmitsFront (W.contents (inner_of writer.old)) (W.contents (inner_of writer.new)) self.old (escaped_of bytes.now)) }
+        ensures fault { IfErr result (λ fault. fault ≡ RunFault.WriteFault) }
+        ensures failed { has_failed writer.new ≡ (has_failed writer.old || is_err result) }
+    {
+        let mut done = 0;
+        while done < bytes.len() {
+            let end = done + BLOCK.min(bytes.len() - done);
+            self.emit_block(writer, &bytes[done..end])?;
+            done = end;
+        }
+        Ok(())
+    }
+
+    /// Puts the escapes of one block behind the others.
+    fn emit_block<W: Write>(&mut self, writer: &mut Told<W>, block: &[u8]) -> Result<(), RunFault>
+        requires { length block.now ≤ 32 }
+        ensures ok { OnOk result (Emits (W.contents (inner_of writer.old)) (W.contents (inner_of writer.new)) self.old (escaped_of block.now) self.new) }
+        ensures err { OnErr result (EmitsFront (W.contents (inner_of writer.old)) (W.contents (inner_of writer.new)) self.old (escaped_of block.now)) }
+        ensures fault { IfErr result (λ fault. fault ≡ RunFault.WriteFault) }
+        ensures failed { has_failed writer.new ≡ (has_failed writer.old || is_err result) }
+    {
+        self.make_room(writer)?;
+        self.count = if is_plain(block) {
+            put_at(&mut self.bytes, self.count, block)
+        } else {
+            escape_into(block, &mut self.bytes, self.count)
+        };
+        Ok(())
+    }
+
+    /// Makes room for 128 bytes.
+    fn make_room<W: Write>(&mut self, writer: &mut Told<W>) -> Result<(), RunFault>
+        ensures ok { OnOk result (Emits (W.contents (inner_of writer.old)) (W.contents (inner_of writer.new)) self.old [] self.new) }
+        ensures room { OnOk result (length self.new + 128 ≤ 65536) }
+        ensures err { OnErr result (AppendsFront (W.contents (inner_of writer.old)) (W.contents (inner_of writer.new)) self.old) }
+        ensures fault { IfErr result (λ fault. fault ≡ RunFault.WriteFault) }
+        ensures failed { has_failed writer.new ≡ (has_failed writer.old || is_err result) }
+    {
+        if self.count <= CAPACITY - 128 {
+            return Ok(());
+        }
+        self.drain(writer)
+    }
+}
+
+/// The bytes after a packet's four digits.
+fn body<'a>(packet: Packet<'a>) -> &'a [u8]
+    ensures { result.now ≡ body_of (seen packet.entry) }
+{
+    match packet {
+        Packet::Payload(payload) => payload,
+        Packet::Flush | Packet::Delim | Packet::RespEnd => b"",
+    }
+}
+
+/// Writes what stands in a packet's line before the payload, and answers how many bytes that are.
+fn write_head(packet: Packet<'_>, offset: u64, out: &mut [u8]) -> usize
+    requires { length out.old ≡ 64 }
+    ensures within { result ≤ 64 }
+    ensures head { take result out.new ≡ decimal offset ++ kind_shown (seen packet.entry) }
+{
+    let mut digits = Buffer::new();
+    let at = put_at(out, 0, digits.format(offset).as_bytes());
+    match packet {
+        Packet::Flush => put_at(out, at, b" flush"),
+        Packet::Delim => put_at(out, at, b" delim"),
+        Packet::RespEnd => put_at(out, at, b" end"),
+        Packet::Payload(payload) => {
+            let at = put_at(out, at, b" data ");
+            let at = put_at(out, at, digits.format(payload.len()).as_bytes());
+            if payload.is_empty() {
+                return at;
+            }
+            put_at(out, at, b" ")
+        }
+    }
+}
+
+/// Puts bytes at a place, over what stands there, and answers where they end.
+fn put_at(out: &mut [u8], at: usize, bytes: &[u8]) -> usize
+    requires { at + length bytes.now ≤ length out.old }
+    ensures end { result ≡ at + length bytes.now }
+    ensures put { take result out.new ≡ take at out.old ++ bytes.now }
+{
+    out[at..at + bytes.len()].copy_from_slice(bytes);
+    at + bytes.len()
+}

@@ -1,0 +1,102 @@
+//! Packets shown as lines.
+
+ghost use Rattle.std.specs.Prelude.{◌≡◌, ◌<◌, ◌≤◌, [], ◌||◌, Bool, None, Err, false, length, IsTrue, OnOk, OnErr, IfErr, IfOk, is_err};
+ghost use Rattle.std.specs.Io.KnownBytes.{IsAtEnd};
+ghost use Rattle.git_pkt.specs.Told.{inner_of, reads_of, has_failed, has_ended, IsNew};
+ghost use Rattle.git_pkt.specs.Engine.{EndsExchange, Gives, GivesUntil, IsShownBy, IsSpent};
+ghost use Rattle.git_pkt.specs.Reading.{fault_of};
+ghost use Rattle.git2show_lib.specs.Showing.{Shows, ShowsSoFar, PrintsPiece, PrintsInto};
+
+use crate::lines::Lines;
+use git_pkt::{Fault, Got, PacketReader, RunFault, Told, receive};
+use std::io::{Read, Write};
+
+/// Shows the packets that a reader gives, a line each, over at most `turns` reads into the piece. Lines of whole
+/// packets are written and flushed before a fault is answered, and before the next read.
+///
+/// Ok comes at the reader's end alone, between two packets. The faults are `Refused`, with what is wrong with the
+/// stream; `ReadFault`, where a read failed; `WriteFault`, where a write or a flush did, and then a front of the
+/// lines was written; and `ReadLimit`, where one read more would be needed.
+pub fn show<R: Read, W: Write>(
+    reader: &mut Told<R>,
+    writer: &mut Told<W>,
+    piece: &mut [u8],
+    turns: u64,
+) -> Result<(), RunFault>
+    requires room { 0 < length piece.old }
+    requires new_reader { IsNew reader.old }
+    requires sound_writer { has_failed writer.old ≡ false }
+
+    ensures reads { reads_of reader.new ≤ turns }
+    ensures ok { OnOk result (IsTrue (has_ended reader.new)) }
+    ensures end { OnOk result (IsAtEnd (R.remaining (inner_of reader.new))) }
+    ensures fault { IfErr result (IsShownBy (IsTrue (has_failed reader.new)) (IsTrue (has_failed writer.new)) (IsSpent reader.new turns)) }
+    ensures shown { EndsExchange (Shows result (has_ended reader.new)) (R.remaining (inner_of reader.old)) (R.remaining (inner_of reader.new))
+        (W.contents (inner_of writer.old)) (W.contents (inner_of writer.new)) result }
+{
+    let mut packets = PacketReader::new();
+    let mut lines = Lines::new();
+    for _ in 0..turns {
+        let count = receive(reader, piece)?;
+        if count == 0 {
+            return packets.close().map_err(RunFault::Refused);
+        }
+        show_piece(&mut packets, &piece[..count], &mut lines, writer)?;
+    }
+    Err(RunFault::ReadLimit)
+}
+
+/// Shows the packets of a piece, and sends their lines.
+fn show_piece<W: Write>(
+    packets: &mut PacketReader,
+    piece: &[u8],
+    lines: &mut Lines,
+    writer: &mut Told<W>,
+) -> Result<(), RunFault>
+    requires sound { fault_of packets.old ≡ None }
+    requires empty { lines.old ≡ [] }
+    ensures ok { OnOk result (Gives (ShowsSoFar packets.old) (ShowsSoFar packets.new) piece.now
+        (W.contents (inner_of writer.old)) (W.contents (inner_of writer.new))) }
+    ensures goes_on { OnOk result (fault_of packets.new ≡ None) }
+    ensures sent { OnOk result (lines.new ≡ []) }
+    ensures err { IfErr result (λ fault. (ended : Bool) → GivesUntil (ShowsSoFar packets.old) (Shows (Err fault) ended) piece.now
+        (W.contents (inner_of writer.old)) (W.contents (inner_of writer.new)) fault) }
+    ensures fault { IfErr result (IsShownBy ⊥ (IsTrue (has_failed writer.new)) ⊥) }
+    ensures failed { OnOk result (has_failed writer.new ≡ has_failed writer.old) }
+{
+    let stopped = print_piece(packets, piece, lines, writer)?;
+    lines.send_all(writer)?;
+    match stopped {
+        Some(fault) => Err(RunFault::Refused(fault)),
+        None => Ok(()),
+    }
+}
+
+/// Prints the packets of a piece into the buffer of lines, up to the first fault, which is the answer.
+fn print_piece<W: Write>(
+    packets: &mut PacketReader,
+    piece: &[u8],
+    lines: &mut Lines,
+    writer: &mut Told<W>,
+) -> Result<Option<Fault>, RunFault>
+    requires sound { fault_of packets.old ≡ None }
+    requires empty { lines.old ≡ [] }
+    ensures ok { IfOk result (λ stopped. PrintsPiece stopped packets.old piece.now
+        (W.contents (inner_of writer.old)) (W.contents (inner_of writer.new)) lines.new packets.new) }
+    ensures err { OnErr result (PrintsInto packets.old piece.now
+        (W.contents (inner_of writer.old)) (W.contents (inner_of writer.new)) packets.new) }
+    ensures fault { IfErr result (λ fault. fault ≡ RunFault.WriteFault) }
+    ensures failed { has_failed writer.new ≡ (has_failed writer.old || is_err result) }
+{
+    let mut done = 0;
+    while done < piece.len() {
+        let fed = packets.feed(&piece[done..]);
+        match fed.got {
+            Got::More => return Ok(None),
+            Got::Failed(fault) => return Ok(Some(fault)),
+            Got::Packet(packet, offset) => lines.put(writer, packet, offset)?,
+        }
+        done += fed.used;
+    }
+    Ok(None)
+}
