@@ -1,9 +1,10 @@
 -- One thing after another goes through a buffer.
-use Rattle.std.proofs.Common.{◌≡◌, ℕ, List, [], ◌++◌, Option, ap, sym, ◌∙◌, subst, append_assoc, append-nil, ◌+◌, ◌-◌, take, drop, Result, Ok, Err, OnOk, OnErr, take-append-drop}
+use Rattle.std.proofs.Common.{length, ◌≤◌, ◌≡◌, ℕ, List, [], ◌++◌, Option, ap, sym, ◌∙◌, subst, append_assoc, append-nil, ◌+◌, ◌-◌, take, drop, Result, Ok, Err, OnOk, OnErr, take-append-drop}
 use Rattle.std.proofs.lemmas.Grind.{flat_map-append}
 use Rattle.std.proofs.KnownBytes.{Appends-nil, Appends-trans}
 use Rattle.git_pkt.specs.Told.{AppendsFront}
-use Rattle.git_pkt.proofs.EngineLemmas.{AppendsFront-after, AppendsFront-longer, take-next}
+use Rattle.git_pkt.proofs.EngineLemmas.{AppendsFront-after, AppendsFront-longer}
+use Rattle.git_pkt.proofs.Pieces.{left_of, take_joined}
 use Rattle.git_pkt.specs.Escape.{escape_of, escaped_of}
 use Rattle.git2show_lib.specs.Sending.{Emits, EmitsFront}
 
@@ -42,15 +43,29 @@ pub on_err-map : {T E P Q : Type 0} → (r : Result T E) → (P → Q) → OnErr
 on_err-map (Ok x) f p = p
 on_err-map (Err e) f p = f p
 
--- the escapes of some bytes, and of some more
-pub escaped-next : (bytes : List ℕ) (done count : ℕ) → escaped_of (take (done + count) bytes) ≡ escaped_of (take done bytes) ++ escaped_of (take (done + count - done) (drop done bytes))
-escaped-next bytes done count = ap escaped_of (take-next done count bytes) ∙ flat_map-append escape_of (take done bytes) (take (done + count - done) (drop done bytes))
+-- the escapes of two parts
+pub escaped-append : (front back : List ℕ) → escaped_of (front ++ back) ≡ escaped_of front ++ escaped_of back
+escaped-append front back = flat_map-append escape_of front back
 
--- a block was cut short, and so all of the bytes
-pub front_of_escaped : (a b c : Option (List ℕ)) (x y bytes : List ℕ) (done count : ℕ) → Emits a b x (escaped_of (take done bytes)) y → EmitsFront b c y (escaped_of (take (done + count - done) (drop done bytes))) → EmitsFront a c x (escaped_of bytes)
-front_of_escaped a b c x y bytes done count so_far block =
-    let joined : EmitsFront a c x (escaped_of (take (done + count) bytes)) =
-    subst (λ (l : List ℕ). EmitsFront a c x l) (sym (escaped-next bytes done count)) (front_after a b c x (escaped_of (take done bytes)) y _ so_far block) in
-    let all : escaped_of (take (done + count) bytes) ++ escaped_of (drop (done + count) bytes) ≡ escaped_of bytes =
-    sym (flat_map-append escape_of (take (done + count) bytes) (drop (done + count) bytes)) ∙ ap escaped_of (take-append-drop (done + count) bytes) in
-    subst (λ (l : List ℕ). EmitsFront a c x l) all (front_longer a c x (escaped_of (take (done + count) bytes)) (escaped_of (drop (done + count) bytes)) joined)
+-- a front of the escapes of a front
+pub front_of_taken : (a b : Option (List ℕ)) (x bytes : List ℕ) (n : ℕ) → EmitsFront a b x (escaped_of (take n bytes)) → EmitsFront a b x (escaped_of bytes)
+front_of_taken a b x bytes n front =
+    let all : escaped_of (take n bytes) ++ escaped_of (drop n bytes) ≡ escaped_of bytes =
+    sym (escaped-append (take n bytes) (drop n bytes)) ∙ ap escaped_of (take-append-drop n bytes) in
+    subst (λ (l : List ℕ). EmitsFront a b x l) all (front_longer a b x (escaped_of (take n bytes)) (escaped_of (drop n bytes)) front)
+
+-- ---- a loop over bytes: `done` of them are escaped, and the next come from what is left, as a slice shows it
+
+module _ (a b c : Option (List ℕ)) (x y bytes : List ℕ) (done : ℕ) (within : done ≤ length bytes) (so_far : Emits a b x (escaped_of (take done bytes)) y) where
+  pub escapes_on : (n : ℕ) (z : List ℕ) → Emits b c y (escaped_of (take n (take (length bytes - done) (drop done bytes)))) z → Emits a c x (escaped_of (take (done + n) bytes)) z
+  escapes_on n z next =
+      let same : escaped_of (take done bytes) ++ escaped_of (take n (take (length bytes - done) (drop done bytes))) ≡ escaped_of (take (done + n) bytes) =
+      sym (escaped-append (take done bytes) (take n (take (length bytes - done) (drop done bytes)))) ∙ ap escaped_of (take_joined bytes done n within) in
+      subst (λ (l : List ℕ). Emits a c x l z) same (emits_then a b c x (escaped_of (take done bytes)) y _ z so_far next)
+
+  pub escapes_front : EmitsFront b c y (escaped_of (take (length bytes - done) (drop done bytes))) → EmitsFront a c x (escaped_of bytes)
+  escapes_front next =
+      let same : escaped_of (take done bytes) ++ escaped_of (take (length bytes - done) (drop done bytes)) ≡ escaped_of bytes =
+      sym (escaped-append (take done bytes) (take (length bytes - done) (drop done bytes)))
+      ∙ ap escaped_of (ap (λ (l : List ℕ). take done bytes ++ l) (left_of bytes done within) ∙ take-append-drop done bytes) in
+      subst (λ (l : List ℕ). EmitsFront a c x l) same (front_after a b c x (escaped_of (take done bytes)) y _ so_far next)

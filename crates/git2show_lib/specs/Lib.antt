@@ -1,3 +1,4 @@
 pub mod Lines
 pub mod Sending
 pub mod Showing
+pub mod Reports

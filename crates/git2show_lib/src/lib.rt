@@ -2,6 +2,8 @@
 #![tactic(auto)]
 
 mod lines;
+mod reports;
 mod showing;
 
+pub use reports::{ProgramFault, report};
 pub use showing::show;

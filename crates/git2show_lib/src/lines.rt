@@ -1,6 +1,6 @@
 //! Lines on their way to a writer.
 
-ghost use Rattle.std.specs.Prelude.{◌≡◌, ◌+◌, ◌≤◌, ◌++◌, [], ◌||◌, length, take, OnOk, OnErr, IfErr, is_err, decimal};
+ghost use Rattle.std.specs.Prelude.{◌≡◌, ◌+◌, ◌≤◌, ◌<◌, ◌++◌, [], ◌||◌, length, take, OnOk, OnErr, IfErr, IfOk, is_err, decimal};
 ghost use Rattle.std.specs.Io.KnownBytes.{Appends};
 ghost use Rattle.git_pkt.specs.Told.{inner_of, has_failed, AppendsFront};
 ghost use Rattle.git_pkt.specs.Packets.{body_of, seen};
@@ -18,6 +18,9 @@ const CAPACITY: usize = 65_536;
 
 /// How many bytes are escaped at a time.
 const BLOCK: usize = 32;
+
+/// How many bytes are tested at a time, whether each stands for itself.
+const RUN: usize = 512;
 
 /// How many bytes a line has before the payload, at the most.
 const HEAD: usize = 64;
@@ -97,7 +100,7 @@ impl Lines {
 
     /// Puts a few bytes behind the others.
     fn emit<W: Write>(&mut self, writer: &mut Told<W>, bytes: &[u8]) -> Result<(), RunFault>
-        requires { length bytes.now ≤ 128 }
+        requires { length bytes.now ≤ 512 }
         ensures ok { OnOk result (Emits (W.contents (inner_of writer.old)) (W.contents (inner_of writer.new)) self.old bytes.now self.new) }
         ensures err { OnErr result (EmitsFront (W.contents (inner_of writer.old)) (W.contents (inner_of writer.new)) self.old bytes.now) }
         ensures fault { IfErr result (λ fault. fault ≡ RunFault.WriteFault) }
@@ -117,11 +120,29 @@ impl Lines {
     {
         let mut done = 0;
         while done < bytes.len() {
-            let end = done + BLOCK.min(bytes.len() - done);
-            self.emit_block(writer, &bytes[done..end])?;
-            done = end;
+            done += self.emit_next(writer, &bytes[done..])?;
         }
         Ok(())
+    }
+
+    /// Puts the escapes of the next bytes behind the others, and answers how many bytes these were: a long run where
+    /// each stands for itself, else a block.
+    fn emit_next<W: Write>(&mut self, writer: &mut Told<W>, bytes: &[u8]) -> Result<usize, RunFault>
+        requires { 0 < length bytes.now }
+        ensures some { IfOk result (λ count. (0 < count) × (count ≤ length bytes.now)) }
+        ensures ok { IfOk result (λ count. Emits (W.contents (inner_of writer.old)) (W.contents (inner_of writer.new)) self.old
+            (escaped_of (take count bytes.now)) self.new) }
+        ensures err { OnErr result (EmitsFront (W.contents (inner_of writer.old)) (W.contents (inner_of writer.new)) self.old (escaped_of bytes.now)) }
+        ensures fault { IfErr result (λ fault. fault ≡ RunFault.WriteFault) }
+        ensures failed { has_failed writer.new ≡ (has_failed writer.old || is_err result) }
+    {
+        if bytes.len() >= RUN && is_plain(&bytes[..RUN]) {
+            self.emit(writer, &bytes[..RUN])?;
+            return Ok(RUN);
+        }
+        let count = BLOCK.min(bytes.len());
+        self.emit_block(writer, &bytes[..count])?;
+        Ok(count)
     }
 
     /// Puts the escapes of one block behind the others.
@@ -141,15 +162,15 @@ impl Lines {
         Ok(())
     }
 
-    /// Makes room for 128 bytes.
+    /// Makes room for a run.
     fn make_room<W: Write>(&mut self, writer: &mut Told<W>) -> Result<(), RunFault>
         ensures ok { OnOk result (Emits (W.contents (inner_of writer.old)) (W.contents (inner_of writer.new)) self.old [] self.new) }
-        ensures room { OnOk result (length self.new + 128 ≤ 65536) }
+        ensures room { OnOk result (length self.new + 512 ≤ 65536) }
         ensures err { OnErr result (AppendsFront (W.contents (inner_of writer.old)) (W.contents (inner_of writer.new)) self.old) }
         ensures fault { IfErr result (λ fault. fault ≡ RunFault.WriteFault) }
         ensures failed { has_failed writer.new ≡ (has_failed writer.old || is_err result) }
     {
-        if self.count <= CAPACITY - 128 {
+        if self.count <= CAPACITY - RUN {
             return Ok(());
         }
         self.drain(writer)
@@ -190,7 +211,7 @@ fn write_head(packet: Packet<'_>, offset: u64, out: &mut [u8]) -> usize
 }
 
 /// Puts bytes at a place, over what stands there, and answers where they end.
-fn put_at(out: &mut [u8], at: usize, bytes: &[u8]) -> usize
+pub(crate) fn put_at(out: &mut [u8], at: usize, bytes: &[u8]) -> usize
     requires { at + length bytes.now ≤ length out.old }
     ensures end { result ≡ at + length bytes.now }
     ensures put { take result out.new ≡ take at out.old ++ bytes.now }

@@ -1,20 +1,20 @@
-use Rattle.std.proofs.Common.{rules, arith, subst, sym, List, ℕ}
+use Rattle.std.proofs.Common.{rules, arith, ap, length, length-drop}
 use Rattle.git_pkt.specs.Told.{inner_of}
-use Rattle.git2show_lib.specs.Sending.{Emits}
-use Rattle.git2show_lib.proofs.Sendings.{emits_then, escaped-next, front_of_escaped}
+use Rattle.git_pkt.specs.Escape.{escaped_of}
+use Rattle.git_pkt.proofs.Pieces.{left_of}
+use Rattle.git2show_lib.specs.Sending.{EmitsFront}
+use Rattle.git2show_lib.proofs.Sendings.{escapes_on, escapes_front}
 use Rattle.git2show_lib.proofs.lines.Lines.emit_escaped.Goals as goal
 
 pub loop-done-preserved : goal.loop-done-preserved
 loop-done-preserved g c = record {
-  within = omega (arith, c.loop-done-test.true, c.min.ensures);
+  within = omega (arith, c.in_ok-done.ensures.some.1, c.loop-done.invariant.within, ap length (left_of c.args.bytes.now c.loop-done.done c.loop-done.invariant.within), length-drop c.loop-done.done c.args.bytes.now);
   sound = search rules;
-  emits =
-      subst (λ (l : List ℕ). Emits (g.W.Write.contents (inner_of c.args.writer.now)) (g.W.Write.contents (inner_of c.emit_block.new.writer)) c.args.self.now l c.emit_block.new.self)
-      (sym (escaped-next c.args.bytes.now c.loop-done.done c.min.result))
-      (emits_then _ _ _ _ _ _ _ _ c.loop-done.invariant.emits c.in_ok-emit_block.ensures.ok);
+  emits = escapes_on _ _ _ _ _ c.args.bytes.now c.loop-done.done c.loop-done.invariant.within c.loop-done.invariant.emits _ _ c.in_ok-done.ensures.ok;
 }
 
-pub returns-in_err-emit_block-clause-err : goal.returns-in_err-emit_block-clause-err
-returns-in_err-emit_block-clause-err g c =
-    let front = front_of_escaped _ _ _ _ _ c.args.bytes.now c.loop-done.done c.min.result c.loop-done.invariant.emits c.in_err-emit_block.ensures.err in
+pub returns-in_err-done-clause-err : goal.returns-in_err-done-clause-err
+returns-in_err-done-clause-err g c =
+    let front : EmitsFront (g.W.Write.contents (inner_of c.args.writer.now)) (g.W.Write.contents (inner_of c.emit_next.new.writer)) c.args.self.now (escaped_of c.args.bytes.now) =
+    escapes_front _ _ _ _ _ c.args.bytes.now c.loop-done.done c.loop-done.invariant.within c.loop-done.invariant.emits c.in_err-done.ensures.err in
     search rules

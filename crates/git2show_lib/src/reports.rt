@@ -1,0 +1,75 @@
+//! What the program tells of a fault.
+
+ghost use Rattle.std.specs.Prelude.{◌≡◌, ◌≤◌, ◌++◌, ◌+◌, false, length, take};
+ghost use Rattle.std.specs.Io.KnownBytes.{Appends};
+ghost use Rattle.git_pkt.specs.Told.{inner_of, has_failed, AppendsFront};
+ghost use Rattle.git_pkt.specs.FaultNames.{fault_text};
+ghost use Rattle.git2show_lib.specs.Reports.{fault_line, program_fault_text};
+
+use crate::lines::put_at;
+use git_pkt::{Fault, RunFault, Told, send};
+use itoa::Buffer;
+use std::io::Write;
+use thiserror::Error;
+
+/// How many bytes a fault's line has at the most.
+const LINE: usize = 64;
+
+/// The status of a program that ends with a fault.
+const STATUS: u8 = 1;
+
+/// Why the program ended early.
+#[derive(Clone, Copy, Debug, PartialEq, Eq, Error)]
+pub enum ProgramFault {
+    /// A run over a reader and a writer ended early.
+    #[error("{0}")]
+    Run(RunFault),
+    /// Memory ran out, also for the reading of the command line.
+    #[error("OutOfMemory")]
+    OutOfMemory,
+}
+
+/// Writes the line `git2show: <Name>`, with ` at <offset>` where the fault has one, and answers the program's
+/// status, which is 1. A write that fails is passed over.
+pub fn report<W: Write>(fault: &ProgramFault, error: &mut Told<W>) -> u8
+    requires { has_failed error.old ≡ false }
+    ensures status { result ≡ 1 }
+    ensures front { AppendsFront (W.contents (inner_of error.old)) (W.contents (inner_of error.new)) (fault_line fault.now) }
+    ensures whole { has_failed error.new ≡ false →
+        Appends (W.contents (inner_of error.old)) (W.contents (inner_of error.new)) (fault_line fault.now) }
+{
+    let mut line = [0; LINE];
+    let end = write_line(fault, &mut line);
+    match send(error, &line[..end]) {
+        Ok(()) | Err(_) => STATUS,
+    }
+}
+
+/// Writes a fault's line, and answers how many bytes it has.
+fn write_line(fault: &ProgramFault, out: &mut [u8]) -> usize
+    requires { length out.old ≡ 64 }
+    ensures within { result ≤ 64 }
+    ensures line { take result out.new ≡ fault_line fault.now }
+{
+    let at = put_at(out, 0, b"git2show: ");
+    let at = match fault {
+        ProgramFault::Run(RunFault::Refused(fault)) => put_fault(out, at, fault),
+        ProgramFault::Run(RunFault::ReadFault) => put_at(out, at, b"ReadFault"),
+        ProgramFault::Run(RunFault::WriteFault) => put_at(out, at, b"WriteFault"),
+        ProgramFault::Run(RunFault::ReadLimit) => put_at(out, at, b"ReadLimit"),
+        ProgramFault::OutOfMemory => put_at(out, at, b"OutOfMemory"),
+    };
+    put_at(out, at, b"\n")
+}
+
+/// Puts a fault's name and offset at a place, and answers where they end.
+fn put_fault(out: &mut [u8], at: usize, fault: &Fault) -> usize
+    requires { at + 41 ≤ length out.old }
+    ensures within { result ≤ at + 41 }
+    ensures put { take result out.new ≡ take at out.old ++ fault_text fault.now }
+{
+    let mut digits = Buffer::new();
+    let at = put_at(out, at, fault.kind.name().as_bytes());
+    let at = put_at(out, at, b" at ");
+    put_at(out, at, digits.format(fault.offset).as_bytes())
+}
