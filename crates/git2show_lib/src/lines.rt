@@ -1,6 +1,6 @@
 //! Lines on their way to a writer.
 
-ghost use Rattle.std.specs.Prelude.{◌≡◌, ◌+◌, ◌≤◌, ◌<◌, ◌++◌, [], ◌||◌, length, take, OnOk, OnErr, IfErr, IfOk, is_err, decimal};
+ghost use Rattle.std.specs.Prelude.{◌≡◌, ◌+◌, ◌≤◌, ◌++◌, [], ◌||◌, length, take, OnOk, OnErr, IfErr, is_err, decimal};
 ghost use Rattle.std.specs.Io.KnownBytes.{Appends};
 ghost use Rattle.git_pkt.specs.Told.{inner_of, has_failed, AppendsFront};
 ghost use Rattle.git_pkt.specs.Packets.{body_of, seen};
@@ -111,7 +111,7 @@ impl Lines {
         Ok(())
     }
 
-    /// Puts the escapes of bytes behind the others, a block at a time.
+    /// Puts the escapes of bytes behind the others, a run at a time.
     fn emit_escaped<W: Write>(&mut self, writer: &mut Told<W>, bytes: &[u8]) -> Result<(), RunFault>
         ensures ok { OnOk result (Emits (W.contents (inner_of writer.old)) (W.contents (inner_of writer.new)) self.old (escaped_of bytes.now) self.new) }
         ensures err { OnErr result (EmitsFront (W.contents (inner_of writer.old)) (W.contents (inner_of writer.new)) self.old (escaped_of bytes.now)) }
@@ -120,29 +120,43 @@ impl Lines {
     {
         let mut done = 0;
         while done < bytes.len() {
-            done += self.emit_next(writer, &bytes[done..])?;
+            let rest = &bytes[done..];
+            let count = RUN.min(rest.len());
+            self.emit_run(writer, &rest[..count])?;
+            done += count;
         }
         Ok(())
     }
 
-    /// Puts the escapes of the next bytes behind the others, and answers how many bytes these were: a long run where
-    /// each stands for itself, else a block.
-    fn emit_next<W: Write>(&mut self, writer: &mut Told<W>, bytes: &[u8]) -> Result<usize, RunFault>
-        requires { 0 < length bytes.now }
-        ensures some { IfOk result (λ count. (0 < count) × (count ≤ length bytes.now)) }
-        ensures ok { IfOk result (λ count. Emits (W.contents (inner_of writer.old)) (W.contents (inner_of writer.new)) self.old
-            (escaped_of (take count bytes.now)) self.new) }
+    /// Puts the escapes of a run behind the others: at once where each byte stands for itself.
+    fn emit_run<W: Write>(&mut self, writer: &mut Told<W>, bytes: &[u8]) -> Result<(), RunFault>
+        requires { length bytes.now ≤ 512 }
+        ensures ok { OnOk result (Emits (W.contents (inner_of writer.old)) (W.contents (inner_of writer.new)) self.old (escaped_of bytes.now) self.new) }
         ensures err { OnErr result (EmitsFront (W.contents (inner_of writer.old)) (W.contents (inner_of writer.new)) self.old (escaped_of bytes.now)) }
         ensures fault { IfErr result (λ fault. fault ≡ RunFault.WriteFault) }
         ensures failed { has_failed writer.new ≡ (has_failed writer.old || is_err result) }
     {
-        if bytes.len() >= RUN && is_plain(&bytes[..RUN]) {
-            self.emit(writer, &bytes[..RUN])?;
-            return Ok(RUN);
+        if bytes.len() == RUN && is_plain(bytes) {
+            return self.emit(writer, bytes);
         }
-        let count = BLOCK.min(bytes.len());
-        self.emit_block(writer, &bytes[..count])?;
-        Ok(count)
+        self.emit_blocks(writer, bytes)
+    }
+
+    /// Puts the escapes of a run behind the others, a block at a time.
+    fn emit_blocks<W: Write>(&mut self, writer: &mut Told<W>, bytes: &[u8]) -> Result<(), RunFault>
+        ensures ok { OnOk result (Emits (W.contents (inner_of writer.old)) (W.contents (inner_of writer.new)) self.old (escaped_of bytes.now) self.new) }
+        ensures err { OnErr result (EmitsFront (W.contents (inner_of writer.old)) (W.contents (inner_of writer.new)) self.old (escaped_of bytes.now)) }
+        ensures fault { IfErr result (λ fault. fault ≡ RunFault.WriteFault) }
+        ensures failed { has_failed writer.new ≡ (has_failed writer.old || is_err result) }
+    {
+        let mut done = 0;
+        while done < bytes.len() {
+            let rest = &bytes[done..];
+            let count = BLOCK.min(rest.len());
+            self.emit_block(writer, &rest[..count])?;
+            done += count;
+        }
+        Ok(())
     }
 
     /// Puts the escapes of one block behind the others.
