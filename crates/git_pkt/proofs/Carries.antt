@@ -32,6 +32,7 @@ carry_open old new u sound m start bytes given rest r =
       rest ++ u,
       record {
         position = omega (arith, m.position, r.position, length-append bytes u);
+        within = omega (arith, m.position, r.position, length-append bytes u, new.within);
         splits = record {
           spelled = rw (append-nil given) (spells_all_more start bytes given rest u r.splits.spelled);
           ends = subst (λ (l : List ℕ). NoneBegins l) same (rest_is_partial new);
@@ -48,6 +49,7 @@ carry_whole old new u g sound m spells at start bytes given rest r =
       [],
       record {
         position = omega (arith, m.position, r.position, length-append bytes u);
+        within = omega (arith, m.position, r.position, length-append bytes u, new.within);
         splits = record {
           spelled = spells_all_whole start (bytes ++ u) given (rest ++ u) g (spells_all_more start bytes given rest u r.splits.spelled) spelled
               (omega (arith, at, m.position, r.position, ap length same, length-append bytes u));
@@ -68,6 +70,7 @@ carry_failed old new u f sound m start bytes given rest r =
       rest ++ u,
       record {
         position = end;
+        within = omega (arith, end, new.within);
         splits = record {
           spelled = rw (append-nil given) (spells_all_more start bytes given rest u r.splits.spelled);
           ends = subst (λ (l : List ℕ). NoneBegins l) same m.arrives.none;

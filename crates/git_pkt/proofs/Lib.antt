@@ -8,3 +8,7 @@ pub mod Pieces
 pub mod Written
 pub mod Escapes
 pub mod EngineLemmas
+pub mod Rests
+pub mod Texts
+pub mod Completions
+pub mod Cuttings

@@ -1,8 +1,8 @@
 -- What a packet reader stands for: the stream so far, its packets, and the rest.
-use Rattle.std.specs.Prelude.{◌≡◌, ◌≢◌, ℕ, ◌+◌, ◌-◌, ◌<◌, Bool, false, List, [], ◌∷◌, ◌++◌, length, take, Option, Some, None, if◌then◌else◌}
+use Rattle.std.specs.Prelude.{◌≡◌, ◌≢◌, ℕ, ◌+◌, ◌-◌, ◌<◌, ◌≤◌, Bool, false, List, [], ◌∷◌, ◌++◌, length, take, Option, Some, None, if◌then◌else◌}
 use Rattle.git_pkt.specs.Packets.{Spells, seen}
 use Rattle.git_pkt.specs.Splits.{Given, Splits}
-use Rattle.git_pkt.specs.Faults.{IsOpen, StopsBy}
+use Rattle.git_pkt.specs.Faults.{IsOpen, StopsBy, last_position}
 use Rattle.git_pkt.specs.declared.fault.Fault.{Fault}
 use Rattle.git_pkt.specs.declared.fault.Kind.TheVariants.{Truncated, StreamTooLong}
 use Rattle.git_pkt.specs.declared.reader.PacketReader.{PacketReader}
@@ -38,6 +38,7 @@ StandsAt (Some f) p end rest r = (is_open r ≡ false) × StopsBy p rest end f.k
 -- the reader has used these bytes of a stream that starts at `start`: they are the packets given, and a rest
 pub record Reads (r : PacketReader) (start : ℕ) (bytes : List ℕ) (given : List Given) (rest : List ℕ) : Type 0 where
   pub position : position_of r ≡ start + length bytes
+  pub within : start + length bytes ≤ last_position
   pub splits : Splits start bytes given rest
   pub state : StandsAt (fault_of r) (start + length bytes - length rest) (start + length bytes) rest r
 
@@ -80,3 +81,4 @@ pub record Feeds (old : PacketReader) (piece : List ℕ) (fed : Fed) (new : Pack
   pub tells : Tells fed.got fed.used piece new
   pub news : IsNews old piece fed
   pub stays : Repeats old fed new
+  pub keeps : fed.used ≡ 0 → held_of new ≡ held_of old

@@ -1,8 +1,13 @@
 //! What follows from the definitions alone: each law is the contract of a function without parameters.
 
-ghost use Rattle.std.specs.Prelude.{◌≡◌, ℕ, ◌≤◌, List, [], ◌++◌, length};
-ghost use Rattle.git_pkt.specs.Packets.{Pkt, Spells, body_of, spelling_of};
-ghost use Rattle.git_pkt.specs.Splits.{Given, Splits};
+ghost use Rattle.std.specs.Prelude.{◌≡◌, ◌≢◌, ◌⊎◌, ◌≤◌, ◌∷◌, ◌++◌, ℕ, List, [], Some, None, length, take};
+ghost use Rattle.git_pkt.specs.Packets.{Pkt, Spells, body_of, spelling_of, text_of};
+ghost use Rattle.git_pkt.specs.Splits.{Given, NoneBegins, Splits};
+ghost use Rattle.git_pkt.specs.Faults.{IsOpen, RestFault, ShowsAtEnd};
+ghost use Rattle.git_pkt.specs.Reading.{Reads, fault_of, position_of, rest_of};
+ghost use Rattle.git_pkt.specs.declared.fault.Fault.{Fault};
+ghost use Rattle.git_pkt.specs.declared.fault.Kind.TheVariants.{StreamTooLong, Truncated};
+ghost use Rattle.git_pkt.specs.declared.reader.PacketReader.{PacketReader};
 
 /// No spelling is a proper beginning of another.
 pub fn no_spelling_begins_another()
@@ -23,4 +28,72 @@ pub fn written_form_is_a_spelling()
 /// A spelling is that of one packet.
 pub fn spelling_of_one_packet()
     ensures { (p q : Pkt) (s : List ℕ) → Spells p s → Spells q s → p ≡ q }
+{}
+
+/// Every stream falls into packets and a rest.
+pub fn every_stream_splits()
+    ensures { (start : ℕ) (bytes : List ℕ) → (given : List Given) × (rest : List ℕ) × Splits start bytes given rest }
+{}
+
+/// A rest is open or has a fault, never both, and one fault at most.
+pub fn open_or_one_fault()
+    ensures either { (p : ℕ) (rest : List ℕ) → IsOpen rest ⊎ ((fault : Fault) × RestFault p rest fault) }
+    ensures never_both { (p : ℕ) (rest : List ℕ) (fault : Fault) → IsOpen rest → RestFault p rest fault → ⊥ }
+    ensures one { (p : ℕ) (rest : List ℕ) (fault other : Fault) → RestFault p rest fault → RestFault p rest other → fault ≡ other }
+{}
+
+/// A packet may still come of an open rest: it is a proper beginning of some packet's spelling.
+pub fn open_rest_begins_a_packet()
+    ensures { (rest : List ℕ) → IsOpen rest → NoneBegins rest
+        → (p : Pkt) × (more : List ℕ) × (more ≢ []) × Spells p (rest ++ more) }
+{}
+
+/// No packet comes of a rest that has a fault, whatever bytes follow.
+pub fn faulty_rest_begins_no_packet()
+    ensures { (p : ℕ) (rest more : List ℕ) (fault : Fault) → RestFault p rest fault → NoneBegins (rest ++ more) }
+{}
+
+/// More bytes leave a fault as it is.
+pub fn fault_stays()
+    ensures { (p : ℕ) (rest more : List ℕ) (fault : Fault) → RestFault p rest fault → RestFault p (rest ++ more) fault }
+{}
+
+/// A fault shows with one byte of the bytes that have it, wherever they were cut.
+pub fn fault_shows_with_one_byte()
+    ensures somewhere { (p : ℕ) (rest : List ℕ) (fault : Fault) → RestFault p rest fault
+        → (n : ℕ) × (n ≤ length rest) × RestFault p (take n rest) fault × ShowsAtEnd (take n rest) }
+    ensures once { (p q : ℕ) (shown more other later : List ℕ) (fault next : Fault) → shown ++ more ≡ other ++ later
+        → RestFault p shown fault → ShowsAtEnd shown → RestFault q other next → ShowsAtEnd other → shown ≡ other }
+{}
+
+/// Readers of the same bytes gave the same packets and have the same rest, however the bytes came.
+pub fn one_answer_however_cut()
+    ensures packets { (r s : PacketReader) (start : ℕ) (bytes : List ℕ) (given others : List Given) (rest other_rest : List ℕ)
+        → Reads r start bytes given rest → Reads s start bytes others other_rest → given ≡ others }
+    ensures remains { (r s : PacketReader) (start : ℕ) (bytes : List ℕ) (given others : List Given) (rest other_rest : List ℕ)
+        → Reads r start bytes given rest → Reads s start bytes others other_rest → rest ≡ other_rest }
+    ensures position { (r s : PacketReader) (start : ℕ) (bytes : List ℕ) (given others : List Given) (rest other_rest : List ℕ)
+        → Reads r start bytes given rest → Reads s start bytes others other_rest → position_of r ≡ position_of s }
+    ensures held { (r s : PacketReader) (start : ℕ) (bytes : List ℕ) (given others : List Given) (rest other_rest : List ℕ)
+        → Reads r start bytes given rest → Reads s start bytes others other_rest
+        → fault_of r ≡ None → fault_of s ≡ None → rest_of r ≡ rest_of s }
+{}
+
+/// A fault that the bytes show is told by every reader of them; the two others, for the end of the input and of
+/// the stream's positions, each stand at one offset.
+pub fn one_fault_however_cut()
+    ensures told_by_all { (r s : PacketReader) (start : ℕ) (bytes : List ℕ) (given others : List Given) (rest other_rest : List ℕ) (fault : Fault)
+        → Reads r start bytes given rest → Reads s start bytes others other_rest
+        → fault_of r ≡ Some fault → fault.kind ≢ Truncated → fault.kind ≢ StreamTooLong → fault_of s ≡ Some fault }
+    ensures one_by_name { (r s : PacketReader) (start : ℕ) (bytes : List ℕ) (given others : List Given) (rest other_rest : List ℕ) (fault other : Fault)
+        → Reads r start bytes given rest → Reads s start bytes others other_rest
+        → fault_of r ≡ Some fault → fault_of s ≡ Some other → fault.kind ≡ other.kind → fault ≡ other }
+{}
+
+/// A payload's text is the payload, or lacks one LF at its end and nothing else.
+pub fn text_lacks_one_line_end()
+    ensures one { (bytes : List ℕ) → (text_of bytes ≡ bytes) ⊎ (bytes ≡ text_of bytes ++ 10 ∷ []) }
+    ensures taken_off { (text : List ℕ) → text_of (text ++ 10 ∷ []) ≡ text }
+    ensures else_kept { (text : List ℕ) (byte : ℕ) → byte ≢ 10 → text_of (text ++ byte ∷ []) ≡ text ++ byte ∷ [] }
+    ensures nothing { text_of [] ≡ [] }
 {}

@@ -81,7 +81,8 @@ impl PacketReader {
 
     /// A reader of a stream that starts at offset 0.
     pub fn new() -> Self
-        ensures { Reads result 0 [] [] [] }
+        ensures reads { Reads result 0 [] [] [] }
+        ensures sound { fault_of result ≡ None }
     {
         Self::at(0)
     }
@@ -89,7 +90,8 @@ impl PacketReader {
     /// A reader of a stream whose first byte has this offset.
     pub fn at(offset: u64) -> Self
         requires { offset ≤ last_position }
-        ensures { Reads result offset [] [] [] }
+        ensures reads { Reads result offset [] [] [] }
+        ensures sound { fault_of result ≡ None }
     {
         PacketReader {
             hold: Hold::new(),
@@ -214,6 +216,7 @@ impl PacketReader {
         ensures all { result.progress ≡ Progress.Open → result.used ≡ length piece.now }
         ensures moves { Moves self.old (take result.used piece.now) result.progress self.new }
         ensures shown { IsShown result.progress result.used piece.now }
+        ensures keeps { result.used ≡ 0 → held_of self.new ≡ held_of self.old }
     {
         let room = (LAST_POSITION - self.position) as usize;
         if piece.len() <= room {
@@ -240,6 +243,7 @@ impl PacketReader {
         ensures all { result.progress ≡ Progress.Open → result.used ≡ length piece.now }
         ensures moves { Moves self.old (take result.used piece.now) result.progress self.new }
         ensures kind { IsOfPacket result.progress }
+        ensures keeps { result.used ≡ 0 → held_of self.new ≡ held_of self.old }
     {
         if !self.begun && piece.len() >= 4 {
             return self.begin(piece);
@@ -271,6 +275,7 @@ impl PacketReader {
     /// Ends the reading with a fault at this offset.
     fn stop(&mut self, kind: Kind, offset: u64) -> Progress
         ensures told { IsStopped self.old kind offset result self.new }
+        ensures held { held_of self.new ≡ held_of self.old }
     {
         let fault = Fault { kind, offset };
         self.begun = false;
@@ -324,6 +329,7 @@ impl PacketReader {
         ensures all { result.progress ≡ Progress.Open → result.used ≡ length piece.now }
         ensures moves { Moves self.old (take result.used piece.now) result.progress self.new }
         ensures kind { IsOfPacket result.progress }
+        ensures some { 0 < length piece.now → 0 < result.used }
     {
         let used = (self.field - self.count).min(piece.len());
         place(&mut self.hold, self.count, &piece[..used]);
@@ -353,6 +359,7 @@ impl PacketReader {
         ensures all { result.progress ≡ Progress.Open → result.used ≡ length piece.now }
         ensures moves { Moves self.old (take result.used piece.now) result.progress self.new }
         ensures kind { IsOfPacket result.progress }
+        ensures some { 0 < result.used }
     {
         let start = self.position;
         let field = match read_digits(piece) {

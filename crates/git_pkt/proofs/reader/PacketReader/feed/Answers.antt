@@ -22,6 +22,7 @@ returns-in-Open c =
           tells = (c.step-step.ensures.all c.in-Open.is, moves.arrives.no_fault);
           news = λ f sound is. absurd (cc);
           stays = λ f is. absurd (c.in_default.not-Some f is);
+          keeps = c.step-step.ensures.keeps;
         },
       ),
       record { after = tt; used = c.step-step.ensures.used },
@@ -44,6 +45,7 @@ returns-in-Failed c =
               let same : c.in-Failed.fault ≡ f = cc in
               subst (λ (g : Fault). ShownByFeed g c.step-step.result.used c.args.piece.now) same shown;
           stays = λ f is. absurd (c.in_default.not-Some f is);
+          keeps = c.step-step.ensures.keeps;
         },
       ),
       record { after = tt; used = c.step-step.ensures.used },
@@ -65,6 +67,7 @@ returns-in-Whole c =
           tells = (omega (arith, uses, length-take-le c.step-step.result.used c.args.piece.now c.step-step.ensures.used), moves.arrives.no_fault, moves.arrives.closed, c.packet.ensures, at);
           news = λ f sound is. absurd (cc);
           stays = λ f is. absurd (c.in_default.not-Some f is);
+          keeps = c.step-step.ensures.keeps;
         },
       ),
       record { after = tt; used = c.step-step.ensures.used },

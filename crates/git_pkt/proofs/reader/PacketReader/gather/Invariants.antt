@@ -1,8 +1,12 @@
-use Rattle.std.proofs.Common.{take}
+use Rattle.std.proofs.Common.{◌≡◌, take}
+use Rattle.git_pkt.specs.Reading.{held_of}
 use Rattle.git_pkt.specs.ReaderSteps.{Moves}
 use Rattle.git_pkt.specs.declared.reader.Progress.TheVariants.{Open}
 use Rattle.git_pkt.proofs.reader.PacketReader.gather.Given as goal
 
--- the bytes before this one have been gathered
+-- the bytes before this one have been gathered; before the first the hold is as it was
 abbrev pub invariant-loop-used : goal.invariant-loop-used
-invariant-loop-used l = Moves l.fn.self (take l.used l.piece) Open l.self
+invariant-loop-used l = record {
+  moves : Moves l.fn.self (take l.used l.piece) Open l.self;
+  keeps : l.used ≡ 0 → held_of l.self ≡ held_of l.fn.self;
+}

@@ -1,0 +1,129 @@
+#!/usr/bin/env bash
+# Measures the Rattle programs against the C programs beside this script, and prints a table.
+#
+#     bench/run.sh [BENCH_PACKETS [GIT2SHOW]]
+#
+# The arguments are the paths of the two Rattle programs; without them, where `rt run` leaves them in this repository.
+# `bench/run.sh --c-only` measures the C programs alone. The streams lie in a new folder of /tmp (or of $BENCH_FOLDER),
+# which is removed at the end, and take 1.5 GB. Times are wall-clock seconds, the best of five runs that alternate; a
+# ratio is C's time by ours, so 1.00 is as fast as C and more is faster.
+set -eu -o pipefail
+shopt -s inherit_errexit
+export LC_ALL=C
+
+top=$(cd "$(dirname "$0")/.." && pwd)
+out=$top/bench/out
+runs=5
+c_only=
+if [ "${1:-}" = --c-only ]; then
+    c_only=yes
+    shift
+fi
+our_packets=${1:-$top/crates/bench_packets/out/bench_packets}
+our_show=${2:-$top/crates/git2show/out/git2show}
+
+stop() {
+    echo "bench/run.sh: $*" >&2
+    exit 1
+}
+
+if [ -z "$c_only" ]; then
+    for program in "$our_packets" "$our_show"; do
+        [ -x "$program" ] || stop "no program $program: run 'rt run' in its crate first"
+    done
+fi
+
+mkdir -p "$out"
+for program in packets show generate; do
+    ${CC:-gcc} -O3 -Wall -Wextra -o "$out/$program" "$top/bench/$program.c"
+done
+
+streams=$(mktemp -d "${BENCH_FOLDER:-/tmp}/git2show-bench.XXXXXX")
+trap 'rm -rf "$streams"' EXIT
+free=$(df -Pk "$streams" | awk 'NR == 2 { print $4 }')
+[ "$free" -gt 2000000 ] || stop "$streams has ${free} KiB left, and 2,000,000 are wanted; set BENCH_FOLDER"
+
+# The counts give 1 GB, 200 MB, 250 MB and 10 GB.
+"$out/generate" 15264 65515 text > "$streams/large"
+"$out/generate" 3703704 50 text > "$streams/small"
+"$out/generate" 3816 65515 binary > "$streams/binary"
+huge() {
+    "$out/generate" 152640 65515 "$1"
+}
+
+# Prints how many microseconds the program took, with its input from a file and its output thrown away.
+microseconds() {
+    local input=$1 begin end
+    shift
+    begin=${EPOCHREALTIME/./}
+    "$@" < "$input" > /dev/null
+    end=${EPOCHREALTIME/./}
+    echo $((end - begin))
+}
+
+row() {
+    awk -v name="$1" -v bytes="$2" -v c="$3" -v ours="$4" 'BEGIN {
+        printf "%-34s %8.3f s %6.2f GB/s", name, c / 1e6, bytes / c / 1000
+        if (ours > 0) printf "   %8.3f s %6.2f GB/s   %6.2f", ours / 1e6, bytes / ours / 1000, c / ours
+        printf "\n"
+    }'
+}
+
+# measure NAME STREAM C-PROGRAM OUR-PROGRAM [ARGUMENT]
+measure() {
+    local name=$1 input=$streams/$2 c=$3 ours=$4 best_c=0 best_ours=0 time i
+    shift 4
+    for ((i = 0; i < runs; i++)); do
+        time=$(microseconds "$input" "$c")
+        if [ "$best_c" = 0 ] || [ "$time" -lt "$best_c" ]; then best_c=$time; fi
+        [ -z "$c_only" ] || continue
+        time=$(microseconds "$input" "$ours" "$@")
+        if [ "$best_ours" = 0 ] || [ "$time" -lt "$best_ours" ]; then best_ours=$time; fi
+    done
+    row "$name" "$(wc -c < "$input")" "$best_c" "$best_ours"
+}
+
+same_output() {
+    local stream
+    for stream in large small; do
+        [ "$("$our_packets" < "$streams/$stream")" = "$("$out/packets" < "$streams/$stream")" ] ||
+            stop "bench_packets and packets.c differ on the stream '$stream'"
+    done
+    for stream in large small binary; do
+        cmp <("$our_show" show < "$streams/$stream") <("$out/show" < "$streams/$stream") ||
+            stop "git2show show and show.c differ on the stream '$stream'"
+    done
+    echo "Output: the same as C's, byte for byte, on every stream."
+}
+
+# Prints the greatest resident set, in KiB, of a program that reads standard input.
+peak_memory() {
+    if [ -x /usr/bin/time ]; then
+        /usr/bin/time -f %M -o "$streams/peak" "$@" > /dev/null
+        cat "$streams/peak"
+    else
+        python3 -c '
+import resource, subprocess, sys
+subprocess.run(sys.argv[1:], stdout=subprocess.DEVNULL, check=True)
+print(resource.getrusage(resource.RUSAGE_CHILDREN).ru_maxrss)' "$@"
+    fi
+}
+
+echo "$(nproc) processors, load $(cut -d ' ' -f 1 /proc/loadavg); $(${CC:-gcc} --version | head -n 1), -O3; best of $runs"
+echo
+printf '%-34s %22s   %22s   %6s\n' '' 'C' 'Rattle' 'ratio'
+measure 'packets, 65,515 bytes, 1 GB' large "$out/packets" "$our_packets"
+measure 'packets, 50 bytes, 200 MB' small "$out/packets" "$our_packets"
+measure 'show, 65,515 text, 1 GB' large "$out/show" "$our_show" show
+measure 'show, 50 text, 200 MB' small "$out/show" "$our_show" show
+measure 'show, 65,515 binary, 250 MB' binary "$out/show" "$our_show" show
+echo
+if [ -z "$c_only" ]; then
+    same_output
+fi
+c_peak=$(huge text | peak_memory "$out/show")
+echo "Peak resident set on 10 GB from a pipe: show.c $c_peak KiB."
+if [ -z "$c_only" ]; then
+    our_peak=$(huge text | peak_memory "$our_show" show)
+    echo "Peak resident set on 10 GB from a pipe: git2show show $our_peak KiB."
+fi

@@ -1,0 +1,98 @@
+//! Counts the packets of standard input and the bytes of their payloads, and prints one line,
+//! `packets bytes checksum`, or tells the first fault. This is `PacketReader` as a caller uses it, for
+//! `bench/run.sh` to measure beside `bench/packets.c`.
+#![tactic(auto)]
+
+ghost use Rattle.std.specs.Prelude.{◌≡◌, ◌+◌, ◌%◌, ◌^◌, length};
+ghost use Rattle.git_pkt.specs.Packets.{body_of, seen};
+
+use git_pkt::{Fault, Got, Packet, PacketReader};
+use std::io::{self, Read};
+use std::process::ExitCode;
+
+/// How many bytes of input are read at a time.
+const PIECE_BYTES: usize = 65_536;
+
+/// What is told of a stream; each number wraps at 2^64, as it does in C.
+#[derive(Clone, Copy, Debug)]
+struct Counts {
+    packets: u64,
+    bytes: u64,
+    /// Of the length and the first byte of each payload.
+    checksum: u64,
+}
+
+impl Counts {
+    fn none() -> Self
+        ensures packets { result.packets ≡ 0 }
+        ensures bytes { result.bytes ≡ 0 }
+    {
+        Counts {
+            packets: 0,
+            bytes: 0,
+            checksum: 0,
+        }
+    }
+
+    /// Counts one more packet.
+    fn add(&mut self, packet: Packet<'_>)
+        ensures packets { self.new.packets ≡ (self.old.packets + 1) % 2 ^ 64 }
+        ensures bytes { self.new.bytes ≡ (self.old.bytes + length (body_of (seen packet.entry))) % 2 ^ 64 }
+    {
+        let (length, mark) = match packet {
+            Packet::Flush => (0, 0x100_0000),
+            Packet::Delim => (0, 0x100_0001),
+            Packet::RespEnd => (0, 0x100_0002),
+            Packet::Payload(payload) => {
+                let length = payload.len() as u64;
+                let first = payload.first().copied().unwrap_or(0);
+                (length, (u64::from(first) * 65_536).wrapping_add(length))
+            }
+        };
+        self.packets = self.packets.wrapping_add(1);
+        self.bytes = self.bytes.wrapping_add(length);
+        self.checksum = self.checksum.wrapping_mul(31).wrapping_add(mark);
+    }
+}
+
+/// Counts the packets that a piece makes whole.
+fn count_piece(reader: &mut PacketReader, piece: &[u8], counts: &mut Counts) -> Result<(), Fault> {
+    let mut rest = piece;
+    while !rest.is_empty() {
+        let fed = reader.feed(rest);
+        match fed.got {
+            Got::More => return Ok(()),
+            Got::Packet(packet, _) => counts.add(packet),
+            Got::Failed(fault) => return Err(fault),
+        }
+        rest = &rest[fed.used..];
+    }
+    Ok(())
+}
+
+/// Tells a fault on standard error.
+fn refuse(rt: &impl Eprint, fault: Fault) -> io::Result<ExitCode> {
+    eprintln!(rt; "bench_packets: {:?} at {}", fault.kind, fault.offset)?;
+    Ok(ExitCode::FAILURE)
+}
+
+fn main(rt: HostRuntime) -> io::Result<ExitCode> {
+    let mut input = rt.stdin();
+    let mut piece = vec![in rt.alloc(); 0; PIECE_BYTES]?;
+    let mut reader = PacketReader::new();
+    let mut counts = Counts::none();
+    for _ in 0..u64::MAX {
+        let count = input.read(piece.as_mut_slice())?;
+        if count == 0 {
+            break;
+        }
+        if let Err(fault) = count_piece(&mut reader, &piece[..count], &mut counts) {
+            return refuse(&rt, fault);
+        }
+    }
+    if let Err(fault) = reader.close() {
+        return refuse(&rt, fault);
+    }
+    println!(rt; "{} {} {}", counts.packets, counts.bytes, counts.checksum)?;
+    Ok(ExitCode::SUCCESS)
+}

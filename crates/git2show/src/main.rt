@@ -1,0 +1,126 @@
+//! The program `git2show`: shows the packets of Git's wire protocol.
+#![tactic(auto)]
+
+use clap::error::ErrorKind;
+use clap::{ArgMatches, Command, Error};
+use git_pkt::{RunFault, Told};
+use git2show_lib::{ProgramFault, report, show};
+use std::alloc::{AllocError, Global};
+use std::env;
+use std::io;
+use std::process::ExitCode;
+
+/// How many bytes are read at a time.
+const PIECE: usize = 65_536;
+
+/// How many reads a run makes at the most.
+const TURNS: u64 = 1_073_741_824;
+
+/// The status where the command line is refused.
+const BAD_COMMAND_LINE: u8 = 2;
+
+/// What the words after the program's name may be.
+fn command<'a>(alloc: Global) -> Result<Command<'a>, AllocError> {
+    Command::new(alloc, "git2show")
+        .version("0.1.0")
+        .about("Shows conversations of Git's wire protocol, version 2")
+        .subcommand_required(true)
+        .subcommand(
+            Command::new(alloc, "show").about("Shows each packet of standard input on a line"),
+        )
+}
+
+/// Shows the packets of standard input.
+fn run_show(rt: &HostRuntime) -> Result<(), ProgramFault> {
+    let mut reader = Told::new(rt.stdin());
+    let mut writer = Told::new(rt.stdout());
+    let mut piece = [0; PIECE];
+    show(&mut reader, &mut writer, &mut piece, TURNS).map_err(ProgramFault::Run)
+}
+
+/// Does what the command line asks for.
+fn run(rt: &HostRuntime, matches: &ArgMatches<'_>) -> Result<(), ProgramFault> {
+    match matches.subcommand_name() {
+        Some("show") => run_show(rt),
+        _ => Ok(()),
+    }
+}
+
+/// Why the command line was not taken.
+#[derive(Debug, Drop)]
+enum NotTaken {
+    /// Memory ran out.
+    Memory,
+    /// A word is no UTF-8.
+    Words,
+    /// clap refuses the words, or was asked for help or the version.
+    Clap(Error),
+}
+
+impl From<AllocError> for NotTaken {
+    fn from(_error: AllocError) -> NotTaken {
+        NotTaken::Memory
+    }
+}
+
+impl From<Error> for NotTaken {
+    fn from(error: Error) -> NotTaken {
+        match error.kind() {
+            ErrorKind::OutOfMemory => NotTaken::Memory,
+            _ => NotTaken::Clap(error),
+        }
+    }
+}
+
+impl From<io::Error> for NotTaken {
+    fn from(error: io::Error) -> NotTaken {
+        match error.kind() {
+            io::ErrorKind::OutOfMemory => NotTaken::Memory,
+            _ => NotTaken::Words,
+        }
+    }
+}
+
+/// Reads the command line and does what it asks for. Answers the status.
+fn status(rt: &HostRuntime) -> Result<u8, NotTaken> {
+    let alloc = rt.alloc();
+    let words: Vec<String> = env::args(rt)?.collect(alloc)?;
+    let matches = command(alloc)?.try_get_matches_from(words.as_slice())?;
+    Ok(match run(rt, &matches) {
+        Ok(()) => 0,
+        Err(fault) => tell_fault(rt, fault),
+    })
+}
+
+/// Tells why the command line was not taken, by clap's own text. Answers the status.
+fn tell(rt: &HostRuntime, error: NotTaken) -> u8 {
+    match error {
+        NotTaken::Memory => tell_fault(rt, ProgramFault::OutOfMemory),
+        NotTaken::Words => {
+            let _ = rt.eprintln("error: an argument is not UTF-8");
+            BAD_COMMAND_LINE
+        }
+        NotTaken::Clap(error) => {
+            let printed = error.print(rt);
+            if error.use_stderr() {
+                return BAD_COMMAND_LINE;
+            }
+            match printed {
+                Ok(()) => 0,
+                Err(_) => tell_fault(rt, ProgramFault::Run(RunFault::WriteFault)),
+            }
+        }
+    }
+}
+
+/// Writes a fault's line on standard error. Answers the status.
+fn tell_fault(rt: &HostRuntime, fault: ProgramFault) -> u8 {
+    report(&fault, &mut Told::new(rt.stderr()))
+}
+
+fn main(rt: HostRuntime) -> ExitCode {
+    ExitCode::from(match status(&rt) {
+        Ok(status) => status,
+        Err(error) => tell(&rt, error),
+    })
+}

@@ -1,0 +1,5 @@
+//! Tests of what `git2show` does, over streams in memory.
+#![tactic(auto)]
+
+#[cfg(test)]
+mod show;

@@ -1,0 +1,6 @@
+pub mod Beginnings
+pub mod ObjectNames
+pub mod Pairs
+pub mod RefNames
+pub mod Tables
+pub mod WrittenForms

@@ -1,0 +1,77 @@
+-- Pairs of digits, and the texts of the crate `hex`.
+use Rattle.std.proofs.Common.{◌≡◌, ℕ, zero, suc, ◌+◌, ◌*◌, ◌<◌, List, [], ◌∷◌, length, slice_index, Result, Ok, Err, refl, arith}
+use Rattle.std.specs.Prelude.{IsOk, OnOk}
+use Rattle.hex.specs.Hex.{encode_with, lower_digits}
+use Rattle.hex.specs.declared.error.FromHexError.{FromHexError}
+use Rattle.git_names.specs.ObjectName.{ArePairs, IsPair, digit_value, hex_text}
+
+-- pairs have two digits for each byte
+pub length-pairs : (text bytes : List ℕ) → ArePairs text bytes → length text ≡ 2 * length bytes
+unfolding ArePairs
+length-pairs [] [] h = refl
+length-pairs [] (byte ∷ bytes) h = absurd h
+length-pairs (high ∷ []) bytes h = absurd h
+length-pairs (high ∷ low ∷ text) [] h = absurd h
+length-pairs (high ∷ low ∷ text) (byte ∷ bytes) h =
+    let more = length-pairs text bytes h.1 in
+    omega arith
+
+-- the pair of each byte
+pub pair_at : (text bytes : List ℕ) (k : ℕ) → ArePairs text bytes → k < length bytes
+    → IsPair (slice_index text (2 * k)) (slice_index text (2 * k + 1)) (slice_index bytes k)
+unfolding ArePairs
+pair_at [] [] k h lt = absurd (omega arith)
+pair_at [] (byte ∷ bytes) k h lt = absurd h
+pair_at (high ∷ []) bytes k h lt = absurd h
+pair_at (high ∷ low ∷ text) [] k h lt = absurd h
+pair_at (high ∷ low ∷ text) (byte ∷ bytes) zero h lt = h.0
+pair_at (high ∷ low ∷ text) (byte ∷ bytes) (suc k) h lt =
+    let first : 2 * suc k ≡ suc (suc (2 * k)) = omega arith in
+    let second : 2 * suc k + 1 ≡ suc (suc (2 * k + 1)) = omega arith in
+    rw (second, first) (pair_at text bytes k h.1 (omega arith))
+
+-- a text with a pair for each byte
+pub pairs_from : (text bytes : List ℕ) → length text ≡ 2 * length bytes
+    → ((k : ℕ) → k < length bytes → IsPair (slice_index text (2 * k)) (slice_index text (2 * k + 1)) (slice_index bytes k))
+    → ArePairs text bytes
+unfolding ArePairs
+pairs_from [] [] long h = tt
+pairs_from [] (byte ∷ bytes) long h = absurd (omega arith)
+pairs_from (high ∷ []) [] long h = absurd (omega arith)
+pairs_from (high ∷ []) (byte ∷ bytes) long h = absurd (omega arith)
+pairs_from (high ∷ low ∷ text) [] long h = absurd (omega arith)
+pairs_from (high ∷ low ∷ text) (byte ∷ bytes) long h = (
+  h 0 (omega arith),
+  pairs_from text bytes (omega arith) (λ k lt.
+      let first : 2 * suc k ≡ suc (suc (2 * k)) = omega arith in
+      let second : 2 * suc k + 1 ≡ suc (suc (2 * k + 1)) = omega arith in
+      rw (second, first) at (h (suc k) (omega arith))),
+)
+
+-- no bytes of that number are spelled
+abbrev pub SpellsNone : List ℕ → ℕ → Type 0
+SpellsNone text n = (bytes : List ℕ) → length bytes ≡ n → ¬ ArePairs text bytes
+
+-- a text of another length spells none
+pub spells_none-length : (text : List ℕ) (n : ℕ) → (length text ≡ 2 * n → ⊥) → SpellsNone text n
+spells_none-length text n other bytes long h =
+    let twice = length-pairs text bytes h in
+    other (omega arith)
+
+-- a text with a byte that is no digit spells none
+pub spells_none-digit : (text : List ℕ) (n k : ℕ) → k < n
+    → (digit_value (slice_index text (2 * k)) < 16 → digit_value (slice_index text (2 * k + 1)) < 16 → ⊥) → SpellsNone text n
+spells_none-digit text n k lt bad bytes long h =
+    let p = pair_at text bytes k h (omega arith) in
+    bad p.high_digit p.low_digit
+
+-- the lower case text of `hex`
+pub encode_lower-text : (bytes : List ℕ) → encode_with lower_digits bytes ≡ hex_text bytes
+unfolding encode_with hex_text
+encode_lower-text [] = refl
+encode_lower-text (byte ∷ bytes) = rw (encode_lower-text bytes) refl
+
+-- what an answer says where it is Ok
+pub at_ok : (r : Result Unit FromHexError) (P : Type 0) → IsOk r → OnOk r P → P
+at_ok (Ok t) P ok h = h
+at_ok (Err e) P ok h = absurd (cc ok)

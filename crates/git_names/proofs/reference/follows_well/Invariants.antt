@@ -1,0 +1,6 @@
+use Rattle.std.proofs.Common.{ℕ, ◌<◌, take, slice_index}
+use Rattle.git_names.specs.Following.{MayFollow}
+use Rattle.git_names.proofs.reference.follows_well.Given as goal
+
+abbrev pub invariant-loop-i : goal.invariant-loop-i
+invariant-loop-i l = (k : ℕ) → k < l.i → MayFollow (take k l.text) (slice_index l.text k)

@@ -1,0 +1,4 @@
+pub mod Following
+pub mod ObjectFormat
+pub mod ObjectName
+pub mod RefName

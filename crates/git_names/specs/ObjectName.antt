@@ -1,0 +1,71 @@
+-- What object names are, as texts and as values.
+use Rattle.std.specs.Prelude.{◌≡◌, ℕ, ◌+◌, ◌-◌, ◌*◌, ◌/◌, ◌%◌, ◌<◌, Bool, nat_le, ◌&&◌, ◌||◌, if◌then◌else◌, List, [], ◌∷◌, length, take, drop, replicate, slice_index, codes}
+use Rattle.git_names.specs.declared.object_format.Format.{Format}
+use Rattle.git_names.specs.ObjectFormat.{width_of, digits_of}
+
+-- an object name: its format, and 32 bytes, of which a shorter format uses the first
+pub record ObjectName : Type 0 where
+  pub format : Format
+  pub bytes : List ℕ
+
+-- the bytes that an object name stands for
+abbrev pub name_bytes : ObjectName → List ℕ
+name_bytes id = take (width_of id.format) id.bytes
+
+-- the bytes that the format does not use are zero
+abbrev pub IsPadded : ObjectName → Type 0
+IsPadded id = drop (width_of id.format) id.bytes ≡ replicate (32 - width_of id.format) 0
+
+-- the value of a hexadecimal digit of either case, and 16 for any other byte
+abbrev pub digit_value : ℕ → ℕ
+digit_value c =
+    if nat_le 48 c && nat_le c 57 then c - 48
+    else if nat_le 65 c && nat_le c 70 then c - 55
+    else if nat_le 97 c && nat_le c 102 then c - 87
+    else 16
+
+-- two digits that spell a byte, the high four bits first
+pub record IsPair (high low byte : ℕ) : Type 0 where
+  pub high_digit : digit_value high < 16
+  pub low_digit : digit_value low < 16
+  pub value : byte ≡ digit_value high * 16 + digit_value low
+
+-- the text spells the bytes, two digits for each
+unfoldable pub ArePairs : List ℕ → List ℕ → Type 0
+ArePairs [] [] = Unit {0}
+ArePairs (high ∷ low ∷ text) (byte ∷ bytes) = IsPair high low byte × ArePairs text bytes
+ArePairs _ _ = ⊥
+
+-- the text is an object name of the format, and `id` is what it names
+pub record IsObjectName (format : Format) (text : List ℕ) (id : ObjectName) : Type 0 where
+  pub count : length text ≡ digits_of format
+  pub of_format : id.format ≡ format
+  pub pairs : ArePairs text (name_bytes id)
+  pub padded : IsPadded id
+
+-- the text is no object name of the format
+abbrev pub IsNoObjectName : Format → List ℕ → Type 0
+IsNoObjectName format text = (id : ObjectName) → ¬ IsObjectName format text id
+
+-- the digit of a value below 16, in lower case
+abbrev pub lower_digit : ℕ → ℕ
+lower_digit d = slice_index (codes "0123456789abcdef") d
+
+-- the bytes in lower case digits, two for each
+unfoldable pub hex_text : List ℕ → List ℕ
+hex_text [] = []
+hex_text (byte ∷ bytes) = lower_digit (byte / 16) ∷ lower_digit (byte % 16) ∷ hex_text bytes
+
+-- the written form of an object name
+abbrev pub hex_of : ObjectName → List ℕ
+hex_of id = hex_text (name_bytes id)
+
+-- a value that object names have: 32 bytes, and those behind the format's width are zero
+pub record IsOid (id : ObjectName) : Type 0 where
+  pub size : length id.bytes ≡ 32
+  pub in_range : (i : ℕ) → slice_index id.bytes i < 256
+  pub padded : IsPadded id
+
+-- the byte is a digit in lower case
+abbrev pub is_lower_digit : ℕ → Bool
+is_lower_digit c = (nat_le 48 c && nat_le c 57) || (nat_le 97 c && nat_le c 102)

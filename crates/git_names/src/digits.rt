@@ -1,0 +1,62 @@
+//! Bytes as pairs of hexadecimal digits.
+ghost use Rattle.std.specs.Prelude.{◌≡◌, ◌*◌, ◌≤◌, List, ℕ, length, MatchBool};
+ghost use Rattle.git_names.specs.ObjectName.{ArePairs, digit_value, hex_text};
+
+// The value of each byte as a digit of either case, and 16 where it is none; a row has 16 bytes.
+// Object names stand in nearly every line, and a table has no branch for the processor to guess.
+static DIGIT_VALUES: [u8; 256] = *b"\
+    \x10\x10\x10\x10\x10\x10\x10\x10\x10\x10\x10\x10\x10\x10\x10\x10\
+    \x10\x10\x10\x10\x10\x10\x10\x10\x10\x10\x10\x10\x10\x10\x10\x10\
+    \x10\x10\x10\x10\x10\x10\x10\x10\x10\x10\x10\x10\x10\x10\x10\x10\
+    \x00\x01\x02\x03\x04\x05\x06\x07\x08\x09\x10\x10\x10\x10\x10\x10\
+    \x10\x0a\x0b\x0c\x0d\x0e\x0f\x10\x10\x10\x10\x10\x10\x10\x10\x10\
+    \x10\x10\x10\x10\x10\x10\x10\x10\x10\x10\x10\x10\x10\x10\x10\x10\
+    \x10\x0a\x0b\x0c\x0d\x0e\x0f\x10\x10\x10\x10\x10\x10\x10\x10\x10\
+    \x10\x10\x10\x10\x10\x10\x10\x10\x10\x10\x10\x10\x10\x10\x10\x10\
+    \x10\x10\x10\x10\x10\x10\x10\x10\x10\x10\x10\x10\x10\x10\x10\x10\
+    \x10\x10\x10\x10\x10\x10\x10\x10\x10\x10\x10\x10\x10\x10\x10\x10\
+    \x10\x10\x10\x10\x10\x10\x10\x10\x10\x10\x10\x10\x10\x10\x10\x10\
+    \x10\x10\x10\x10\x10\x10\x10\x10\x10\x10\x10\x10\x10\x10\x10\x10\
+    \x10\x10\x10\x10\x10\x10\x10\x10\x10\x10\x10\x10\x10\x10\x10\x10\
+    \x10\x10\x10\x10\x10\x10\x10\x10\x10\x10\x10\x10\x10\x10\x10\x10\
+    \x10\x10\x10\x10\x10\x10\x10\x10\x10\x10\x10\x10\x10\x10\x10\x10\
+    \x10\x10\x10\x10\x10\x10\x10\x10\x10\x10\x10\x10\x10\x10\x10\x10";
+
+// The value of a digit, and 16 for a byte that is none.
+fn digit(byte: u8) -> u8
+    ensures { result ≡ digit_value byte }
+{
+    DIGIT_VALUES[byte as usize]
+}
+
+// Reads a pair of digits for each byte of `out`. Where `text` is something else the answer is
+// false, and `out` is of no use.
+pub(crate) fn read_pairs(text: &[u8], out: &mut [u8]) -> bool
+    requires { length out.old ≤ 32 }
+    ensures { MatchBool result (ArePairs text.now out.new)
+        ((bytes : List ℕ) → length bytes ≡ length out.old → ¬ ArePairs text.now bytes) }
+{
+    if text.len() != 2 * out.len() {
+        return false;
+    }
+    'pairs: for i in 0..out.len() {
+        let high = digit(text[2 * i]);
+        let low = digit(text[2 * i + 1]);
+        if high > 15 {
+            return false;
+        }
+        if low > 15 {
+            return false;
+        }
+        out[i] = high * 16 + low;
+    }
+    true
+}
+
+// Writes the bytes as pairs of lower case digits.
+pub(crate) fn write_pairs(bytes: &[u8], out: &mut [u8])
+    requires { length out.old ≡ 2 * length bytes.now }
+    ensures { out.new ≡ hex_text bytes.now }
+{
+    let _ = hex::encode_to_slice(bytes, out);
+}

@@ -1,0 +1,22 @@
+use std::error::Error;
+use std::fmt;
+
+/// Why a text is no name.
+#[derive(Clone, Copy, Debug, PartialEq, Eq, Hash)]
+pub enum NameFault {
+    /// The text is no object name of the format that was asked for.
+    BadObjectName,
+    /// The text is no reference name.
+    BadRefName,
+}
+
+impl fmt::Display for NameFault {
+    fn fmt<W: fmt::Write>(&self, f: &mut fmt::Formatter<W>) -> fmt::Result {
+        f.write_str(match self {
+            NameFault::BadObjectName => "BadObjectName",
+            NameFault::BadRefName => "BadRefName",
+        })
+    }
+}
+
+impl Error for NameFault {}

@@ -1,0 +1,59 @@
+//! Laws of names: each function does nothing, and its contract is the law.
+ghost use Rattle.std.specs.Prelude.{◌≡◌, ℕ, ◌<◌, ◌⊎◌, List, [], ◌++◌, codes, length, slice_index};
+ghost use Rattle.std.specs.List.{AllPass};
+ghost use Rattle.git_names.specs.ObjectName.{IsObjectName, IsOid, ObjectName, digit_value, hex_of, is_lower_digit};
+ghost use Rattle.git_names.specs.RefName.{IsRefName, Lacks};
+ghost use Rattle.git_names.specs.declared.object_format.Format.{Format as ObjectFormat};
+
+/// What is written of an object name reads back as that name.
+pub fn written_name_reads_back()
+    ensures { (id : ObjectName) → IsOid id → IsObjectName id.format (hex_of id) id }
+{}
+
+/// A text is one object name of a format at most.
+pub fn text_is_one_object_name()
+    ensures { (format : ObjectFormat) (text : List ℕ) (a b : ObjectName)
+        → IsObjectName format text a → IsObjectName format text b → a ≡ b }
+{}
+
+/// The texts of an object name in lower case are one: its written form.
+pub fn object_name_has_one_written_form()
+    ensures lower { (id : ObjectName) → IsOid id → AllPass is_lower_digit (hex_of id) }
+    ensures one { (format : ObjectFormat) (text : List ℕ) (id : ObjectName)
+        → IsObjectName format text id → AllPass is_lower_digit text → text ≡ hex_of id }
+{}
+
+/// Object names with one written form are equal, their formats too.
+pub fn written_forms_tell_names_apart()
+    ensures { (a b : ObjectName) → IsOid a → IsOid b → hex_of a ≡ hex_of b → a ≡ b }
+{}
+
+/// No object name is the beginning of a longer one of its format.
+pub fn no_object_name_begins_another()
+    ensures { (format : ObjectFormat) (text more : List ℕ) (a b : ObjectName)
+        → IsObjectName format text a → IsObjectName format (text ++ more) b → more ≡ [] }
+{}
+
+/// An object name is digits: no byte of it ends a word or a line.
+pub fn object_name_is_digits()
+    ensures { (format : ObjectFormat) (text : List ℕ) (id : ObjectName) → IsObjectName format text id
+        → (k : ℕ) → k < length text → digit_value (slice_index text k) < 16 }
+{}
+
+/// Each object name that a text spells is a value of [`Oid`](crate::Oid).
+pub fn object_name_is_an_oid()
+    ensures { (format : ObjectFormat) (text : List ℕ) (id : ObjectName) → IsObjectName format text id → IsOid id }
+{}
+
+/// A reference name is `HEAD`, or `refs/` with more behind it.
+pub fn ref_name_begins()
+    ensures { (text : List ℕ) → IsRefName text
+        → (text ≡ codes "HEAD") ⊎ ((rest : List ℕ) × (text ≡ codes "refs/" ++ rest) × (0 < length rest)) }
+{}
+
+/// A reference name has no byte that ends a line or a word: no NUL, line feed or space.
+pub fn ref_name_ends_no_line_or_word()
+    ensures nul { (text : List ℕ) → IsRefName text → Lacks text 0 }
+    ensures line_feed { (text : List ℕ) → IsRefName text → Lacks text 10 }
+    ensures space { (text : List ℕ) → IsRefName text → Lacks text 32 }
+{}

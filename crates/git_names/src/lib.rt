@@ -1,0 +1,19 @@
+//! Names in Git's protocol: object formats, object names and reference names, read from the bytes
+//! of a stranger and written back, and the counter of steps that contracts speak of.
+#![tactic(auto)]
+
+mod counter;
+mod digits;
+mod fault;
+pub mod laws;
+mod object_format;
+mod object_name;
+mod reference;
+#[cfg(test)]
+mod tests;
+
+pub use crate::counter::Steps;
+pub use crate::fault::NameFault;
+pub use crate::object_format::Format;
+pub use crate::object_name::Oid;
+pub use crate::reference::RefName;

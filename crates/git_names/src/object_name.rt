@@ -1,0 +1,67 @@
+ghost use Rattle.std.specs.Prelude.{◌≡◌, MatchResult, take, drop};
+ghost use Rattle.git_names.specs.ObjectFormat.{digits_of};
+ghost use Rattle.git_names.specs.ObjectName.{IsObjectName, IsNoObjectName, IsOid, hex_of};
+
+use crate::digits::{read_pairs, write_pairs};
+use crate::fault::NameFault;
+use crate::object_format::Format;
+use std::marker::Model;
+
+/// An object name, as in gitprotocol-common(5): the hash of an object, as a value of 33 bytes. Two
+/// names are equal where their formats and bytes are; those of one format are in order of bytes.
+#[derive(Clone, Copy, Debug, Hash, PartialEq, Eq, PartialOrd, Ord)]
+pub struct Oid {
+    format: Format,
+    // Behind the format's width these are zero.
+    bytes: [u8; 32],
+}
+
+impl Model for Oid {
+    ghost use Rattle.git_names.specs.ObjectName.{ObjectName, IsOid};
+
+    ghost Value = { ObjectName };
+
+    ghost view = { λ o. record { format = o.format; bytes = o.bytes } };
+
+    ghost invariant = { λ o. IsOid (record { format = o.format; bytes = o.bytes }) };
+
+    ghost inverse = { λ id. record { format = id.format; bytes = id.bytes } };
+}
+
+const _: () = prove!(size_of::<Oid>() == 33);
+
+impl Oid {
+    /// The object name that `text` spells: exactly as many hexadecimal digits as the format has,
+    /// of either case. Any other text is `BadObjectName`.
+    pub fn read(format: Format, text: &[u8]) -> Result<Oid, NameFault>
+        ensures { MatchResult result (IsObjectName format text.now)
+            (λ fault. (fault ≡ NameFault.BadObjectName) × IsNoObjectName format text.now) }
+    {
+        let mut bytes = [0; 32];
+        if !read_pairs(text, &mut bytes[..format.width()]) {
+            return Err(NameFault::BadObjectName);
+        }
+        Ok(Oid { format, bytes })
+    }
+
+    /// Writes the name in lower case digits to the front of `out`, and says how many there are.
+    /// The bytes of `out` behind them stay as they were.
+    pub fn write(&self, out: &mut [u8; 64]) -> usize
+        ensures count { result ≡ digits_of self.now.format }
+        ensures text { take result out.new ≡ hex_of self.now }
+        ensures rest { drop result out.new ≡ drop result out.old }
+        ensures reads_back { IsObjectName self.now.format (hex_of self.now) self.now }
+    {
+        let digits = self.format.digits();
+        write_pairs(&self.bytes[..self.format.width()], &mut out[..digits]);
+        digits
+    }
+
+    /// The format of the name.
+    pub fn format(&self) -> Format
+        ensures value { result ≡ self.now.format }
+        ensures valid { IsOid self.now }
+    {
+        self.format
+    }
+}

@@ -1,0 +1,122 @@
+ghost use Rattle.std.specs.Prelude.{◌≡◌, ◌≢◌, ℕ, ◌<◌, ◌↔◌, codes, length, slice_index, take, IsTrue, MatchResult};
+ghost use Rattle.git_names.specs.RefName.{BeginsWith, IsRefName};
+ghost use Rattle.git_names.specs.Following.{IsPlain, MayFollow};
+
+use crate::fault::NameFault;
+use bstr::ByteSlice;
+use std::marker::Model;
+
+/// A reference name: `HEAD`, or a name below `refs/` of at most 32,000 bytes that keeps the rules of
+/// git-check-ref-format(1). Bytes from 0x80 on are allowed.
+#[derive(Debug, Drop)]
+pub struct RefName<'a> {
+    text: &'a [u8],
+}
+
+impl<'a> Model for RefName<'a> {
+    ghost use Rattle.std.specs.Prelude.{List, ℕ};
+    ghost use Rattle.git_names.specs.RefName.{BeginsWith, IsRefName};
+
+    ghost Value = { List ℕ };
+
+    ghost view = { λ name. name.text.now };
+
+    ghost invariant = { λ name. IsRefName name.text.now };
+}
+
+// The most bytes that a reference name may have.
+const MOST_BYTES: usize = 32_000;
+
+// A dot stands in the place of each byte that some rule speaks of. At the others is the byte
+// itself, or an x for those from 0x80 on.
+static PLAIN_BYTES: [u8; 256] = *b"\
+    ................................\
+    .!\"#$%&'().+,-..0123456789.;<=>.\
+    @ABCDEFGHIJKLMNOPQRSTUVWXYZ..]._\
+    `abcdefghijklmnopqrstuvwxyz.|}..\
+    xxxxxxxxxxxxxxxxxxxxxxxxxxxxxxxx\
+    xxxxxxxxxxxxxxxxxxxxxxxxxxxxxxxx\
+    xxxxxxxxxxxxxxxxxxxxxxxxxxxxxxxx\
+    xxxxxxxxxxxxxxxxxxxxxxxxxxxxxxxx";
+
+impl<'a> RefName<'a> {
+    /// The reference name that is `text`, or `BadRefName` where it breaks a rule.
+    pub fn read(text: &'a [u8]) -> Result<RefName<'a>, NameFault>
+        ensures { MatchResult result (λ name. (name ≡ text.now) × IsRefName text.now)
+            (λ fault. (fault ≡ NameFault.BadRefName) × ¬ IsRefName text.now) }
+    {
+        if !is_ref_name(text) {
+            return Err(NameFault::BadRefName);
+        }
+        Ok(RefName { text })
+    }
+
+    /// The bytes of the name.
+    pub fn as_bytes(&self) -> &'a [u8]
+        ensures value { result.now ≡ self.now }
+        ensures name { IsRefName self.now }
+    {
+        self.text
+    }
+}
+
+// The rules for what follows what hold of `HEAD` too, so it takes the same way.
+fn is_ref_name(text: &[u8]) -> bool
+    ensures { IsTrue result ↔ IsRefName text.now }
+{
+    if !begins_well(text) {
+        return false;
+    }
+    if text.len() > MOST_BYTES {
+        return false;
+    }
+    if !follows_well(text) {
+        return false;
+    }
+    if text.ends_with_str(b".") {
+        return false;
+    }
+    // Where a slash may follow, the last component is not empty and does not end with `.lock`.
+    may_follow(text, b'/')
+}
+
+fn begins_well(text: &[u8]) -> bool
+    ensures { IsTrue result ↔ (text.now ≢ codes "HEAD" → BeginsWith text.now (codes "refs/")) }
+{
+    if text == b"HEAD".as_slice() {
+        return true;
+    }
+    text.starts_with_str(b"refs/")
+}
+
+// Whether each byte may stand behind those before it.
+fn follows_well(text: &[u8]) -> bool
+    ensures { IsTrue result ↔ ((k : ℕ) → k < length text.now → MayFollow (take k text.now) (slice_index text.now k)) }
+{
+    for (i, byte) in text.iter().enumerate() {
+        if !is_plain(*byte) && !may_follow(&text[..i], *byte) {
+            return false;
+        }
+    }
+    true
+}
+
+// Whether the rules let the byte stand behind `front`.
+fn may_follow(front: &[u8], byte: u8) -> bool
+    ensures { IsTrue result ↔ MayFollow front.now byte }
+{
+    match byte {
+        b'/' => !front.ends_with_str(b"/") && !front.ends_with_str(b".lock"),
+        b'.' => !front.ends_with_str(b".") && !front.ends_with_str(b"/"),
+        b'{' => !front.ends_with_str(b"@"),
+        0..=b' ' | b'*' | b':' | b'?' | b'[' | b'\\' | b'^' | b'~' | 0x7f => false,
+        _ => true,
+    }
+}
+
+// Whether the byte may stand behind any other, as most bytes of a name may.
+fn is_plain(byte: u8) -> bool
+    ensures { IsTrue result → IsPlain byte }
+{
+    PLAIN_BYTES[byte as usize] != b'.'
+}

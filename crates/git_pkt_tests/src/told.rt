@@ -1,0 +1,98 @@
+//! What a `Told` tells of calls that go well, fail, and go well again.
+use git_pkt::Told;
+use std::io::{ErrorKind, Read, Write};
+use std::test::Fail;
+use test_streams::{Sink, Stream};
+
+#[test]
+fn a_reader_that_fails_in_mid_stream_is_told_and_read_on(rt: HostRuntime) -> Result<(), Fail> {
+    let mut reader = Told::new(Stream::new(b"abcdef", 2, 1));
+    let mut piece = [0u8; 4];
+    assert_eq!(rt; reader.read(&mut piece)?, 2);
+    assert_eq!(rt; &piece[..2], b"ab".as_slice());
+    assert!(rt; !reader.failed());
+    let kind = reader.read(&mut piece).map_err(|error| error.kind());
+    assert_eq!(rt; kind, Err(ErrorKind::ConnectionReset));
+    assert!(rt; reader.failed() && !reader.ended());
+    assert_eq!(rt; reader.read(&mut piece)?, 2);
+    assert_eq!(rt; &piece[..2], b"cd".as_slice());
+    assert_eq!(rt; reader.reads(), 3);
+    assert!(rt; reader.failed() && !reader.ended());
+    Ok(())
+}
+
+#[test]
+fn an_empty_buffer_shows_no_end(rt: HostRuntime) -> Result<(), Fail> {
+    let mut reader = Told::new(Stream::new(b"ab", 9, 9));
+    let mut piece = [0u8; 4];
+    assert_eq!(rt; reader.read(&mut [])?, 0);
+    assert!(rt; !reader.ended());
+    assert_eq!(rt; reader.read(&mut piece)?, 2);
+    assert_eq!(rt; reader.read(&mut [])?, 0);
+    assert!(rt; !reader.ended());
+    assert_eq!(rt; reader.read(&mut piece)?, 0);
+    assert!(rt; reader.ended() && !reader.failed());
+    assert_eq!(rt; reader.reads(), 4);
+    Ok(())
+}
+
+#[test]
+fn a_writer_of_one_byte_at_a_time_takes_all(rt: HostRuntime) -> Result<(), Fail> {
+    let mut sink = Sink::new(Vec::new(rt.alloc()), 1, 99);
+    let mut writer = Told::new(&mut sink);
+    writer.write_all(b"foobar")?;
+    assert!(rt; !writer.failed());
+    assert_eq!(rt; writer.reads(), 0);
+    assert_eq!(rt; writer.write(b"xyz")?, 1);
+    assert_eq!(rt; sink.taken.as_slice(), b"foobarx".as_slice());
+    assert_eq!(rt; sink.writes, 7);
+    Ok(())
+}
+
+#[test]
+fn a_writer_that_fails_in_mid_stream_has_a_front(rt: HostRuntime) -> Result<(), Fail> {
+    let mut sink = Sink::new(Vec::new(rt.alloc()), 2, 2);
+    let mut writer = Told::new(&mut sink);
+    let kind = writer.write_all(b"foobar").map_err(|error| error.kind());
+    assert_eq!(rt; kind, Err(ErrorKind::BrokenPipe));
+    assert!(rt; writer.failed());
+    writer.write_all(b"!")?;
+    assert!(rt; writer.failed());
+    assert_eq!(rt; sink.taken.as_slice(), b"foob!".as_slice());
+    Ok(())
+}
+
+#[test]
+fn an_interrupted_write_is_made_again(rt: HostRuntime) -> Result<(), Fail> {
+    let mut sink = Sink::new(Vec::new(rt.alloc()), 2, 1);
+    sink.error = ErrorKind::Interrupted;
+    let mut writer = Told::new(&mut sink);
+    writer.write_all(b"foobar")?;
+    assert!(rt; !writer.failed());
+    assert_eq!(rt; sink.taken.as_slice(), b"foobar".as_slice());
+    Ok(())
+}
+
+#[test]
+fn a_full_writer_is_a_failure(rt: HostRuntime) -> Result<(), Fail> {
+    let mut sink = Sink::new(Vec::new(rt.alloc()), 0, 99);
+    let mut writer = Told::new(&mut sink);
+    let kind = writer.write_all(b"foobar").map_err(|error| error.kind());
+    assert_eq!(rt; kind, Err(ErrorKind::WriteZero));
+    assert!(rt; writer.failed());
+    writer.write_all(b"")?;
+    Ok(())
+}
+
+#[test]
+fn flushes_are_passed_on(rt: HostRuntime) -> Result<(), Fail> {
+    let mut sink = Sink::new(Vec::new(rt.alloc()), 1, 99);
+    sink.last_flush = 1;
+    let mut writer = Told::new(&mut sink);
+    writer.flush()?;
+    assert!(rt; !writer.failed());
+    assert!(rt; writer.flush().is_err());
+    assert!(rt; writer.failed());
+    assert_eq!(rt; sink.flushes, 2);
+    Ok(())
+}

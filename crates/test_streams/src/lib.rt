@@ -1,0 +1,88 @@
+//! Readers and writers in memory that go slowly, fail and count, for tests.
+#![tactic(auto)]
+
+use std::io;
+use std::io::{ErrorKind, Read, Write};
+
+/// Gives its bytes at most `step` at a read, and fails once, at the read numbered `failing` from 0.
+#[derive(Drop)]
+pub struct Stream<'a> {
+    pub rest: &'a [u8],
+    pub step: usize,
+    pub failing: u32,
+    pub reads: u32,
+}
+
+impl<'a> Stream<'a> {
+    pub fn new(rest: &'a [u8], step: usize, failing: u32) -> Stream<'a> {
+        Stream {
+            rest,
+            step,
+            failing,
+            reads: 0,
+        }
+    }
+}
+
+impl<'a> Read for Stream<'a> {
+    fn read(&mut self, buf: &mut [u8]) -> io::Result<usize> {
+        let number = self.reads;
+        self.reads = number.saturating_add(1);
+        if number == self.failing {
+            return Err(io::Error::from(ErrorKind::ConnectionReset));
+        }
+        let count = self.rest.len().min(self.step).min(buf.len());
+        buf[..count].copy_from_slice(&self.rest[..count]);
+        self.rest = &self.rest[count..];
+        Ok(count)
+    }
+}
+
+/// Takes at most `step` bytes at a write, and fails once with `error`, at the write numbered
+/// `failing` from 0. Flushes fail from the one numbered `last_flush` on.
+#[derive(Drop)]
+pub struct Sink {
+    pub taken: Vec<u8>,
+    pub step: usize,
+    pub failing: u32,
+    pub error: ErrorKind,
+    pub writes: u32,
+    pub last_flush: u32,
+    pub flushes: u32,
+}
+
+impl Sink {
+    pub fn new(taken: Vec<u8>, step: usize, failing: u32) -> Sink {
+        Sink {
+            taken,
+            step,
+            failing,
+            error: ErrorKind::BrokenPipe,
+            writes: 0,
+            last_flush: u32::MAX,
+            flushes: 0,
+        }
+    }
+}
+
+impl Write for Sink {
+    fn write(&mut self, buf: &[u8]) -> io::Result<usize> {
+        let number = self.writes;
+        self.writes = number.saturating_add(1);
+        if number == self.failing {
+            return Err(io::Error::from(self.error));
+        }
+        let count = buf.len().min(self.step);
+        self.taken.extend_from_slice(&buf[..count])?;
+        Ok(count)
+    }
+
+    fn flush(&mut self) -> io::Result<()> {
+        let number = self.flushes;
+        self.flushes = number.saturating_add(1);
+        if number >= self.last_flush {
+            return Err(io::Error::from(ErrorKind::BrokenPipe));
+        }
+        Ok(())
+    }
+}
