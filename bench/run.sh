@@ -1,9 +1,9 @@
 #!/usr/bin/env bash
 # Measures the Rattle programs against the C programs beside this script, and prints a table.
 #
-#     bench/run.sh [BENCH_PACKETS [GIT2SHOW]]
+#     bench/run.sh [BENCH_PACKETS [GIT2SHOW [BENCH_NAMES]]]
 #
-# The arguments are the paths of the two Rattle programs; without them, where `rt run` leaves them in this repository.
+# The arguments are the paths of the Rattle programs; without them, where `rt run` leaves them in this repository.
 # `bench/run.sh --c-only` measures the C programs alone. The streams lie in a new folder of /tmp (or of $BENCH_FOLDER),
 # which is removed at the end, and take 1.5 GB. Times are wall-clock seconds, the best of five runs that alternate; a
 # ratio is C's time by ours, so 1.00 is as fast as C and more is faster.
@@ -21,6 +21,7 @@ if [ "${1:-}" = --c-only ]; then
 fi
 our_packets=${1:-$top/crates/bench_packets/out/bench_packets}
 our_show=${2:-$top/crates/git2show/out/git2show}
+our_names=${3:-$top/crates/bench_names/out/bench_names}
 
 stop() {
     echo "bench/run.sh: $*" >&2
@@ -28,13 +29,13 @@ stop() {
 }
 
 if [ -z "$c_only" ]; then
-    for program in "$our_packets" "$our_show"; do
+    for program in "$our_packets" "$our_show" "$our_names"; do
         [ -x "$program" ] || stop "no program $program: run 'rt run' in its crate first"
     done
 fi
 
 mkdir -p "$out"
-for program in packets show generate; do
+for program in packets show names generate; do
     ${CC:-gcc} -O3 -Wall -Wextra -o "$out/$program" "$top/bench/$program.c"
 done
 
@@ -117,6 +118,8 @@ measure 'packets, 50 bytes, 200 MB' small "$out/packets" "$our_packets"
 measure 'show, 65,515 text, 1 GB' large "$out/show" "$our_show" show
 measure 'show, 50 text, 200 MB' small "$out/show" "$our_show" show
 measure 'show, 65,515 binary, 250 MB' binary "$out/show" "$our_show" show
+head -c 100000000 /dev/zero > "$streams/names" # its size alone counts: about the bytes of the names read and written
+measure 'names, 1,000,000 of each kind' names "$out/names" "$our_names"
 echo
 if [ -z "$c_only" ]; then
     same_output
