@@ -1,0 +1,68 @@
+-- What the lines of a capability advertisement say, all of them together.
+use Rattle.std.specs.Prelude.{ℕ, ◌==◌, Bool, not, ◌&&◌, ◌||◌, List, [], codes}
+use Rattle.std.specs.List.{list_any, before_first, after_first, slice_split}
+use Rattle.std.specs.Str.{bytes_eq}
+use Rattle.git_names.specs.declared.object_format.Format.{Format}
+use Rattle.git_names.specs.declared.object_format.Format.TheVariants.{Sha1, Sha256}
+use Rattle.git_pkt.specs.Packets.{Pkt, payload, text_of}
+use Rattle.git_msg.specs.declared.offers.Caps.{Caps}
+use Rattle.git_msg.specs.declared.offers.Offer.{Offer}
+
+-- the text of a packet, where it has one
+abbrev pub line_of : Pkt → List ℕ
+line_of (payload bytes) = text_of bytes
+line_of _ = []
+
+-- what a line has before its first `=`, or all of it
+abbrev pub key_of : List ℕ → List ℕ
+key_of line = before_first (λ c. c == 61) line
+
+-- what a line has after its first `=`, or nothing
+abbrev pub value_of : List ℕ → List ℕ
+value_of line = after_first (λ c. c == 61) line
+
+-- the words of a value, which single spaces part
+abbrev pub words_of : List ℕ → List (List ℕ)
+words_of value = slice_split (λ c. c == 32) value
+
+-- the packet's line has this key
+abbrev pub has_key : List ℕ → Pkt → Bool
+has_key key p = bytes_eq (key_of (line_of p)) key
+
+-- the packet's line has this key and this value
+abbrev pub has_value : List ℕ → List ℕ → Pkt → Bool
+has_value key value p = has_key key p && bytes_eq (value_of (line_of p)) value
+
+-- the packet's line has this key, and this word in its value
+abbrev pub has_word : List ℕ → List ℕ → Pkt → Bool
+has_word key word p = has_key key p && list_any (λ w. bytes_eq w word) (words_of (value_of (line_of p)))
+
+-- what an advertisement of these packets notes: each thing that some line of it names
+abbrev pub noted_of : List Pkt → Caps
+noted_of packets = record {
+  agent = list_any (has_key (codes "agent")) packets;
+  ls_refs = list_any (has_key (codes "ls-refs")) packets;
+  fetch = list_any (has_key (codes "fetch")) packets;
+  shallow = list_any (has_word (codes "fetch") (codes "shallow")) packets;
+  ref_in_want = list_any (has_word (codes "fetch") (codes "ref-in-want")) packets;
+  server_option = list_any (has_key (codes "server-option")) packets;
+  object_info = list_any (has_key (codes "object-info")) packets;
+  object_format = list_any (has_key (codes "object-format")) packets;
+  sha1 = list_any (has_value (codes "object-format") (codes "sha1")) packets;
+  sha256 = list_any (has_value (codes "object-format") (codes "sha256")) packets;
+}
+
+-- object names of this format are spoken: a line names the format, or none names any and it is SHA-1
+abbrev pub is_spoken : Caps → Format → Bool
+is_spoken caps Sha1 = caps.sha1 || not caps.object_format
+is_spoken caps Sha256 = caps.sha256
+
+-- what is offered to a side that speaks this format
+abbrev pub offer_of : Caps → Format → Offer
+offer_of caps format = record {
+  format = format;
+  shallow = caps.shallow;
+  ref_in_want = caps.ref_in_want;
+  object_info = caps.object_info;
+  server_option = caps.server_option;
+}

@@ -1,0 +1,2 @@
+pub mod Capability
+pub mod Advertisement

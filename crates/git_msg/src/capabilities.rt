@@ -1,0 +1,68 @@
+//! Capability lines, as gitprotocol-v2(5) has them.
+
+ghost use Rattle.std.specs.Prelude.{◌≡◌, ◌==◌, ◌≤◌, length, IfErr, MatchResult};
+ghost use Rattle.std.specs.List.{position_or_len};
+ghost use Rattle.std.specs.Option.{option_copied};
+ghost use Rattle.git_msg.specs.Capability.{IsCapability, IsNoCapability, is_key as is_key_text, is_value as is_value_text, is_key_byte as is_key_code};
+
+use git_pkt::Kind;
+
+/// A capability, as a line of an advertisement or of a request has it.
+#[derive(Clone, Copy, Debug)]
+pub struct Capability<'a> {
+    /// One or more ASCII letters, digits, `-` or `_`.
+    pub key: &'a [u8],
+    /// What stands behind the first `=`, where there is one: any bytes but NUL and LF, also none.
+    pub value: Option<&'a [u8]>,
+}
+
+/// Reads the text of a capability line, `key` or `key=value`. Any other text is `BadCapability`.
+pub fn read_capability(text: &[u8]) -> Result<Capability<'_>, Kind>
+    ensures line { MatchResult result (λ c. IsCapability text.now c.key.now (option_copied c.value)) (λ kind. IsNoCapability text.now) }
+    ensures kind { IfErr result (λ kind. kind ≡ Kind.BadCapability) }
+{
+    let end = key_length(text);
+    let key = &text[..end];
+    if !is_key(key) {
+        return Err(Kind::BadCapability);
+    }
+    if end == text.len() {
+        return Ok(Capability { key, value: None });
+    }
+    let value = &text[end + 1..];
+    if !is_value(value) {
+        return Err(Kind::BadCapability);
+    }
+    Ok(Capability {
+        key,
+        value: Some(value),
+    })
+}
+
+/// How many bytes stand before the first `=`.
+fn key_length(text: &[u8]) -> usize
+    ensures first { result ≡ position_or_len (λ c. c == 61) text.now }
+    ensures within { result ≤ length text.now }
+{
+    text.iter()
+        .position(|byte| *byte == b'=')
+        .unwrap_or(text.len())
+}
+
+fn is_key(text: &[u8]) -> bool
+    ensures { result ≡ is_key_text text.now }
+{
+    !text.is_empty() && text.iter().all(|byte| is_key_byte(*byte))
+}
+
+fn is_value(text: &[u8]) -> bool
+    ensures { result ≡ is_value_text text.now }
+{
+    text.iter().all(|byte| *byte != 0 && *byte != b'\n')
+}
+
+fn is_key_byte(byte: u8) -> bool
+    ensures { result ≡ is_key_code byte }
+{
+    byte.is_ascii_alphanumeric() || byte == b'-' || byte == b'_'
+}

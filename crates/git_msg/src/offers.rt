@@ -1,0 +1,133 @@
+//! What an advertisement offers, and what of it this project knows.
+
+ghost use Rattle.std.specs.Prelude.{◌≡◌, ℕ, List, [], ◌∷◌};
+ghost use Rattle.std.specs.Option.{option_copied};
+ghost use Rattle.std.specs.List.{list_any};
+ghost use Rattle.std.specs.Str.{bytes_eq};
+ghost use Rattle.git_pkt.specs.Packets.{Pkt, payload, text_of};
+ghost use Rattle.git_msg.specs.Capability.{IsCapability};
+ghost use Rattle.git_msg.specs.Advertisement.{noted_of, offer_of, words_of, is_spoken};
+
+use crate::capabilities::Capability;
+use git_names::Format;
+
+/// What a server offers to a client. The capabilities `agent`, `ls-refs` and `fetch` are always offered.
+#[derive(Clone, Copy, Debug, PartialEq, Eq)]
+pub struct Offer {
+    /// The format of the object names that are spoken of.
+    pub format: Format,
+    /// The feature `shallow` of `fetch`.
+    pub shallow: bool,
+    /// The feature `ref-in-want` of `fetch`.
+    pub ref_in_want: bool,
+    /// The command `object-info`.
+    pub object_info: bool,
+    /// The capability `server-option`.
+    pub server_option: bool,
+}
+
+/// What the lines of an advertisement had, of all that this project knows. Keys and words beside these are
+/// passed over, and repeated lines add up.
+#[derive(Clone, Copy, Debug, PartialEq, Eq)]
+pub struct Caps {
+    /// The key `agent`.
+    pub agent: bool,
+    /// The command `ls-refs`.
+    pub ls_refs: bool,
+    /// The command `fetch`.
+    pub fetch: bool,
+    /// The word `shallow` in a value of `fetch`.
+    pub shallow: bool,
+    /// The word `ref-in-want` in a value of `fetch`.
+    pub ref_in_want: bool,
+    /// The key `server-option`.
+    pub server_option: bool,
+    /// The command `object-info`.
+    pub object_info: bool,
+    /// The key `object-format`, with any value or none.
+    pub object_format: bool,
+    /// The line `object-format=sha1`.
+    pub sha1: bool,
+    /// The line `object-format=sha256`.
+    pub sha256: bool,
+}
+
+impl Caps {
+    /// What is noted before the first line: nothing.
+    pub fn new() -> Caps
+        ensures { result ≡ noted_of [] }
+    {
+        Caps {
+            agent: false,
+            ls_refs: false,
+            fetch: false,
+            shallow: false,
+            ref_in_want: false,
+            server_option: false,
+            object_info: false,
+            object_format: false,
+            sha1: false,
+            sha256: false,
+        }
+    }
+
+    /// What is noted when this line comes too.
+    pub fn with(self, capability: &Capability<'_>) -> Caps
+        ensures { (packets : List Pkt) (line : List ℕ) → self ≡ noted_of packets
+            → IsCapability (text_of line) capability.now.key.now (option_copied capability.now.value)
+            → result ≡ noted_of (payload line ∷ packets) }
+    {
+        let key = capability.key;
+        let value = capability.value.unwrap_or(b"");
+        let is_fetch = is(key, b"fetch");
+        let is_format = is(key, b"object-format");
+        Caps {
+            agent: is(key, b"agent") | self.agent,
+            ls_refs: is(key, b"ls-refs") | self.ls_refs,
+            fetch: is_fetch | self.fetch,
+            shallow: is_fetch & has_word(value, b"shallow") | self.shallow,
+            ref_in_want: is_fetch & has_word(value, b"ref-in-want") | self.ref_in_want,
+            server_option: is(key, b"server-option") | self.server_option,
+            object_info: is(key, b"object-info") | self.object_info,
+            object_format: is_format | self.object_format,
+            sha1: is_format & is(value, b"sha1") | self.sha1,
+            sha256: is_format & is(value, b"sha256") | self.sha256,
+        }
+    }
+
+    /// Whether object names of this format are spoken. Where no line names a format, SHA-1 is meant.
+    pub fn speaks(&self, format: Format) -> bool
+        ensures { result ≡ is_spoken self.now format }
+    {
+        match format {
+            Format::Sha1 => self.sha1 | !self.object_format,
+            Format::Sha256 => self.sha256,
+        }
+    }
+
+    /// What is offered to a client that speaks this format.
+    pub fn offer(&self, format: Format) -> Offer
+        ensures { result ≡ offer_of self.now format }
+    {
+        Offer {
+            format,
+            shallow: self.shallow,
+            ref_in_want: self.ref_in_want,
+            object_info: self.object_info,
+            server_option: self.server_option,
+        }
+    }
+}
+
+fn is(text: &[u8], word: &[u8]) -> bool
+    ensures { result ≡ bytes_eq text.now word.now }
+{
+    text == word
+}
+
+/// Whether single spaces part the value so that one part is the word.
+fn has_word(value: &[u8], word: &[u8]) -> bool
+    ensures { result ≡ list_any (λ w. bytes_eq w word.now) (words_of value.now) }
+{
+    value.split(|byte| *byte == b' ').any(|part| part == word)
+}
