@@ -2,11 +2,14 @@
 #![tactic(auto)]
 
 use clap::error::ErrorKind;
-use clap::{ArgMatches, Command, Error};
+use clap::{Arg, ArgAction, ArgMatches, Command, Error};
+use git_client::Ending;
+use git_names::Format;
 use git_pkt::{RunFault, Told};
-use git2show_lib::{ProgramFault, report, show};
+use git2show_lib::{ProgramFault, check, report, show};
 use std::alloc::{AllocError, Global};
 use std::env;
+use std::fs::File;
 use std::io;
 use std::process::ExitCode;
 
@@ -19,6 +22,9 @@ const TURNS: u64 = 1_073_741_824;
 /// The status where the command line is refused.
 const BAD_COMMAND_LINE: u8 = 2;
 
+/// The object formats, as the command line names them.
+static FORMATS: [&str; 2] = ["sha1", "sha256"];
+
 /// What the words after the program's name may be.
 fn command<'a>(alloc: Global) -> Result<Command<'a>, AllocError> {
     Command::new(alloc, "git2show")
@@ -27,6 +33,37 @@ fn command<'a>(alloc: Global) -> Result<Command<'a>, AllocError> {
         .subcommand_required(true)
         .subcommand(
             Command::new(alloc, "show").about("Shows each packet of standard input on a line"),
+        )?
+        .subcommand(check_command(alloc)?)
+}
+
+/// What the words after `check` may be.
+fn check_command<'a>(alloc: Global) -> Result<Command<'a>, AllocError> {
+    Command::new(alloc, "check")
+        .about("Checks a recorded conversation, and prints its transcript")
+        .arg(
+            Arg::new(alloc, "REQUESTS")
+                .required(true)
+                .help("What the client sent"),
+        )?
+        .arg(
+            Arg::new(alloc, "RESPONSES")
+                .required(true)
+                .help("What the server sent, its advertisement first"),
+        )?
+        .arg(
+            Arg::new(alloc, "format")
+                .long("format")
+                .value_name("FORMAT")
+                .value_parser(FORMATS.as_slice())
+                .default_value("sha1")
+                .help("The object format"),
+        )?
+        .arg(
+            Arg::new(alloc, "stateless")
+                .long("stateless")
+                .action(ArgAction::SetTrue)
+                .help("Each response ends with a response-end packet"),
         )
 }
 
@@ -38,10 +75,45 @@ fn run_show(rt: &HostRuntime) -> Result<(), ProgramFault> {
     show(&mut reader, &mut writer, &mut piece, TURNS).map_err(ProgramFault::Run)
 }
 
+/// Checks the two files that are named, and writes the transcript to standard output.
+fn run_check(rt: &HostRuntime, matches: &ArgMatches<'_>) -> Result<(), ProgramFault> {
+    let mut requests = Told::new(open(rt, matches, "REQUESTS")?);
+    let mut responses = Told::new(open(rt, matches, "RESPONSES")?);
+    let format = matches
+        .get_str("format")
+        .and_then(|name| Format::read(name.as_bytes()))
+        .unwrap_or(Format::Sha1);
+    let ending = match matches.get_flag("stateless") {
+        true => Ending::ResponseEnd,
+        false => Ending::FlushOnly,
+    };
+    let mut out = Told::new(rt.stdout());
+    let mut piece = [0; PIECE];
+    let mut other_piece = [0; PIECE];
+    check(
+        &mut requests,
+        &mut responses,
+        format,
+        ending,
+        &mut piece,
+        &mut other_piece,
+        &mut out,
+        TURNS,
+    )
+    .map_err(ProgramFault::Check)
+}
+
+/// Opens the file that an argument names.
+fn open(rt: &HostRuntime, matches: &ArgMatches<'_>, argument: &str) -> Result<File, ProgramFault> {
+    let path = matches.get_str(argument).unwrap_or("");
+    File::open(rt, path).map_err(|_| ProgramFault::File)
+}
+
 /// Does what the command line asks for.
 fn run(rt: &HostRuntime, matches: &ArgMatches<'_>) -> Result<(), ProgramFault> {
-    match matches.subcommand_name() {
-        Some("show") => run_show(rt),
+    match matches.subcommand() {
+        Some(("show", _)) => run_show(rt),
+        Some(("check", words)) => run_check(rt, words),
         _ => Ok(()),
     }
 }

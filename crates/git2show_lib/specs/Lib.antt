@@ -2,3 +2,4 @@ pub mod Lines
 pub mod Sending
 pub mod Showing
 pub mod Reports
+pub mod Checking

@@ -4,8 +4,9 @@ ghost use Rattle.std.specs.Prelude.{◌≡◌, ◌≤◌, ◌++◌, ◌+◌, fal
 ghost use Rattle.std.specs.Io.KnownBytes.{Appends};
 ghost use Rattle.git_pkt.specs.Told.{inner_of, has_failed, AppendsFront};
 ghost use Rattle.git_pkt.specs.FaultNames.{fault_text};
-ghost use Rattle.git2show_lib.specs.Reports.{fault_line, program_fault_text};
+ghost use Rattle.git2show_lib.specs.Reports.{check_fault_text, fault_line};
 
+use crate::checking::CheckFault;
 use crate::lines::put_at;
 use git_pkt::{Fault, RunFault, Told, send};
 use itoa::Buffer;
@@ -13,7 +14,7 @@ use std::io::Write;
 use thiserror::Error;
 
 /// How many bytes a fault's line has at the most.
-const LINE: usize = 64;
+const LINE: usize = 80;
 
 /// The status of a program that ends with a fault.
 const STATUS: u8 = 1;
@@ -24,6 +25,12 @@ pub enum ProgramFault {
     /// A run over a reader and a writer ended early.
     #[error("{0}")]
     Run(RunFault),
+    /// A check of two streams ended early.
+    #[error("{0}")]
+    Check(CheckFault),
+    /// A file cannot be opened, or cannot be read whole where it is read whole.
+    #[error("File")]
+    File,
     /// Memory ran out, also for the reading of the command line.
     #[error("OutOfMemory")]
     OutOfMemory,
@@ -47,8 +54,8 @@ pub fn report<W: Write>(fault: &ProgramFault, error: &mut Told<W>) -> u8
 
 /// Writes a fault's line, and answers how many bytes it has.
 fn write_line(fault: &ProgramFault, out: &mut [u8]) -> usize
-    requires { length out.old ≡ 64 }
-    ensures within { result ≤ 64 }
+    requires { length out.old ≡ 80 }
+    ensures within { result ≤ 80 }
     ensures line { take result out.new ≡ fault_line fault.now }
 {
     let at = put_at(out, 0, b"git2show: ");
@@ -57,9 +64,32 @@ fn write_line(fault: &ProgramFault, out: &mut [u8]) -> usize
         ProgramFault::Run(RunFault::ReadFault) => put_at(out, at, b"ReadFault"),
         ProgramFault::Run(RunFault::WriteFault) => put_at(out, at, b"WriteFault"),
         ProgramFault::Run(RunFault::ReadLimit) => put_at(out, at, b"ReadLimit"),
+        ProgramFault::Check(fault) => put_check_fault(out, at, fault),
+        ProgramFault::File => put_at(out, at, b"File"),
         ProgramFault::OutOfMemory => put_at(out, at, b"OutOfMemory"),
     };
     put_at(out, at, b"\n")
+}
+
+/// Puts a check's fault at a place, and answers where it ends.
+fn put_check_fault(out: &mut [u8], at: usize, fault: &CheckFault) -> usize
+    requires { at + 52 ≤ length out.old }
+    ensures within { result ≤ at + 52 }
+    ensures put { take result out.new ≡ take at out.old ++ check_fault_text fault.now }
+{
+    match fault {
+        CheckFault::Requests(fault) => {
+            let at = put_at(out, at, b"requests: ");
+            put_fault(out, at, fault)
+        }
+        CheckFault::Responses(fault) => {
+            let at = put_at(out, at, b"responses: ");
+            put_fault(out, at, fault)
+        }
+        CheckFault::ReadFault => put_at(out, at, b"ReadFault"),
+        CheckFault::WriteFault => put_at(out, at, b"WriteFault"),
+        CheckFault::ReadLimit => put_at(out, at, b"ReadLimit"),
+    }
 }
 
 /// Puts a fault's name and offset at a place, and answers where they end.

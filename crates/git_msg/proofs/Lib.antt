@@ -1,2 +1,13 @@
 pub mod Keys
 pub mod Noted
+pub mod LineLists
+pub mod Keeping
+pub mod TakingOn
+pub mod StepFacts
+pub mod ReferenceLines
+pub mod ReferenceWords
+pub mod LineLaws
+pub mod ReferenceLaws
+pub mod WritingSteps
+pub mod RoundTrip
+pub mod FaultLaws

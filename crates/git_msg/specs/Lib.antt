@@ -1,2 +1,16 @@
-pub mod Capability
 pub mod Advertisement
+pub mod Arguments
+pub mod Asked
+pub mod Capability
+pub mod Checks
+pub mod Holding
+pub mod Judging
+pub mod Lines
+pub mod LsRefs
+pub mod ReferenceParts
+pub mod References
+pub mod Requests
+pub mod Taking
+pub mod TakingSteps
+pub mod Texts
+pub mod Writing

@@ -1,9 +1,27 @@
-//! The messages of Git's wire protocol: capability lines and what an advertisement offers.
+//! The messages of Git's wire protocol: capability lines and what an advertisement offers, requests as they are
+//! read, kept and written, and the lines of responses.
 #![tactic(auto)]
 
+mod arguments;
 mod capabilities;
+mod capability_key;
+mod judge;
 pub mod laws;
 mod offers;
+mod reader;
+mod reference_lines;
+mod references;
+pub mod request_laws;
+mod requests;
+mod texts;
+mod writer;
+mod writing;
 
+pub use crate::arguments::{Argument, Command, read_argument};
 pub use crate::capabilities::{Capability, read_capability};
 pub use crate::offers::{Caps, Offer};
+pub use crate::reader::{RequestReader, Taken};
+pub use crate::reference_lines::read_reference;
+pub use crate::references::{Boundary, Reference, put_reference};
+pub use crate::requests::{Limits, LsRefs, Request};
+pub use crate::writer::RequestWriter;

@@ -1,0 +1,15 @@
+use Rattle.std.proofs.Common.{◌≡◌, ◌-◌, ◌≤◌, length, None}
+use Rattle.git_pkt.specs.Told.{has_failed}
+use Rattle.git_client.specs.Hearing.{fault_of}
+use Rattle.git2show_lib.proofs.checking.hear_piece.Given as goal
+
+-- the client has not failed, and neither has the writer since the call began
+abbrev pub invariant-loop-used : goal.invariant-loop-used
+invariant-loop-used g l = record {
+  within : l.used ≤ length l.piece;
+  sound : fault_of l.client ≡ None;
+  out_stays : has_failed l.out ≡ has_failed l.fn.out;
+}
+
+abbrev pub decreases-loop-used : goal.decreases-loop-used
+decreases-loop-used g l = length l.piece - l.used

@@ -1,0 +1,186 @@
+//! Two recorded streams, checked against each other.
+
+ghost use Rattle.std.specs.Prelude.{◌≡◌, ◌+◌, ◌≤◌, ◌<◌, true, false, None, length, IsTrue, OnOk, IfOk, IfErr};
+ghost use Rattle.git_pkt.specs.Told.{reads_of, has_failed, has_ended, IsNew};
+ghost use Rattle.git_client.specs.Hearing.{bytes_used, fault_of, wants_input};
+ghost use Rattle.git2show_lib.specs.Checking.{IsShownInCheck, IsShownInHearing, IsShownInPiece, IsShownInRequests};
+
+use git_client::{Client, Ending, HeardGot, write_event};
+use git_names::Format;
+use git_pkt::{Fault, Got, Kind, Packet, PacketReader, Told, flush, receive};
+use std::io::{Read, Write};
+use thiserror::Error;
+
+/// Why a check ended early, and in which of its streams.
+#[derive(Clone, Copy, Debug, PartialEq, Eq, Error)]
+pub enum CheckFault {
+    /// The requests were refused.
+    #[error("requests: {0}")]
+    Requests(Fault),
+    /// The responses were refused.
+    #[error("responses: {0}")]
+    Responses(Fault),
+    /// A reader failed.
+    #[error("ReadFault")]
+    ReadFault,
+    /// The writer failed.
+    #[error("WriteFault")]
+    WriteFault,
+    /// All reads that were allowed were made, and one more would be needed.
+    #[error("ReadLimit")]
+    ReadLimit,
+}
+
+/// The bytes of a piece that nobody used yet: from `start` to `end`.
+#[derive(Clone, Copy, Debug)]
+struct Left {
+    start: usize,
+    end: usize,
+}
+
+/// Checks a recorded conversation: `responses` begins with an advertisement, and `requests` is what the client sent.
+/// The transcript is written to `out`, a line for each event, and flushed before the answer.
+///
+/// So far `requests` is nothing, or one flush; what stands behind that flush is not read. A byte of the responses
+/// behind the advertisement is `UnexpectedPacket` at its offset. `turns` counts the reads of both streams.
+pub fn check<Q: Read, A: Read, W: Write>(
+    requests: &mut Told<Q>,
+    responses: &mut Told<A>,
+    format: Format,
+    ending: Ending,
+    piece: &mut [u8],
+    other_piece: &mut [u8],
+    out: &mut Told<W>,
+    turns: u64,
+) -> Result<(), CheckFault>
+    requires room { 0 < length piece.old }
+    requires other_room { 0 < length other_piece.old }
+    requires new_requests { IsNew requests.old }
+    requires new_responses { IsNew responses.old }
+    requires sound_out { has_failed out.old ≡ false }
+
+    ensures reads { reads_of requests.new + reads_of responses.new ≤ turns }
+    ensures ok { OnOk result (IsTrue (has_ended responses.new)) }
+    ensures fault { IfErr result (IsShownInCheck requests.new responses.new (has_failed out.new) turns) }
+{
+    let mut client = Client::new(format, ending);
+    let heard = hear_advertisement(&mut client, responses, other_piece, out, turns);
+    flush(out).map_err(|_| CheckFault::WriteFault)?;
+    let left = heard?;
+    read_requests(requests, piece, turns - responses.reads())?;
+    if left.start < left.end {
+        return Err(left_over(&client));
+    }
+    if requests.reads() + responses.reads() == turns {
+        return Err(CheckFault::ReadLimit);
+    }
+    match receive(responses, other_piece) {
+        Ok(0) => Ok(()),
+        Ok(_) => Err(left_over(&client)),
+        Err(_) => Err(CheckFault::ReadFault),
+    }
+}
+
+/// The first byte that nobody asked for.
+fn left_over(client: &Client) -> CheckFault
+    ensures { result ≡ CheckFault.Responses (record { kind = Kind.UnexpectedPacket; offset = bytes_used client.now }) }
+{
+    CheckFault::Responses(Fault {
+        kind: Kind::UnexpectedPacket,
+        offset: client.position(),
+    })
+}
+
+/// Reads the advertisement and writes its events. Answers what is left of the last piece.
+fn hear_advertisement<A: Read, W: Write>(
+    client: &mut Client,
+    responses: &mut Told<A>,
+    piece: &mut [u8],
+    out: &mut Told<W>,
+    turns: u64,
+) -> Result<Left, CheckFault>
+    requires waits { wants_input client.old ≡ true }
+    requires new_responses { IsNew responses.old }
+    ensures left { IfOk result (λ left. left.end ≤ length piece.new) }
+    ensures reads { reads_of responses.new ≤ turns }
+    ensures ok { OnOk result ((has_failed responses.new ≡ false) × (has_ended responses.new ≡ false)) }
+    ensures out_stays { OnOk result (has_failed out.new ≡ has_failed out.old) }
+    ensures fault { IfErr result (IsShownInHearing responses.new (has_failed out.new) turns) }
+{
+    let mut left = Left { start: 0, end: 0 };
+    for _ in 0..turns {
+        if !client.wants_input() {
+            return Ok(left);
+        }
+        let end = receive(responses, piece).map_err(|_| CheckFault::ReadFault)?;
+        if end == 0 {
+            return Err(CheckFault::Responses(client.close()));
+        }
+        let start = hear_piece(client, &piece[..end], out)?;
+        left = Left { start, end };
+    }
+    if client.wants_input() {
+        return Err(CheckFault::ReadLimit);
+    }
+    Ok(left)
+}
+
+/// Hears what a piece says, up to the advertisement's end, and writes the events. Answers how many bytes were used.
+fn hear_piece<W: Write>(
+    client: &mut Client,
+    piece: &[u8],
+    out: &mut Told<W>,
+) -> Result<usize, CheckFault>
+    requires { wants_input client.old ≡ true }
+    ensures used { IfOk result (λ used. used ≤ length piece.now) }
+    ensures goes_on { OnOk result (fault_of client.new ≡ None) }
+    ensures out_stays { OnOk result (has_failed out.new ≡ has_failed out.old) }
+    ensures fault { IfErr result (IsShownInPiece (has_failed out.new)) }
+{
+    let mut used = 0;
+    while used < piece.len() && client.wants_input() {
+        let heard = client.feed(&piece[used..]);
+        match heard.got {
+            HeardGot::More => return Ok(piece.len()),
+            HeardGot::Failed(fault) => return Err(CheckFault::Responses(fault)),
+            HeardGot::Event(event) => {
+                write_event(out, &event, 0, 0).map_err(|_| CheckFault::WriteFault)?;
+            }
+        }
+        used += heard.used;
+    }
+    Ok(used)
+}
+
+/// Reads the requests: nothing, or a flush alone.
+fn read_requests<Q: Read>(
+    requests: &mut Told<Q>,
+    piece: &mut [u8],
+    turns: u64,
+) -> Result<(), CheckFault>
+    requires room { 0 < length piece.old }
+    requires new_requests { IsNew requests.old }
+    ensures reads { reads_of requests.new ≤ turns }
+    ensures ok { OnOk result (has_failed requests.new ≡ false) }
+    ensures fault { IfErr result (IsShownInRequests requests.new turns) }
+{
+    let mut packets = PacketReader::new();
+    for _ in 0..turns {
+        let count = receive(requests, piece).map_err(|_| CheckFault::ReadFault)?;
+        if count == 0 {
+            return packets.close().map_err(CheckFault::Requests);
+        }
+        match packets.feed(&piece[..count]).got {
+            Got::More => {}
+            Got::Failed(fault) => return Err(CheckFault::Requests(fault)),
+            Got::Packet(Packet::Flush, _) => return Ok(()),
+            Got::Packet(_, offset) => {
+                return Err(CheckFault::Requests(Fault {
+                    kind: Kind::UnexpectedPacket,
+                    offset,
+                }));
+            }
+        }
+    }
+    Err(CheckFault::ReadLimit)
+}

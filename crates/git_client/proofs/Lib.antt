@@ -1,0 +1,10 @@
+pub mod Sequences
+pub mod Carries
+pub mod Judged
+pub mod Taken
+pub mod Held
+pub mod Closed
+pub mod Twice
+pub mod Determined
+pub mod Writing
+pub mod Faults

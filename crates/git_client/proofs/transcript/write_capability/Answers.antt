@@ -1,0 +1,55 @@
+use Rattle.std.proofs.Common.{◌++◌, codes}
+use Rattle.std.proofs.KnownBytes.{Appends-trans}
+use Rattle.std.specs.Io.KnownBytes.{Appends}
+use Rattle.std.specs.Option.{option_copied}
+use Rattle.git_pkt.specs.Told.{inner_of, AppendsFront}
+use Rattle.git_pkt.specs.Escape.{escaped_of}
+use Rattle.git_pkt.proofs.EngineLemmas.{AppendsFront-after, AppendsFront-longer}
+use Rattle.git_client.specs.Transcript.{value_shown}
+use Rattle.git_client.proofs.Writing.{on_err, on_ok-map, on_err-map}
+use Rattle.git_client.proofs.transcript.write_capability.Goals as goal
+
+pub returns-in_err-send-clause-err : goal.returns-in_err-send-clause-err
+returns-in_err-send-clause-err g c =
+    let key = escaped_of c.args.capability.now.key.now in
+    let value = value_shown (option_copied c.args.capability.now.value) in
+    on_err _ (AppendsFront-longer _ _ (codes "capability ") (key ++ value ++ codes "\n") c.in_err-send.ensures.err)
+
+pub returns-in_err-write_escaped-clause-err : goal.returns-in_err-write_escaped-clause-err
+returns-in_err-write_escaped-clause-err g c =
+    let key = escaped_of c.args.capability.now.key.now in
+    let value = value_shown (option_copied c.args.capability.now.value) in
+    on_err _
+    (AppendsFront-longer _ _ (codes "capability " ++ key ++ value) (codes "\n")
+    (AppendsFront-longer _ _ (codes "capability " ++ key) value (AppendsFront-after _ _ _ (codes "capability ") key c.in_ok-send.ensures.ok c.in_err-write_escaped.ensures.err)))
+
+pub returns-in_err-write_value-clause-err : goal.returns-in_err-write_value-clause-err
+returns-in_err-write_value-clause-err g c =
+    let key = escaped_of c.args.capability.now.key.now in
+    let value = value_shown (option_copied c.args.capability.now.value) in
+    on_err _
+    (AppendsFront-longer _ _ (codes "capability " ++ key ++ value) (codes "\n")
+    (AppendsFront-after _ _ _ (codes "capability " ++ key) value
+    (Appends-trans _ _ _ (codes "capability ") key c.in_ok-send.ensures.ok c.in_ok-write_escaped.ensures.ok) c.in_err-write_value.ensures.err))
+
+pub returns-clause-ok : goal.returns-clause-ok
+returns-clause-ok g c =
+    let key = escaped_of c.args.capability.now.key.now in
+    let value = value_shown (option_copied c.args.capability.now.value) in
+    let a = g.W.Write.contents (inner_of c.args.out.now) in
+    let d = g.W.Write.contents (inner_of c.write_value.new.out) in
+    let e = g.W.Write.contents (inner_of c.send-2.new.writer) in
+    let so_far : Appends a d (codes "capability " ++ key ++ value) =
+    Appends-trans _ _ _ (codes "capability " ++ key) value (Appends-trans _ _ _ (codes "capability ") key c.in_ok-send.ensures.ok c.in_ok-write_escaped.ensures.ok) c.in_ok-write_value.ensures.ok in
+    on_ok-map c.send-2.result (λ (last : Appends d e (codes "\n")). Appends-trans a d e (codes "capability " ++ key ++ value) (codes "\n") so_far last) c.send-2.ensures.ok
+
+pub returns-clause-err : goal.returns-clause-err
+returns-clause-err g c =
+    let key = escaped_of c.args.capability.now.key.now in
+    let value = value_shown (option_copied c.args.capability.now.value) in
+    let a = g.W.Write.contents (inner_of c.args.out.now) in
+    let d = g.W.Write.contents (inner_of c.write_value.new.out) in
+    let e = g.W.Write.contents (inner_of c.send-2.new.writer) in
+    let so_far : Appends a d (codes "capability " ++ key ++ value) =
+    Appends-trans _ _ _ (codes "capability " ++ key) value (Appends-trans _ _ _ (codes "capability ") key c.in_ok-send.ensures.ok c.in_ok-write_escaped.ensures.ok) c.in_ok-write_value.ensures.ok in
+    on_err-map c.send-2.result (λ (last : AppendsFront d e (codes "\n")). AppendsFront-after a d e (codes "capability " ++ key ++ value) (codes "\n") so_far last) c.send-2.ensures.err

@@ -1,0 +1,56 @@
+//! What a client is told and what it answers.
+
+use git_msg::Capability;
+use git_pkt::Fault;
+
+/// How each response ends.
+#[derive(Clone, Copy, Debug, PartialEq, Eq)]
+pub enum Ending {
+    /// With its flush alone, as on a connection that both sides keep.
+    FlushOnly,
+    /// With one response-end packet more, as where each request has a connection of its own.
+    ResponseEnd,
+}
+
+/// What the server said.
+#[derive(Clone, Copy, Debug)]
+pub enum Event<'a> {
+    /// A line of the advertisement, whether its key is known or not.
+    Capability(Capability<'a>),
+    /// The advertisement is whole, and the client's object format is spoken.
+    Offered,
+}
+
+/// What one call of [`Client::feed`](crate::Client::feed) did.
+#[derive(Clone, Copy, Debug)]
+pub struct Heard<'a> {
+    /// How many bytes of the piece were used.
+    pub used: usize,
+    pub got: HeardGot<'a>,
+}
+
+/// What came of the bytes used.
+#[derive(Clone, Copy, Debug)]
+pub enum HeardGot<'a> {
+    /// No event is whole yet and the piece was used up, or the client does not wait for input.
+    More,
+    /// One event.
+    Event(Event<'a>),
+    /// The conversation is refused; the client stays at this fault.
+    Failed(Fault),
+}
+
+/// What is to be done next, as [`Client::pull`](crate::Client::pull) answers it.
+#[derive(Clone, Copy, Debug)]
+pub enum Sent<'a> {
+    /// These bytes, one packet, are to be sent.
+    Packet(&'a [u8]),
+    /// Bytes of the server are due.
+    NeedInput,
+    /// A request can be asked.
+    CanAsk,
+    /// All was said, and the last packet was given.
+    Finished,
+    /// The conversation was refused.
+    Failed(Fault),
+}

@@ -1,0 +1,70 @@
+//! The lines of a transcript, and writers that fail under them.
+
+use git_client::{Event, write_event};
+use git_msg::Capability;
+use git_pkt::{RunFault, Told};
+use std::test::Fail;
+use test_streams::Sink;
+
+const NEVER: u32 = u32::MAX;
+
+fn event_of(value: Option<&'static [u8]>) -> Event<'static> {
+    Event::Capability(Capability { key: b"key", value })
+}
+
+#[test]
+fn each_event_is_a_line(rt: HostRuntime) -> Result<(), Fail> {
+    let rows: [(Event<'static>, &[u8]); 5] = [
+        (Event::Offered, b"offered\n"),
+        (event_of(None), b"capability key\n"),
+        (event_of(Some(b"")), b"capability key=\n"),
+        (event_of(Some(b"a=b ~")), b"capability key=a=b ~\n"),
+        (
+            event_of(Some(b"\\\x1f\x7f\xc3\xa9\r")),
+            b"capability key=\\\\\\x1f\\x7f\\xc3\\xa9\\x0d\n",
+        ),
+    ];
+    for (event, line) in rows {
+        let mut sink = Sink::new(Vec::new(rt.alloc()), usize::MAX, NEVER);
+        let mut out = Told::new(&mut sink);
+        assert_eq!(rt; write_event(&mut out, &event, 7, 8), Ok(()));
+        assert!(rt; !out.failed());
+        assert_eq!(rt; sink.taken.as_slice(), line);
+    }
+    Ok(())
+}
+
+#[test]
+fn a_long_value_is_written_whole(rt: HostRuntime) -> Result<(), Fail> {
+    let value = [b'\\'; 1_000];
+    let capability = Capability {
+        key: b"k",
+        value: Some(&value),
+    };
+    let mut sink = Sink::new(Vec::new(rt.alloc()), 7, NEVER);
+    let mut out = Told::new(&mut sink);
+    let event = Event::Capability(capability);
+    assert_eq!(rt; write_event(&mut out, &event, 0, 0), Ok(()));
+    assert_eq!(rt; sink.taken.len(), 2_014);
+    assert!(rt; sink.taken.as_slice().starts_with(b"capability k=\\\\"));
+    assert!(rt; sink.taken.as_slice().ends_with(b"\\\\\n"));
+    Ok(())
+}
+
+#[test]
+fn a_writer_that_fails_is_a_write_fault(rt: HostRuntime) -> Result<(), Fail> {
+    let line = b"capability key=value\n";
+    for failing in 0..5 {
+        let mut sink = Sink::new(Vec::new(rt.alloc()), usize::MAX, failing);
+        let mut out = Told::new(&mut sink);
+        let event = event_of(Some(b"value"));
+        assert_eq!(rt;
+            write_event(&mut out, &event, 0, 0),
+            Err(RunFault::WriteFault),
+            "at {failing}"
+        );
+        assert!(rt; out.failed(), "at {failing}");
+        assert!(rt; line.starts_with(sink.taken.as_slice()), "at {failing}");
+    }
+    Ok(())
+}

@@ -1,0 +1,321 @@
+-- A packet is one line, or has one fault, and not both.
+use Rattle.std.proofs.Common.{arith, ◌≡◌, ◌≢◌, ℕ, ◌+◌, ◌<◌, ◌≤◌, Bool, true, false, Option, Some, List, [], ◌∷◌, ◌++◌, refl, ap, sym, ◌∙◌, subst, length, drop, slice_index, codes, inl, inr}
+use Rattle.git_names.specs.ObjectFormat.{name_of as format_name}
+use Rattle.git_names.specs.declared.object_format.Format.{Format}
+use Rattle.git_names.specs.declared.object_format.Format.TheVariants.{Sha1, Sha256}
+use Rattle.git_pkt.specs.Packets.{Pkt, flush, delim, resp_end, payload, text_of}
+use Rattle.git_pkt.specs.Splits.{Given}
+use Rattle.git_pkt.specs.declared.fault.Kind.{Kind}
+use Rattle.git_pkt.specs.declared.fault.Kind.TheVariants.{BadCapability, UnknownCommand, TwoCommands, NoCommand, NotAdvertised, WrongFormat, TooMuchKept, RemoteError, UnknownArgument, BadLine}
+use Rattle.git_msg.specs.declared.offers.Offer.{Offer}
+use Rattle.git_msg.specs.declared.arguments.Command.{Command}
+use Rattle.git_msg.specs.declared.arguments.Command.TheVariants.{LsRefs}
+use Rattle.git_msg.specs.declared.capability_key.Key.{Key}
+use Rattle.git_msg.specs.declared.capability_key.Key.TheVariants.{CommandKey, AgentKey, ServerOptionKey, ObjectFormatKey, OtherKey}
+use Rattle.git_msg.specs.Texts.{IsErrorText}
+use Rattle.git_msg.specs.Capability.{IsNoCapability}
+use Rattle.git_msg.specs.Arguments.{Arg, symrefs, peel, ref_prefix, IsArgument, IsArgumentFault}
+use Rattle.git_msg.specs.Asked.{Asked, asked_by}
+use Rattle.git_msg.specs.Checks.{Check, check, Refuses, Passes}
+use Rattle.git_msg.specs.Lines.{Line, command, agent, server_option, object_format, boundary, argument, is_none, commands_of, arguments_of, kept_in, has_format, has_boundary, IsWordOf, HasKey, IsAnyCapability, NamesCommand, key_checks, by_key, capability_checks, IsLineOf, IsCapabilityLine, IsFormatMeant, IsOtherFormatMeant, part_checks, argument_checks, IsArgumentLine, IsArgumentRefused, end_checks, at_end, flush_checks_in, IsLine, IsLineIn, HasFault, HasFaultIn}
+use Rattle.git_msg.specs.Requests.{AreLines, Asks}
+use Rattle.git_msg.proofs.Keys.{one_capability}
+
+-- texts of different lengths, or that begin otherwise, are not the same
+lengths : (text a b : List ℕ) → text ≡ a → text ≡ b → length a ≡ length b
+lengths text a b h k = ap length (sym h ∙ k)
+
+firsts : (text a b : List ℕ) → text ≡ a → text ≡ b → slice_index a 0 ≡ slice_index b 0
+firsts text a b h k = ap (λ (xs : List ℕ). slice_index xs 0) (sym h ∙ k)
+
+not_lengths : (text a b : List ℕ) → length a ≢ length b → text ≡ a → text ≡ b → ⊥
+not_lengths text a b differ h k = differ (lengths text a b h k)
+
+not_firsts : (text a b : List ℕ) → slice_index a 0 ≢ slice_index b 0 → text ≡ a → text ≡ b → ⊥
+not_firsts text a b differ h k = differ (firsts text a b h k)
+
+-- a word is one key
+pub one_key : (text : List ℕ) (a b : Key) → IsWordOf text a → IsWordOf text b → a ≡ b
+one_key text CommandKey CommandKey h k = refl
+one_key text CommandKey AgentKey h k = absurd (not_lengths text (codes "command") (codes "agent") (λ e. omega arith) h k)
+one_key text CommandKey ServerOptionKey h k = absurd (not_lengths text (codes "command") (codes "server-option") (λ e. omega arith) h k)
+one_key text CommandKey ObjectFormatKey h k = absurd (not_lengths text (codes "command") (codes "object-format") (λ e. omega arith) h k)
+one_key text CommandKey OtherKey h k = absurd (k.0 h)
+one_key text AgentKey CommandKey h k = absurd (not_lengths text (codes "agent") (codes "command") (λ e. omega arith) h k)
+one_key text AgentKey AgentKey h k = refl
+one_key text AgentKey ServerOptionKey h k = absurd (not_lengths text (codes "agent") (codes "server-option") (λ e. omega arith) h k)
+one_key text AgentKey ObjectFormatKey h k = absurd (not_lengths text (codes "agent") (codes "object-format") (λ e. omega arith) h k)
+one_key text AgentKey OtherKey h k = absurd (k.1.0 h)
+one_key text ServerOptionKey CommandKey h k = absurd (not_lengths text (codes "server-option") (codes "command") (λ e. omega arith) h k)
+one_key text ServerOptionKey AgentKey h k = absurd (not_lengths text (codes "server-option") (codes "agent") (λ e. omega arith) h k)
+one_key text ServerOptionKey ServerOptionKey h k = refl
+one_key text ServerOptionKey ObjectFormatKey h k = absurd (not_firsts text (codes "server-option") (codes "object-format") (λ e. omega arith) h k)
+one_key text ServerOptionKey OtherKey h k = absurd (k.1.1.0 h)
+one_key text ObjectFormatKey CommandKey h k = absurd (not_lengths text (codes "object-format") (codes "command") (λ e. omega arith) h k)
+one_key text ObjectFormatKey AgentKey h k = absurd (not_lengths text (codes "object-format") (codes "agent") (λ e. omega arith) h k)
+one_key text ObjectFormatKey ServerOptionKey h k = absurd (not_firsts text (codes "object-format") (codes "server-option") (λ e. omega arith) h k)
+one_key text ObjectFormatKey ObjectFormatKey h k = refl
+one_key text ObjectFormatKey OtherKey h k = absurd (k.1.1.1.0 h)
+one_key text OtherKey CommandKey h k = absurd (h.0 k)
+one_key text OtherKey AgentKey h k = absurd (h.1.0 k)
+one_key text OtherKey ServerOptionKey h k = absurd (h.1.1.0 k)
+one_key text OtherKey ObjectFormatKey h k = absurd (h.1.1.1.0 k)
+one_key text OtherKey OtherKey h k = refl
+
+-- an argument's text is one argument
+pub one_argument : (c : Command) (format : Format) (text : List ℕ) (a b : Arg) → IsArgument c format text a → IsArgument c format text b → a ≡ b
+one_argument LsRefs format text symrefs symrefs h k = refl
+one_argument LsRefs format text symrefs peel h k = absurd (not_lengths text (codes "symrefs") (codes "peel") (λ e. omega arith) h k)
+one_argument LsRefs format text symrefs (ref_prefix p) h k = absurd (not_firsts text (codes "symrefs") (codes "ref-prefix " ++ p) (λ e. omega arith) h k.0)
+one_argument LsRefs format text peel symrefs h k = absurd (not_lengths text (codes "peel") (codes "symrefs") (λ e. omega arith) h k)
+one_argument LsRefs format text peel peel h k = refl
+one_argument LsRefs format text peel (ref_prefix p) h k = absurd (not_firsts text (codes "peel") (codes "ref-prefix " ++ p) (λ e. omega arith) h k.0)
+one_argument LsRefs format text (ref_prefix p) symrefs h k = absurd (not_firsts text (codes "ref-prefix " ++ p) (codes "symrefs") (λ e. omega arith) h.0 k)
+one_argument LsRefs format text (ref_prefix p) peel h k = absurd (not_firsts text (codes "ref-prefix " ++ p) (codes "peel") (λ e. omega arith) h.0 k)
+one_argument LsRefs format text (ref_prefix p) (ref_prefix q) h k = ap ref_prefix (ap (λ (xs : List ℕ). drop 11 xs) (sym h.0 ∙ k.0))
+
+-- the keys of a text
+same_key : (text : List ℕ) (a b : Key) (v w : Option (List ℕ)) → HasKey text a v → HasKey text b w → (a ≡ b) × (v ≡ w)
+same_key text a b v w h k =
+    let same = one_capability text h.word k.word v w h.is_capability k.is_capability in
+    (one_key k.word a b (subst (λ (x : List ℕ). IsWordOf x a) same.0 h.is_word) k.is_word, same.1)
+
+-- in each check, what passes and what refuses exclude each other, and it refuses by one name
+record IsFair (c : Check) : Type 0 where
+  apart : (kind : Kind) → c.passes → c.refuses kind → ⊥
+  single : (kind other : Kind) → c.refuses kind → c.refuses other → kind ≡ other
+
+AllFair : List Check → Type 0
+AllFair [] = Unit {0}
+AllFair (c ∷ cs) = IsFair c × AllFair cs
+
+passes_or_refuses : (cs : List Check) → AllFair cs → (kind : Kind) → Passes cs → Refuses cs kind → ⊥
+unfolding AllFair
+passes_or_refuses [] fair kind p r = r
+passes_or_refuses (c ∷ cs) fair kind p (inl r) = fair.0.apart kind p.0 r
+passes_or_refuses (c ∷ cs) fair kind p (inr r) = passes_or_refuses cs fair.1 kind p.1 r.1
+
+one_name : (cs : List Check) → AllFair cs → (kind other : Kind) → Refuses cs kind → Refuses cs other → kind ≡ other
+unfolding AllFair
+one_name [] fair kind other r s = absurd r
+one_name (c ∷ cs) fair kind other (inl r) (inl s) = fair.0.single kind other r s
+one_name (c ∷ cs) fair kind other (inl r) (inr s) = absurd (fair.0.apart kind s.0 r)
+one_name (c ∷ cs) fair kind other (inr r) (inl s) = absurd (fair.0.apart other r.0 s)
+one_name (c ∷ cs) fair kind other (inr r) (inr s) = one_name cs fair.1 kind other r.1 s.1
+
+-- a check with one name
+fair_check : (P Q : Type 0) (name : Kind) → (P → Q → ⊥) → IsFair (check P Q name)
+fair_check P Q name h = record { apart = λ kind p r. h p r.0; single = λ kind other r s. r.1 ∙ sym s.1 }
+
+true_false : (b : Bool) → b ≡ true → b ≡ false → ⊥
+true_false b h k = cc
+
+fair_keys : (offer : Offer) (first : Bool) (key : Key) (value : Option (List ℕ)) → AllFair (key_checks offer first key value)
+unfolding AllFair
+fair_keys offer first CommandKey value =
+    (fair_check (first ≡ true) (first ≡ false) TwoCommands (λ p q. true_false first p q), (fair_check (NamesCommand value) (¬ NamesCommand value) UnknownCommand (λ p q. q p), tt))
+fair_keys offer first AgentKey value = tt
+fair_keys offer first ServerOptionKey value = (fair_check (offer.server_option ≡ true) (offer.server_option ≡ false) NotAdvertised (λ p q. true_false offer.server_option p q), tt)
+fair_keys offer first ObjectFormatKey value = (fair_check (value ≡ Some (format_name offer.format)) (value ≢ Some (format_name offer.format)) WrongFormat (λ p q. q p), tt)
+fair_keys offer first OtherKey value = (fair_check ⊥ (Unit {0}) NotAdvertised (λ p q. p), tt)
+
+fair_by_key : (offer : Offer) (first : Bool) (text : List ℕ) → IsFair (by_key offer first text)
+fair_by_key offer first text = record {
+  apart = λ kind p r.
+      let same = same_key text p.0 r.0 p.1 r.1 p.2 r.2 in
+      let there : Passes (key_checks offer first r.0 r.1) = subst (λ (v : Option (List ℕ)). Passes (key_checks offer first r.0 v)) same.1 (subst (λ (k : Key). Passes (key_checks offer first k p.1)) same.0 p.3) in
+      passes_or_refuses (key_checks offer first r.0 r.1) (fair_keys offer first r.0 r.1) kind there r.3;
+  single = λ kind other r s.
+      let same = same_key text r.0 s.0 r.1 s.1 r.2 s.2 in
+      let there : Refuses (key_checks offer first s.0 s.1) kind = subst (λ (v : Option (List ℕ)). Refuses (key_checks offer first s.0 v) kind) same.1 (subst (λ (k : Key). Refuses (key_checks offer first k r.1) kind) same.0 r.3) in
+      one_name (key_checks offer first s.0 s.1) (fair_keys offer first s.0 s.1) kind other there s.3;
+}
+
+fair_capability : (offer : Offer) (first : Bool) (text : List ℕ) → AllFair (capability_checks offer first text)
+unfolding AllFair
+fair_capability offer first text =
+    (fair_check (¬ IsErrorText text) (IsErrorText text) RemoteError (λ p q. p q), (fair_check (IsAnyCapability text) (IsNoCapability text) BadCapability (λ p q. q p.0 p.1 p.2), (fair_by_key offer first text, tt)))
+
+format_or_other : (format : Format) (said : Bool) → IsFormatMeant format said → IsOtherFormatMeant format said → ⊥
+format_or_other Sha1 said p q = q
+format_or_other Sha256 said p q = true_false said p q
+
+fair_part : (offer : Offer) (commands : List Command) (said : Bool) → AllFair (part_checks offer commands said)
+unfolding AllFair
+fair_part offer commands said =
+    (fair_check (is_none commands ≡ false) (is_none commands ≡ true) NoCommand (λ p q. true_false (is_none commands) q p), (fair_check (IsFormatMeant offer.format said) (IsOtherFormatMeant offer.format said) WrongFormat (λ p q. format_or_other offer.format said p q), tt))
+
+-- an argument or its fault
+argument_or_fault : (c : Command) (offer : Offer) (text : List ℕ) (arg : Arg) (kind : Kind) → IsArgument c offer.format text arg → IsArgumentFault c offer text kind → ⊥
+argument_or_fault LsRefs offer text symrefs UnknownArgument h fault = fault.0.0 h
+argument_or_fault LsRefs offer text peel UnknownArgument h fault = fault.0.1.0 h
+argument_or_fault LsRefs offer text (ref_prefix p) UnknownArgument h fault = fault.1.0 p h.0
+argument_or_fault LsRefs offer text symrefs BadLine h fault = absurd (not_firsts text (codes "symrefs") (codes "ref-prefix " ++ fault.value) (λ e. omega arith) h fault.spelled)
+argument_or_fault LsRefs offer text peel BadLine h fault = absurd (not_firsts text (codes "peel") (codes "ref-prefix " ++ fault.value) (λ e. omega arith) h fault.spelled)
+argument_or_fault LsRefs offer text (ref_prefix p) BadLine h fault =
+    let same : p ≡ fault.value = ap (λ (xs : List ℕ). drop 11 xs) (sym h.0 ∙ fault.spelled) in
+    let long : length p ≡ length fault.value = ap length same in
+    let most = h.1 in
+    let over = fault.holds in
+    absurd (omega arith)
+argument_or_fault LsRefs offer text arg kind h fault = fault
+
+one_argument_fault : (c : Command) (offer : Offer) (text : List ℕ) (kind other : Kind) → IsArgumentFault c offer text kind → IsArgumentFault c offer text other → kind ≡ other
+one_argument_fault LsRefs offer text UnknownArgument UnknownArgument h k = refl
+one_argument_fault LsRefs offer text UnknownArgument BadLine h k = absurd (h.1.0 k.value k.spelled)
+one_argument_fault LsRefs offer text BadLine UnknownArgument h k = absurd (k.1.0 h.value h.spelled)
+one_argument_fault LsRefs offer text BadLine BadLine h k = refl
+one_argument_fault LsRefs offer text UnknownArgument other h k = absurd k
+one_argument_fault LsRefs offer text BadLine other h k = absurd k
+one_argument_fault LsRefs offer text kind other h k = absurd h
+
+fair_argument : (offer : Offer) (limit : ℕ) (c : Command) (kept : ℕ) (text : List ℕ) → AllFair (argument_checks offer limit c kept text)
+unfolding AllFair
+fair_argument offer limit c kept text = (
+  fair_check (¬ IsErrorText text) (IsErrorText text) RemoteError (λ p q. p q),
+  (
+    record { apart = λ kind p r. argument_or_fault c offer text p.0 kind p.1.is_argument r; single = λ kind other r s. one_argument_fault c offer text kind other r s },
+    (fair_check (kept + length text ≤ limit) (limit < kept + length text) TooMuchKept (λ p q. omega arith), tt),
+  ),
+)
+
+same_command : (cs : List Command) (c d : Command) → cs ≡ c ∷ [] → cs ≡ d ∷ [] → c ≡ d
+same_command cs c d h k = cc
+
+fair_end_checks : (c : Command) (args : List Arg) → AllFair (end_checks c args)
+unfolding AllFair
+fair_end_checks LsRefs args = tt
+
+fair_at_end : (lines : List Line) → IsFair (at_end lines)
+fair_at_end lines = record {
+  apart = λ kind p r.
+      let same = same_command (commands_of lines) p.0 r.0 p.1 r.1 in
+      passes_or_refuses (end_checks r.0 (arguments_of lines)) (fair_end_checks r.0 (arguments_of lines)) kind (subst (λ (c : Command). Passes (end_checks c (arguments_of lines))) same p.2) r.2;
+  single = λ kind other r s.
+      let same = same_command (commands_of lines) r.0 s.0 r.1 s.1 in
+      one_name (end_checks s.0 (arguments_of lines)) (fair_end_checks s.0 (arguments_of lines)) kind other (subst (λ (c : Command). Refuses (end_checks c (arguments_of lines)) kind) same r.2) s.2;
+}
+
+fair_flush : (part : Bool) (offer : Offer) (lines : List Line) → AllFair (flush_checks_in part offer lines)
+unfolding AllFair
+fair_flush true offer lines = (fair_at_end lines, tt)
+fair_flush false offer lines =
+    let part = fair_part offer (commands_of lines) (has_format lines) in
+    (part.0, (part.1.0, (fair_at_end lines, tt)))
+
+-- a capability line passes all its checks
+line_passes : (offer : Offer) (first : Bool) (text : List ℕ) (line : Line) → IsCapabilityLine offer first text line → Passes (capability_checks offer first text)
+line_passes offer first text line h = (h.no_error, ((h.has_key.word, h.value, h.has_key.is_capability), ((h.key, h.value, h.has_key, h.allowed), tt)))
+
+argument_passes : (offer : Offer) (limit : ℕ) (before : List Line) (text : List ℕ) (arg : Arg) (long : ℕ) → (h : IsArgumentLine offer limit before text arg long) → Passes (argument_checks offer limit h.is_text.of (kept_in before) text)
+argument_passes offer limit before text arg long h =
+    let same = h.long_is in
+    let most = h.fits in
+    (h.is_text.no_error, ((arg, h.is_text.reads), (omega arith, tt)))
+
+argument_line_or_fault : (offer : Offer) (limit : ℕ) (before : List Line) (text : List ℕ) (arg : Arg) (long : ℕ) (kind : Kind) → IsArgumentLine offer limit before text arg long → IsArgumentRefused offer limit before text kind → ⊥
+argument_line_or_fault offer limit before text arg long kind h r =
+    let same = same_command (commands_of before) h.is_text.of r.of h.is_text.asked r.asked in
+    passes_or_refuses (argument_checks offer limit r.of (kept_in before) text) (fair_argument offer limit r.of (kept_in before) text) kind (subst (λ (c : Command). Passes (argument_checks offer limit c (kept_in before) text)) same (argument_passes offer limit before text arg long h)) r.refuses
+
+capability_line_or_fault : (offer : Offer) (first : Bool) (text : List ℕ) (line : Line) (kind : Kind) → IsCapabilityLine offer first text line → Refuses (capability_checks offer first text) kind → ⊥
+capability_line_or_fault offer first text line kind h r = passes_or_refuses (capability_checks offer first text) (fair_capability offer first text) kind (line_passes offer first text line h) r
+
+-- in either part
+line_or_fault_in : (part : Bool) (offer : Offer) (limit : ℕ) (before : List Line) (packet : Pkt) (line : Line) (kind : Kind) → IsLineIn part offer limit before packet line → HasFaultIn part offer limit before packet kind → ⊥
+line_or_fault_in false offer limit before (payload bytes) line kind h r = capability_line_or_fault offer (is_none (commands_of before)) (text_of bytes) line kind h r
+line_or_fault_in false offer limit before delim boundary kind h r = passes_or_refuses (part_checks offer (commands_of before) (has_format before)) (fair_part offer (commands_of before) (has_format before)) kind h r
+line_or_fault_in true offer limit before (payload bytes) (argument arg long) kind h r = argument_line_or_fault offer limit before (text_of bytes) arg long kind h r
+line_or_fault_in part offer limit before packet line kind h r = absurd h
+
+pub line_or_fault : (offer : Offer) (limit : ℕ) (before : List Line) (packet : Pkt) (line : Line) (kind : Kind) → IsLine offer limit before packet line → HasFault offer limit before packet kind → ⊥
+line_or_fault offer limit before packet line kind h r = line_or_fault_in (has_boundary before) offer limit before packet line kind h r
+
+-- a capability is one line
+one_line_of : (key : Key) (value : Option (List ℕ)) (line other : Line) → IsLineOf key value line → IsLineOf key value other → line ≡ other
+one_line_of CommandKey value (command LsRefs) (command LsRefs) h k = refl
+one_line_of AgentKey value agent agent h k = refl
+one_line_of ServerOptionKey value server_option server_option h k = refl
+one_line_of ObjectFormatKey value object_format object_format h k = refl
+one_line_of CommandKey value (command c) other h k = absurd k
+one_line_of AgentKey value agent other h k = absurd k
+one_line_of ServerOptionKey value server_option other h k = absurd k
+one_line_of ObjectFormatKey value object_format other h k = absurd k
+one_line_of key value line other h k = absurd h
+
+one_capability_line : (offer : Offer) (first : Bool) (text : List ℕ) (line other : Line) → IsCapabilityLine offer first text line → IsCapabilityLine offer first text other → line ≡ other
+one_capability_line offer first text line other h k =
+    let same = same_key text h.key k.key h.value k.value h.has_key k.has_key in
+    one_line_of k.key k.value line other (subst (λ (v : Option (List ℕ)). IsLineOf k.key v line) same.1 (subst (λ (x : Key). IsLineOf x h.value line) same.0 h.line_is)) k.line_is
+
+one_argument_line : (offer : Offer) (limit : ℕ) (before : List Line) (text : List ℕ) (a b : Arg) (m n : ℕ) → IsArgumentLine offer limit before text a m → IsArgumentLine offer limit before text b n → argument a m ≡ argument b n
+one_argument_line offer limit before text a b m n h k =
+    let c = same_command (commands_of before) h.is_text.of k.is_text.of h.is_text.asked k.is_text.asked in
+    let there : IsArgument k.is_text.of offer.format text a = subst (λ (x : Command). IsArgument x offer.format text a) c h.is_text.reads.is_argument in
+    let same = one_argument k.is_text.of offer.format text a b there k.is_text.reads.is_argument in
+    let long : m ≡ n = h.long_is ∙ sym k.long_is in
+    cc
+
+one_line_in : (part : Bool) (offer : Offer) (limit : ℕ) (before : List Line) (packet : Pkt) (line other : Line) → IsLineIn part offer limit before packet line → IsLineIn part offer limit before packet other → line ≡ other
+one_line_in false offer limit before (payload bytes) line other h k = one_capability_line offer (is_none (commands_of before)) (text_of bytes) line other h k
+one_line_in false offer limit before delim boundary boundary h k = refl
+one_line_in true offer limit before (payload bytes) (argument a m) (argument b n) h k = one_argument_line offer limit before (text_of bytes) a b m n h k
+one_line_in false offer limit before delim boundary other h k = absurd k
+one_line_in true offer limit before (payload bytes) (argument a m) other h k = absurd k
+one_line_in part offer limit before packet line other h k = absurd h
+
+pub one_line : (offer : Offer) (limit : ℕ) (before : List Line) (packet : Pkt) (line other : Line) → IsLine offer limit before packet line → IsLine offer limit before packet other → line ≡ other
+one_line offer limit before packet line other h k = one_line_in (has_boundary before) offer limit before packet line other h k
+
+-- a packet has one fault
+one_fault_in : (part : Bool) (offer : Offer) (limit : ℕ) (before : List Line) (packet : Pkt) (kind other : Kind) → HasFaultIn part offer limit before packet kind → HasFaultIn part offer limit before packet other → kind ≡ other
+one_fault_in false offer limit before (payload bytes) kind other h k = one_name (capability_checks offer (is_none (commands_of before)) (text_of bytes)) (fair_capability offer (is_none (commands_of before)) (text_of bytes)) kind other h k
+one_fault_in false offer limit before delim kind other h k = one_name (part_checks offer (commands_of before) (has_format before)) (fair_part offer (commands_of before) (has_format before)) kind other h k
+one_fault_in false offer limit before flush kind other h k = one_name (flush_checks_in false offer before) (fair_flush false offer before) kind other h.1 k.1
+one_fault_in false offer limit before resp_end kind other h k = h ∙ sym k
+one_fault_in true offer limit before (payload bytes) kind other h k =
+    let same = same_command (commands_of before) h.of k.of h.asked k.asked in
+    one_name (argument_checks offer limit k.of (kept_in before) (text_of bytes)) (fair_argument offer limit k.of (kept_in before) (text_of bytes)) kind other (subst (λ (c : Command). Refuses (argument_checks offer limit c (kept_in before) (text_of bytes)) kind) same h.refuses) k.refuses
+one_fault_in true offer limit before flush kind other h k = one_name (flush_checks_in true offer before) (fair_flush true offer before) kind other h k
+one_fault_in true offer limit before delim kind other h k = h ∙ sym k
+one_fault_in true offer limit before resp_end kind other h k = h ∙ sym k
+
+pub one_fault : (offer : Offer) (limit : ℕ) (before : List Line) (packet : Pkt) (kind other : Kind) → HasFault offer limit before packet kind → HasFault offer limit before packet other → kind ≡ other
+one_fault offer limit before packet kind other h k = one_fault_in (has_boundary before) offer limit before packet kind other h k
+
+-- packets are lines in one way
+pub one_list_of_lines : (offer : Offer) (limit : ℕ) (before : List Line) (gs : List Given) (lines others : List Line) → AreLines offer limit before gs lines → AreLines offer limit before gs others → lines ≡ others
+one_list_of_lines offer limit before [] [] [] h k = refl
+one_list_of_lines offer limit before [] [] (m ∷ ms) h k = absurd k
+one_list_of_lines offer limit before [] (l ∷ ls) others h k = absurd h
+one_list_of_lines offer limit before (g ∷ gs) [] others h k = absurd h
+one_list_of_lines offer limit before (g ∷ gs) (l ∷ ls) [] h k = absurd k
+one_list_of_lines offer limit before (g ∷ gs) (l ∷ ls) (m ∷ ms) h k =
+    let same = one_line offer limit before g.packet l m h.0 k.0 in
+    let rest = one_list_of_lines offer limit (before ++ m ∷ []) gs ls ms (subst (λ (x : Line). AreLines offer limit (before ++ x ∷ []) gs ls) same h.1) k.1 in
+    cc
+
+-- all but the last
+front_of : List Given → List Given
+front_of [] = []
+front_of (g ∷ []) = []
+front_of (g ∷ h ∷ gs) = g ∷ front_of (h ∷ gs)
+
+front_of_snoc : (gs : List Given) (g : Given) → front_of (gs ++ g ∷ []) ≡ gs
+unfolding front_of
+front_of_snoc [] g = refl
+front_of_snoc (a ∷ []) g = refl
+front_of_snoc (a ∷ b ∷ gs) g = ap (λ (xs : List Given). a ∷ xs) (front_of_snoc (b ∷ gs) g)
+
+-- packets are one request
+pub one_request : (offer : Offer) (limit : ℕ) (packets : List Given) (asked other : Asked) (kept other_kept : ℕ) → Asks offer limit packets asked kept → Asks offer limit packets other other_kept → (asked ≡ other) × (kept ≡ other_kept)
+one_request offer limit packets asked other kept other_kept h k =
+    let fronts : h.front ≡ k.front = sym (front_of_snoc h.front h.last) ∙ ap front_of (sym h.whole ∙ k.whole) ∙ front_of_snoc k.front k.last in
+    let lines : h.lines ≡ k.lines = one_list_of_lines offer limit [] k.front h.lines k.lines (subst (λ (gs : List Given). AreLines offer limit [] gs h.lines) fronts h.taken) k.taken in
+    let c : h.command ≡ k.command = same_command (commands_of h.lines) h.command k.command h.once (ap commands_of lines ∙ k.once) in
+    (h.asked_is ∙ ap (λ x. asked_by x (arguments_of h.lines)) c ∙ ap (λ ls. asked_by k.command (arguments_of ls)) lines ∙ sym k.asked_is, h.kept_is ∙ ap kept_in lines ∙ sym k.kept_is)
+
+-- a flush that passes has no fault
+pub flush_or_fault_in : (part : Bool) (offer : Offer) (limit : ℕ) (before : List Line) (kind : Kind) → Passes (flush_checks_in part offer before) → HasFaultIn part offer limit before flush kind → ⊥
+flush_or_fault_in false offer limit before kind p r = passes_or_refuses (flush_checks_in false offer before) (fair_flush false offer before) kind p r.1
+flush_or_fault_in true offer limit before kind p r = passes_or_refuses (flush_checks_in true offer before) (fair_flush true offer before) kind p r

@@ -1,0 +1,78 @@
+-- Lines, one more behind the others.
+use Rattle.std.proofs.Common.{arith, ◌≡◌, ℕ, ◌+◌, Bool, true, false, ◌||◌, Option, Some, None, option_to_list, List, [], ◌∷◌, ◌++◌, refl, ap, sym, ◌∙◌, subst, append_assoc, inl, inr}
+use Rattle.std.specs.List.{list_any, filter_map}
+use Rattle.std.proofs.lemmas.List.{append-nil}
+use Rattle.std.proofs.lemmas.List.Elements.{filter_map-append}
+use Rattle.std.proofs.lemmas.List.Folds.{list_any-append}
+use Rattle.std.proofs.lemmas.List.Sums.{sum_by-append}
+use Rattle.git_pkt.specs.Packets.{payload, text_of}
+use Rattle.git_pkt.specs.Splits.{Given}
+use Rattle.git_pkt.specs.declared.fault.Kind.{Kind}
+use Rattle.git_msg.specs.declared.offers.Offer.{Offer}
+use Rattle.git_msg.specs.declared.arguments.Command.{Command}
+use Rattle.git_msg.specs.declared.arguments.Command.TheVariants.{LsRefs}
+use Rattle.git_msg.specs.Arguments.{Arg}
+use Rattle.git_msg.specs.Asked.{asked_by, with_argument, is_symrefs, is_peel, prefix_in}
+use Rattle.git_msg.specs.Checks.{Check, Refuses}
+use Rattle.git_msg.specs.Lines.{Line, argument, command_in, argument_in, long_of, is_object_format, is_boundary, commands_of, arguments_of, kept_in, has_format, has_boundary, is_none, IsLine, IsLineIn, IsArgumentLine, IsCapabilityLine}
+use Rattle.git_msg.specs.Requests.{AreLines}
+
+or_false : (a b : Bool) → (a || (b || false)) ≡ (b || a)
+or_false true true = refl
+or_false true false = refl
+or_false false true = refl
+or_false false false = refl
+
+option_list : {X Y : Type 0} (h : X → Option Y) (x : X) (o : Option Y) → h x ≡ o → filter_map h (x ∷ []) ≡ option_to_list o
+option_list h x None e = rw e refl
+option_list h x (Some y) e = rw e refl
+
+pub filter_map_snoc : {X Y : Type 0} (h : X → Option Y) (xs : List X) (x : X) → filter_map h (xs ++ x ∷ []) ≡ filter_map h xs ++ option_to_list (h x)
+filter_map_snoc h xs x = filter_map-append h xs (x ∷ []) ∙ ap (λ ys. filter_map h xs ++ ys) (option_list h x (h x) refl)
+
+list_any_snoc : {X : Type 0} (p : X → Bool) (xs : List X) (x : X) → list_any p (xs ++ x ∷ []) ≡ (p x || list_any p xs)
+list_any_snoc p xs x = list_any-append p xs (x ∷ []) ∙ or_false (list_any p xs) (p x)
+
+pub commands_snoc : (lines : List Line) (line : Line) → commands_of (lines ++ line ∷ []) ≡ commands_of lines ++ option_to_list (command_in line)
+commands_snoc lines line = filter_map_snoc command_in lines line
+
+pub arguments_snoc : (lines : List Line) (line : Line) → arguments_of (lines ++ line ∷ []) ≡ arguments_of lines ++ option_to_list (argument_in line)
+arguments_snoc lines line = filter_map_snoc argument_in lines line
+
+pub format_snoc : (lines : List Line) (line : Line) → has_format (lines ++ line ∷ []) ≡ (is_object_format line || has_format lines)
+format_snoc lines line = list_any_snoc is_object_format lines line
+
+pub boundary_snoc : (lines : List Line) (line : Line) → has_boundary (lines ++ line ∷ []) ≡ (is_boundary line || has_boundary lines)
+boundary_snoc lines line = list_any_snoc is_boundary lines line
+
+pub kept_snoc : (lines : List Line) (line : Line) → kept_in (lines ++ line ∷ []) ≡ kept_in lines + long_of line
+kept_snoc lines line = omega (arith, sum_by-append long_of lines (line ∷ []))
+
+-- what is asked for with one more argument
+pub asked_snoc : (c : Command) (args : List Arg) (arg : Arg) → asked_by c (args ++ arg ∷ []) ≡ with_argument (asked_by c args) arg
+asked_snoc LsRefs args arg = rw (list_any_snoc is_symrefs args arg, list_any_snoc is_peel args arg, filter_map_snoc prefix_in args arg) refl
+
+-- one more packet, which is a line
+pub lines_snoc : (offer : Offer) (limit : ℕ) (before : List Line) (gs : List Given) (lines : List Line) (g : Given) (line : Line) → AreLines offer limit before gs lines → IsLine offer limit (before ++ lines) g.packet line → AreLines offer limit before (gs ++ g ∷ []) (lines ++ line ∷ [])
+lines_snoc offer limit before [] [] g line are is = (subst (λ (ls : List Line). IsLine offer limit ls g.packet line) (append-nil before) is, tt)
+lines_snoc offer limit before [] (l ∷ ls) g line are is = absurd are
+lines_snoc offer limit before (h ∷ hs) [] g line are is = absurd are
+lines_snoc offer limit before (h ∷ hs) (l ∷ ls) g line are is =
+    let behind : IsLine offer limit ((before ++ l ∷ []) ++ ls) g.packet line = subst (λ (xs : List Line). IsLine offer limit xs g.packet line) (sym (append_assoc before (l ∷ []) ls)) is in
+    (are.0, lines_snoc offer limit (before ++ l ∷ []) hs ls g line are.1 behind)
+
+-- the argument part's lines are argument lines
+pub argument_is_line : (offer : Offer) (limit : ℕ) (lines : List Line) (bytes : List ℕ) (arg : Arg) (long : ℕ) → has_boundary lines ≡ true → IsArgumentLine offer limit lines (text_of bytes) arg long → IsLine offer limit lines (payload bytes) (argument arg long)
+argument_is_line offer limit lines bytes arg long behind h =
+    subst (λ (b : Bool). IsLineIn b offer limit lines (payload bytes) (argument arg long)) (sym behind) h
+
+-- a capability line is a line of the capability part
+pub capability_is_line : (offer : Offer) (limit : ℕ) (lines : List Line) (bytes : List ℕ) (line : Line) → has_boundary lines ≡ false → IsCapabilityLine offer (is_none (commands_of lines)) (text_of bytes) line → IsLine offer limit lines (payload bytes) line
+capability_is_line offer limit lines bytes line before h =
+    subst (λ (b : Bool). IsLineIn b offer limit lines (payload bytes) line) (sym before) h
+
+-- the first checks refuse, so all of them do
+pub refuses_front : (front back : List Check) (kind : Kind) → Refuses front kind → Refuses (front ++ back) kind
+refuses_front [] back kind h = absurd h
+refuses_front (c ∷ cs) back kind (inl h) = inl h
+refuses_front (c ∷ cs) back kind (inr h) = inr (h.0, refuses_front cs back kind h.1)

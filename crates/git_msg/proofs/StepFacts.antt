@@ -1,0 +1,278 @@
+-- What single packets do, from what the parts of the reader promise.
+use Rattle.std.proofs.Common.{arith, ◌≡◌, ℕ, Bool, true, false, not, Option, Some, None, Ok, Err, option_to_list, List, [], ◌∷◌, ◌++◌, refl, ap, sym, ◌∙◌, subst, inl, inr}
+use Rattle.std.specs.Prelude.{is_some}
+use Rattle.std.proofs.lemmas.List.{append-nil}
+use Rattle.git_pkt.specs.Packets.{flush, delim, payload, text_of}
+use Rattle.git_pkt.specs.declared.fault.Kind.{Kind}
+use Rattle.git_msg.specs.declared.offers.Offer.{Offer}
+use Rattle.git_msg.specs.declared.arguments.Command.{Command}
+use Rattle.git_msg.specs.declared.arguments.Command.TheVariants.{LsRefs}
+use Rattle.git_msg.specs.declared.capability_key.Key.{Key}
+use Rattle.git_msg.specs.declared.capability_key.Key.TheVariants.{CommandKey, AgentKey, ServerOptionKey, ObjectFormatKey, OtherKey}
+use Rattle.git_msg.specs.declared.requests.Request.{Request}
+use Rattle.git_msg.specs.declared.reader.Part.{Part}
+use Rattle.git_msg.specs.declared.reader.Part.TheVariants.{Capabilities, Arguments}
+use Rattle.git_msg.specs.declared.reader.RequestReader.{RequestReader}
+use Rattle.git_msg.specs.declared.reader.Taken.TheVariants.{More, Request as TakenRequest}
+use Rattle.git_msg.specs.Arguments.{Arg}
+use Rattle.git_msg.specs.Asked.{nothing_asked, asked_by}
+use Rattle.git_msg.specs.Checks.{Refuses, Passes}
+use Rattle.git_msg.specs.Holding.{IsEmpty, command_of}
+use Rattle.git_msg.specs.Judging.{text_checks}
+use Rattle.git_msg.specs.Lines.{Line, command, agent, server_option, object_format, boundary, argument, is_none, commands_of, arguments_of, kept_in, has_format, is_object_format, command_in, argument_in, long_of, is_boundary, IsLineOf, key_checks, IsCapabilityLine, argument_checks, capability_checks, part_checks, end_checks, flush_checks_in, IsLineIn, HasFaultIn}
+use Rattle.git_msg.specs.Taking.{InCapabilities, InArguments, is_nil, fault_in, waits_in}
+use Rattle.git_msg.specs.TakingSteps.{InLines, Advances, StepsOn, Notes, IsDue, is_first, with_line, restarted}
+use Rattle.git_msg.proofs.LineLists.{commands_snoc, arguments_snoc, format_snoc, boundary_snoc, kept_snoc, capability_is_line}
+
+-- no command came, by both words
+pub first_by : (o : Option Command) (b : Bool) → is_some o ≡ not b → b ≡ is_none (option_to_list o)
+first_by None true h = refl
+first_by None false h = cc
+first_by (Some c) true h = cc
+first_by (Some c) false h = refl
+
+pub no_command_list : (cs : List Command) → is_none cs ≡ true → cs ≡ []
+no_command_list [] h = refl
+no_command_list (c ∷ cs) h = cc
+
+snoc_is_some : (lines : List Line) (line : Line) → is_nil (lines ++ line ∷ []) ≡ false
+snoc_is_some [] line = refl
+snoc_is_some (l ∷ ls) line = refl
+
+-- a line of the capability part is neither a delimiter nor an argument
+no_boundary : (key : Key) (value : Option (List ℕ)) → IsLineOf key value boundary → ⊥
+no_boundary CommandKey value h = h
+no_boundary AgentKey value h = h
+no_boundary ServerOptionKey value h = h
+no_boundary ObjectFormatKey value h = h
+no_boundary OtherKey value h = h
+
+no_argument : (key : Key) (value : Option (List ℕ)) (arg : Arg) (long : ℕ) → IsLineOf key value (argument arg long) → ⊥
+no_argument CommandKey value arg long h = h
+no_argument AgentKey value arg long h = h
+no_argument ServerOptionKey value arg long h = h
+no_argument ObjectFormatKey value arg long h = h
+no_argument OtherKey value arg long h = h
+
+-- a command line is the first
+first_command : (offer : Offer) (first : Bool) (key : Key) (value : Option (List ℕ)) (c : Command) → Passes (key_checks offer first key value) → IsLineOf key value (command c) → first ≡ true
+first_command offer first CommandKey value c h is = h.0
+first_command offer first AgentKey value c h is = absurd is
+first_command offer first ServerOptionKey value c h is = absurd is
+first_command offer first ObjectFormatKey value c h is = absurd is
+first_command offer first OtherKey value c h is = absurd is
+
+stands_ready : (part : Part) → part ≡ Capabilities → (fault_in part ≡ None) × (waits_in part ≡ false)
+stands_ready part h = rw h (refl, refl)
+
+nothing_asked_by : (c : Command) → nothing_asked c ≡ asked_by c []
+nothing_asked_by LsRefs = refl
+
+end_passes : (c : Command) (args : List Arg) → Passes (end_checks c args)
+end_passes LsRefs args = tt
+
+-- an argument's text that is refused
+text_refused : (c : Command) (offer : Offer) (limit kept : ℕ) (text : List ℕ) (kind : Kind) → Refuses (text_checks c offer text) kind → Refuses (argument_checks offer limit c kept text) kind
+text_refused c offer limit kept text kind (inl h) = inl h
+text_refused c offer limit kept text kind (inr (no_error, inl h)) = inr (no_error, inl h)
+text_refused c offer limit kept text kind (inr (no_error, inr h)) = absurd h.1
+
+module _ {A : Type 0} where
+  -- a line that is neither a command nor a format
+  other_line : (lines : List Line) (line : Line) (r : RequestReader A) → command_in line ≡ None → argument_in line ≡ None → long_of line ≡ 0 → is_object_format line ≡ false → is_boundary line ≡ false → InCapabilities lines r → InCapabilities (lines ++ line ∷ []) (record r { begun = true })
+  other_line lines line r no_cmd no_arg no_long no_format no_bound h = record {
+    before = boundary_snoc lines line ∙ rw no_bound h.before;
+    begun = snoc_is_some lines line;
+    command = commands_snoc lines line ∙ rw (no_cmd, append-nil) h.command;
+    format = format_snoc lines line ∙ rw no_format h.format;
+    no_argument = arguments_snoc lines line ∙ rw (no_arg, append-nil) h.no_argument;
+    nothing_kept = omega (arith, kept_snoc lines line, no_long, h.nothing_kept);
+  }
+
+  noted_in : (text : List ℕ) (line : Line) (lines : List Line) (r : RequestReader A) → IsCapabilityLine r.offer (is_first r) text line → InCapabilities lines r → InCapabilities (lines ++ line ∷ []) (with_line line r)
+  noted_in text (command c) lines r is h =
+      let first = first_command r.offer (is_first r) is.key is.value c is.allowed is.line_is in
+      let none : commands_of lines ≡ [] = no_command_list (commands_of lines) (ap is_none h.command ∙ first) in
+      record {
+        before = boundary_snoc lines (command c) ∙ h.before;
+        begun = snoc_is_some lines (command c);
+        command = commands_snoc lines (command c) ∙ ap (λ cs. cs ++ c ∷ []) none;
+        format = format_snoc lines (command c) ∙ h.format;
+        no_argument = arguments_snoc lines (command c) ∙ rw append-nil h.no_argument;
+        nothing_kept = omega (arith, kept_snoc lines (command c), h.nothing_kept);
+      }
+  noted_in text agent lines r is h = other_line lines agent r refl refl refl refl refl h
+  noted_in text server_option lines r is h = other_line lines server_option r refl refl refl refl refl h
+  noted_in text object_format lines r is h = record {
+    before = boundary_snoc lines object_format ∙ h.before;
+    begun = snoc_is_some lines object_format;
+    command = commands_snoc lines object_format ∙ rw append-nil h.command;
+    format = format_snoc lines object_format;
+    no_argument = arguments_snoc lines object_format ∙ rw append-nil h.no_argument;
+    nothing_kept = omega (arith, kept_snoc lines object_format, h.nothing_kept);
+  }
+  noted_in text boundary lines r is h = absurd (no_boundary is.key is.value is.line_is)
+  noted_in text (argument arg long) lines r is h = absurd (no_argument is.key is.value arg long is.line_is)
+
+  with_line_part : (line : Line) (r : RequestReader A) → (with_line line r).part ≡ r.part
+  with_line_part (command c) r = refl
+  with_line_part agent r = refl
+  with_line_part server_option r = refl
+  with_line_part object_format r = refl
+  with_line_part boundary r = refl
+  with_line_part (argument arg long) r = refl
+
+  with_line_offer : (line : Line) (r : RequestReader A) → (with_line line r).offer ≡ r.offer
+  with_line_offer (command c) r = refl
+  with_line_offer agent r = refl
+  with_line_offer server_option r = refl
+  with_line_offer object_format r = refl
+  with_line_offer boundary r = refl
+  with_line_offer (argument arg long) r = refl
+
+  with_line_limit : (line : Line) (r : RequestReader A) → (with_line line r).limits.args ≡ r.limits.args
+  with_line_limit (command c) r = refl
+  with_line_limit agent r = refl
+  with_line_limit server_option r = refl
+  with_line_limit object_format r = refl
+  with_line_limit boundary r = refl
+  with_line_limit (argument arg long) r = refl
+
+  in_capabilities : (lines : List Line) (r : RequestReader A) → r.part ≡ Capabilities → InLines r.part lines r → InCapabilities lines r
+  in_capabilities lines r part h = subst (λ (x : Part). InLines x lines r) part h
+
+  in_arguments : (lines : List Line) (r : RequestReader A) → r.part ≡ Arguments → InLines r.part lines r → InArguments lines r
+  in_arguments lines r part h = subst (λ (x : Part). InLines x lines r) part h
+
+  -- a line that is noted
+  advance : (r : RequestReader A) (bytes : List ℕ) (line : Line) (lines : List Line) → r.part ≡ Capabilities → IsCapabilityLine r.offer (is_first r) (text_of bytes) line → InCapabilities lines r → Advances lines r (payload bytes) (with_line line r)
+  advance r bytes line lines part is h =
+      let same : is_none (commands_of lines) ≡ is_first r = ap is_none h.command in
+      let there : IsCapabilityLine r.offer (is_none (commands_of lines)) (text_of bytes) line = subst (λ (b : Bool). IsCapabilityLine r.offer b (text_of bytes) line) (sym same) is in
+      record {
+        line = line;
+        is_line = capability_is_line r.offer r.limits.args lines bytes line h.before there;
+        in_lines = subst (λ (x : Part). InLines x (lines ++ line ∷ []) (with_line line r)) (sym (with_line_part line r ∙ part)) (noted_in (text_of bytes) line lines r is h);
+      }
+
+  noted_plain : (r : RequestReader A) (bytes : List ℕ) (offset : ℕ) (line : Line) → r.part ≡ Capabilities → IsCapabilityLine r.offer (is_first r) (text_of bytes) line → StepsOn r (payload bytes) offset (Ok More) (with_line line r)
+  noted_plain r bytes offset line part is = record {
+    goes = λ lines h. advance r bytes line lines part is (in_capabilities lines r part h);
+    leaves = stands_ready (with_line line r).part (with_line_part line r ∙ part);
+    offer = with_line_offer line r;
+    limit = with_line_limit line r;
+  }
+
+  pub noted : (r new : RequestReader A) (bytes : List ℕ) (offset : ℕ) → r.part ≡ Capabilities → Notes r (text_of bytes) new → StepsOn r (payload bytes) offset (Ok More) new
+  noted r new bytes offset part h = subst (λ (n : RequestReader A). StepsOn r (payload bytes) offset (Ok More) n) (sym h.new_is) (noted_plain r bytes offset h.line part h.is_line)
+
+  refused_plain : (r : RequestReader A) (bytes : List ℕ) (offset : ℕ) (kind : Kind) → r.part ≡ Capabilities → Refuses (capability_checks r.offer (is_first r) (text_of bytes)) kind → StepsOn r (payload bytes) offset (Err kind) r
+  refused_plain r bytes offset kind part refuses = record {
+    goes = λ lines there.
+        let h = in_capabilities lines r part there in
+        let same : is_none (commands_of lines) ≡ is_first r = ap is_none h.command in
+        let fault : HasFaultIn false r.offer r.limits.args lines (payload bytes) kind = subst (λ (b : Bool). Refuses (capability_checks r.offer b (text_of bytes)) kind) (sym same) refuses in
+        subst (λ (b : Bool). HasFaultIn b r.offer r.limits.args lines (payload bytes) kind) (sym h.before) fault;
+    leaves = tt;
+    offer = refl;
+    limit = refl;
+  }
+
+  pub refused : (r new : RequestReader A) (bytes : List ℕ) (offset : ℕ) (kind : Kind) → r.part ≡ Capabilities → new ≡ r → Refuses (capability_checks r.offer (is_first r) (text_of bytes)) kind → StepsOn r (payload bytes) offset (Err kind) new
+  refused r new bytes offset kind part same h = subst (λ (n : RequestReader A). StepsOn r (payload bytes) offset (Err kind) n) (sym same) (refused_plain r bytes offset kind part h)
+
+  -- what is judged at the end of the capability part, by the lines
+  judged : (lines : List Line) (r : RequestReader A) (c : Command) → InCapabilities lines r → IsDue r c → Passes (part_checks r.offer (commands_of lines) (has_format lines))
+  judged lines r c h due =
+      let P : List Command → Bool → Type 0 = λ cs b. Passes (part_checks r.offer cs b) in
+      subst (λ (cs : List Command). P cs (has_format lines)) (sym h.command) (subst (λ (b : Bool). P (option_to_list r.command) b) (sym h.format) due.passes)
+
+  commands_due : (lines : List Line) (r : RequestReader A) (c : Command) → InCapabilities lines r → IsDue r c → commands_of lines ≡ c ∷ []
+  commands_due lines r c h due = h.command ∙ ap option_to_list due.there
+
+  -- the delimiter
+  pub delimited : (r : RequestReader A) (offset : ℕ) (c : Command) (q : Request A) → r.part ≡ Capabilities → IsDue r c → IsEmpty c r.offer.format r.limits.args q → StepsOn r delim offset (Ok More) (record r { part = Arguments; request = q })
+  delimited r offset c q part due empty = record {
+    goes = λ lines there.
+        let h = in_capabilities lines r part there in
+        let line : IsLineIn false r.offer r.limits.args lines delim boundary = judged lines r c h due in
+        record {
+          line = boundary;
+          is_line = subst (λ (b : Bool). IsLineIn b r.offer r.limits.args lines delim boundary) (sym h.before) line;
+          in_lines = record {
+            behind = boundary_snoc lines boundary;
+            command = commands_snoc lines boundary ∙ rw append-nil (commands_due lines r c h due) ∙ ap (λ x. x ∷ []) (sym empty.command_is);
+            asked = empty.asked ∙ nothing_asked_by c ∙ ap (λ args. asked_by c args) (sym (arguments_snoc lines boundary ∙ rw append-nil h.no_argument)) ∙ ap (λ x. asked_by x (arguments_of (lines ++ boundary ∷ []))) (sym empty.command_is);
+            kept = omega (arith, empty.kept, kept_snoc lines boundary, h.nothing_kept);
+            format = empty.format_is;
+            limit = empty.limit_is;
+          };
+        };
+    leaves = (refl, refl);
+    offer = refl;
+    limit = refl;
+  }
+
+  empty_lines : (r : RequestReader A) → InCapabilities [] (restarted r)
+  empty_lines r = record { before = refl; begun = refl; command = refl; format = refl; no_argument = refl; nothing_kept = refl }
+
+  -- the flush of a request without delimiter
+  pub flushed : (r new : RequestReader A) (offset : ℕ) (c : Command) (q : Request A) → r.part ≡ Capabilities → IsDue r c → IsEmpty c r.offer.format r.limits.args q → new ≡ restarted r → StepsOn r flush offset (Ok (TakenRequest q)) new
+  flushed r new offset c q part due empty same = subst (λ (n : RequestReader A). StepsOn r flush offset (Ok (TakenRequest q)) n) (sym same) (record {
+    goes = λ lines there.
+        let h = in_capabilities lines r part there in
+        let once = commands_due lines r c h due in
+        let j = judged lines r c h due in
+        let checks : Passes (flush_checks_in false r.offer lines) = (j.0, (j.1.0, ((c, once, end_passes c (arguments_of lines)), tt))) in
+        record {
+          ends = refl;
+          once = once ∙ ap (λ x. x ∷ []) (sym empty.command_is);
+          checks = subst (λ (b : Bool). Passes (flush_checks_in b r.offer lines)) (sym h.before) checks;
+          asked = empty.asked ∙ nothing_asked_by c ∙ ap (λ args. asked_by c args) (sym h.no_argument) ∙ ap (λ x. asked_by x (arguments_of lines)) (sym empty.command_is);
+          kept = empty.kept ∙ sym h.nothing_kept;
+          format = empty.format_is;
+          limit = empty.limit_is;
+          fresh = empty_lines r;
+          part = refl;
+        };
+    leaves = (refl, refl);
+    offer = refl;
+    limit = refl;
+  })
+
+  -- the flush behind the arguments
+  pub completed : (r s new : RequestReader A) (offset : ℕ) → r.part ≡ Arguments → s.offer ≡ r.offer → s.limits.args ≡ r.limits.args → new ≡ restarted s → StepsOn r flush offset (Ok (TakenRequest r.request)) new
+  completed r s new offset part offer limit same = subst (λ (n : RequestReader A). StepsOn r flush offset (Ok (TakenRequest r.request)) n) (sym same) (record {
+    goes = λ lines there.
+        let h = in_arguments lines r part there in
+        let checks : Passes (flush_checks_in true r.offer lines) = ((command_of r.request, h.command, end_passes (command_of r.request) (arguments_of lines)), tt) in
+        record {
+          ends = refl;
+          once = h.command;
+          checks = subst (λ (b : Bool). Passes (flush_checks_in b r.offer lines)) (sym h.behind) checks;
+          asked = h.asked;
+          kept = h.kept;
+          format = h.format ∙ ap (λ o. o.format) (sym offer);
+          limit = h.limit ∙ sym limit;
+          fresh = empty_lines s;
+          part = refl;
+        };
+    leaves = (refl, refl);
+    offer = offer;
+    limit = limit;
+  })
+
+  pub unread : (r : RequestReader A) (bytes : List ℕ) (offset : ℕ) (kind : Kind) → r.part ≡ Arguments → Refuses (text_checks (command_of r.request) r.offer (text_of bytes)) kind → StepsOn r (payload bytes) offset (Err kind) r
+  unread r bytes offset kind part refuses = record {
+    goes = λ lines there.
+        let h = in_arguments lines r part there in
+        let fault : HasFaultIn true r.offer r.limits.args lines (payload bytes) kind = record {
+          of = command_of r.request;
+          asked = h.command;
+          refuses = text_refused (command_of r.request) r.offer r.limits.args (kept_in lines) (text_of bytes) kind refuses;
+        } in
+        subst (λ (b : Bool). HasFaultIn b r.offer r.limits.args lines (payload bytes) kind) (sym h.behind) fault;
+    leaves = tt;
+    offer = refl;
+    limit = refl;
+  }

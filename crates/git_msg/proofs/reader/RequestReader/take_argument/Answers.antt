@@ -1,0 +1,16 @@
+use Rattle.std.proofs.Common.{refl}
+use Rattle.std.proofs.lemmas.Result.{err_from_is_err_and}
+use Rattle.git_msg.proofs.StepFacts.{unread, completed}
+use Rattle.git_msg.proofs.reader.RequestReader.take_argument.Goals as goal
+
+pub returns-in_err-argument-in-Payload : goal.returns-in_err-argument-in-Payload
+returns-in_err-argument-in-Payload g c =
+    let p = err_from_is_err_and c.from_residual.result c.from_residual.ensures.1 in
+    let h = c.in_err-argument-in-Payload.ensures in
+    rw (p.1, p.2, c.in-Payload.is)
+    (unread c.args.self.now c.in-Payload.payload.now c.args.offset c.in_err-argument-in-Payload.field-0.0 c.requires (rw (c.command.ensures, c.text-text.ensures) at h))
+
+pub returns-in-Flush : goal.returns-in-Flush
+returns-in-Flush g c =
+    rw (c.in-Flush.is, c.replace-request.ensures.value)
+    (completed c.args.self.now (record c.args.self.now { request = c.replace-request.new.dest }) c.restart.new.self c.args.offset c.requires refl refl c.restart.ensures)

@@ -1,0 +1,6 @@
+use Rattle.std.proofs.Common.{rules}
+use Rattle.git_msg.proofs.ReferenceWords.{other_found}
+use Rattle.git_msg.proofs.reference_lines.read_attribute.Goals as goal
+
+pub returns : goal.returns
+returns c = other_found c.args.format c.args.word.now (search rules) (search rules)

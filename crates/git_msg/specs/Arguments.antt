@@ -1,0 +1,74 @@
+-- The argument lines of requests, by gitprotocol-v2(5).
+use Rattle.std.specs.Prelude.{◌≡◌, ℕ, ◌<◌, ◌≤◌, List, [], ◌∷◌, ◌++◌, length, codes}
+use Rattle.git_names.specs.declared.object_format.Format.{Format}
+use Rattle.git_pkt.specs.declared.fault.Kind.{Kind}
+use Rattle.git_pkt.specs.declared.fault.Kind.TheVariants.{UnknownArgument, BadLine}
+use Rattle.git_msg.specs.declared.arguments.Command.{Command}
+use Rattle.git_msg.specs.declared.arguments.Command.TheVariants.{LsRefs}
+use Rattle.git_msg.specs.declared.arguments.Argument.{Argument}
+use Rattle.git_msg.specs.declared.arguments.Argument.TheVariants.{Symrefs, Peel, RefPrefix}
+use Rattle.git_msg.specs.declared.offers.Offer.{Offer}
+use Rattle.git_msg.specs.Texts.{Follows, IsNoneOf, BeginsWithNone}
+
+-- an argument, wherever its text lies
+pub data Arg : Type 0 where
+  symrefs : Arg
+  peel : Arg
+  ref_prefix : List ℕ → Arg
+
+-- the argument that a borrowed one shows
+abbrev pub shown : Argument → Arg
+shown Symrefs = symrefs
+shown Peel = peel
+shown (RefPrefix prefix) = ref_prefix prefix.now
+
+-- the command's key, as it stands behind `command=`
+abbrev pub name_of : Command → List ℕ
+name_of LsRefs = codes "ls-refs"
+
+-- the most bytes that a text which is kept may have
+abbrev pub most_text : ℕ
+most_text = 32000
+
+-- the text is this argument of the command, and its value is one that may stand there
+abbrev pub IsArgument : Command → Format → List ℕ → Arg → Type 0
+IsArgument LsRefs format text symrefs = text ≡ codes "symrefs"
+IsArgument LsRefs format text peel = text ≡ codes "peel"
+IsArgument LsRefs format text (ref_prefix prefix) = (text ≡ codes "ref-prefix " ++ prefix) × (length prefix ≤ most_text)
+
+-- the feature that the argument needs is offered
+abbrev pub IsOffered : Offer → Arg → Type 0
+IsOffered offer symrefs = Unit {0}
+IsOffered offer peel = Unit {0}
+IsOffered offer (ref_prefix prefix) = Unit {0}
+
+-- the text is an argument that a request of this command may have
+pub record ReadsAs (command : Command) (offer : Offer) (text : List ℕ) (arg : Arg) : Type 0 where
+  pub is_argument : IsArgument command offer.format text arg
+  pub offered : IsOffered offer arg
+
+-- the arguments of the command that are a word alone
+abbrev pub flags_of : Command → List (List ℕ)
+flags_of LsRefs = codes "symrefs" ∷ codes "peel" ∷ []
+
+-- what stands before a value in the command's other arguments
+abbrev pub keywords_of : Command → List (List ℕ)
+keywords_of LsRefs = codes "ref-prefix " ∷ []
+
+-- the text is no argument of the command, or one whose value may not stand there
+abbrev pub IsArgumentFault : Command → Offer → List ℕ → Kind → Type 0
+IsArgumentFault command offer text UnknownArgument = IsNoneOf (flags_of command) text × BeginsWithNone (keywords_of command) text
+IsArgumentFault LsRefs offer text BadLine = Follows (codes "ref-prefix ") (λ prefix. most_text < length prefix) text
+IsArgumentFault _ offer text _ = ⊥
+
+-- the line of an argument, as it is written
+abbrev pub written_text : Arg → List ℕ
+written_text symrefs = codes "symrefs"
+written_text peel = codes "peel"
+written_text (ref_prefix prefix) = codes "ref-prefix " ++ prefix
+
+-- an argument that is neither a flag nor a number: memory is needed to keep it
+abbrev pub TakesMemory : Arg → Type 0
+TakesMemory symrefs = ⊥
+TakesMemory peel = ⊥
+TakesMemory (ref_prefix prefix) = Unit {0}

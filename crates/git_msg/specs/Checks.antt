@@ -1,0 +1,26 @@
+-- The order of refusals, as a list of checks of which the first that fails tells.
+use Rattle.std.specs.Prelude.{◌≡◌, ◌⊎◌, List, [], ◌∷◌}
+use Rattle.git_pkt.specs.declared.fault.Kind.{Kind}
+
+-- what refuses by which name, and what passes
+pub record Check : Type 1 where
+  pub refuses : Kind → Type 0
+  pub passes : Type 0
+
+-- passes where P holds, and refuses by one name where Q does
+abbrev pub check : Type 0 → Type 0 → Kind → Check
+check P Q name = record { refuses = λ kind. Q × (kind ≡ name); passes = P }
+
+-- refuses where Q holds
+abbrev pub unless : Type 0 → Kind → Check
+unless Q name = check (¬ Q) Q name
+
+-- some check refuses by this name, and those before it pass
+abbrev pub Refuses : List Check → Kind → Type 0
+Refuses [] kind = ⊥
+Refuses (c ∷ cs) kind = c.refuses kind ⊎ (c.passes × Refuses cs kind)
+
+-- all checks pass
+abbrev pub Passes : List Check → Type 0
+Passes [] = Unit {0}
+Passes (c ∷ cs) = c.passes × Passes cs

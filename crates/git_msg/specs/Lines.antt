@@ -1,0 +1,218 @@
+-- The packets of a request as lines, each behind the lines before it, and what refuses a packet.
+use Rattle.std.specs.Prelude.{◌≡◌, ◌≢◌, ℕ, ◌+◌, ◌<◌, ◌≤◌, Bool, true, false, Option, Some, None, List, [], ◌∷◌, ◌++◌, length, codes, sum_by}
+use Rattle.std.specs.List.{list_any, filter_map}
+use Rattle.git_names.specs.ObjectFormat.{name_of as format_name}
+use Rattle.git_names.specs.declared.object_format.Format.{Format}
+use Rattle.git_names.specs.declared.object_format.Format.TheVariants.{Sha1, Sha256}
+use Rattle.git_pkt.specs.Packets.{Pkt, flush, delim, payload, text_of}
+use Rattle.git_pkt.specs.declared.fault.Kind.{Kind}
+use Rattle.git_pkt.specs.declared.fault.Kind.TheVariants.{BadCapability, UnknownCommand, TwoCommands, NoCommand, NotAdvertised, WrongFormat, TooMuchKept, UnexpectedPacket, RemoteError}
+use Rattle.git_msg.specs.declared.offers.Offer.{Offer}
+use Rattle.git_msg.specs.declared.arguments.Command.{Command}
+use Rattle.git_msg.specs.declared.arguments.Command.TheVariants.{LsRefs}
+use Rattle.git_msg.specs.declared.capability_key.Key.{Key}
+use Rattle.git_msg.specs.declared.capability_key.Key.TheVariants.{CommandKey, AgentKey, ServerOptionKey, ObjectFormatKey, OtherKey}
+use Rattle.git_msg.specs.Texts.{IsErrorText, IsNoneOf}
+use Rattle.git_msg.specs.Capability.{IsCapability, IsNoCapability}
+use Rattle.git_msg.specs.Arguments.{Arg, name_of, ReadsAs, IsArgumentFault}
+use Rattle.git_msg.specs.Checks.{Check, check, unless, Refuses, Passes}
+
+-- a packet of a request that is not refused: the capability lines, the delimiter, and the arguments with the
+-- lengths of their texts
+pub data Line : Type 0 where
+  command : Command → Line
+  agent : Line
+  server_option : Line
+  object_format : Line
+  boundary : Line
+  argument : Arg → ℕ → Line
+
+abbrev pub command_in : Line → Option Command
+command_in (command c) = Some c
+command_in _ = None
+
+abbrev pub argument_in : Line → Option Arg
+argument_in (argument arg long) = Some arg
+argument_in _ = None
+
+abbrev pub long_of : Line → ℕ
+long_of (argument arg long) = long
+long_of _ = 0
+
+abbrev pub is_object_format : Line → Bool
+is_object_format object_format = true
+is_object_format _ = false
+
+abbrev pub is_boundary : Line → Bool
+is_boundary boundary = true
+is_boundary _ = false
+
+abbrev pub is_none : List Command → Bool
+is_none [] = true
+is_none _ = false
+
+-- the commands of the lines
+abbrev pub commands_of : List Line → List Command
+commands_of = filter_map command_in
+
+-- the arguments of the lines
+abbrev pub arguments_of : List Line → List Arg
+arguments_of = filter_map argument_in
+
+-- how many bytes the texts of the argument lines have
+abbrev pub kept_in : List Line → ℕ
+kept_in = sum_by long_of
+
+-- a line says which object format is meant
+abbrev pub has_format : List Line → Bool
+has_format = list_any is_object_format
+
+-- the delimiter is among the lines, so what follows are arguments
+abbrev pub has_boundary : List Line → Bool
+has_boundary = list_any is_boundary
+
+-- the key of a capability line
+abbrev pub IsWordOf : List ℕ → Key → Type 0
+IsWordOf text CommandKey = text ≡ codes "command"
+IsWordOf text AgentKey = text ≡ codes "agent"
+IsWordOf text ServerOptionKey = text ≡ codes "server-option"
+IsWordOf text ObjectFormatKey = text ≡ codes "object-format"
+IsWordOf text OtherKey = IsNoneOf (codes "command" ∷ codes "agent" ∷ codes "server-option" ∷ codes "object-format" ∷ []) text
+
+-- the text is a capability line with this key and value
+pub record HasKey (text : List ℕ) (key : Key) (value : Option (List ℕ)) : Type 0 where
+  pub word : List ℕ
+  pub is_capability : IsCapability text word value
+  pub is_word : IsWordOf word key
+
+-- the text is a capability line
+abbrev pub IsAnyCapability : List ℕ → Type 0
+IsAnyCapability text = (word : List ℕ) × (value : Option (List ℕ)) × IsCapability text word value
+
+-- the value names a command
+abbrev pub NamesCommand : Option (List ℕ) → Type 0
+NamesCommand value = (c : Command) × (value ≡ Some (name_of c))
+
+-- what refuses a capability line, by its key; `first` says that no command line came before
+abbrev pub key_checks : Offer → Bool → Key → Option (List ℕ) → List Check
+key_checks offer first CommandKey value =
+    check (first ≡ true) (first ≡ false) TwoCommands ∷ check (NamesCommand value) (¬ NamesCommand value) UnknownCommand ∷ []
+key_checks offer first AgentKey value = []
+key_checks offer first ServerOptionKey value =
+    check (offer.server_option ≡ true) (offer.server_option ≡ false) NotAdvertised ∷ []
+key_checks offer first ObjectFormatKey value =
+    check (value ≡ Some (format_name offer.format)) (value ≢ Some (format_name offer.format)) WrongFormat ∷ []
+key_checks offer first OtherKey value = check ⊥ (Unit {0}) NotAdvertised ∷ []
+
+-- the check of a capability line by its key
+abbrev pub by_key : Offer → Bool → List ℕ → Check
+by_key offer first text = record {
+  refuses = λ kind. (key : Key) × (value : Option (List ℕ)) × HasKey text key value × Refuses (key_checks offer first key value) kind;
+  passes = (key : Key) × (value : Option (List ℕ)) × HasKey text key value × Passes (key_checks offer first key value);
+}
+
+-- what refuses a text of the capability part
+abbrev pub capability_checks : Offer → Bool → List ℕ → List Check
+capability_checks offer first text =
+    unless (IsErrorText text) RemoteError ∷ check (IsAnyCapability text) (IsNoCapability text) BadCapability
+    ∷ by_key offer first text ∷ []
+
+-- the line that a capability makes
+abbrev pub IsLineOf : Key → Option (List ℕ) → Line → Type 0
+IsLineOf CommandKey value (command c) = value ≡ Some (name_of c)
+IsLineOf AgentKey value agent = Unit {0}
+IsLineOf ServerOptionKey value server_option = Unit {0}
+IsLineOf ObjectFormatKey value object_format = Unit {0}
+IsLineOf _ value _ = ⊥
+
+-- the text is this line of the capability part
+pub record IsCapabilityLine (offer : Offer) (first : Bool) (text : List ℕ) (line : Line) : Type 0 where
+  pub no_error : ¬ IsErrorText text
+  pub key : Key
+  pub value : Option (List ℕ)
+  pub has_key : HasKey text key value
+  pub allowed : Passes (key_checks offer first key value)
+  pub line_is : IsLineOf key value line
+
+-- without a line that says so, SHA-1 is meant
+abbrev pub IsFormatMeant : Format → Bool → Type 0
+IsFormatMeant Sha1 said = Unit {0}
+IsFormatMeant Sha256 said = said ≡ true
+
+abbrev pub IsOtherFormatMeant : Format → Bool → Type 0
+IsOtherFormatMeant Sha1 said = ⊥
+IsOtherFormatMeant Sha256 said = said ≡ false
+
+-- what refuses the end of the capability part
+abbrev pub part_checks : Offer → List Command → Bool → List Check
+part_checks offer commands said =
+    check (is_none commands ≡ false) (is_none commands ≡ true) NoCommand
+    ∷ check (IsFormatMeant offer.format said) (IsOtherFormatMeant offer.format said) WrongFormat ∷ []
+
+-- what refuses a text of the argument part, which is then read, found to be within the limit, and kept
+abbrev pub argument_checks : Offer → ℕ → Command → ℕ → List ℕ → List Check
+argument_checks offer limit c kept text =
+    unless (IsErrorText text) RemoteError
+    ∷ record { refuses = IsArgumentFault c offer text; passes = (arg : Arg) × ReadsAs c offer text arg }
+    ∷ check (kept + length text ≤ limit) (limit < kept + length text) TooMuchKept ∷ []
+
+-- the text is this argument; whether it can be kept is another question
+pub record IsArgumentText (offer : Offer) (before : List Line) (text : List ℕ) (arg : Arg) : Type 0 where
+  pub no_error : ¬ IsErrorText text
+  pub of : Command
+  pub asked : commands_of before ≡ of ∷ []
+  pub reads : ReadsAs of offer text arg
+
+-- the text is this argument line
+pub record IsArgumentLine (offer : Offer) (limit : ℕ) (before : List Line) (text : List ℕ) (arg : Arg) (long : ℕ) : Type 0 where
+  pub is_text : IsArgumentText offer before text arg
+  pub long_is : long ≡ length text
+  pub fits : kept_in before + long ≤ limit
+
+-- some check of the argument part refuses the text
+pub record IsArgumentRefused (offer : Offer) (limit : ℕ) (before : List Line) (text : List ℕ) (kind : Kind) : Type 0 where
+  pub of : Command
+  pub asked : commands_of before ≡ of ∷ []
+  pub refuses : Refuses (argument_checks offer limit of (kept_in before) text) kind
+
+-- what refuses the flush, by the command
+abbrev pub end_checks : Command → List Arg → List Check
+end_checks LsRefs args = []
+
+abbrev pub at_end : List Line → Check
+at_end lines = record {
+  refuses = λ kind. (c : Command) × (commands_of lines ≡ c ∷ []) × Refuses (end_checks c (arguments_of lines)) kind;
+  passes = (c : Command) × (commands_of lines ≡ c ∷ []) × Passes (end_checks c (arguments_of lines));
+}
+
+-- what refuses the flush behind these lines: what is judged at the end of the capability part was judged at the
+-- delimiter, if there was one
+abbrev pub flush_checks_in : Bool → Offer → List Line → List Check
+flush_checks_in true offer lines = at_end lines ∷ []
+flush_checks_in false offer lines = part_checks offer (commands_of lines) (has_format lines) ++ at_end lines ∷ []
+
+abbrev pub flush_checks : Offer → List Line → List Check
+flush_checks offer lines = flush_checks_in (has_boundary lines) offer lines
+
+abbrev pub IsLineIn : Bool → Offer → ℕ → List Line → Pkt → Line → Type 0
+IsLineIn false offer limit before (payload bytes) line = IsCapabilityLine offer (is_none (commands_of before)) (text_of bytes) line
+IsLineIn false offer limit before delim boundary = Passes (part_checks offer (commands_of before) (has_format before))
+IsLineIn true offer limit before (payload bytes) (argument arg long) = IsArgumentLine offer limit before (text_of bytes) arg long
+IsLineIn _ offer limit before _ _ = ⊥
+
+-- the packet is this line of a request, behind the lines before it
+abbrev pub IsLine : Offer → ℕ → List Line → Pkt → Line → Type 0
+IsLine offer limit before packet line = IsLineIn (has_boundary before) offer limit before packet line
+
+abbrev pub HasFaultIn : Bool → Offer → ℕ → List Line → Pkt → Kind → Type 0
+HasFaultIn false offer limit before (payload bytes) kind =
+    Refuses (capability_checks offer (is_none (commands_of before)) (text_of bytes)) kind
+HasFaultIn false offer limit before delim kind = Refuses (part_checks offer (commands_of before) (has_format before)) kind
+HasFaultIn false offer limit before flush kind = (before ≢ []) × Refuses (flush_checks_in false offer before) kind
+HasFaultIn true offer limit before (payload bytes) kind = IsArgumentRefused offer limit before (text_of bytes) kind
+HasFaultIn true offer limit before flush kind = Refuses (flush_checks_in true offer before) kind
+HasFaultIn _ offer limit before _ kind = kind ≡ UnexpectedPacket
+
+-- the packet is refused by this name, behind the lines before it
+abbrev pub HasFault : Offer → ℕ → List Line → Pkt → Kind → Type 0
+HasFault offer limit before packet kind = HasFaultIn (has_boundary before) offer limit before packet kind

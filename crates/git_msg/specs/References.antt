@@ -1,0 +1,117 @@
+-- Reference lines, as answers to ls-refs have them.
+use Rattle.std.specs.Prelude.{◌≡◌, ℕ, ◌+◌, ◌==◌, Option, Some, None, List, [], ◌∷◌, ◌++◌, length, take, drop, codes, if◌then◌else◌}
+use Rattle.std.specs.List.{filter_map, slice_split}
+use Rattle.std.specs.Str.{bytes_eq}
+use Rattle.std.specs.Option.{option_copied}
+use Rattle.git_names.specs.ObjectFormat.{digits_of}
+use Rattle.git_names.specs.ObjectName.{ObjectName, IsObjectName, IsNoObjectName, hex_of}
+use Rattle.git_names.specs.RefName.{IsRefName}
+use Rattle.git_names.specs.declared.object_format.Format.{Format}
+use Rattle.git_pkt.specs.declared.fault.Kind.{Kind}
+use Rattle.git_pkt.specs.declared.fault.Kind.TheVariants.{BadLine, BadObjectName, BadRefName}
+use Rattle.git_msg.specs.declared.references.Reference.{Reference}
+use Rattle.git_msg.specs.Texts.{Follows}
+use Rattle.git_msg.specs.Checks.{Check, check, Refuses, Passes}
+
+-- a reference, wherever its texts lie
+pub record Ref : Type 0 where
+  pub id : ObjectName
+  pub name : List ℕ
+  pub target : Option (List ℕ)
+  pub peeled : Option ObjectName
+
+abbrev pub reference_of : ObjectName → List ℕ → Option (List ℕ) → Option ObjectName → Ref
+reference_of id name target peeled = record { id = id; name = name; target = target; peeled = peeled }
+
+-- the reference that a borrowed one shows
+abbrev pub shown_reference : Reference → Ref
+shown_reference r = record { id = r.id; name = r.name.now; target = option_copied r.target; peeled = r.peeled }
+
+-- the parts of a line between single spaces
+abbrev pub spaced_words : List ℕ → List (List ℕ)
+spaced_words text = slice_split (λ c. c == 32) text
+
+-- what stands behind the word, where the text begins with it
+abbrev pub value_behind : List ℕ → List ℕ → Option (List ℕ)
+value_behind word text = if bytes_eq (take (length word) text) word then Some (drop (length word) text) else None
+
+-- the last of a list
+abbrev pub last_of : {X : Type 0} → List X → Option X
+last_of [] = None
+last_of (x ∷ []) = Some x
+last_of (x ∷ y ∷ xs) = last_of (y ∷ xs)
+
+-- the texts that attributes of this key have
+abbrev pub values_of : List ℕ → List (List ℕ) → List (List ℕ)
+values_of key attributes = filter_map (value_behind key) attributes
+
+-- what an attribute has to be
+pub record IsAttribute (format : Format) (word : List ℕ) : Type 0 where
+  pub target : (value : List ℕ) → word ≡ codes "symref-target:" ++ value → IsRefName value
+  pub peeled : (value : List ℕ) → word ≡ codes "peeled:" ++ value → (id : ObjectName) × IsObjectName format value id
+
+-- by which name it is refused
+abbrev pub IsAttributeFault : Format → List ℕ → Kind → Type 0
+IsAttributeFault format word BadRefName = Follows (codes "symref-target:") (λ value. ¬ IsRefName value) word
+IsAttributeFault format word BadObjectName = Follows (codes "peeled:") (IsNoObjectName format) word
+IsAttributeFault format word _ = ⊥
+
+abbrev pub attribute_checks : Format → List (List ℕ) → List Check
+attribute_checks format [] = []
+attribute_checks format (word ∷ words) =
+    record { refuses = IsAttributeFault format word; passes = IsAttribute format word } ∷ attribute_checks format words
+
+-- what refuses a line of these words: they are looked at from left to right
+abbrev pub reference_checks : Format → List (List ℕ) → List Check
+reference_checks format [] = check ⊥ (Unit {0}) BadLine ∷ []
+reference_checks format (word ∷ []) = check ⊥ (Unit {0}) BadLine ∷ []
+reference_checks format (id ∷ name ∷ attributes) =
+    check ((named : ObjectName) × IsObjectName format id named) (IsNoObjectName format id) BadObjectName
+    ∷ check (IsRefName name) (¬ IsRefName name) BadRefName ∷ attribute_checks format attributes
+
+-- an object name that may be missing
+abbrev pub IsMaybeObjectName : Format → Option (List ℕ) → Option ObjectName → Type 0
+IsMaybeObjectName format None id = id ≡ None
+IsMaybeObjectName format (Some text) id = (named : ObjectName) × IsObjectName format text named × (id ≡ Some named)
+
+-- what the attributes of a line say: of one that is repeated, the last holds
+pub record AreAttributes (format : Format) (attributes : List (List ℕ)) (target : Option (List ℕ)) (peeled : Option ObjectName) : Type 0 where
+  pub passes : Passes (attribute_checks format attributes)
+  pub target_is : target ≡ last_of (values_of (codes "symref-target:") attributes)
+  pub peeled_is : IsMaybeObjectName format (last_of (values_of (codes "peeled:") attributes)) peeled
+
+-- the line is this reference
+pub record IsReferenceLine (format : Format) (text : List ℕ) (ref : Ref) : Type 0 where
+  pub id : List ℕ
+  pub attributes : List (List ℕ)
+  pub words : spaced_words text ≡ id ∷ ref.name ∷ attributes
+  pub id_is : IsObjectName format id ref.id
+  pub name_is : IsRefName ref.name
+  pub attributes_are : AreAttributes format attributes ref.target ref.peeled
+
+-- by which name the line is refused
+abbrev pub IsReferenceFault : Format → List ℕ → Kind → Type 0
+IsReferenceFault format text kind = Refuses (reference_checks format (spaced_words text)) kind
+
+abbrev pub target_text : Option (List ℕ) → List ℕ
+target_text None = []
+target_text (Some name) = codes " symref-target:" ++ name
+
+abbrev pub peeled_text : Option ObjectName → List ℕ
+peeled_text None = []
+peeled_text (Some id) = codes " peeled:" ++ hex_of id
+
+-- how many bytes that has
+abbrev pub peeled_count : Option ObjectName → ℕ
+peeled_count None = 0
+peeled_count (Some id) = 8 + digits_of id.format
+
+-- the line of a reference, as it is written
+abbrev pub reference_text : Ref → List ℕ
+reference_text ref = hex_of ref.id ++ 32 ∷ (ref.name ++ target_text ref.target ++ peeled_text ref.peeled)
+
+-- a reference that may be written: its names are reference names, and its object names are of one format
+pub record IsWritable (ref : Ref) : Type 0 where
+  pub name : IsRefName ref.name
+  pub target : (name : List ℕ) → ref.target ≡ Some name → IsRefName name
+  pub peeled : (id : ObjectName) → ref.peeled ≡ Some id → id.format ≡ ref.id.format

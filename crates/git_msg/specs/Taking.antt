@@ -1,0 +1,152 @@
+-- What a reader of requests stands for: the packets since the request began, as lines.
+use Rattle.std.specs.Prelude.{◌≡◌, ◌⊎◌, ℕ, Bool, true, false, not, Option, Some, None, option_to_list, Result, Ok, Err, List, [], ◌∷◌, ◌++◌, length}
+use Rattle.git_pkt.specs.Packets.{payload, text_of}
+use Rattle.git_pkt.specs.Splits.{Given}
+use Rattle.git_pkt.specs.declared.fault.Fault.{Fault}
+use Rattle.git_msg.specs.declared.offers.Offer.{Offer}
+use Rattle.git_msg.specs.declared.reader.Part.{Part}
+use Rattle.git_msg.specs.declared.reader.Part.TheVariants.{Capabilities, Arguments, Waiting, Failed}
+use Rattle.git_msg.specs.declared.reader.RequestReader.{RequestReader}
+use Rattle.git_msg.specs.declared.reader.Taken.{Taken}
+use Rattle.git_msg.specs.declared.reader.Taken.TheVariants.{More, Argument as TakenArgument, Request as TakenRequest, Stop}
+use Rattle.git_msg.specs.Arguments.{Arg, shown}
+use Rattle.git_msg.specs.Asked.{asked_by}
+use Rattle.git_msg.specs.Holding.{asked_of, command_of, format_of, kept_of, limit_of}
+use Rattle.git_msg.specs.Lines.{Line, commands_of, arguments_of, kept_in, has_format, has_boundary, IsArgumentText}
+use Rattle.git_msg.specs.Requests.{AreLines, Asks, FirstFault, WantsMemory, IsStop}
+
+-- no line yet
+abbrev pub is_nil : List Line → Bool
+is_nil [] = true
+is_nil (line ∷ lines) = false
+
+-- a fault of these packets: the first that one of them has, or want of memory at the last
+abbrev pub IsTold : Offer → ℕ → List Given → Fault → Type 0
+IsTold offer limit packets fault =
+    FirstFault offer limit packets fault.kind fault.offset ⊎ WantsMemory offer limit packets fault.kind fault.offset
+
+abbrev pub fault_in : Part → Option Fault
+fault_in (Failed f) = Some f
+fault_in _ = None
+
+abbrev pub waits_in : Part → Bool
+waits_in (Waiting offset long) = true
+waits_in _ = false
+
+module _ {A : Type 0} where
+  -- what the requests are read against
+  abbrev pub offer_of : RequestReader A → Offer
+  offer_of r = r.offer
+
+  -- how many bytes a request's argument texts may have
+  abbrev pub limit_in : RequestReader A → ℕ
+  limit_in r = r.limits.args
+
+  -- the fault that ended the reading
+  abbrev pub fault_of : RequestReader A → Option Fault
+  fault_of r = fault_in r.part
+
+  -- an argument was given and is not kept yet
+  abbrev pub is_waiting : RequestReader A → Bool
+  is_waiting r = waits_in r.part
+
+  -- no delimiter came yet
+  pub record InCapabilities (lines : List Line) (r : RequestReader A) : Type 0 where
+    pub before : has_boundary lines ≡ false
+    pub begun : is_nil lines ≡ not r.begun
+    pub command : commands_of lines ≡ option_to_list r.command
+    pub format : has_format lines ≡ r.has_format
+    pub no_argument : arguments_of lines ≡ []
+    pub nothing_kept : kept_in lines ≡ 0
+
+  -- the delimiter came, and the arguments so far are kept
+  pub record InArguments (lines : List Line) (r : RequestReader A) : Type 0 where
+    pub behind : has_boundary lines ≡ true
+    pub command : commands_of lines ≡ command_of r.request ∷ []
+    pub asked : asked_of r.request ≡ asked_by (command_of r.request) (arguments_of lines)
+    pub kept : kept_of r.request ≡ kept_in lines
+    pub format : format_of r.request ≡ r.offer.format
+    pub limit : limit_of r.request ≡ r.limits.args
+
+  -- the last of the packets is an argument that waits to be kept
+  pub record WaitsBehind (packets : List Given) (offset long : ℕ) (arg : Arg) (r : RequestReader A) : Type 0 where
+    pub front : List Given
+    pub last : Given
+    pub bytes : List ℕ
+    pub lines : List Line
+    pub whole : packets ≡ front ++ last ∷ []
+    pub data_packet : last.packet ≡ payload bytes
+    pub at : last.offset ≡ offset
+    pub taken : AreLines r.offer r.limits.args [] front lines
+    pub in_part : InArguments lines r
+    pub is_text : IsArgumentText r.offer lines (text_of bytes) arg
+    pub long_is : long ≡ length (text_of bytes)
+
+  -- the packets are lines, and the reader stands behind them
+  pub record StandsBehind (packets : List Given) (In : List Line → RequestReader A → Type 0) (r : RequestReader A) : Type 0 where
+    pub lines : List Line
+    pub taken : AreLines r.offer r.limits.args [] packets lines
+    pub in_part : In lines r
+
+  abbrev pub TakesIn : Part → List Given → RequestReader A → Type 0
+  TakesIn Capabilities packets r = StandsBehind packets InCapabilities r
+  TakesIn Arguments packets r = StandsBehind packets InArguments r
+  TakesIn (Waiting offset long) packets r = (arg : Arg) × WaitsBehind packets offset long arg r
+  TakesIn (Failed f) packets r = IsTold r.offer r.limits.args packets f
+
+  -- the packets are what the reader has taken since the last request began
+  pub record Takes (packets : List Given) (r : RequestReader A) : Type 0 where
+    pub stands : TakesIn r.part packets r
+
+  abbrev pub WaitsIn : Part → List Given → Arg → RequestReader A → Type 0
+  WaitsIn (Waiting offset long) packets arg r = WaitsBehind packets offset long arg r
+  WaitsIn _ packets arg r = ⊥
+
+  -- the packets are what the reader has taken since the last request began, and this argument, the last of them, waits
+  -- to be kept
+  pub record WaitsFor (packets : List Given) (arg : Arg) (r : RequestReader A) : Type 0 where
+    pub waits : WaitsIn r.part packets arg r
+
+  -- what a packet brought, where the reader stood behind these packets
+  abbrev pub Brings : List Given → Given → Result (Taken A) Fault → RequestReader A → Type 0
+  Brings packets g (Ok More) new = Takes (packets ++ g ∷ []) new
+  Brings packets g (Ok (TakenArgument argument)) new =
+      Takes (packets ++ g ∷ []) new × WaitsFor (packets ++ g ∷ []) (shown argument) new
+  Brings packets g (Ok (TakenRequest q)) new =
+      Takes [] new × Asks (offer_of new) (limit_in new) (packets ++ g ∷ []) (asked_of q) (kept_of q)
+      × (format_of q ≡ (offer_of new).format) × (limit_of q ≡ limit_in new)
+  Brings packets g (Ok Stop) new = Takes [] new × IsStop (packets ++ g ∷ [])
+  Brings packets g (Err f) new =
+      Takes (packets ++ g ∷ []) new × FirstFault (offer_of new) (limit_in new) (packets ++ g ∷ []) f.kind f.offset
+
+  -- how the reader stands after each answer of `take`
+  abbrev pub LeavesTaken : Result (Taken A) Fault → RequestReader A → Type 0
+  LeavesTaken (Ok More) new = (fault_of new ≡ None) × (is_waiting new ≡ false)
+  LeavesTaken (Ok (TakenArgument argument)) new = (fault_of new ≡ None) × (is_waiting new ≡ true)
+  LeavesTaken (Ok (TakenRequest q)) new = (fault_of new ≡ None) × (is_waiting new ≡ false)
+  LeavesTaken (Ok Stop) new = (fault_of new ≡ None) × (is_waiting new ≡ false)
+  LeavesTaken (Err f) new = (fault_of new ≡ Some f) × (is_waiting new ≡ false)
+
+  -- what a call of `take` does with a packet
+  pub record TakesOn (old : RequestReader A) (g : Given) (result : Result (Taken A) Fault) (new : RequestReader A) : Type 0 where
+    pub brings : (packets : List Given) → fault_of old ≡ None → Takes packets old → Brings packets g result new
+    pub leaves : LeavesTaken result new
+    pub stays : (f : Fault) → fault_of old ≡ Some f → (result ≡ Err f) × (new ≡ old)
+    pub offer : offer_of new ≡ offer_of old
+    pub limit : limit_in new ≡ limit_in old
+
+  -- the argument was kept, or refused where it stands
+  abbrev pub Settles : List Given → Result (Unit {0}) Fault → RequestReader A → Type 0
+  Settles packets (Ok done) new = Takes packets new
+  Settles packets (Err f) new = Takes packets new × IsTold (offer_of new) (limit_in new) packets f
+
+  abbrev pub LeavesKept : Result (Unit {0}) Fault → RequestReader A → Type 0
+  LeavesKept (Ok done) new = (fault_of new ≡ None) × (is_waiting new ≡ false)
+  LeavesKept (Err f) new = (fault_of new ≡ Some f) × (is_waiting new ≡ false)
+
+  -- what a call of `keep` does with the argument that waits
+  pub record KeepsOn (old : RequestReader A) (arg : Arg) (result : Result (Unit {0}) Fault) (new : RequestReader A) : Type 0 where
+    pub settles : (packets : List Given) → WaitsFor packets arg old → Settles packets result new
+    pub leaves : LeavesKept result new
+    pub offer : offer_of new ≡ offer_of old
+    pub limit : limit_in new ≡ limit_in old

@@ -1,0 +1,106 @@
+-- What the parts of a request reader do, whose lines so far are given.
+use Rattle.std.specs.Prelude.{◌≡◌, ℕ, Bool, true, false, Some, None, option_to_list, Result, Ok, Err, List, [], ◌∷◌, ◌++◌, length}
+use Rattle.git_pkt.specs.Packets.{Pkt, flush, payload, text_of}
+use Rattle.git_pkt.specs.declared.fault.Kind.{Kind}
+use Rattle.git_msg.specs.declared.arguments.Command.{Command}
+use Rattle.git_msg.specs.declared.requests.Request.{Request}
+use Rattle.git_msg.specs.declared.reader.Part.{Part}
+use Rattle.git_msg.specs.declared.reader.Part.TheVariants.{Capabilities, Arguments, Waiting}
+use Rattle.git_msg.specs.declared.reader.RequestReader.{RequestReader}
+use Rattle.git_msg.specs.declared.reader.Taken.{Taken}
+use Rattle.git_msg.specs.declared.reader.Taken.TheVariants.{More, Argument as TakenArgument, Request as TakenRequest, Stop}
+use Rattle.git_msg.specs.Arguments.{Arg, shown}
+use Rattle.git_msg.specs.Asked.{asked_by}
+use Rattle.git_msg.specs.Holding.{asked_of, command_of, format_of, kept_of, limit_of}
+use Rattle.git_msg.specs.Checks.{Passes, Refuses}
+use Rattle.git_msg.specs.Lines.{Line, command, object_format, commands_of, arguments_of, kept_in, IsCapabilityLine, IsArgumentText, IsLine, HasFault, part_checks, flush_checks, is_none}
+use Rattle.git_msg.specs.Taking.{InCapabilities, InArguments, fault_of, is_waiting}
+
+module _ {A : Type 0} where
+  -- no command line came yet
+  abbrev pub is_first : RequestReader A → Bool
+  is_first r = is_none (option_to_list r.command)
+
+  -- the reader behind one more line of the capability part
+  abbrev pub with_line : Line → RequestReader A → RequestReader A
+  with_line (command c) r = record r { begun = true; command = Some c }
+  with_line object_format r = record r { begun = true; has_format = true }
+  with_line _ r = record r { begun = true }
+
+  -- the reader at the beginning of a request
+  abbrev pub restarted : RequestReader A → RequestReader A
+  restarted r = record r { part = Capabilities; begun = false; command = None; has_format = false }
+
+  -- the text was noted as a line
+  pub record Notes (old : RequestReader A) (text : List ℕ) (new : RequestReader A) : Type 0 where
+    pub line : Line
+    pub is_line : IsCapabilityLine old.offer (is_first old) text line
+    pub new_is : new ≡ with_line line old
+
+  -- the command is there, and the format is right
+  pub record IsDue (r : RequestReader A) (c : Command) : Type 0 where
+    pub there : r.command ≡ Some c
+    pub passes : Passes (part_checks r.offer (option_to_list r.command) r.has_format)
+
+  abbrev pub IsUndue : RequestReader A → Kind → Type 0
+  IsUndue r kind = Refuses (part_checks r.offer (option_to_list r.command) r.has_format) kind
+
+  -- the lines, in the part of the request where the reader is
+  abbrev pub InLines : Part → List Line → RequestReader A → Type 0
+  InLines Capabilities lines r = InCapabilities lines r
+  InLines Arguments lines r = InArguments lines r
+  InLines _ lines r = ⊥
+
+  -- a line came
+  pub record Advances (lines : List Line) (old : RequestReader A) (p : Pkt) (new : RequestReader A) : Type 0 where
+    pub line : Line
+    pub is_line : IsLine old.offer old.limits.args lines p line
+    pub in_lines : InLines new.part (lines ++ line ∷ []) new
+
+  -- an argument came
+  pub record Offers (lines : List Line) (old : RequestReader A) (p : Pkt) (offset : ℕ) (arg : Arg) (new : RequestReader A) : Type 0 where
+    pub bytes : List ℕ
+    pub data_packet : p ≡ payload bytes
+    pub is_text : IsArgumentText old.offer lines (text_of bytes) arg
+    pub part : new.part ≡ Waiting offset (length (text_of bytes))
+    pub in_arguments : InArguments lines new
+
+  -- the lines are those of a whole request
+  pub record Completes (lines : List Line) (old : RequestReader A) (p : Pkt) (q : Request A) (new : RequestReader A) : Type 0 where
+    pub ends : p ≡ flush
+    pub once : commands_of lines ≡ command_of q ∷ []
+    pub checks : Passes (flush_checks old.offer lines)
+    pub asked : asked_of q ≡ asked_by (command_of q) (arguments_of lines)
+    pub kept : kept_of q ≡ kept_in lines
+    pub format : format_of q ≡ new.offer.format
+    pub limit : limit_of q ≡ new.limits.args
+    pub fresh : InCapabilities [] new
+    pub part : new.part ≡ Capabilities
+
+  -- the other end leaves
+  pub record Leaves (lines : List Line) (p : Pkt) (new : RequestReader A) : Type 0 where
+    pub nothing : lines ≡ []
+    pub ends : p ≡ flush
+    pub fresh : InCapabilities [] new
+    pub part : new.part ≡ Capabilities
+
+  abbrev pub Goes : List Line → RequestReader A → Pkt → ℕ → Result (Taken A) Kind → RequestReader A → Type 0
+  Goes lines old p offset (Ok More) new = Advances lines old p new
+  Goes lines old p offset (Ok (TakenArgument a)) new = Offers lines old p offset (shown a) new
+  Goes lines old p offset (Ok (TakenRequest q)) new = Completes lines old p q new
+  Goes lines old p offset (Ok Stop) new = Leaves lines p new
+  Goes lines old p offset (Err kind) new = HasFault old.offer old.limits.args lines p kind
+
+  abbrev pub LeavesStep : Result (Taken A) Kind → RequestReader A → Type 0
+  LeavesStep (Ok More) new = (fault_of new ≡ None) × (is_waiting new ≡ false)
+  LeavesStep (Ok (TakenArgument a)) new = (fault_of new ≡ None) × (is_waiting new ≡ true)
+  LeavesStep (Ok (TakenRequest q)) new = (fault_of new ≡ None) × (is_waiting new ≡ false)
+  LeavesStep (Ok Stop) new = (fault_of new ≡ None) × (is_waiting new ≡ false)
+  LeavesStep (Err kind) new = Unit {0}
+
+  -- what a packet does to a reader that has no fault and waits for nothing
+  pub record StepsOn (old : RequestReader A) (p : Pkt) (offset : ℕ) (result : Result (Taken A) Kind) (new : RequestReader A) : Type 0 where
+    pub goes : (lines : List Line) → InLines old.part lines old → Goes lines old p offset result new
+    pub leaves : LeavesStep result new
+    pub offer : new.offer ≡ old.offer
+    pub limit : new.limits.args ≡ old.limits.args

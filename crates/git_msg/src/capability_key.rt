@@ -1,0 +1,34 @@
+//! The keys of a request's capability lines.
+ghost use Rattle.std.specs.Prelude.{◌≡◌};
+ghost use Rattle.git_msg.specs.Lines.{IsWordOf};
+
+use crate::texts::is;
+
+/// A key that a request may have, or another.
+#[derive(Clone, Copy, Debug)]
+pub(crate) enum Key {
+    CommandKey,
+    AgentKey,
+    ServerOptionKey,
+    ObjectFormatKey,
+    OtherKey,
+}
+
+/// Which key the word is.
+pub(crate) fn read_key(word: &[u8]) -> Key
+    ensures { IsWordOf word.now result }
+{
+    if is(word, b"command") {
+        return Key::CommandKey;
+    }
+    if is(word, b"agent") {
+        return Key::AgentKey;
+    }
+    if is(word, b"server-option") {
+        return Key::ServerOptionKey;
+    }
+    if is(word, b"object-format") {
+        return Key::ObjectFormatKey;
+    }
+    Key::OtherKey
+}

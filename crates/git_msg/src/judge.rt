@@ -1,0 +1,105 @@
+//! What one line of a request is, or what refuses it.
+ghost use Rattle.std.specs.Prelude.{◌≡◌, ◌↔◌, Some, IsTrue, MatchResult, MatchOption};
+ghost use Rattle.std.specs.Option.{option_copied};
+ghost use Rattle.git_msg.specs.Arguments.{name_of, shown, ReadsAs};
+ghost use Rattle.git_msg.specs.Capability.{IsCapability};
+ghost use Rattle.git_msg.specs.Checks.{Passes, Refuses};
+ghost use Rattle.git_msg.specs.Lines.{IsLineOf, IsCapabilityLine, NamesCommand, capability_checks, key_checks};
+ghost use Rattle.git_msg.specs.Judging.{line_of, IsText, text_checks};
+
+use crate::arguments::{Argument, Command, read_argument};
+use crate::capabilities::read_capability;
+use crate::capability_key::{Key, read_key};
+use crate::offers::Offer;
+use crate::texts::{is, is_error};
+use git_pkt::Kind;
+
+/// What a line of the capability part says.
+#[derive(Clone, Copy, Debug)]
+pub(crate) enum Noted {
+    Command(Command),
+    Agent,
+    ServerOption,
+    ObjectFormat,
+}
+
+/// Judges the text of a line of the capability part; `first` says that no command line came before.
+pub(crate) fn judge_capability(offer: &Offer, first: bool, text: &[u8]) -> Result<Noted, Kind>
+    ensures { MatchResult result (λ noted. IsCapabilityLine offer.now first text.now (line_of noted))
+        (Refuses (capability_checks offer.now first text.now)) }
+{
+    if is_error(text) {
+        return Err(Kind::RemoteError);
+    }
+    let capability = read_capability(text)?;
+    let key = read_key(capability.key);
+    judge_key(offer, first, key, capability.value)
+}
+
+fn judge_key(offer: &Offer, first: bool, key: Key, value: Option<&[u8]>) -> Result<Noted, Kind>
+    ensures { MatchResult result
+        (λ noted. Passes (key_checks offer.now first key (option_copied value.entry)) × IsLineOf key (option_copied value.entry) (line_of noted))
+        (Refuses (key_checks offer.now first key (option_copied value.entry))) }
+{
+    match key {
+        Key::CommandKey => {
+            if !first {
+                return Err(Kind::TwoCommands);
+            }
+            match read_command(value) {
+                Some(command) => Ok(Noted::Command(command)),
+                None => Err(Kind::UnknownCommand),
+            }
+        }
+        Key::AgentKey => Ok(Noted::Agent),
+        Key::ServerOptionKey => {
+            if !offer.server_option {
+                return Err(Kind::NotAdvertised);
+            }
+            Ok(Noted::ServerOption)
+        }
+        Key::ObjectFormatKey => {
+            if !is_value(value, offer.format.name().as_bytes()) {
+                return Err(Kind::WrongFormat);
+            }
+            Ok(Noted::ObjectFormat)
+        }
+        Key::OtherKey => Err(Kind::NotAdvertised),
+    }
+}
+
+/// The command that a value of `command=` names.
+fn read_command(value: Option<&[u8]>) -> Option<Command>
+    ensures { MatchOption result (¬ NamesCommand (option_copied value.entry))
+        (λ command. option_copied value.entry ≡ Some (name_of command)) }
+{
+    if is_value(value, b"ls-refs") {
+        return Some(Command::LsRefs);
+    }
+    None
+}
+
+/// Whether the value is there, and is the word.
+fn is_value(value: Option<&[u8]>, word: &[u8]) -> bool
+    ensures { IsTrue result ↔ (option_copied value.entry ≡ Some word.now) }
+{
+    match value {
+        Some(value) => is(value, word),
+        None => false,
+    }
+}
+
+/// Reads the text of a line of the argument part.
+pub(crate) fn read_text<'a>(
+    command: Command,
+    offer: &Offer,
+    text: &'a [u8],
+) -> Result<Argument<'a>, Kind>
+    ensures { MatchResult result (λ argument. IsText command offer.now text.now (shown argument))
+        (Refuses (text_checks command offer.now text.now)) }
+{
+    if is_error(text) {
+        return Err(Kind::RemoteError);
+    }
+    read_argument(command, offer, text)
+}

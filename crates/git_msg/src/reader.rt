@@ -1,0 +1,222 @@
+//! Requests, read packet by packet.
+use crate::arguments::{Argument, Command};
+use crate::judge::{Noted, judge_capability, read_text};
+use crate::offers::Offer;
+use crate::requests::{Limits, Request};
+use git_names::Format;
+use git_pkt::{Fault, Kind, Packet, text};
+use std::alloc::Allocator;
+use std::mem;
+
+/// What a packet brought.
+#[derive(Drop)]
+pub enum Taken<'p, A: Allocator + Copy> {
+    /// The request goes on.
+    More,
+    /// An argument, which is part of the request once [`RequestReader::keep`] has kept it.
+    Argument(Argument<'p>),
+    /// The whole request: this was its flush.
+    Request(Request<A>),
+    /// A flush with nothing before it, by which the other end leaves.
+    Stop,
+}
+
+#[derive(Clone, Copy, Debug)]
+enum Part {
+    Capabilities,
+    Arguments,
+    // An argument was given, of the packet at this offset and with a text of so many bytes.
+    Waiting(u64, usize),
+    Failed(Fault),
+}
+
+/// Reads requests from their packets, gitprotocol-v2(5), against what was offered.
+#[derive(Drop)]
+pub struct RequestReader<A: Allocator + Copy> {
+    alloc: A,
+    offer: Offer,
+    limits: Limits,
+    part: Part,
+    // Whether a packet came since the last request.
+    begun: bool,
+    command: Option<Command>,
+    has_format: bool,
+    // In the argument part, what is kept so far.
+    request: Request<A>,
+}
+
+impl<A: Allocator + Copy> RequestReader<A> {
+    ghost use Rattle.std.specs.Prelude.{◌≡◌, [], true, false, OnOk, OnErr, IfErr, MatchResult};
+    ghost use Rattle.git_pkt.specs.Packets.{seen};
+    ghost use Rattle.git_msg.specs.Arguments.{shown};
+    ghost use Rattle.git_msg.specs.Checks.{Refuses};
+    ghost use Rattle.git_msg.specs.Holding.{IsEmpty};
+    ghost use Rattle.git_msg.specs.Lines.{capability_checks};
+    ghost use Rattle.git_msg.specs.Taking.{Takes, TakesOn, KeepsOn, offer_of, limit_in, fault_of, is_waiting};
+    ghost use Rattle.git_msg.specs.TakingSteps.{Notes, IsDue, IsUndue, StepsOn, is_first, restarted};
+
+    /// A reader at the beginning of a request. It takes memory from `alloc` when an argument with a text is kept.
+    pub fn new(alloc: A, offer: Offer, limits: Limits) -> RequestReader<A>
+        ensures takes { Takes [] result }
+        ensures open { fault_of result ≡ None }
+        ensures ready { is_waiting result ≡ false }
+        ensures offer { offer_of result ≡ offer }
+        ensures limit { limit_in result ≡ limits.args }
+    {
+        RequestReader {
+            alloc,
+            offer,
+            limits,
+            part: Part::Capabilities,
+            begun: false,
+            command: None,
+            has_format: false,
+            request: Request::new(alloc, Command::LsRefs, offer.format, limits),
+        }
+    }
+
+    /// Takes the next packet, which stands at `offset`. No argument may wait for [`RequestReader::keep`]. A packet that
+    /// is refused ends the reading: from then on each call answers that fault.
+    pub fn take<'p>(&mut self, packet: Packet<'p>, offset: u64) -> Result<Taken<'p, A>, Fault>
+        requires { is_waiting self.old ≡ false }
+        ensures { TakesOn self.old (record { packet = seen packet.entry; offset = offset }) result self.new }
+    {
+        let step = match self.part {
+            Part::Failed(fault) => return Err(fault),
+            Part::Capabilities => self.take_capability(packet, offset),
+            Part::Arguments => self.take_argument(packet, offset),
+            Part::Waiting(_, _) => unreachable!(),
+        };
+        match step {
+            Ok(taken) => Ok(taken),
+            Err(kind) => Err(self.refuse(kind, offset)),
+        }
+    }
+
+    /// Keeps the argument that the last [`RequestReader::take`] gave, counted by the length of its text as it came.
+    /// Refused with `TooMuchKept` where the request's lines pass the limit, then with `OutOfMemory`, at its packet.
+    pub fn keep(&mut self, argument: Argument<'_>) -> Result<(), Fault>
+        requires { is_waiting self.old ≡ true }
+        ensures { KeepsOn self.old (shown argument.entry) result self.new }
+    {
+        let Part::Waiting(offset, long) = self.part else {
+            unreachable!()
+        };
+        match self.request.keep(argument, long) {
+            Ok(()) => {
+                self.part = Part::Arguments;
+                Ok(())
+            }
+            Err(kind) => Err(self.refuse(kind, offset)),
+        }
+    }
+
+    fn refuse(&mut self, kind: Kind, offset: u64) -> Fault
+        ensures fault { result ≡ record { kind = kind; offset = offset } }
+        ensures ends { self.new ≡ record self.old { part = Part.Failed result } }
+    {
+        let fault = Fault { kind, offset };
+        self.part = Part::Failed(fault);
+        fault
+    }
+
+    fn take_capability<'p>(&mut self, packet: Packet<'p>, offset: u64) -> Result<Taken<'p, A>, Kind>
+        requires { self.old.part ≡ Part.Capabilities }
+        ensures { StepsOn self.old (seen packet.entry) offset result self.new }
+    {
+        match packet {
+            Packet::Payload(payload) => {
+                self.note(text(payload))?;
+                Ok(Taken::More)
+            }
+            Packet::Delim => {
+                let command = self.command_due()?;
+                self.request = self.empty_request(command);
+                self.part = Part::Arguments;
+                Ok(Taken::More)
+            }
+            Packet::Flush => {
+                if !self.begun {
+                    return Ok(Taken::Stop);
+                }
+                let command = self.command_due()?;
+                let request = self.empty_request(command);
+                self.restart();
+                Ok(Taken::Request(request))
+            }
+            Packet::RespEnd => Err(Kind::UnexpectedPacket),
+        }
+    }
+
+    fn take_argument<'p>(&mut self, packet: Packet<'p>, offset: u64) -> Result<Taken<'p, A>, Kind>
+        requires { self.old.part ≡ Part.Arguments }
+        ensures { StepsOn self.old (seen packet.entry) offset result self.new }
+    {
+        match packet {
+            Packet::Payload(payload) => {
+                let text = text(payload);
+                let argument = read_text(self.request.command(), &self.offer, text)?;
+                self.part = Part::Waiting(offset, text.len());
+                Ok(Taken::Argument(argument))
+            }
+            Packet::Flush => {
+                let next = self.empty_request(Command::LsRefs);
+                let request = mem::replace(&mut self.request, next);
+                self.restart();
+                Ok(Taken::Request(request))
+            }
+            Packet::Delim => Err(Kind::UnexpectedPacket),
+            Packet::RespEnd => Err(Kind::UnexpectedPacket),
+        }
+    }
+
+    // Takes a line of the capability part.
+    fn note(&mut self, text: &[u8]) -> Result<(), Kind>
+        ensures ok { OnOk result (Notes self.old text.now self.new) }
+        ensures unchanged { OnErr result (self.new ≡ self.old) }
+        ensures err { IfErr result (Refuses (capability_checks self.old.offer (is_first self.old) text.now)) }
+    {
+        match judge_capability(&self.offer, self.command.is_none(), text)? {
+            Noted::Command(command) => self.command = Some(command),
+            Noted::ObjectFormat => self.has_format = true,
+            Noted::Agent => {}
+            Noted::ServerOption => {}
+        }
+        self.begun = true;
+        Ok(())
+    }
+
+    // The command, which is due at the end of the capability part.
+    fn command_due(&self) -> Result<Command, Kind>
+        ensures { MatchResult result (IsDue self.now) (IsUndue self.now) }
+    {
+        let Some(command) = self.command else {
+            return Err(Kind::NoCommand);
+        };
+        match self.offer.format {
+            Format::Sha1 => Ok(command),
+            Format::Sha256 => {
+                if !self.has_format {
+                    return Err(Kind::WrongFormat);
+                }
+                Ok(command)
+            }
+        }
+    }
+
+    fn empty_request(&self, command: Command) -> Request<A>
+        ensures { IsEmpty command self.now.offer.format self.now.limits.args result }
+    {
+        Request::new(self.alloc, command, self.offer.format, self.limits)
+    }
+
+    // The next packet begins a request.
+    fn restart(&mut self)
+        ensures { self.new ≡ restarted self.old }
+    {
+        self.part = Part::Capabilities;
+        self.begun = false;
+        self.command = None;
+        self.has_format = false;
+    }
+}

@@ -1,0 +1,124 @@
+//! Reference lines, read.
+ghost use Rattle.std.specs.Prelude.{◌≡◌, ◌<◌, ◌==◌, ◌∷◌, List, ℕ, length, position, MatchOption, MatchResult};
+ghost use Rattle.std.specs.Option.{ForSome, option_copied};
+ghost use Rattle.git_names.specs.ObjectName.{ObjectName, IsObjectName};
+ghost use Rattle.git_msg.specs.Checks.{Refuses};
+ghost use Rattle.git_msg.specs.References.{IsAttributeFault, IsMaybeObjectName, IsReferenceFault, IsReferenceLine, attribute_checks, shown_reference, spaced_words};
+ghost use Rattle.git_msg.specs.ReferenceParts.{IsFound, LastValues, words_left};
+
+use crate::references::Reference;
+use crate::texts::after;
+use git_names::{Format, Oid, RefName};
+use git_pkt::Kind;
+
+#[derive(Clone, Copy, Debug)]
+struct Found<'a> {
+    target: Option<&'a [u8]>,
+    peeled: Option<&'a [u8]>,
+}
+
+#[derive(Clone, Copy, Debug)]
+enum Attribute<'a> {
+    Target(&'a [u8]),
+    Peeled(&'a [u8]),
+    Other,
+}
+
+/// Reads the text of a reference line: an object name, a space and a reference name, then attributes, each behind one
+/// space. Attributes that are not known are passed over. A text without a space is `BadLine`; then from left to right
+/// `BadObjectName` and `BadRefName`.
+pub fn read_reference(format: Format, text: &[u8]) -> Result<Reference<'_>, Kind>
+    ensures { MatchResult result (λ reference. IsReferenceLine format text.now (shown_reference reference))
+        (IsReferenceFault format text.now) }
+{
+    let (id, Some(rest)) = split_word(text) else {
+        return Err(Kind::BadLine);
+    };
+    let Ok(id) = Oid::read(format, id) else {
+        return Err(Kind::BadObjectName);
+    };
+    let (name, rest) = split_word(rest);
+    if RefName::read(name).is_err() {
+        return Err(Kind::BadRefName);
+    }
+    match read_attributes(format, rest) {
+        Ok(found) => {
+            let peeled = read_peeled(format, found.peeled);
+            Ok(Reference {
+                id,
+                name,
+                target: found.target,
+                peeled,
+            })
+        }
+        Err(kind) => Err(kind),
+    }
+}
+
+/// The last values of the attributes of a line.
+fn read_attributes<'a>(format: Format, words: Option<&'a [u8]>) -> Result<Found<'a>, Kind>
+    ensures { MatchResult result
+        (λ found. LastValues format (words_left (option_copied words.entry)) (option_copied found.target) (option_copied found.peeled))
+        (Refuses (attribute_checks format (words_left (option_copied words.entry)))) }
+{
+    let mut target = None;
+    let mut peeled = None;
+    let mut rest = words;
+    'words: while let Some(text) = rest {
+        let (word, next) = split_word(text);
+        match read_attribute(format, word) {
+            Ok(Attribute::Target(name)) => target = Some(name),
+            Ok(Attribute::Peeled(text)) => peeled = Some(text),
+            Ok(Attribute::Other) => {}
+            Err(kind) => return Err(kind),
+        }
+        rest = next;
+    }
+    Ok(Found { target, peeled })
+}
+
+fn read_attribute<'a>(format: Format, word: &'a [u8]) -> Result<Attribute<'a>, Kind>
+    ensures { MatchResult result (IsFound format word.now) (IsAttributeFault format word.now) }
+{
+    if let Some(name) = after(word, b"symref-target:") {
+        if RefName::read(name).is_err() {
+            return Err(Kind::BadRefName);
+        }
+        return Ok(Attribute::Target(name));
+    }
+    if let Some(text) = after(word, b"peeled:") {
+        if Oid::read(format, text).is_err() {
+            return Err(Kind::BadObjectName);
+        }
+        return Ok(Attribute::Peeled(text));
+    }
+    Ok(Attribute::Other)
+}
+
+/// The object name that a text was found to be.
+fn read_peeled(format: Format, text: Option<&[u8]>) -> Option<Oid>
+    requires { ForSome (option_copied text) (λ text. (id : ObjectName) × IsObjectName format text id) }
+    ensures { IsMaybeObjectName format (option_copied text.entry) result }
+{
+    match text {
+        Some(text) => Oid::read(format, text).ok(),
+        None => None,
+    }
+}
+
+/// The first word of a text, and what stands behind the space that ends it.
+fn split_word(text: &[u8]) -> (&[u8], Option<&[u8]>)
+    ensures words { spaced_words text.now ≡ result.0.now ∷ words_left (option_copied result.1) }
+    ensures shorter { MatchOption result.1 (Unit {0}) (λ rest. length rest.now < length text.now) }
+{
+    match find_space(text) {
+        Some(at) => (&text[..at], Some(&text[at + 1..])),
+        None => (text, None),
+    }
+}
+
+fn find_space(text: &[u8]) -> Option<usize>
+    ensures { result ≡ position (λ c. c == 32) text.now }
+{
+    text.iter().position(|byte| *byte == b' ')
+}

@@ -1,0 +1,119 @@
+//! Reference lines, as answers to ls-refs have them: gitprotocol-v2(5).
+ghost use Rattle.std.specs.Prelude.{◌≡◌, ◌+◌, ◌≤◌, [], ◌∷◌, ◌++◌, length, MatchResult};
+ghost use Rattle.std.specs.Option.{option_copied};
+ghost use Rattle.arrayvec.specs.ArrayVec.{array_vec_len};
+ghost use Rattle.git_names.specs.ObjectFormat.{digits_of};
+ghost use Rattle.git_names.specs.ObjectName.{ObjectName, IsObjectName, hex_of};
+ghost use Rattle.git_pkt.specs.Packets.{payload, spelling_of};
+ghost use Rattle.git_msg.specs.References.{IsReferenceFault, IsReferenceLine, IsWritable, peeled_count, peeled_text, reference_of, reference_text, shown_reference, target_text};
+
+use crate::writing::{append, begin};
+use git_names::Oid;
+use git_pkt::Hold;
+
+/// A reference, whose texts are lent.
+#[derive(Clone, Copy, Debug)]
+pub struct Reference<'a> {
+    /// The object that it points to.
+    pub id: Oid,
+    /// Its name.
+    pub name: &'a [u8],
+    /// For a symbolic reference, where it is told, the name of the reference that it points to.
+    pub target: Option<&'a [u8]>,
+    /// For an annotated tag, where it is told, the object that it stands for.
+    pub peeled: Option<Oid>,
+}
+
+/// A line of a shallow boundary, gitprotocol-v2(5).
+#[derive(Clone, Copy, Debug, PartialEq, Eq)]
+pub enum Boundary {
+    /// The parents of this commit are not sent.
+    Shallow(Oid),
+    /// The parents of this commit, which had none, are sent now.
+    Unshallow(Oid),
+}
+
+/// Makes the hold the packet of the reference's line, with an LF at its end. Its names have to be reference names, and
+/// its object names of one format.
+pub fn put_reference(hold: &mut Hold, reference: Reference<'_>)
+    requires { IsWritable (shown_reference reference) }
+    ensures written { hold.new.items ≡ spelling_of (payload (reference_text (shown_reference reference.entry) ++ 10 ∷ [])) }
+    ensures reads_back { IsReferenceLine reference.entry.id.format (reference_text (shown_reference reference.entry)) (shown_reference reference.entry) }
+{
+    let Reference {
+        id,
+        name,
+        target,
+        peeled,
+    } = reference;
+    put_line(hold, &id, name, target, &peeled);
+}
+
+fn put_line(hold: &mut Hold, id: &Oid, name: &[u8], target: Option<&[u8]>, peeled: &Option<Oid>)
+    requires { IsWritable (reference_of id.now name.now (option_copied target) peeled.now) }
+    ensures written { hold.new.items ≡ spelling_of (payload (reference_text (reference_of id.now name.now (option_copied target.entry) peeled.now) ++ 10 ∷ [])) }
+    ensures reads_back { IsReferenceLine id.now.format (reference_text (reference_of id.now name.now (option_copied target.entry) peeled.now)) (reference_of id.now name.now (option_copied target.entry) peeled.now) }
+{
+    let long = id.format().digits() + 1 + name.len();
+    begin(
+        hold,
+        long + target_length(target) + peeled_length(peeled) + 1,
+    );
+    append_id(hold, id);
+    append(hold, b" ");
+    append(hold, name);
+    append_target(hold, target);
+    append_peeled(hold, peeled);
+    append(hold, b"\n");
+}
+
+fn target_length(target: Option<&[u8]>) -> usize
+    requires { length (target_text (option_copied target)) ≤ 65000 }
+    ensures { result ≡ length (target_text (option_copied target.entry)) }
+{
+    match target {
+        Some(name) => 15 + name.len(),
+        None => 0,
+    }
+}
+
+fn peeled_length(peeled: &Option<Oid>) -> usize
+    ensures { result ≡ peeled_count peeled.now }
+{
+    match peeled {
+        Some(id) => 8 + id.format().digits(),
+        None => 0,
+    }
+}
+
+fn append_target(hold: &mut Hold, target: Option<&[u8]>)
+    requires { array_vec_len hold.old + length (target_text (option_copied target)) ≤ 65520 }
+    ensures { hold.new.items ≡ hold.old.items ++ target_text (option_copied target.entry) }
+{
+    if let Some(name) = target {
+        append(hold, b" symref-target:");
+        append(hold, name);
+    }
+}
+
+fn append_peeled(hold: &mut Hold, peeled: &Option<Oid>)
+    requires { array_vec_len hold.old + peeled_count peeled.now ≤ 65520 }
+    ensures appended { hold.new.items ≡ hold.old.items ++ peeled_text peeled.now }
+    ensures count { length (peeled_text peeled.now) ≡ peeled_count peeled.now }
+    ensures reads_back { (id : ObjectName) → peeled.now ≡ Some id → IsObjectName id.format (hex_of id) id }
+{
+    if let Some(id) = peeled {
+        append(hold, b" peeled:");
+        append_id(hold, id);
+    }
+}
+
+fn append_id(hold: &mut Hold, id: &Oid)
+    requires { array_vec_len hold.old + digits_of id.now.format ≤ 65520 }
+    ensures appended { hold.new.items ≡ hold.old.items ++ hex_of id.now }
+    ensures reads_back { IsObjectName id.now.format (hex_of id.now) id.now }
+{
+    let mut digits = [0; 64];
+    let count = id.write(&mut digits);
+    append(hold, &digits[..count]);
+}

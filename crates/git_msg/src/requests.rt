@@ -1,0 +1,302 @@
+//! Requests as they are kept.
+ghost use Rattle.std.specs.Prelude.{◌≡◌, ◌+◌, ◌^◌, ◌≤◌, ◌<◌, [], ◌∷◌, ◌++◌, length, OnOk, OnErr, IfErr, IfSome, slice_get};
+ghost use Rattle.std.specs.Option.{option_copied};
+ghost use Rattle.git_msg.specs.Arguments.{shown, written_text};
+
+use crate::arguments::{Argument, Command, MOST_TEXT};
+use git_names::Format;
+use git_pkt::Kind;
+use std::alloc::{AllocError, Allocator};
+use std::marker::Model;
+
+/// How much a request may keep.
+#[derive(Clone, Copy, Debug)]
+pub struct Limits {
+    /// The most bytes that the texts of its argument lines may have, all of them together: 1,073,741,824 at most.
+    pub args: u32,
+    ghost in_range: { args ≤ 1073741824 },
+}
+
+impl Limits {
+    /// The usual limit: 16,777,216 bytes.
+    pub const USUAL: u32 = 16_777_216;
+}
+
+// Byte strings, each in memory of its own.
+#[derive(Drop)]
+struct Texts<A: Allocator + Copy> {
+    items: Vec<Vec<u8, A>, A>,
+}
+
+impl<A: Allocator + Copy> Model for Texts<A> {
+    ghost use Rattle.std.specs.Prelude.{List, ℕ, map};
+
+    ghost Value = { List (List ℕ) };
+
+    ghost view = { λ texts. map (λ text. text.items) texts.items.items };
+}
+
+impl<A: Allocator + Copy> Texts<A> {
+    fn new(alloc: A) -> Texts<A>
+        ensures { result ≡ [] }
+    {
+        Texts {
+            items: Vec::new(alloc),
+        }
+    }
+
+    fn len(&self) -> usize
+        ensures { result ≡ length self.now }
+    {
+        self.items.len()
+    }
+
+    fn get(&self, i: usize) -> Option<&[u8]>
+        ensures { option_copied result ≡ slice_get self.now i }
+    {
+        match self.items.get(i) {
+            Some(text) => Some(text.as_slice()),
+            None => None,
+        }
+    }
+
+    fn push(&mut self, text: &[u8]) -> Result<(), AllocError>
+        ensures ok { OnOk result (self.new ≡ self.old ++ text.now ∷ []) }
+        ensures err { OnErr result (self.new ≡ self.old) }
+    {
+        let copy = Vec::from_slice(*self.items.allocator(), text)?;
+        self.items.push(copy)?;
+        Ok(())
+    }
+}
+
+/// A request for references, `ls-refs` of gitprotocol-v2(5).
+#[derive(Drop)]
+pub struct LsRefs<A: Allocator + Copy> {
+    format: Format,
+    limit: u32,
+    kept: u32,
+    symrefs: bool,
+    peel: bool,
+    ref_prefixes: Texts<A>,
+}
+
+impl<A: Allocator + Copy> Model for LsRefs<A> {
+    ghost use Rattle.std.specs.Prelude.{◌≤◌, All, length};
+    ghost use Rattle.git_msg.specs.LsRefs.{LsRefsKept};
+
+    ghost Value = { LsRefsKept };
+
+    ghost view = { λ q. record {
+      format = q.format;
+      asked = record { symrefs = q.symrefs; peel = q.peel; ref_prefixes = q.ref_prefixes };
+      kept = q.kept;
+      limit = q.limit;
+    } };
+
+    ghost invariant = { λ q. (q.kept ≤ q.limit) × (q.limit ≤ 1073741824) × All (λ text. length text ≤ 32000) q.ref_prefixes };
+}
+
+/// A request of gitprotocol-v2(5), as it is kept: its arguments by their kinds.
+#[derive(Drop)]
+pub enum Request<A: Allocator + Copy> {
+    /// A request for references.
+    LsRefs(LsRefs<A>),
+}
+
+impl<A: Allocator + Copy> LsRefs<A> {
+    ghost use Rattle.git_msg.specs.Arguments.{most_text};
+    ghost use Rattle.git_msg.specs.LsRefs.{IsShort, IsNew, KeepsArgument, IsUnkept};
+
+    /// Whether symbolic references are to be shown with what they point to.
+    pub fn symrefs(&self) -> bool
+        ensures { result ≡ self.now.asked.symrefs }
+    {
+        self.symrefs
+    }
+
+    /// Whether annotated tags are to be shown with what they stand for.
+    pub fn peel(&self) -> bool
+        ensures { result ≡ self.now.asked.peel }
+    {
+        self.peel
+    }
+
+    /// The prefix at place `i`, in the order of their lines.
+    pub fn ref_prefix(&self, i: usize) -> Option<&[u8]>
+        ensures value { option_copied result ≡ slice_get self.now.asked.ref_prefixes i }
+        ensures fits { IfSome result (λ prefix. length prefix.now ≤ most_text) }
+    {
+        self.ref_prefixes.get(i)
+    }
+
+    fn new(alloc: A, format: Format, limits: Limits) -> LsRefs<A>
+        ensures { IsNew format limits.args result }
+    {
+        LsRefs {
+            format,
+            limit: limits.args,
+            kept: 0,
+            symrefs: false,
+            peel: false,
+            ref_prefixes: Texts::new(alloc),
+        }
+    }
+
+    // Keeps an argument whose line has a text of `long` bytes.
+    fn keep(&mut self, argument: Argument<'_>, long: usize) -> Result<(), Kind>
+        requires { IsShort (shown argument) }
+        ensures kept { OnOk result (KeepsArgument self.old (shown argument.entry) long self.new) }
+        ensures unchanged { OnErr result (self.new ≡ self.old) }
+        ensures refused { IfErr result (IsUnkept self.old (shown argument.entry) long) }
+    {
+        if long > (self.limit - self.kept) as usize {
+            return Err(Kind::TooMuchKept);
+        }
+        match argument {
+            Argument::Symrefs => self.symrefs = true,
+            Argument::Peel => self.peel = true,
+            Argument::RefPrefix(prefix) => {
+                if self.ref_prefixes.push(prefix).is_err() {
+                    return Err(Kind::OutOfMemory);
+                }
+            }
+        }
+        self.kept += long as u32;
+        Ok(())
+    }
+}
+
+impl<A: Allocator + Copy> Request<A> {
+    ghost use Rattle.git_msg.specs.Arguments.{most_text};
+    ghost use Rattle.git_msg.specs.Asked.{nothing_asked, symrefs_of, peel_of, ref_prefixes_of};
+    ghost use Rattle.git_msg.specs.Checks.{Passes};
+    ghost use Rattle.git_msg.specs.Holding.{IsEmpty, asked_of, command_of, format_of, kept_of, limit_of, Keeps, add_checks, keep_checks, IsRefused, IsValue, IsValueFault};
+
+    /// A request without arguments. Later calls take memory from `alloc`, and only where an argument with a text is
+    /// kept.
+    pub fn new(alloc: A, command: Command, format: Format, limits: Limits) -> Request<A>
+        ensures { IsEmpty command format limits.args result }
+    {
+        match command {
+            Command::LsRefs => Request::LsRefs(LsRefs::new(alloc, format, limits)),
+        }
+    }
+
+    /// Adds an argument behind the others. Refused in this order: a value that may not stand there (`BadLine` for a
+    /// text of more than 32,000 bytes), `TooMuchKept` where the texts of all lines, as they are written, would pass
+    /// the limit, and `OutOfMemory`. Then the request stays as it was.
+    pub fn add(&mut self, argument: Argument<'_>) -> Result<(), Kind>
+        ensures added { OnOk result (Keeps self.old (shown argument.entry) (length (written_text (shown argument.entry))) self.new) }
+        ensures passes { OnOk result (Passes (add_checks self.old (shown argument.entry))) }
+        ensures unchanged { OnErr result (self.new ≡ self.old) }
+        ensures refused { IfErr result (IsRefused (add_checks self.old (shown argument.entry)) (shown argument.entry)) }
+    {
+        let long = written_length(&argument);
+        self.keep(argument, long)
+    }
+
+    /// The request's command.
+    pub fn command(&self) -> Command
+        ensures { result ≡ command_of self.now }
+    {
+        match self {
+            Request::LsRefs(_) => Command::LsRefs,
+        }
+    }
+
+    /// The format of the request's object names.
+    pub fn format(&self) -> Format
+        ensures { result ≡ format_of self.now }
+    {
+        match self {
+            Request::LsRefs(request) => request.format,
+        }
+    }
+
+    /// How many bytes the texts of the request's argument lines have, all of them together: as they came where they
+    /// were read, and as they are written where they were added.
+    pub fn kept(&self) -> u32
+        ensures value { result ≡ kept_of self.now }
+        ensures within { kept_of self.now ≤ limit_of self.now }
+    {
+        match self {
+            Request::LsRefs(request) => request.kept,
+        }
+    }
+
+    /// The flag `symrefs` of `ls-refs`.
+    pub fn symrefs(&self) -> bool
+        ensures { result ≡ symrefs_of (asked_of self.now) }
+    {
+        match self {
+            Request::LsRefs(request) => request.symrefs(),
+        }
+    }
+
+    /// The flag `peel` of `ls-refs`.
+    pub fn peel(&self) -> bool
+        ensures { result ≡ peel_of (asked_of self.now) }
+    {
+        match self {
+            Request::LsRefs(request) => request.peel(),
+        }
+    }
+
+    /// The text of the `ref-prefix` line at place `i` of `ls-refs`.
+    pub fn ref_prefix(&self, i: usize) -> Option<&[u8]>
+        ensures value { option_copied result ≡ slice_get (ref_prefixes_of (asked_of self.now)) i }
+        ensures fits { IfSome result (λ prefix. length prefix.now ≤ most_text) }
+    {
+        match self {
+            Request::LsRefs(request) => request.ref_prefix(i),
+        }
+    }
+
+    // How many prefixes there are.
+    pub(crate) fn ref_prefix_count(&self) -> usize
+        ensures { result ≡ length (ref_prefixes_of (asked_of self.now)) }
+    {
+        match self {
+            Request::LsRefs(request) => request.ref_prefixes.len(),
+        }
+    }
+
+    // Keeps an argument whose line has a text of `long` bytes.
+    pub(crate) fn keep(&mut self, argument: Argument<'_>, long: usize) -> Result<(), Kind>
+        ensures kept { OnOk result (Keeps self.old (shown argument.entry) long self.new) }
+        ensures passes { OnOk result (Passes (keep_checks self.old (shown argument.entry) long)) }
+        ensures unchanged { OnErr result (self.new ≡ self.old) }
+        ensures refused { IfErr result (IsRefused (keep_checks self.old (shown argument.entry) long) (shown argument.entry)) }
+    {
+        self.check_value(&argument)?;
+        match self {
+            Request::LsRefs(request) => request.keep(argument, long),
+        }
+    }
+
+    // Whether the argument may stand in this request.
+    fn check_value(&self, argument: &Argument<'_>) -> Result<(), Kind>
+        ensures ok { OnOk result (IsValue (command_of self.now) (format_of self.now) (shown argument.now)) }
+        ensures err { IfErr result (IsValueFault (command_of self.now) (format_of self.now) (shown argument.now)) }
+    {
+        match self {
+            Request::LsRefs(_) => match argument {
+                Argument::RefPrefix(prefix) if prefix.len() > MOST_TEXT => Err(Kind::BadLine),
+                _ => Ok(()),
+            },
+        }
+    }
+}
+
+// How many bytes the argument's text has, as it is written.
+fn written_length(argument: &Argument<'_>) -> usize
+    requires { length (written_text (shown argument.now)) < 2 ^ 64 }
+    ensures { result ≡ length (written_text (shown argument.now)) }
+{
+    match argument {
+        Argument::Symrefs => 7,
+        Argument::Peel => 4,
+        Argument::RefPrefix(prefix) => 11 + prefix.len(),
+    }
+}

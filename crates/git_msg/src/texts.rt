@@ -1,0 +1,31 @@
+//! What lines begin with.
+ghost use Rattle.std.specs.Prelude.{◌≡◌, ◌↔◌, ◌++◌, IsTrue, MatchOption, codes};
+ghost use Rattle.git_msg.specs.Texts.{BeginsOtherThan, IsErrorText};
+
+/// Whether the text is the word.
+pub(crate) fn is(text: &[u8], word: &[u8]) -> bool
+    ensures { IsTrue result ↔ (text.now ≡ word.now) }
+{
+    text == word
+}
+
+/// What stands behind the word, if the text begins with it.
+pub(crate) fn after<'a>(text: &'a [u8], word: &[u8]) -> Option<&'a [u8]>
+    ensures { MatchOption result (BeginsOtherThan word.now text.now) (λ rest. text.now ≡ word.now ++ rest.now) }
+{
+    if word.len() > text.len() {
+        return None;
+    }
+    let (front, rest) = text.split_at(word.len());
+    if !is(front, word) {
+        return None;
+    }
+    Some(rest)
+}
+
+/// Whether the text is that of an error packet, gitprotocol-pack(5).
+pub(crate) fn is_error(text: &[u8]) -> bool
+    ensures { IsTrue result ↔ IsErrorText text.now }
+{
+    after(text, b"ERR ").is_some()
+}
