@@ -1,5 +1,5 @@
 -- A list of packets is a request, or has one first fault, and not both.
-use Rattle.std.proofs.Common.{◌≡◌, ℕ, Bool, true, false, List, [], ◌∷◌, ◌++◌, refl, ap, sym, ◌∙◌, subst, append_assoc}
+use Rattle.std.proofs.Common.{◌≡◌, ℕ, List, [], ◌∷◌, ◌++◌, ap, sym, ◌∙◌, subst, append_assoc}
 use Rattle.std.proofs.lemmas.List.{append-nil}
 use Rattle.git_pkt.specs.Packets.{Pkt, flush}
 use Rattle.git_pkt.specs.Splits.{Given}
@@ -7,7 +7,7 @@ use Rattle.git_pkt.specs.declared.fault.Kind.{Kind}
 use Rattle.git_msg.specs.declared.offers.Offer.{Offer}
 use Rattle.git_msg.specs.Asked.{Asked}
 use Rattle.git_msg.specs.Checks.{Passes}
-use Rattle.git_msg.specs.Lines.{Line, has_boundary, flush_checks, flush_checks_in, IsLine, HasFault, HasFaultIn}
+use Rattle.git_msg.specs.Lines.{Line, has_boundary, flush_checks, IsLine, HasFault}
 use Rattle.git_msg.specs.Requests.{AreLines, Asks, FirstFault}
 use Rattle.git_msg.proofs.LineLaws.{line_or_fault, one_line, one_fault, flush_or_fault_in}
 

@@ -1,5 +1,5 @@
 -- A reader of requests that keeps an argument, or does not.
-use Rattle.std.proofs.Common.{arith, ◌≡◌, ℕ, ◌+◌, ◌<◌, ◌≤◌, Bool, true, Ok, Err, List, [], ◌∷◌, ◌++◌, refl, ap, sym, ◌∙◌, subst, inl, inr}
+use Rattle.std.proofs.Common.{arith, ◌≡◌, ℕ, ◌+◌, ◌<◌, ◌≤◌, Bool, true, Ok, Err, List, [], ◌∷◌, ◌++◌, refl, ap, sym, ◌∙◌, subst, length, max, inl, inr}
 use Rattle.std.proofs.lemmas.List.{append-nil}
 use Rattle.git_pkt.specs.Packets.{Pkt, payload, text_of}
 use Rattle.git_pkt.specs.Splits.{Given}
@@ -12,7 +12,7 @@ use Rattle.git_msg.specs.declared.requests.Request.{Request}
 use Rattle.git_msg.specs.declared.reader.Part.{Part}
 use Rattle.git_msg.specs.declared.reader.Part.TheVariants.{Arguments, Waiting, Failed}
 use Rattle.git_msg.specs.declared.reader.RequestReader.{RequestReader}
-use Rattle.git_msg.specs.Arguments.{Arg, symrefs, peel, ref_prefix, IsArgument, TakesMemory}
+use Rattle.git_msg.specs.Arguments.{Arg, symrefs, peel, ref_prefix, IsArgument, written_text, TakesMemory}
 use Rattle.git_msg.specs.Asked.{asked_by, with_argument}
 use Rattle.git_msg.specs.Checks.{Passes}
 use Rattle.git_msg.specs.Holding.{command_of, format_of, kept_of, limit_of, Keeps, keep_checks, IsRefused, IsValueFault}
@@ -42,16 +42,31 @@ one_more lines arg long r q h k = record {
   limit = k.limit ∙ h.limit;
 }
 
-pub keeps_ok : {A : Type 0} (r : RequestReader A) (offset long : ℕ) (arg : Arg) (q : Request A) → r.part ≡ Waiting offset long → Keeps r.request arg long q → Passes (keep_checks r.request arg long) → KeepsOn r arg (Ok tt) (record r { part = Arguments; request = q })
+-- an argument's text is not shorter than the argument's written form
+as_written : (c : Command) (format : Format) (text : List ℕ) (arg : Arg) → IsArgument c format text arg → length (written_text arg) ≤ length text
+as_written LsRefs format text symrefs h = let e = ap length h in omega arith
+as_written LsRefs format text peel h = let e = ap length h in omega arith
+as_written LsRefs format text (ref_prefix p) h = let e = ap length h.0 in omega arith
+
+counted : {A : Type 0} (packets : List Given) (offset long : ℕ) (arg : Arg) (r : RequestReader A) → WaitsBehind packets offset long arg r → max long (length (written_text arg)) ≡ long
+counted packets offset long arg r w =
+    let less = as_written w.is_text.of r.offer.format (text_of w.bytes) arg w.is_text.reads.is_argument in
+    let same = w.long_is in
+    omega arith
+
+pub keeps_ok : {A : Type 0} (r : RequestReader A) (offset long : ℕ) (arg : Arg) (q : Request A) → r.part ≡ Waiting offset long → Keeps r.request arg (max long (length (written_text arg))) q → Passes (keep_checks r.request arg (max long (length (written_text arg)))) → KeepsOn r arg (Ok tt) (record r { part = Arguments; request = q })
 keeps_ok {A} r offset long arg q part k passes = record {
   settles = λ packets w.
       let waits : WaitsBehind packets offset long arg r = subst (λ (p : Part). WaitsIn p packets arg r) part w.waits in
-      let line = waited_line packets offset long arg r waits passes.1.0 in
+      let same = counted packets offset long arg r waits in
+      let kept : Keeps r.request arg long q = subst (λ (n : ℕ). Keeps r.request arg n q) same k in
+      let fine : Passes (keep_checks r.request arg long) = subst (λ (n : ℕ). Passes (keep_checks r.request arg n)) same passes in
+      let line = waited_line packets offset long arg r waits fine.1.0 in
       record {
         stands = record {
           lines = waits.lines ++ argument arg long ∷ [];
           taken = subst (λ (gs : List Given). AreLines r.offer r.limits.args [] gs (waits.lines ++ argument arg long ∷ [])) (sym waits.whole) (lines_snoc r.offer r.limits.args [] waits.front waits.lines waits.last (argument arg long) waits.taken line);
-          in_part = one_more waits.lines arg long r q waits.in_part k;
+          in_part = one_more waits.lines arg long r q waits.in_part kept;
         };
       };
   leaves = (refl, refl);
@@ -115,11 +130,11 @@ told packets offset long arg r kind w (inl (inr (value, inl h))) = inl (subst (�
 told packets offset long arg r kind w (inl (inr (value, inr h))) = absurd h.1
 told packets offset long arg r kind w (inr h) = inr (subst (λ (k : Kind). WantsMemory r.offer r.limits.args packets k offset) (sym h.name) (no_memory packets offset long arg r w h.passes.1.0 h.takes_memory))
 
-pub keeps_err : {A : Type 0} (r : RequestReader A) (offset long : ℕ) (arg : Arg) (q : Request A) (kind : Kind) → r.part ≡ Waiting offset long → IsRefused (keep_checks r.request arg long) arg kind → KeepsOn r arg (Err (record { kind = kind; offset = offset })) (record r { part = Failed (record { kind = kind; offset = offset }); request = q })
+pub keeps_err : {A : Type 0} (r : RequestReader A) (offset long : ℕ) (arg : Arg) (q : Request A) (kind : Kind) → r.part ≡ Waiting offset long → IsRefused (keep_checks r.request arg (max long (length (written_text arg)))) arg kind → KeepsOn r arg (Err (record { kind = kind; offset = offset })) (record r { part = Failed (record { kind = kind; offset = offset }); request = q })
 keeps_err {A} r offset long arg q kind part refused = record {
   settles = λ packets w.
       let waits : WaitsBehind packets offset long arg r = subst (λ (p : Part). WaitsIn p packets arg r) part w.waits in
-      let it : IsTold r.offer r.limits.args packets (record { kind = kind; offset = offset }) = told packets offset long arg r kind waits refused in
+      let it : IsTold r.offer r.limits.args packets (record { kind = kind; offset = offset }) = told packets offset long arg r kind waits (subst (λ (n : ℕ). IsRefused (keep_checks r.request arg n) arg kind) (counted packets offset long arg r waits) refused) in
       (record { stands = it }, it);
   leaves = (refl, refl);
   offer = refl;

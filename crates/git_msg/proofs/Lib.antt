@@ -11,3 +11,4 @@ pub mod ReferenceLaws
 pub mod WritingSteps
 pub mod RoundTrip
 pub mod FaultLaws
+pub mod KeptBytes

@@ -1,5 +1,5 @@
 -- What is written of a request is read again.
-use Rattle.std.proofs.Common.{arith, ◌≡◌, ◌≢◌, ℕ, suc, ◌+◌, ◌-◌, ◌<◌, ◌≤◌, ◌==◌, ◌&&◌, ◌||◌, Bool, true, false, Option, Some, None, List, [], ◌∷◌, ◌++◌, refl, ap, sym, ◌∙◌, subst, append_assoc, length, take, drop, slice_index, codes, length-append}
+use Rattle.std.proofs.Common.{arith, ◌≡◌, ◌≢◌, ℕ, suc, ◌+◌, ◌-◌, ◌<◌, ◌≤◌, ◌==◌, ◌&&◌, Bool, true, false, Some, List, [], ◌∷◌, ◌++◌, refl, ap, sym, ◌∙◌, subst, length, take, slice_index, codes, length-append}
 use Rattle.std.specs.Prelude.{All, map, nat_lt, if◌then◌else◌}
 use Rattle.std.specs.List.{list_any, filter_map}
 use Rattle.std.proofs.lemmas.Grind.{common_steps}
@@ -9,20 +9,20 @@ use Rattle.std.proofs.Math.Seq.{take-append_seam}
 use Rattle.git_names.specs.ObjectFormat.{name_of as format_name}
 use Rattle.git_names.specs.declared.object_format.Format.{Format}
 use Rattle.git_names.specs.declared.object_format.Format.TheVariants.{Sha1, Sha256}
-use Rattle.git_pkt.specs.Packets.{Pkt, flush, delim, payload, text_of}
+use Rattle.git_pkt.specs.Packets.{Pkt, flush, delim, text_of}
 use Rattle.git_pkt.specs.Splits.{Given}
 use Rattle.git_msg.specs.declared.offers.Offer.{Offer}
 use Rattle.git_msg.specs.declared.arguments.Command.{Command}
 use Rattle.git_msg.specs.declared.arguments.Command.TheVariants.{LsRefs}
 use Rattle.git_msg.specs.declared.capability_key.Key.TheVariants.{CommandKey, AgentKey, ObjectFormatKey}
 use Rattle.git_msg.specs.Texts.{IsErrorText}
-use Rattle.git_msg.specs.Arguments.{Arg, symrefs, peel, ref_prefix, IsArgument, IsOffered, name_of, most_text}
-use Rattle.git_msg.specs.Asked.{Asked, ls_refs, LsRefsAsked, asked_by, is_symrefs, is_peel, prefix_in}
+use Rattle.git_msg.specs.Arguments.{Arg, symrefs, peel, ref_prefix, IsArgument, IsOffered, most_text}
+use Rattle.git_msg.specs.Asked.{Asked, ls_refs, LsRefsAsked, asked_by, is_symrefs, is_peel, prefix_in, prefix_bytes, flag_bytes, written_bytes, HasShortTexts}
 use Rattle.git_msg.specs.Lines.{Line, command, agent, object_format, boundary, argument, is_none, commands_of, arguments_of, kept_in, has_format, has_boundary, long_of, flush_checks_in, IsCapabilityLine, IsArgumentLine, IsFormatMeant, IsLine, IsLineIn}
 use Rattle.git_msg.specs.Checks.{Passes}
 use Rattle.git_msg.specs.Requests.{AreLines, Asks}
-use Rattle.git_msg.specs.Writing.{text_line, where_set, prefix_lines, argument_lines, format_lines, agent_lines, lines_written, prefix_bytes, flag_bytes, written_bytes, HasShortTexts}
-use Rattle.git_msg.proofs.LineLists.{commands_snoc, arguments_snoc, format_snoc, boundary_snoc, kept_snoc, argument_is_line, capability_is_line}
+use Rattle.git_msg.specs.Writing.{text_line, where_set, prefix_lines, argument_lines, format_lines, agent_lines, lines_written}
+use Rattle.git_msg.proofs.LineLists.{commands_snoc, boundary_snoc, kept_snoc, argument_is_line, capability_is_line}
 
 chosen : (a b : Bool) (x y : List ℕ) → a ≡ true → b ≡ true → (if a && b then x else y) ≡ x
 chosen true true x y h k = refl

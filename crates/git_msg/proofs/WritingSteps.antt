@@ -1,5 +1,5 @@
 -- What is left of a request behind each packet.
-use Rattle.std.proofs.Common.{arith, ◌≡◌, ℕ, ◌+◌, ◌<◌, Bool, Option, Some, List, [], ◌∷◌, ◌++◌, refl, ap, sym, ◌∙◌, length, drop, get_or, codes}
+use Rattle.std.proofs.Common.{arith, ◌≡◌, ℕ, ◌+◌, ◌<◌, Bool, Some, List, ◌∷◌, ◌++◌, ap, ◌∙◌, length, drop, get_or, codes}
 use Rattle.std.specs.Prelude.{slice_get}
 use Rattle.std.proofs.lemmas.Grind.{common_steps}
 use Rattle.std.proofs.lemmas.Option.{slice_get_within, get_or_from_slice_get}

@@ -1,9 +1,9 @@
 -- What requests ask for: their arguments by kind.
-use Rattle.std.specs.Prelude.{ℕ, Bool, true, false, ◌||◌, Option, Some, None, option_to_list, List, [], ◌++◌}
+use Rattle.std.specs.Prelude.{ℕ, Bool, true, false, ◌||◌, Option, Some, None, option_to_list, ◌+◌, ◌≤◌, List, [], ◌∷◌, ◌++◌, All, length}
 use Rattle.std.specs.List.{list_any, filter_map}
 use Rattle.git_msg.specs.declared.arguments.Command.{Command}
 use Rattle.git_msg.specs.declared.arguments.Command.TheVariants.{LsRefs}
-use Rattle.git_msg.specs.Arguments.{Arg, symrefs, peel, ref_prefix}
+use Rattle.git_msg.specs.Arguments.{Arg, symrefs, peel, ref_prefix, most_text}
 
 abbrev pub is_symrefs : Arg → Bool
 is_symrefs symrefs = true
@@ -56,3 +56,19 @@ peel_of (ls_refs q) = q.peel
 -- the prefixes of an ls-refs request
 abbrev pub ref_prefixes_of : Asked → List (List ℕ)
 ref_prefixes_of (ls_refs q) = q.ref_prefixes
+
+-- how many bytes the texts of the argument lines have, as they are written
+abbrev pub prefix_bytes : List (List ℕ) → ℕ
+prefix_bytes [] = 0
+prefix_bytes (prefix ∷ prefixes) = 11 + length prefix + prefix_bytes prefixes
+
+abbrev pub flag_bytes : Bool → ℕ → ℕ
+flag_bytes true n = n
+flag_bytes false n = 0
+
+abbrev pub written_bytes : Asked → ℕ
+written_bytes (ls_refs q) = flag_bytes q.peel 4 + (flag_bytes q.symrefs 7 + prefix_bytes q.ref_prefixes)
+
+-- the texts are not longer than they may be
+abbrev pub HasShortTexts : Asked → Type 0
+HasShortTexts (ls_refs q) = All (λ prefix. length prefix ≤ most_text) q.ref_prefixes

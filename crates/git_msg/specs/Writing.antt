@@ -1,5 +1,5 @@
 -- What a request is written as.
-use Rattle.std.specs.Prelude.{◌≡◌, ℕ, Bool, true, false, Option, List, [], ◌∷◌, ◌++◌, ◌+◌, ◌≤◌, All, length, drop, codes}
+use Rattle.std.specs.Prelude.{◌≡◌, ℕ, Bool, true, false, List, [], ◌∷◌, ◌++◌, drop, codes}
 use Rattle.git_names.specs.ObjectFormat.{name_of as format_name}
 use Rattle.git_names.specs.declared.object_format.Format.{Format}
 use Rattle.git_pkt.specs.Packets.{Pkt, flush, delim, payload, spelling_of}
@@ -9,7 +9,7 @@ use Rattle.git_msg.specs.declared.requests.Request.{Request}
 use Rattle.git_msg.specs.declared.writer.Next.{Next}
 use Rattle.git_msg.specs.declared.writer.Next.TheVariants.{CommandLine, Agent, ObjectFormat, Delimiter, Peel, Symrefs, Prefix, Done}
 use Rattle.git_msg.specs.declared.writer.RequestWriter.{RequestWriter}
-use Rattle.git_msg.specs.Arguments.{name_of, most_text}
+use Rattle.git_msg.specs.Arguments.{name_of}
 use Rattle.git_msg.specs.Asked.{Asked, ls_refs}
 use Rattle.git_msg.specs.Holding.{asked_of, command_of, format_of}
 
@@ -71,22 +71,6 @@ module _ {A : Type 0} where
   -- the packets that are not written yet
   abbrev pub left_to_write : RequestWriter → Request A → List Pkt
   left_to_write w request = left_at w.next w request
-
--- how many bytes the texts of the argument lines have, as they are written
-abbrev pub prefix_bytes : List (List ℕ) → ℕ
-prefix_bytes [] = 0
-prefix_bytes (prefix ∷ prefixes) = 11 + length prefix + prefix_bytes prefixes
-
-abbrev pub flag_bytes : Bool → ℕ → ℕ
-flag_bytes true n = n
-flag_bytes false n = 0
-
-abbrev pub written_bytes : Asked → ℕ
-written_bytes (ls_refs q) = flag_bytes q.peel 4 + (flag_bytes q.symrefs 7 + prefix_bytes q.ref_prefixes)
-
--- the texts are not longer than they may be
-abbrev pub HasShortTexts : Asked → Type 0
-HasShortTexts (ls_refs q) = All (λ prefix. length prefix ≤ most_text) q.ref_prefixes
 
 -- the hold is the first packet that was left, and the others are left
 pub record PutsFirst (before after : List Pkt) (held : List ℕ) : Type 0 where

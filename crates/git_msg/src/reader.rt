@@ -2,7 +2,7 @@
 use crate::arguments::{Argument, Command};
 use crate::judge::{Noted, judge_capability, read_text};
 use crate::offers::Offer;
-use crate::requests::{Limits, Request};
+use crate::requests::{Limits, Request, written_length};
 use git_names::Format;
 use git_pkt::{Fault, Kind, Packet, text};
 use std::alloc::Allocator;
@@ -102,6 +102,8 @@ impl<A: Allocator + Copy> RequestReader<A> {
         let Part::Waiting(offset, long) = self.part else {
             unreachable!()
         };
+        // A line never has fewer bytes than the argument's written form.
+        let long = long.max(written_length(&argument));
         match self.request.keep(argument, long) {
             Ok(()) => {
                 self.part = Part::Arguments;

@@ -83,6 +83,7 @@ pub struct LsRefs<A: Allocator + Copy> {
 
 impl<A: Allocator + Copy> Model for LsRefs<A> {
     ghost use Rattle.std.specs.Prelude.{◌≤◌, All, length};
+    ghost use Rattle.git_msg.specs.Asked.{ls_refs, written_bytes};
     ghost use Rattle.git_msg.specs.LsRefs.{LsRefsKept};
 
     ghost Value = { LsRefsKept };
@@ -94,7 +95,8 @@ impl<A: Allocator + Copy> Model for LsRefs<A> {
       limit = q.limit;
     } };
 
-    ghost invariant = { λ q. (q.kept ≤ q.limit) × (q.limit ≤ 1073741824) × All (λ text. length text ≤ 32000) q.ref_prefixes };
+    ghost invariant = { λ q. (q.kept ≤ q.limit) × (q.limit ≤ 1073741824) × All (λ text. length text ≤ 32000) q.ref_prefixes
+        × (written_bytes (ls_refs (record { symrefs = q.symrefs; peel = q.peel; ref_prefixes = q.ref_prefixes })) ≤ q.kept) };
 }
 
 /// A request of gitprotocol-v2(5), as it is kept: its arguments by their kinds.
@@ -145,7 +147,8 @@ impl<A: Allocator + Copy> LsRefs<A> {
 
     // Keeps an argument whose line has a text of `long` bytes.
     fn keep(&mut self, argument: Argument<'_>, long: usize) -> Result<(), Kind>
-        requires { IsShort (shown argument) }
+        requires short { IsShort (shown argument) }
+        requires counted { length (written_text (shown argument)) ≤ long }
         ensures kept { OnOk result (KeepsArgument self.old (shown argument.entry) long self.new) }
         ensures unchanged { OnErr result (self.new ≡ self.old) }
         ensures refused { IfErr result (IsUnkept self.old (shown argument.entry) long) }
@@ -169,7 +172,7 @@ impl<A: Allocator + Copy> LsRefs<A> {
 
 impl<A: Allocator + Copy> Request<A> {
     ghost use Rattle.git_msg.specs.Arguments.{most_text};
-    ghost use Rattle.git_msg.specs.Asked.{nothing_asked, symrefs_of, peel_of, ref_prefixes_of};
+    ghost use Rattle.git_msg.specs.Asked.{nothing_asked, symrefs_of, peel_of, ref_prefixes_of, written_bytes, HasShortTexts};
     ghost use Rattle.git_msg.specs.Checks.{Passes};
     ghost use Rattle.git_msg.specs.Holding.{IsEmpty, asked_of, command_of, format_of, kept_of, limit_of, Keeps, add_checks, keep_checks, IsRefused, IsValue, IsValueFault};
 
@@ -219,6 +222,10 @@ impl<A: Allocator + Copy> Request<A> {
     pub fn kept(&self) -> u32
         ensures value { result ≡ kept_of self.now }
         ensures within { kept_of self.now ≤ limit_of self.now }
+
+        // The lines as they are written have no more, and their texts are not too long.
+        ensures written { written_bytes (asked_of self.now) ≤ kept_of self.now }
+        ensures short { HasShortTexts (asked_of self.now) }
     {
         match self {
             Request::LsRefs(request) => request.kept,
@@ -264,6 +271,7 @@ impl<A: Allocator + Copy> Request<A> {
 
     // Keeps an argument whose line has a text of `long` bytes.
     pub(crate) fn keep(&mut self, argument: Argument<'_>, long: usize) -> Result<(), Kind>
+        requires { length (written_text (shown argument)) ≤ long }
         ensures kept { OnOk result (Keeps self.old (shown argument.entry) long self.new) }
         ensures passes { OnOk result (Passes (keep_checks self.old (shown argument.entry) long)) }
         ensures unchanged { OnErr result (self.new ≡ self.old) }
@@ -290,7 +298,7 @@ impl<A: Allocator + Copy> Request<A> {
 }
 
 // How many bytes the argument's text has, as it is written.
-fn written_length(argument: &Argument<'_>) -> usize
+pub(crate) fn written_length(argument: &Argument<'_>) -> usize
     requires { length (written_text (shown argument.now)) < 2 ^ 64 }
     ensures { result ≡ length (written_text (shown argument.now)) }
 {

@@ -1,4 +1,4 @@
-use Rattle.std.proofs.Common.{rules, ◌≡◌, ◌++◌, ◌∙◌, sym, ap, Some, codes}
+use Rattle.std.proofs.Common.{◌++◌, ◌∙◌, sym, ap, codes}
 use Rattle.std.specs.Option.{option_copied}
 use Rattle.git_msg.specs.Holding.{asked_of}
 use Rattle.git_msg.specs.Writing.{text_line}
