@@ -1,5 +1,5 @@
 //! Requests as they are kept.
-ghost use Rattle.std.specs.Prelude.{◌≡◌, ◌+◌, ◌^◌, ◌≤◌, ◌<◌, [], ◌∷◌, ◌++◌, length, OnOk, OnErr, IfErr, IfSome, slice_get};
+ghost use Rattle.std.specs.Prelude.{◌≡◌, ◌+◌, ◌^◌, ◌≤◌, ◌<◌, [], ◌∷◌, ◌++◌, length, OnOk, OnSome, OnErr, IfErr, IfSome, slice_get};
 ghost use Rattle.std.specs.Option.{option_copied};
 ghost use Rattle.git_msg.specs.Arguments.{shown, written_text};
 
@@ -52,7 +52,8 @@ impl<A: Allocator + Copy> Texts<A> {
     }
 
     fn get(&self, i: usize) -> Option<&[u8]>
-        ensures { option_copied result ≡ slice_get self.now i }
+        ensures value { option_copied result ≡ slice_get self.now i }
+        ensures bound { OnSome result (i + 1 < 2 ^ 64) }
     {
         match self.items.get(i) {
             Some(text) => Some(text.as_slice()),
@@ -127,6 +128,7 @@ impl<A: Allocator + Copy> LsRefs<A> {
     /// The prefix at place `i`, in the order of their lines.
     pub fn ref_prefix(&self, i: usize) -> Option<&[u8]>
         ensures value { option_copied result ≡ slice_get self.now.asked.ref_prefixes i }
+        ensures bound { OnSome result (i + 1 < 2 ^ 64) }
         ensures fits { IfSome result (λ prefix. length prefix.now ≤ most_text) }
     {
         self.ref_prefixes.get(i)
@@ -253,6 +255,7 @@ impl<A: Allocator + Copy> Request<A> {
     /// The text of the `ref-prefix` line at place `i` of `ls-refs`.
     pub fn ref_prefix(&self, i: usize) -> Option<&[u8]>
         ensures value { option_copied result ≡ slice_get (ref_prefixes_of (asked_of self.now)) i }
+        ensures bound { OnSome result (i + 1 < 2 ^ 64) }
         ensures fits { IfSome result (λ prefix. length prefix.now ≤ most_text) }
     {
         match self {

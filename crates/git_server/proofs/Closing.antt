@@ -1,0 +1,111 @@
+-- A server whose input ends.
+use Rattle.std.proofs.Common.{◌≡◌, ◌≢◌, ◌⊎◌, ℕ, ◌+◌, ◌<◌, Bool, true, false, List, [], ◌∷◌, length, Option, Some, None, refl, sym, ap, ◌∙◌, append-nil, subst, inl, inr, arith}
+use Rattle.git_pkt.specs.Splits.{Given}
+use Rattle.git_pkt.specs.Reading.{is_open, rest_of, fault_of, position_of}
+use Rattle.git_pkt.specs.declared.fault.Fault.{Fault}
+use Rattle.git_pkt.specs.declared.fault.Kind.TheVariants.{Truncated}
+use Rattle.git_pkt.proofs.ReaderMoves.{rest_of_shut}
+use Rattle.git_msg.specs.Taking.{offer_of, limit_in, is_waiting, fault_of as requests_fault}
+use Rattle.git_server.specs.Repository.{Repository}
+use Rattle.git_server.specs.Answers.{tail_of, spelled}
+use Rattle.git_server.specs.Sessions.{Setting, EndsBy}
+use Rattle.git_server.specs.Phases.{LeftIn, outcome_in, owed_in, refused_by}
+use Rattle.git_server.specs.Serving.{Running, Serves, StandsBy, outcome_of, wants_input}
+use Rattle.git_server.specs.Moves.{Closes, Keeps}
+use Rattle.git_server.specs.declared.outcome.Outcome.{Outcome}
+use Rattle.git_server.specs.declared.outcome.Outcome.TheVariants.{Closed, Refused}
+use Rattle.git_server.specs.declared.server.Phase.{Phase}
+use Rattle.git_server.specs.declared.server.Phase.TheVariants.{Between, Within, Ended}
+use Rattle.git_server.specs.declared.server.Server.{Server}
+use Rattle.git_server.proofs.Readers.{open_rest, sound_rest}
+use Rattle.git_server.proofs.Sent.{all_sent}
+use Rattle.git_server.proofs.WholeRequests.{begins}
+use Rattle.git_server.proofs.Going.{all_sent_of, refused_outcome_by, refused_owes_by, serves_of}
+
+none_is_left : {A : Type 0} (phase : Phase A) (left : List Given) → phase ≡ Between → LeftIn phase left → left ≡ []
+none_is_left {A = A} phase left is h = subst (λ (p : Phase A). LeftIn p left) is h
+
+some_is_left : {A : Type 0} (phase : Phase A) (left : List Given) → phase ≡ Within → LeftIn phase left → left ≢ []
+some_is_left {A = A} phase left is h = subst (λ (p : Phase A). LeftIn p left) is h
+
+not_nil : (l : List ℕ) → 0 < length l → l ≢ []
+not_nil [] some e = absurd (omega arith)
+not_nil (x ∷ xs) some e = cc
+
+module _ {R A : Type 0} (answers : R → Repository) (old new : Server R A) where
+  ends_here : (s : Setting) (so_far : List ℕ) (over : Bool) (before : List ℕ) (outcome : Outcome) → wants_input old ≡ true → Keeps old new
+      → (r : Running answers s so_far over before old) → (h : Serves s so_far before old) → EndsBy s true h.left h.rest (length so_far) outcome
+      → outcome_of new ≡ Some outcome → tail_of outcome ≡ owed_in new.offer s.repo.refs new.phase → Running answers s so_far true before new
+  ends_here s so_far over before outcome wants keeps r h ends outcome_is tail =
+      let all = all_sent s h.asked h.sent (all_sent_of answers old new [] s so_far before wants h) in
+      record {
+        offer = keeps.offer ∙ r.offer;
+        reads_for = ap offer_of keeps.requests ∙ r.reads_for;
+        limit = ap limit_in keeps.requests ∙ r.limit;
+        repo = ap answers keeps.repo ∙ r.repo;
+        stands = subst (λ (o : Option Outcome). StandsBy o s so_far true before new) (sym outcome_is) (record {
+          asked = h.asked;
+          left = h.left;
+          rest = h.rest;
+          answers = all.answers;
+          sent = [];
+          stream = record { packets = h.packets; splits = h.reads.splits; cuts = h.cuts };
+          ends = ends;
+          answered = all.answered;
+          parts = tail;
+          given_is = h.given_is ∙ ap spelled (all.sent_is ∙ sym (append-nil _));
+        });
+      }
+
+  -- between two requests
+  pub closes_between : wants_input old ≡ true → Keeps old new → old.phase ≡ Between → new.phase ≡ Ended Closed → fault_of old.reader ≡ None → is_open old.reader ≡ false → Closes answers old new
+  closes_between wants keeps was is sound shut s so_far over before r =
+      let h = serves_of answers old new [] s so_far over before wants r in
+      let known = sound_rest old.reader 0 so_far h.packets h.rest sound h.reads in (
+        ends_here s so_far over before Closed wants keeps r h
+            (refl, none_is_left old.phase h.left was h.left_is, sym known.0 ∙ rest_of_shut old.reader shut) (ap outcome_in is) (sym (ap (owed_in new.offer s.repo.refs) is)),
+        inl (ap outcome_in is),
+      )
+
+  cut_short : (s : Setting) (so_far : List ℕ) (over : Bool) (before : List ℕ) (fault : Fault) → wants_input old ≡ true → Keeps old new
+      → (r : Running answers s so_far over before old) → (h : Serves s so_far before old) → requests_fault old.requests ≡ None → is_waiting old.requests ≡ false → fault_of old.reader ≡ None
+      → (h.left ≢ []) ⊎ (h.rest ≢ []) → fault.kind ≡ Truncated → fault.offset + length h.rest ≡ length so_far → new.phase ≡ refused_by fault.kind fault
+      → Running answers s so_far true before new
+  cut_short s so_far over before fault wants keeps r h requests_sound ready sound inside name at is =
+      let known = sound_rest old.reader 0 so_far h.packets h.rest sound h.reads in
+      ends_here s so_far over before (Refused fault) wants keeps r h
+      (inr (inr (record {
+        ended = refl;
+        begins = begins s h.left old.requests r.reads_for r.limit requests_sound ready h.takes;
+        unrefused = known.1;
+        inside = inside;
+        name = name;
+        at = at;
+      })))
+      (ap outcome_in is ∙ refused_outcome_by A fault.kind fault)
+      (refused_owes_by A new.offer s.repo.refs fault.kind fault refl ∙ sym (ap (owed_in new.offer s.repo.refs) is))
+
+  -- inside a request, between two packets
+  pub closes_within : (fault : Fault) → wants_input old ≡ true → Keeps old new → old.phase ≡ Within → new.phase ≡ refused_by fault.kind fault → requests_fault old.requests ≡ None → is_waiting old.requests ≡ false
+      → fault_of old.reader ≡ None → is_open old.reader ≡ false → fault.kind ≡ Truncated → fault.offset ≡ position_of old.reader → Closes answers old new
+  closes_within fault wants keeps was is requests_sound ready sound shut name at s so_far over before r =
+      let h = serves_of answers old new [] s so_far over before wants r in
+      let known = sound_rest old.reader 0 so_far h.packets h.rest sound h.reads in
+      let empty : h.rest ≡ [] = sym known.0 ∙ rest_of_shut old.reader shut in
+      let place : fault.offset + length h.rest ≡ length so_far = omega (arith, ap length empty, h.reads.position, at) in (
+        cut_short s so_far over before fault wants keeps r h requests_sound ready sound (inl (some_is_left old.phase h.left was h.left_is)) name place is,
+        inr (fault, ap outcome_in is ∙ refused_outcome_by A fault.kind fault, name),
+      )
+
+  -- inside a packet
+  pub closes_open : (fault : Fault) → wants_input old ≡ true → Keeps old new → new.phase ≡ refused_by fault.kind fault → requests_fault old.requests ≡ None → is_waiting old.requests ≡ false
+      → (fault_of old.reader ≡ None → (is_open old.reader ≡ true) × (fault.kind ≡ Truncated) × (fault.offset + length (rest_of old.reader) ≡ position_of old.reader)) → Closes answers old new
+  closes_open fault wants keeps is requests_sound ready truncated s so_far over before r =
+      let h = serves_of answers old new [] s so_far over before wants r in
+      let known = sound_rest old.reader 0 so_far h.packets h.rest h.no_fault h.reads in
+      let (begun, name, at) = truncated h.no_fault in
+      let some : 0 < length h.rest = subst (λ (l : List ℕ). 0 < length l) known.0 (open_rest old.reader begun) in
+      let place : fault.offset + length h.rest ≡ length so_far = omega (arith, ap length known.0, h.reads.position, at) in (
+        cut_short s so_far over before fault wants keeps r h requests_sound ready h.no_fault (inr (not_nil h.rest some)) name place is,
+        inr (fault, ap outcome_in is ∙ refused_outcome_by A fault.kind fault, name),
+      )

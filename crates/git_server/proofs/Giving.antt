@@ -1,0 +1,78 @@
+-- A server that gives a packet.
+use Rattle.std.proofs.Common.{◌≡◌, ℕ, Bool, List, [], ◌∷◌, ◌++◌, Option, Some, None, sym, ap, ◌∙◌, append_assoc, append-nil, subst}
+use Rattle.git_pkt.specs.Packets.{Pkt}
+use Rattle.git_pkt.specs.Splits.{Given}
+use Rattle.git_pkt.specs.Reading.{held_of}
+use Rattle.git_server.specs.Repository.{Repository}
+use Rattle.git_server.specs.Answers.{spelled}
+use Rattle.git_server.specs.Sessions.{Setting, IsSent, advertised}
+use Rattle.git_server.specs.Phases.{LeftIn, owed_in}
+use Rattle.git_server.specs.Writing.{Writes}
+use Rattle.git_server.specs.Serving.{StandsBy, outcome_of}
+use Rattle.git_server.specs.Moves.{Gives, Keeps, owed_by}
+use Rattle.git_msg.specs.Taking.{Takes, offer_of, limit_in}
+use Rattle.git_server.specs.declared.outcome.Outcome.{Outcome}
+use Rattle.git_server.specs.declared.server.Server.{Server}
+use Rattle.git_server.proofs.Sent.{sent_one, spelled_one}
+
+module _ {R A : Type 0} (answers : R → Repository) (old new : Server R A) (packet : Pkt) (writes : Writes old.reader packet new.reader) (keeps : Keeps old new)
+    (owed : owed_by answers old ≡ packet ∷ owed_by answers new) (same : outcome_of new ≡ outcome_of old)
+    (left_stays : (left : List Given) → LeftIn old.phase left → LeftIn new.phase left) where
+  -- what is owed, as the session's repository has it
+  owed_here : (s : Setting) → answers old.repo ≡ s.repo → owed_in old.offer s.repo.refs old.phase ≡ packet ∷ owed_in new.offer s.repo.refs new.phase
+  owed_here s repo =
+      let repo_now : answers new.repo ≡ s.repo = ap answers keeps.repo ∙ repo in
+      subst (λ (r : Repository). owed_in old.offer r.refs old.phase ≡ packet ∷ owed_in new.offer s.repo.refs new.phase) repo
+      (subst (λ (r : Repository). owed_by answers old ≡ packet ∷ owed_in new.offer r.refs new.phase) repo_now owed)
+
+  given_on : (before : List ℕ) (sent : List Pkt) → before ≡ spelled sent → before ++ held_of new.reader ≡ spelled (sent ++ packet ∷ [])
+  given_on before sent is = ap (λ (l : List ℕ). l ++ held_of new.reader) is ∙ ap (λ (l : List ℕ). spelled sent ++ l) writes.held ∙ sym (spelled_one sent packet)
+
+  gives_in : (o : Option Outcome) (s : Setting) (used : List ℕ) (over : Bool) (before : List ℕ) → answers old.repo ≡ s.repo → StandsBy o s used over before old → StandsBy o s used over (before ++ held_of new.reader) new
+  gives_in None s used over before repo h =
+      record {
+        asked = h.asked;
+        packets = h.packets;
+        left = h.left;
+        rest = h.rest;
+        sent = h.sent ++ packet ∷ [];
+        reads = writes.reads 0 used h.packets h.rest h.reads;
+        no_fault = writes.fault ∙ h.no_fault;
+        cuts = h.cuts;
+        takes = subst (Takes h.left) (sym keeps.requests) h.takes;
+        left_is = left_stays h.left h.left_is;
+        is_sent = sent_one s h.asked h.sent (owed_in new.offer s.repo.refs new.phase) packet (subst (λ (l : List Pkt). IsSent s h.asked h.sent l) (owed_here s repo) h.is_sent);
+        given_is = given_on before h.sent h.given_is;
+      }
+  gives_in (Some outcome) s used over before repo h =
+      record {
+        asked = h.asked;
+        left = h.left;
+        rest = h.rest;
+        answers = h.answers;
+        sent = h.sent ++ packet ∷ [];
+        stream = h.stream;
+        ends = h.ends;
+        answered = h.answered;
+        parts = h.parts ∙ ap (λ (l : List Pkt). h.sent ++ l) (owed_here s repo) ∙ sym (append_assoc h.sent (packet ∷ []) (owed_in new.offer s.repo.refs new.phase));
+        given_is = given_on before (advertised s ++ h.answers ++ h.sent) h.given_is ∙ ap spelled (append_assoc (advertised s ++ h.answers) h.sent (packet ∷ []));
+      }
+
+  pub gives : Gives answers old new
+  gives =
+      record {
+        packet = packet;
+        owed = owed;
+        held = writes.held;
+        outcome = same;
+        goes = λ s so_far over before r.
+            let stands = gives_in (outcome_of old) s so_far over before r.repo r.stands in
+            record {
+              offer = keeps.offer ∙ r.offer;
+              reads_for = ap offer_of keeps.requests ∙ r.reads_for;
+              limit = ap limit_in keeps.requests ∙ r.limit;
+              repo = ap answers keeps.repo ∙ r.repo;
+              stands = subst (λ (o : Option Outcome). StandsBy o s (so_far ++ []) over (before ++ held_of new.reader) new) (sym same)
+                  (subst (λ (l : List ℕ). StandsBy (outcome_of old) s l over (before ++ held_of new.reader) new) (sym (append-nil so_far)) stands);
+            };
+      }

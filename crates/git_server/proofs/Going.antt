@@ -1,0 +1,242 @@
+-- A server that takes bytes goes on in its session, or ends it.
+use Rattle.std.proofs.Common.{◌≡◌, ◌≢◌, ℕ, Bool, true, false, List, [], ◌∷◌, ◌++◌, length, Option, Some, None, refl, sym, ap, ◌∙◌, append_assoc, append-nil, subst, inl, inr}
+use Rattle.git_pkt.specs.Packets.{Pkt}
+use Rattle.git_pkt.specs.Splits.{Given}
+use Rattle.git_pkt.specs.Reading.{Reads, is_open, fault_of}
+use Rattle.git_pkt.specs.declared.fault.Fault.{Fault}
+use Rattle.git_pkt.specs.declared.fault.Kind.{Kind}
+use Rattle.git_pkt.specs.declared.fault.Kind.TheVariants.{RemoteError, Truncated}
+use Rattle.git_msg.specs.Asked.{Asked, ls_refs}
+use Rattle.git_msg.specs.Holding.{asked_of, kept_of}
+use Rattle.git_msg.specs.Requests.{Asks}
+use Rattle.git_msg.specs.Taking.{Takes, IsTold, offer_of, limit_in, is_waiting, fault_of as requests_fault}
+use Rattle.git_msg.specs.declared.offers.Offer.{Offer}
+use Rattle.git_server.specs.Repository.{Entry, Repository}
+use Rattle.git_server.specs.Answers.{IsAnswer, tail_of, spelled}
+use Rattle.git_server.specs.Sessions.{Begins, Setting, Cuts, IsSent, IsEnding, IsRefused, EndsBy}
+use Rattle.git_server.specs.Phases.{LeftIn, answer_from, outcome_in, owed_in, reads_in, phase_after, refused_by}
+use Rattle.git_server.specs.Taking.{Brings, IsBrought}
+use Rattle.git_server.specs.Serving.{Running, Serves, StandsBy, outcome_of, wants_input}
+use Rattle.git_server.specs.Moves.{Goes, ReadsFor}
+use Rattle.git_server.specs.declared.outcome.Outcome.{Outcome}
+use Rattle.git_server.specs.declared.outcome.Outcome.TheVariants.{Flush, Refused}
+use Rattle.git_server.specs.declared.requests.Brought.{Brought}
+use Rattle.git_server.specs.declared.requests.Brought.TheVariants.{Part, Whole, Stop, Refused as RefusedPacket}
+use Rattle.git_server.specs.declared.server.Phase.{Phase}
+use Rattle.git_server.specs.declared.server.Phase.TheVariants.{Greeting, Between, Within, Answering, Refusing, Ended}
+use Rattle.git_server.specs.declared.server.Server.{Server}
+use Rattle.git_pkt.proofs.ReaderMoves.{rest_of_shut}
+use Rattle.git_server.proofs.Readers.{sound_rest, stopped_by}
+use Rattle.git_server.proofs.Sent.{all_sent, one_more_asked}
+use Rattle.git_server.proofs.WholeRequests.{begins, cuts_more, cuts_whole}
+
+-- an answer from the first reference on is the answer
+whole_answer : (repo : Repository) (q : Asked) → IsAnswer repo q (answer_from q repo.refs 0)
+whole_answer repo (ls_refs q) = refl
+
+pub refused_outcome_by : (A : Type 0) (kind : Kind) (fault : Fault) → outcome_in {A = A} (refused_by kind fault) ≡ Some (Refused fault)
+refused_outcome_by A RemoteError fault = refl
+refused_outcome_by A _ fault = refl
+
+pub refused_owes_by : (A : Type 0) (offer : Offer) (refs : List Entry) (kind : Kind) (fault : Fault) → fault.kind ≡ kind → tail_of (Refused fault) ≡ owed_in {A = A} offer refs (refused_by kind fault)
+refused_owes_by A offer refs RemoteError fault is = rw is refl
+refused_owes_by A offer refs kind fault is = rw is refl
+
+module _ {A : Type 0} where
+  -- a server that waits for bytes has no outcome, and owes nothing
+  pub no_outcome : (phase : Phase A) → reads_in phase ≡ true → outcome_in phase ≡ None
+  no_outcome Between h = refl
+  no_outcome Within h = refl
+  no_outcome (Greeting line) h = absurd (cc)
+  no_outcome (Answering request next) h = absurd (cc)
+  no_outcome (Refusing fault) h = absurd (cc)
+  no_outcome (Ended outcome) h = absurd (cc)
+
+  pub nothing_owed : (offer : Offer) (refs : List Entry) (phase : Phase A) → reads_in phase ≡ true → owed_in offer refs phase ≡ []
+  nothing_owed offer refs Between h = refl
+  nothing_owed offer refs Within h = refl
+  nothing_owed offer refs (Greeting line) h = absurd (cc)
+  nothing_owed offer refs (Answering request next) h = absurd (cc)
+  nothing_owed offer refs (Refusing fault) h = absurd (cc)
+  nothing_owed offer refs (Ended outcome) h = absurd (cc)
+
+one_more : {X : Type 0} (xs : List X) (x : X) → xs ++ x ∷ [] ≢ []
+one_more [] x e = cc
+one_more (y ∷ ys) x e = cc
+
+module _ {R A : Type 0} (answers : R → Repository) (old new : Server R A) (u : List ℕ) where
+  -- what a server that waits for bytes stands for
+  pub serves_of : (s : Setting) (so_far : List ℕ) (over : Bool) (before : List ℕ) → wants_input old ≡ true → Running answers s so_far over before old → Serves s so_far before old
+  serves_of s so_far over before wants r =
+      subst (λ (o : Option Outcome). StandsBy o s so_far over before old) (no_outcome old.phase wants) r.stands
+
+  pub all_sent_of : (s : Setting) (so_far before : List ℕ) → wants_input old ≡ true → (h : Serves s so_far before old) → IsSent s h.asked h.sent []
+  all_sent_of s so_far before wants h =
+      subst (λ (owed : List Pkt). IsSent s h.asked h.sent owed) (nothing_owed old.offer s.repo.refs old.phase wants) h.is_sent
+
+  -- no packet came of the bytes
+  pub goes_open : wants_input old ≡ true → ReadsFor old u [] new → new.requests ≡ old.requests → new.phase ≡ old.phase → fault_of new.reader ≡ None → Goes answers u [] old new
+  goes_open wants reads same_requests same_phase sound s so_far over before r =
+      let h = serves_of s so_far over before wants r in
+      let (rest, stream) = reads.reads 0 so_far h.packets h.rest h.reads in
+      record {
+        offer = reads.offer ∙ r.offer;
+        reads_for = ap offer_of same_requests ∙ r.reads_for;
+        limit = ap limit_in same_requests ∙ r.limit;
+        repo = ap answers reads.repo ∙ r.repo;
+        stands = subst (λ (o : Option Outcome). StandsBy o s (so_far ++ u) over (before ++ []) new) (sym (ap outcome_in same_phase ∙ no_outcome old.phase wants)) (record {
+          asked = h.asked;
+          packets = h.packets;
+          left = h.left;
+          rest = rest;
+          sent = h.sent;
+          reads = subst (λ (l : List Given). Reads new.reader 0 (so_far ++ u) l rest) (append-nil h.packets) stream;
+          no_fault = sound;
+          cuts = h.cuts;
+          takes = subst (Takes h.left) (sym same_requests) h.takes;
+          left_is = subst (λ (p : Phase A). LeftIn p h.left) (sym same_phase) h.left_is;
+          is_sent = subst (λ (owed : List Pkt). IsSent s h.asked h.sent owed)
+              (sym (nothing_owed new.offer s.repo.refs new.phase (ap reads_in same_phase ∙ wants))) (all_sent_of s so_far before wants h);
+          given_is = append-nil before ∙ h.given_is;
+        });
+      }
+
+  -- with this packet the session ends, and nothing of its end was given yet
+  ended_at : (s : Setting) (so_far : List ℕ) (over : Bool) (before : List ℕ) (left : List Given) (packets : List Given) (rest : List ℕ) (outcome : Outcome)
+      → wants_input old ≡ true → (h : Serves s so_far before old) → Reads new.reader 0 (so_far ++ u) packets rest → Cuts s packets h.asked left
+      → EndsBy s over left rest (length (so_far ++ u)) outcome → (owed : List Pkt) → tail_of outcome ≡ owed → IsEnding s (so_far ++ u) over (before ++ []) outcome owed
+  ended_at s so_far over before left packets rest outcome wants h stream cuts ends owed tail =
+      let all = all_sent s h.asked h.sent (all_sent_of s so_far before wants h) in
+      record {
+        asked = h.asked;
+        left = left;
+        rest = rest;
+        answers = all.answers;
+        sent = [];
+        stream = record { packets = packets; splits = stream.splits; cuts = cuts };
+        ends = ends;
+        answered = all.answered;
+        parts = tail;
+        given_is = append-nil before ∙ h.given_is ∙ ap spelled (all.sent_is ∙ sym (append-nil _));
+      }
+
+  -- behind a whole packet there is no rest
+  no_rest : (bytes : List ℕ) (packets : List Given) (rest : List ℕ) → fault_of new.reader ≡ None → is_open new.reader ≡ false → Reads new.reader 0 bytes packets rest → rest ≡ []
+  no_rest bytes packets rest sound shut stream =
+      let known = sound_rest new.reader 0 bytes packets rest sound stream in
+      sym known.0 ∙ rest_of_shut new.reader shut
+
+  -- where the session goes on behind a packet
+  packet_serves : (s : Setting) (so_far : List ℕ) (before : List ℕ) (asked : List Asked) (packets left : List Given) (rest : List ℕ) (sent owed : List Pkt) (phase : Phase A)
+      → Reads new.reader 0 (so_far ++ u) packets rest → fault_of new.reader ≡ None → Cuts s packets asked left → Takes left new.requests → new.phase ≡ phase
+      → LeftIn phase left → owed_in new.offer s.repo.refs phase ≡ owed → IsSent s asked sent owed → before ≡ spelled sent → Serves s (so_far ++ u) (before ++ []) new
+  packet_serves s so_far before asked packets left rest sent owed phase stream sound cuts takes phase_is left_is owed_is is_sent given =
+      record {
+        asked = asked;
+        packets = packets;
+        left = left;
+        rest = rest;
+        sent = sent;
+        reads = stream;
+        no_fault = sound;
+        cuts = cuts;
+        takes = takes;
+        left_is = subst (λ (p : Phase A). LeftIn p left) (sym phase_is) left_is;
+        is_sent = subst (λ (l : List Pkt). IsSent s asked sent l) (sym (ap (owed_in new.offer s.repo.refs) phase_is ∙ owed_is)) is_sent;
+        given_is = append-nil before ∙ given;
+      }
+
+  -- how a server stands behind a packet, by what the packet brought
+  packet_stands : (s : Setting) (so_far : List ℕ) (over : Bool) (before : List ℕ) (g : Given) (brought : Brought A)
+      → wants_input old ≡ true → (h : Serves s so_far before old) → (rest : List ℕ) → Reads new.reader 0 (so_far ++ u) (h.packets ++ g ∷ []) rest
+      → fault_of new.reader ≡ None → is_open new.reader ≡ false → offer_of new.requests ≡ s.offer → limit_in new.requests ≡ s.limit → Begins s h.left
+      → IsBrought (h.left ++ g ∷ []) brought new.requests → new.phase ≡ phase_after brought
+      → StandsBy (outcome_in (phase_after brought)) s (so_far ++ u) over (before ++ []) new
+  packet_stands s so_far over before g Part wants h rest stream sound shut offer limit begun takes phase_is =
+      packet_serves s so_far before h.asked (h.packets ++ g ∷ []) (h.left ++ g ∷ []) rest h.sent [] Within stream sound
+      (cuts_more s h.packets (g ∷ []) h.asked h.left h.cuts) takes phase_is (one_more h.left g) refl (all_sent_of s so_far before wants h) h.given_is
+  packet_stands s so_far over before g (Whole request) wants h rest stream sound shut offer limit begun (takes, asks) phase_is =
+      let cuts = cuts_more s h.packets (g ∷ []) h.asked h.left h.cuts in
+      let asks_here : Asks s.offer s.limit (h.left ++ g ∷ []) (asked_of request) (kept_of request) =
+      subst (λ (n : ℕ). Asks s.offer n (h.left ++ g ∷ []) (asked_of request) (kept_of request)) limit
+      (subst (λ (o : Offer). Asks o (limit_in new.requests) (h.left ++ g ∷ []) (asked_of request) (kept_of request)) offer asks) in
+      packet_serves s so_far before (h.asked ++ asked_of request ∷ []) (h.packets ++ g ∷ []) [] rest h.sent (answer_from (asked_of request) s.repo.refs 0) (Answering request 0) stream sound
+      (cuts_whole s (h.packets ++ g ∷ []) h.asked (h.left ++ g ∷ []) (asked_of request) (kept_of request) cuts asks_here) takes phase_is refl refl
+      (one_more_asked s h.asked h.sent (answer_from (asked_of request) s.repo.refs 0) (asked_of request) (all_sent_of s so_far before wants h) (whole_answer s.repo (asked_of request))) h.given_is
+  packet_stands s so_far over before g Stop wants h rest stream sound shut offer limit begun stop phase_is =
+      ended_at s so_far over before (h.left ++ g ∷ []) (h.packets ++ g ∷ []) rest Flush wants h stream (cuts_more s h.packets (g ∷ []) h.asked h.left h.cuts)
+      (stop, no_rest _ _ rest sound shut stream) (owed_in new.offer s.repo.refs new.phase) (sym (ap (owed_in new.offer s.repo.refs) phase_is))
+  packet_stands s so_far over before g (RefusedPacket fault) wants h rest stream sound shut offer limit begun told phase_is =
+      let told_here : IsTold s.offer s.limit (h.left ++ g ∷ []) fault =
+      subst (λ (n : ℕ). IsTold s.offer n (h.left ++ g ∷ []) fault) limit (subst (λ (o : Offer). IsTold o (limit_in new.requests) (h.left ++ g ∷ []) fault) offer told) in
+      subst (λ (o : Option Outcome). StandsBy o s (so_far ++ u) over (before ++ []) new) (sym (refused_outcome_by A fault.kind fault))
+      (ended_at s so_far over before (h.left ++ g ∷ []) (h.packets ++ g ∷ []) rest (Refused fault) wants h stream (cuts_more s h.packets (g ∷ []) h.asked h.left h.cuts)
+      (inl (record { front = h.left; last = g; whole = refl; begins = begun; told = told_here; no_rest = no_rest _ _ rest sound shut stream })) (owed_in new.offer s.repo.refs new.phase)
+      (refused_owes_by A new.offer s.repo.refs fault.kind fault refl ∙ sym (ap (owed_in new.offer s.repo.refs) phase_is)))
+
+  -- a packet came of the bytes
+  pub goes_packet : (g : Given) (brought : Brought A) → wants_input old ≡ true → ReadsFor old u (g ∷ []) new → Brings old.requests g brought new.requests
+      → new.phase ≡ phase_after brought → fault_of new.reader ≡ None → is_open new.reader ≡ false → Goes answers u [] old new
+  goes_packet g brought wants reads brings phase_is sound shut s so_far over before r =
+      let h = serves_of s so_far over before wants r in
+      let (rest, stream) = reads.reads 0 so_far h.packets h.rest h.reads in
+      let offer = brings.offer ∙ r.reads_for in
+      let limit = brings.limit ∙ r.limit in
+      let open_ended = no_outcome old.phase wants in
+      let begun = begins s h.left old.requests r.reads_for r.limit (old.sound open_ended) (old.ready open_ended) h.takes in
+      record {
+        offer = reads.offer ∙ r.offer;
+        reads_for = offer;
+        limit = limit;
+        repo = ap answers reads.repo ∙ r.repo;
+        stands = subst (λ (o : Option Outcome). StandsBy o s (so_far ++ u) over (before ++ []) new) (sym (ap outcome_in phase_is))
+            (packet_stands s so_far over before g brought wants h rest stream sound shut offer limit begun (brings.brings h.left h.takes) phase_is);
+      }
+
+  -- the session ends with this fault, of which nothing was given yet
+  ends_refused : (s : Setting) (so_far : List ℕ) (over : Bool) (before : List ℕ) (left packets : List Given) (rest : List ℕ) (fault : Fault)
+      → wants_input old ≡ true → (h : Serves s so_far before old) → Reads new.reader 0 (so_far ++ u) packets rest → Cuts s packets h.asked left
+      → IsRefused s over left rest (length (so_far ++ u)) fault → new.phase ≡ refused_by fault.kind fault → StandsBy (outcome_of new) s (so_far ++ u) over (before ++ []) new
+  ends_refused s so_far over before left packets rest fault wants h stream cuts refused phase_is =
+      subst (λ (o : Option Outcome). StandsBy o s (so_far ++ u) over (before ++ []) new) (sym (ap outcome_in phase_is ∙ refused_outcome_by A fault.kind fault))
+      (ended_at s so_far over before left packets rest (Refused fault) wants h stream cuts refused (owed_in new.offer s.repo.refs new.phase)
+      (refused_owes_by A new.offer s.repo.refs fault.kind fault refl ∙ sym (ap (owed_in new.offer s.repo.refs) phase_is)))
+
+  -- the bytes were refused
+  pub goes_refused : (fault : Fault) → wants_input old ≡ true → ReadsFor old u [] new → new.requests ≡ old.requests → requests_fault old.requests ≡ None → is_waiting old.requests ≡ false
+      → fault_of new.reader ≡ Some fault → (fault_of old.reader ≡ None → fault.kind ≢ Truncated) → new.phase ≡ refused_by fault.kind fault → Goes answers u [] old new
+  goes_refused fault wants reads same_requests sound ready told not_the_end phase_is s so_far over before r =
+      let h = serves_of s so_far over before wants r in
+      let (rest, later) = reads.reads 0 so_far h.packets h.rest h.reads in
+      let stream = subst (λ (l : List Given). Reads new.reader 0 (so_far ++ u) l rest) (append-nil h.packets) later in
+      record {
+        offer = reads.offer ∙ r.offer;
+        reads_for = ap offer_of same_requests ∙ r.reads_for;
+        limit = ap limit_in same_requests ∙ r.limit;
+        repo = ap answers reads.repo ∙ r.repo;
+        stands = ends_refused s so_far over before h.left h.packets rest fault wants h stream h.cuts
+            (inr (inl (record {
+              begins = begins s h.left old.requests r.reads_for r.limit sound ready h.takes;
+              stops = stopped_by new.reader (so_far ++ u) h.packets rest fault told stream;
+              not_the_end = not_the_end h.no_fault;
+            }))) phase_is;
+      }
+
+-- a server that waits for bytes, and has some packets of a request
+pub is_within : {A : Type 0} (phase : Phase A) → reads_in phase ≡ true → (phase ≡ Between → ⊥) → phase ≡ Within
+is_within Within h not = refl
+is_within Between h not = absurd (not refl)
+is_within (Greeting line) h not = absurd (cc)
+is_within (Answering request next) h not = absurd (cc)
+is_within (Refusing fault) h not = absurd (cc)
+is_within (Ended outcome) h not = absurd (cc)
+
+module _ {R A : Type 0} (answers : R → Repository) (old middle new : Server R A) where
+  -- one call after another, which give nothing
+  pub goes_twice : (u v : List ℕ) → Goes answers u [] old middle → Goes answers v [] middle new → Goes answers (u ++ v) [] old new
+  goes_twice u v first second s so_far over before r =
+      let one = first s so_far over before r in
+      let two = second s (so_far ++ u) over (before ++ []) one in
+      let same_used = append_assoc so_far u v in
+      let same_given : (before ++ []) ++ [] ≡ before ++ [] = append-nil (before ++ []) in
+      subst (λ (l : List ℕ). Running answers s l over (before ++ []) new) same_used (subst (λ (l : List ℕ). Running answers s ((so_far ++ u) ++ v) over l new) same_given two)

@@ -1,0 +1,15 @@
+pub mod Adjacent
+pub mod NameOrder
+pub mod Prefixes
+pub mod FaultTexts
+pub mod Readers
+pub mod Openings
+pub mod WholeRequests
+pub mod Sent
+pub mod Going
+pub mod Closing
+pub mod Formats
+pub mod Giving
+pub mod Owing
+pub mod SessionLaws
+pub mod RunLemmas

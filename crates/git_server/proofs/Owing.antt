@@ -1,0 +1,88 @@
+-- What is owed, by the phase that a server is in.
+use Rattle.std.proofs.Common.{◌≡◌, ℕ, Bool, true, false, if◌then◌else◌, List, [], ◌∷◌, ◌++◌, Option, Some, None, codes, refl, sym, ap, ◌∙◌, subst}
+use Rattle.git_pkt.specs.Packets.{Pkt, flush}
+use Rattle.git_pkt.specs.Splits.{Given}
+use Rattle.git_pkt.specs.declared.fault.Fault.{Fault}
+use Rattle.git_msg.specs.declared.offers.Offer.{Offer}
+use Rattle.git_msg.specs.declared.requests.Request.{Request}
+use Rattle.git_server.specs.Repository.{Entry}
+use Rattle.git_server.specs.Answers.{offered_line, error_packet}
+use Rattle.git_server.specs.Greetings.{greeting_packet, greeting_after, greetings_from, greetings_after}
+use Rattle.git_server.specs.Phases.{LeftIn, greeting_phase, outcome_in, owed_in}
+use Rattle.git_server.specs.declared.greeting.Greeting.{Greeting as Line}
+use Rattle.git_server.specs.declared.greeting.Greeting.TheVariants.{Version, Agent, LsRefs, ServerOption, ObjectFormat, End}
+use Rattle.git_server.specs.declared.outcome.Outcome.TheVariants.{Refused}
+use Rattle.git_server.specs.declared.server.Phase.{Phase}
+use Rattle.git_server.specs.declared.server.Phase.TheVariants.{Greeting, Between, Answering, Refusing}
+
+option_lines : (offer : Offer) (b : Bool) → offered_line b (codes "server-option") ++ greeting_packet offer.format ObjectFormat ∷ flush ∷ [] ≡ greetings_from offer (if b then ServerOption else ObjectFormat)
+option_lines offer true = refl
+option_lines offer false = refl
+
+one_line : (offer : Offer) (line : Line) → greetings_from offer line ≡ greeting_packet offer.format line ∷ greetings_after offer (greeting_after offer line)
+one_line offer Version = refl
+one_line offer Agent = refl
+one_line offer LsRefs = ap (λ (l : List Pkt). greeting_packet offer.format LsRefs ∷ l) (option_lines offer offer.server_option)
+one_line offer ServerOption = refl
+one_line offer ObjectFormat = refl
+one_line offer End = refl
+
+module _ {A : Type 0} where
+  greeting_owes : (offer : Offer) (refs : List Entry) (o : Option Line) (phase : Phase A) → phase ≡ greeting_phase o → owed_in offer refs phase ≡ greetings_after offer o
+  greeting_owes offer refs (Some line) phase is = ap (owed_in offer refs) is
+  greeting_owes offer refs None phase is = ap (owed_in offer refs) is
+
+  -- behind a line of the advertisement the other lines are owed
+  pub line_behind : (offer : Offer) (refs : List Entry) (old new : Phase A) (line : Line) (next : Option Line) (packet : Pkt) → old ≡ Greeting line → packet ≡ greeting_packet offer.format line
+      → next ≡ greeting_after offer line → new ≡ greeting_phase next → owed_in offer refs old ≡ packet ∷ owed_in offer refs new
+  line_behind offer refs old new line next packet was packet_is next_is is =
+      ap (owed_in offer refs) was ∙ one_line offer line ∙ ap (λ (p : Pkt). p ∷ greetings_after offer (greeting_after offer line)) (sym packet_is)
+      ∙ ap (λ (l : List Pkt). packet ∷ l) (ap (greetings_after offer) (sym next_is) ∙ sym (greeting_owes offer refs next new is))
+
+  -- a phase without outcome, in which no part of a request is left
+  pub record IsQuiet (phase : Phase A) : Type 0 where
+    pub none : outcome_in phase ≡ None
+    pub out : (left : List Given) → LeftIn phase left → left ≡ []
+    pub back : (left : List Given) → left ≡ [] → LeftIn phase left
+
+  quiet_greeting : (line : Line) → IsQuiet (Greeting line)
+  quiet_greeting line = record { none = refl; out = λ left h. h; back = λ left h. h }
+
+  quiet_answering : (request : Request A) (next : ℕ) → IsQuiet (Answering request next)
+  quiet_answering request next = record { none = refl; out = λ left h. h; back = λ left h. h }
+
+  quiet_between : IsQuiet Between
+  quiet_between = record { none = refl; out = λ left h. h; back = λ left h. h }
+
+  quiet_by : (o : Option Line) → IsQuiet (greeting_phase o)
+  quiet_by (Some line) = quiet_greeting line
+  quiet_by None = quiet_between
+
+  pub is_greeting : (phase : Phase A) (line : Line) → phase ≡ Greeting line → IsQuiet phase
+  is_greeting phase line is = subst IsQuiet (sym is) (quiet_greeting line)
+
+  pub is_answering : (phase : Phase A) (request : Request A) (next : ℕ) → phase ≡ Answering request next → IsQuiet phase
+  is_answering phase request next is = subst IsQuiet (sym is) (quiet_answering request next)
+
+  pub is_between : (phase : Phase A) → phase ≡ Between → IsQuiet phase
+  is_between phase is = subst IsQuiet (sym is) quiet_between
+
+  pub is_greeted : (phase : Phase A) (o : Option Line) → phase ≡ greeting_phase o → IsQuiet phase
+  is_greeted phase o is = subst IsQuiet (sym is) (quiet_by o)
+
+  pub same_outcome : (old new : Phase A) → IsQuiet old → IsQuiet new → outcome_in new ≡ outcome_in old
+  same_outcome old new q r = r.none ∙ sym q.none
+
+  pub left_stays : (old new : Phase A) → IsQuiet old → IsQuiet new → (left : List Given) → LeftIn old left → LeftIn new left
+  left_stays old new q r left h = r.back left (q.out left h)
+
+  -- behind the packet of a fault nothing is owed
+  pub refusal_behind : (offer : Offer) (refs : List Entry) (old : Phase A) (fault : Fault) (packet : Pkt) → old ≡ Refusing fault → packet ≡ error_packet fault
+      → owed_in offer refs old ≡ packet ∷ []
+  refusal_behind offer refs old fault packet was is = ap (owed_in offer refs) was ∙ ap (λ (p : Pkt). p ∷ []) (sym is)
+
+  pub refusal_outcome : (old : Phase A) (fault : Fault) → old ≡ Refusing fault → Some (Refused fault) ≡ outcome_in old
+  refusal_outcome old fault was = sym (ap outcome_in was)
+
+  pub refusal_left : (old : Phase A) (fault : Fault) → old ≡ Refusing fault → (left : List Given) → LeftIn old left → left ≡ []
+  refusal_left old fault was left h = subst (λ (p : Phase A). LeftIn p left) was h

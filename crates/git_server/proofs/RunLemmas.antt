@@ -1,0 +1,184 @@
+-- A run of a server, one call after another.
+use Rattle.std.proofs.Common.{◌≡◌, ◌⊎◌, ℕ, ◌+◌, ◌-◌, ◌<◌, ◌≤◌, length, take, drop, take-append-drop, IsSome, IfErr, IsErrAnd, Result, inl, inr, Bool, true, false, List, [], ◌∷◌, ◌++◌, Option, Some, None, refl, sym, ap, ◌∙◌, append_assoc, append-nil, subst}
+use Rattle.std.specs.Io.KnownBytes.{Appends, Consumes, Keeps}
+use Rattle.std.proofs.KnownBytes.{Appends-kept, Appends-nil, Appends-trans, Consumes-nil, Consumes-trans}
+use Rattle.git_pkt.specs.Engine.{Exchanges}
+use Rattle.git_pkt.proofs.EngineLemmas.{Exchanges-flush, Exchanges-more}
+use Rattle.git_server.specs.Repository.{Repository}
+use Rattle.git_server.specs.Sessions.{Setting, IsAnswered}
+use Rattle.git_server.specs.Serving.{Running, outcome_of, wants_input}
+use Rattle.git_server.specs.Moves.{Closes, EndsAs, Goes, Pulls, TellsPulled, given_by}
+use Rattle.git_server.specs.Runs.{IsRun, WritesAll, WritesItsEnd, WritesOn}
+use Rattle.git_server.specs.declared.outcome.Outcome.{Outcome}
+use Rattle.git_server.specs.declared.server.Pulled.{Pulled}
+use Rattle.git_server.specs.declared.server.Pulled.TheVariants.{Packet, Finished}
+use Rattle.git_server.specs.declared.server.Server.{Server}
+use Rattle.git_pkt.proofs.Pieces.{take_joined}
+use Rattle.git_server.proofs.Going.{no_outcome}
+use Rattle.git_server.proofs.SessionLaws.{all_answered}
+use Rattle.std.proofs.lemmas.Result.{err_from_is_err_and}
+use Rattle.git_pkt.specs.declared.fault.RunFault.{RunFault}
+use denote.Ref.{Bor}
+
+front_of_nothing : (front back : List ℕ) → [] ≡ front ++ back → front ≡ []
+front_of_nothing [] back is = refl
+front_of_nothing (x ∷ xs) back is = absurd (cc)
+
+back_of_nothing : (front back : List ℕ) → [] ≡ front ++ back → back ≡ []
+back_of_nothing [] back is = sym is
+back_of_nothing (x ∷ xs) back is = absurd (cc)
+
+some_not_none : (o : Option Outcome) → IsSome o → o ≡ None → ⊥
+some_not_none None some is = absurd (cc)
+some_not_none (Some outcome) some is = cc
+
+module _ {R A : Type 0} (answers : R → Repository) (old middle new : Server R A) where
+  pub goes_join : (u v g h : List ℕ) → Goes answers u g old middle → Goes answers v h middle new → Goes answers (u ++ v) (g ++ h) old new
+  goes_join u v g h first second s so_far over before r =
+      let two = second s (so_far ++ u) over (before ++ g) (first s so_far over before r) in
+      subst (λ (l : List ℕ). Running answers s l over (before ++ (g ++ h)) new) (append_assoc so_far u v)
+      (subst (λ (l : List ℕ). Running answers s ((so_far ++ u) ++ v) over l new) (append_assoc before g h) two)
+
+  module _ (held_before held held_after : Option (List ℕ)) where
+    -- what a call gave was written behind what was written before
+    pub writes_more : (u v h : List ℕ) → WritesOn answers u held_before held old middle → Appends held held_after h → Goes answers v h middle new → WritesOn answers (u ++ v) held_before held_after old new
+    writes_more u v h so_far written goes =
+        record {
+          given = so_far.given ++ h;
+          written = Appends-trans held_before held held_after so_far.given h so_far.written written;
+          goes = goes_join u v so_far.given h so_far.goes goes;
+        }
+
+  -- a packet was pulled and written
+  pub writes_packet : (held_before held held_after : Option (List ℕ)) (pulled : Pulled) (bytes : Bor (List ℕ)) → WritesOn answers [] held_before held old middle → Pulls answers middle pulled new
+      → pulled ≡ Packet bytes → Appends held held_after bytes.now → WritesOn answers [] held_before held_after old new
+  writes_packet held_before held held_after pulled bytes so_far pulls is written =
+      writes_more held_before held held_after [] [] bytes.now so_far written (subst (λ (p : Pulled). Goes answers [] (given_by p) middle new) is pulls.goes)
+
+  -- the end was pulled
+  pub writes_end : (held_before held : Option (List ℕ)) (pulled : Pulled) (outcome : Outcome) → WritesOn answers [] held_before held old middle → Pulls answers middle pulled new
+      → pulled ≡ Finished outcome → WritesItsEnd answers [] held_before held old new outcome
+  writes_end held_before held pulled outcome so_far pulls is =
+      let tells : TellsPulled answers middle (Finished outcome) new = subst (λ (p : Pulled). TellsPulled answers middle p new) is pulls.tells in
+      record {
+        used = [];
+        unused = [];
+        given = so_far.given;
+        parts = refl;
+        written = so_far.written;
+        goes = subst (Goes answers [] so_far.given old) (sym tells.2) so_far.goes;
+        ends = pulls.outcome ∙ tells.0;
+        session = subst (λ (server : Server R A). EndsAs answers server outcome) (sym tells.2) tells.3;
+      }
+
+module _ {R A : Type 0} (answers : R → Repository) (old middle fed new : Server R A) (held_before held held_after : Option (List ℕ)) (bytes : List ℕ) (done used : ℕ) (within : done ≤ length bytes)
+    (so_far : WritesOn answers (take done bytes) held_before held old middle)
+    (feeds : Goes answers (take used (take (length bytes - done) (drop done bytes))) [] middle fed) where
+  fed_so_far : WritesOn answers (take (done + used) bytes) held_before held old fed
+  fed_so_far =
+      subst (λ (l : List ℕ). WritesOn answers l held_before held old fed) (take_joined bytes done used within)
+      (writes_more answers old middle fed held_before held held (take done bytes) (take used (take (length bytes - done) (drop done bytes))) [] so_far (Appends-nil held) feeds)
+
+  -- a part of a piece was used, and all that is owed for it was written
+  pub writes_piece : WritesAll answers [] held held_after fed new → WritesOn answers (take (done + used) bytes) held_before held_after old new
+  writes_piece all =
+      subst (λ (l : List ℕ). WritesOn answers l held_before held_after old new) (append-nil (take (done + used) bytes))
+      (writes_more answers old fed new held_before held held_after (take (done + used) bytes) [] all.given fed_so_far all.written all.goes)
+
+  -- a part of a piece was used, and with it the session ended
+  pub writes_piece_end : (outcome : Outcome) → WritesItsEnd answers [] held held_after fed new outcome → WritesItsEnd answers bytes held_before held_after old new outcome
+  writes_piece_end outcome end =
+      let nothing : end.used ≡ [] = front_of_nothing end.used end.unused end.parts in
+      let on = writes_more answers old fed new held_before held held_after (take (done + used) bytes) end.used end.given fed_so_far end.written end.goes in
+      record {
+        used = take (done + used) bytes;
+        unused = drop (done + used) bytes;
+        given = on.given;
+        parts = sym (take-append-drop (done + used) bytes);
+        written = on.written;
+        goes = subst (λ (l : List ℕ). Goes answers l on.given old new) (ap (λ (l : List ℕ). take (done + used) bytes ++ l) nothing ∙ append-nil (take (done + used) bytes)) on.goes;
+        ends = end.ends;
+        session = end.session;
+      }
+
+-- a server that waits for bytes has no outcome, so it used some
+pub used_some : {R A : Type 0} (fed new : Server R A) (used : ℕ) → 0 < used ⊎ IsSome (outcome_of fed) → outcome_of new ≡ outcome_of fed → wants_input new ≡ true → 0 < used
+used_some fed new used (inl some) same wants = some
+used_some fed new used (inr ended) same wants = absurd (some_not_none (outcome_of fed) ended (sym same ∙ no_outcome new.phase wants))
+
+module _ {R A : Type 0} (answers : R → Repository) (s : Setting) where
+  -- what was used and given stands behind the server
+  abbrev pub Behind : Server R A → List ℕ → List ℕ → Type 0
+  Behind server used given = Running answers s used false given server
+
+  -- a new server, which has written what it owes at first
+  pub starts : (old new : Server R A) (left held_before held_after : Option (List ℕ)) → Running answers s [] false [] old → WritesAll answers [] held_before held_after old new
+      → Exchanges (Behind new) left left held_before held_after
+  starts old new left held_before held_after r all =
+      record { used = []; given = all.given; read = Consumes-nil left; written = all.written; related = all.goes s [] false [] r }
+
+  -- a turn: the writer was flushed, bytes were read, and all that was given for them was written
+  pub turns_on : (old new : Server R A) (left_before left left_after held_before held flushed held_after : Option (List ℕ)) (bytes : List ℕ)
+      → Exchanges (Behind old) left_before left held_before held → Keeps held flushed → Consumes left left_after bytes → WritesAll answers bytes flushed held_after old new
+      → Exchanges (Behind new) left_before left_after held_before held_after
+  turns_on old new left_before left left_after held_before held flushed held_after bytes so_far kept read all =
+      Exchanges-more (Exchanges-flush so_far kept) read (record { given = all.given; written = all.written; carries = λ used given r. all.goes s used false given r })
+
+  -- where the server waits for bytes, all answers were given
+  pub answered : (server : Server R A) (left_before left_after held_before held_after : Option (List ℕ)) → wants_input server ≡ true
+      → Exchanges (Behind server) left_before left_after held_before held_after → Exchanges (IsAnswered s) left_before left_after held_before held_after
+  answered server left_before left_after held_before held_after wants so_far =
+      record {
+        used = so_far.used;
+        given = so_far.given;
+        read = so_far.read;
+        written = so_far.written;
+        related = all_answered answers server s so_far.used false so_far.given so_far.related wants;
+      }
+
+  -- the session ended with a front of the bytes
+  pub ends_with : (old new : Server R A) (left_before left left_after held_before held flushed written_all held_after : Option (List ℕ)) (bytes : List ℕ) (ended : Bool) (outcome : Outcome)
+      → Exchanges (Behind old) left_before left held_before held → Keeps held flushed → Consumes left left_after bytes → WritesItsEnd answers bytes flushed written_all old new outcome → Keeps written_all held_after
+      → IsRun s left_before left_after held_before held_after ended outcome
+  ends_with old new left_before left left_after held_before held flushed written_all held_after bytes ended outcome so_far kept read end last =
+      let on = Exchanges-flush so_far kept in
+      record {
+        used = on.used ++ end.used;
+        unused = end.unused;
+        over = false;
+        given = on.given ++ end.given;
+        read = subst (Consumes left_before left_after) (ap (λ (l : List ℕ). on.used ++ l) end.parts ∙ sym (append_assoc on.used end.used end.unused))
+            (Consumes-trans left_before left left_after on.used bytes on.read read);
+        written = Appends-kept held_before written_all held_after (on.given ++ end.given) (Appends-trans held_before flushed written_all on.given end.given on.written end.written) last;
+        session = end.session s (on.used ++ end.used) false (on.given ++ end.given) (end.goes s on.used false on.given on.related);
+        whole = λ e. absurd (cc);
+      }
+
+  -- the session ended with the input
+  pub ends_closed : (old closed new : Server R A) (left_before left left_after held_before held flushed held_after : Option (List ℕ)) (ended : Bool) (outcome : Outcome)
+      → Exchanges (Behind old) left_before left held_before held → Keeps held flushed → Consumes left left_after [] → Closes answers old closed
+      → WritesItsEnd answers [] flushed held_after closed new outcome → ended ≡ true → IsRun s left_before left_after held_before held_after ended outcome
+  ends_closed old closed new left_before left left_after held_before held flushed held_after ended outcome so_far kept read closes end told =
+      let on = Exchanges-flush so_far kept in
+      let nothing : end.used ≡ [] = front_of_nothing end.used end.unused end.parts in
+      let after : end.unused ≡ [] = back_of_nothing end.used end.unused end.parts in
+      record {
+        used = on.used ++ end.used;
+        unused = end.unused;
+        over = true;
+        given = on.given ++ end.given;
+        read = subst (Consumes left_before left_after) (ap (λ (l : List ℕ). on.used ++ l) end.parts ∙ sym (append_assoc on.used end.used end.unused))
+            (Consumes-trans left_before left left_after on.used [] on.read read);
+        written = Appends-trans held_before flushed held_after on.given end.given on.written end.written;
+        session = end.session s (on.used ++ end.used) true (on.given ++ end.given) (end.goes s on.used true on.given (closes s on.used false on.given on.related).0);
+        whole = λ e. (after, told);
+      }
+
+pub keeps_same : (o : Option (List ℕ)) → Keeps o o
+keeps_same None = tt
+keeps_same (Some bytes) = refl
+
+pub if_err_at : {T : Type 0} (r : Result T RunFault) (fault : RunFault) (P : RunFault → Type 0) → IsErrAnd r (λ e. e ≡ fault) → P fault → IfErr r P
+if_err_at r fault P met holds =
+    let (e, is, same) = err_from_is_err_and r met in
+    subst (λ x. IfErr x P) (sym is) (subst P (sym same) holds)

@@ -1,0 +1,65 @@
+-- What was sent, one packet more at a time.
+use Rattle.std.proofs.Common.{◌≡◌, ℕ, List, [], ◌∷◌, ◌++◌, refl, sym, ap, ◌∙◌, append_assoc, append-nil, subst, inl, inr}
+use Rattle.std.proofs.lemmas.Grind.{flat_map-append}
+use Rattle.git_pkt.specs.Packets.{Pkt, spelling_of}
+use Rattle.git_msg.specs.Asked.{Asked}
+use Rattle.git_server.specs.Answers.{spelled, IsAnswer}
+use Rattle.git_server.specs.Sessions.{Setting, IsSent, AreAnswers, advertised}
+use Rattle.git_server.proofs.WholeRequests.{answers_more}
+
+pub spelled_both : (front back : List Pkt) → spelled (front ++ back) ≡ spelled front ++ spelled back
+spelled_both front back = flat_map-append spelling_of front back
+
+pub spelled_one : (sent : List Pkt) (packet : Pkt) → spelled (sent ++ packet ∷ []) ≡ spelled sent ++ spelling_of packet
+spelled_one sent packet = spelled_both sent (packet ∷ []) ∙ ap (λ (l : List ℕ). spelled sent ++ l) (append-nil (spelling_of packet))
+
+-- one packet of what is owed was sent
+pub sent_one : (s : Setting) (asked : List Asked) (sent owed : List Pkt) (packet : Pkt) → IsSent s asked sent (packet ∷ owed) → IsSent s asked (sent ++ packet ∷ []) owed
+sent_one s asked sent owed packet (inl h) = inl (record { none = h.none; parts = append_assoc sent (packet ∷ []) owed ∙ h.parts })
+sent_one s asked sent owed packet (inr h) =
+    inr (record {
+      earlier = h.earlier;
+      last = h.last;
+      answers = h.answers;
+      front = h.front ++ packet ∷ [];
+      whole = h.whole;
+      answered = h.answered;
+      answer = subst (IsAnswer s.repo h.last) (sym (append_assoc h.front (packet ∷ []) owed)) h.answer;
+      sent_is = ap (λ (l : List Pkt). l ++ packet ∷ []) h.sent_is ∙ append_assoc (advertised s ++ h.answers) h.front (packet ∷ []);
+    })
+
+-- all was sent: the advertisement, and an answer to each request
+pub record AllSent (s : Setting) (asked : List Asked) (sent : List Pkt) : Type 0 where
+  pub answers : List Pkt
+  pub answered : AreAnswers s.repo asked answers
+  pub sent_is : sent ≡ advertised s ++ answers
+
+pub all_sent : (s : Setting) (asked : List Asked) (sent : List Pkt) → IsSent s asked sent [] → AllSent s asked sent
+all_sent s asked sent (inl h) =
+    record {
+      answers = [];
+      answered = subst (λ (qs : List Asked). AreAnswers s.repo qs []) (sym h.none) refl;
+      sent_is = sym (append-nil sent) ∙ h.parts ∙ sym (append-nil (advertised s));
+    }
+all_sent s asked sent (inr h) =
+    record {
+      answers = h.answers ++ h.front;
+      answered = subst (λ (qs : List Asked). AreAnswers s.repo qs (h.answers ++ h.front)) (sym h.whole)
+          (answers_more s.repo h.earlier h.answers h.last h.front h.answered (subst (IsAnswer s.repo h.last) (append-nil h.front) h.answer));
+      sent_is = h.sent_is ∙ append_assoc (advertised s) h.answers h.front;
+    }
+
+-- a further request was asked, and its whole answer is owed
+pub one_more_asked : (s : Setting) (asked : List Asked) (sent owed : List Pkt) (q : Asked) → IsSent s asked sent [] → IsAnswer s.repo q owed → IsSent s (asked ++ q ∷ []) sent owed
+one_more_asked s asked sent owed q before is =
+    let all = all_sent s asked sent before in
+    inr (record {
+      earlier = asked;
+      last = q;
+      answers = all.answers;
+      front = [];
+      whole = refl;
+      answered = all.answered;
+      answer = is;
+      sent_is = all.sent_is ∙ sym (append-nil (advertised s ++ all.answers));
+    })

@@ -1,0 +1,54 @@
+-- Whole requests and their answers, one more at a time.
+use Rattle.std.proofs.Common.{◌≡◌, ℕ, false, List, [], ◌∷◌, ◌++◌, None, refl, sym, ap, ◌∙◌, append_assoc, append-nil, subst}
+use Rattle.git_pkt.specs.Packets.{Pkt}
+use Rattle.git_pkt.specs.Splits.{Given}
+use Rattle.git_msg.specs.Asked.{Asked}
+use Rattle.git_msg.specs.Requests.{Asks, AreLines}
+use Rattle.git_msg.specs.Taking.{Takes, TakesIn, fault_in, waits_in, fault_of, is_waiting, offer_of, limit_in}
+use Rattle.git_msg.specs.Lines.{Line}
+use Rattle.git_msg.specs.declared.offers.Offer.{Offer}
+use Rattle.git_msg.specs.declared.reader.Part.{Part}
+use Rattle.git_msg.specs.declared.reader.Part.TheVariants.{Capabilities, Arguments, Waiting, Failed}
+use Rattle.git_msg.specs.declared.reader.RequestReader.{RequestReader}
+use Rattle.git_server.specs.Repository.{Repository}
+use Rattle.git_server.specs.Sessions.{Setting, Cuts, AreAnswers, Begins}
+use Rattle.git_server.specs.Answers.{IsAnswer}
+
+module _ (s : Setting) where
+  -- further packets behind what is left
+  pub cuts_more : (packets more : List Given) (asked : List Asked) (left : List Given) → Cuts s packets asked left → Cuts s (packets ++ more) asked (left ++ more)
+  cuts_more packets more [] left same = ap (λ (l : List Given). l ++ more) same
+  cuts_more packets more (q ∷ qs) left (front, back, kept, whole, asks, rest) =
+      (front, back ++ more, kept, ap (λ (l : List Given). l ++ more) whole ∙ append_assoc front back more, asks, cuts_more back more qs left rest)
+
+  -- what is left is one more whole request
+  pub cuts_whole : (packets : List Given) (asked : List Asked) (left : List Given) (q : Asked) (kept : ℕ) → Cuts s packets asked left → Asks s.offer s.limit left q kept
+      → Cuts s packets (asked ++ q ∷ []) []
+  cuts_whole packets [] left q kept same asks = (left, [], kept, same ∙ sym (append-nil left), asks, refl)
+  cuts_whole packets (p ∷ ps) left q kept (front, back, long, whole, first, rest) asks =
+      (front, back, long, whole, first, cuts_whole back ps left q kept rest asks)
+
+-- one more answer
+pub answers_more : (repo : Repository) (asked : List Asked) (packets : List Pkt) (q : Asked) (answer : List Pkt) → AreAnswers repo asked packets → IsAnswer repo q answer
+    → AreAnswers repo (asked ++ q ∷ []) (packets ++ answer)
+answers_more repo [] packets q answer none is =
+    (answer, [], ap (λ (l : List Pkt). l ++ answer) none ∙ sym (append-nil answer), is, refl)
+answers_more repo (p ∷ ps) packets q answer (first, more, whole, is_first, rest) is =
+    (first, more ++ answer, ap (λ (l : List Pkt). l ++ answer) whole ∙ append_assoc first more answer, is_first, answers_more repo ps more q answer rest is)
+
+module _ {A : Type 0} where
+  begun_by : (part : Part) (left : List Given) (r : RequestReader A) → fault_in part ≡ None → waits_in part ≡ false → TakesIn part left r
+      → (lines : List Line) × AreLines r.offer r.limits.args [] left lines
+  begun_by Capabilities left r sound ready stands = (stands.lines, stands.taken)
+  begun_by Arguments left r sound ready stands = (stands.lines, stands.taken)
+  begun_by (Waiting offset long) left r sound ready stands = absurd (cc)
+  begun_by (Failed f) left r sound ready stands = absurd (cc)
+
+  -- the packets that a reader has taken begin a request, while it goes on
+  pub begins : (s : Setting) (left : List Given) (r : RequestReader A) → offer_of r ≡ s.offer → limit_in r ≡ s.limit → fault_of r ≡ None → is_waiting r ≡ false → Takes left r → Begins s left
+  begins s left r offer limit sound ready takes =
+      let (lines, taken) = begun_by r.part left r sound ready takes.stands in
+      record {
+        lines = lines;
+        taken = subst (λ (n : ℕ). AreLines s.offer n [] left lines) limit (subst (λ (o : Offer). AreLines o (limit_in r) [] left lines) offer taken);
+      }

@@ -1,0 +1,6 @@
+use Rattle.git_server.proofs.Formats.{of_one_format}
+use Rattle.git_server.proofs.answer.answer_one.Goals as goal
+
+pub write_entry-requires-clause-format : goal.write_entry-requires-clause-format
+write_entry-requires-clause-format g c =
+    of_one_format _ _ c.in-Some.at _ (g.met.R.Repo.sound c.args.repo.now) c.refs-refs.ensures c.in-Some.ensures.within c.index-refs-at.is

@@ -1,0 +1,6 @@
+use Rattle.std.proofs.Common.{ℕ, ◌<◌, slice_index_or}
+use Rattle.git_server.specs.Repository.{Entry, IsOfFormat}
+use Rattle.git_server.proofs.list_repo.are_refs_of.Given as goal
+
+abbrev pub invariant-loop-entry : goal.invariant-loop-entry
+invariant-loop-entry l = (k : ℕ) (d : Entry) → k < l.entry-index → IsOfFormat l.format (slice_index_or l.refs k d)

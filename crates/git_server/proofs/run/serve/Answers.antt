@@ -1,0 +1,64 @@
+use Rattle.std.proofs.Common.{rules, subst, Option, [], sym, take, ℕ}
+use Rattle.std.specs.Io.KnownBytes.{Consumes}
+use Rattle.std.proofs.KnownBytes.{Consumes-nil}
+use Rattle.git_pkt.specs.Told.{inner_of}
+use Rattle.git_pkt.proofs.EngineLemmas.{Exchanges-flush, Exchanges-nothing, Exchanges-read_fault}
+use Rattle.git_server.specs.Runs.{RunsUntil, WritesFor}
+use Rattle.git_server.specs.declared.outcome.Outcome.{Outcome}
+use Rattle.git_server.proofs.RunLemmas.{turns_on, answered, ends_with, ends_closed, keeps_same, if_err_at}
+use Rattle.git_server.proofs.run.serve.Goals as goal
+
+pub returns-in-Some-clause-run : goal.returns-in-Some-clause-run
+returns-in-Some-clause-run g c =
+    λ s r.
+    let old = c.args.server.now in
+    let left = g.In.Read.remaining (inner_of c.args.reader.now) in
+    let held = g.W.Write.contents (inner_of c.args.writer.now) in
+    let written = g.W.Write.contents (inner_of c.drain.new.writer) in
+    let end = subst (λ (o : Option Outcome). WritesFor g.R.Repo.answers [] held written old c.drain.new.server o) c.in-Some.is c.in_ok-outcome.ensures.ok in
+    ends_with g.R.Repo.answers s old c.drain.new.server left left left held held held written _ [] _ c.in-Some.outcome
+    (Exchanges-nothing left held r) (keeps_same held) (Consumes-nil left) end c.in_ok-flush.ensures.bytes
+
+pub returns-in_err-count-clause-until : goal.returns-in_err-count-clause-until
+returns-in_err-count-clause-until g c =
+    if_err_at _ _ _ c.from_residual-in_err-count.ensures.1
+    (λ s r.
+    subst (RunsUntil s _ _ _ _) (sym c.in_err-count.ensures.fault)
+    (answered g.R.Repo.answers s c.loop.server _ _ _ _ c.loop.invariant.wants (Exchanges-read_fault (Exchanges-flush (c.loop.invariant.run s r) c.in_ok-flush-2.ensures.bytes) c.in_err-count.ensures.bytes)))
+
+pub returns-then-count-eq0-clause-run : goal.returns-then-count-eq0-clause-run
+returns-then-count-eq0-clause-run g c =
+    λ s r.
+    let left = g.In.Read.remaining (inner_of c.loop.reader) in
+    let left_after = g.In.Read.remaining (inner_of c.receive.new.reader) in
+    let nothing : Consumes left left_after [] = subst (λ (n : ℕ). Consumes left left_after (take n c.receive.new.piece)) c.if-count-eq0.true c.in_ok-count.ensures.bytes.0 in
+    ends_closed g.R.Repo.answers s c.loop.server c.close.new.self _ _ left left_after _ _ (g.W.Write.contents (inner_of c.flush-in-loop.new.writer)) _ _ _
+    (c.loop.invariant.run s r) c.in_ok-flush-2.ensures.bytes nothing c.close.ensures.closes c.in_ok-outcome-2.ensures.ok (search rules)
+
+pub returns-in-Some-2-clause-run : goal.returns-in-Some-2-clause-run
+returns-in-Some-2-clause-run g c =
+    λ s r.
+    let bytes = take c.in_ok-count.count c.receive.new.piece in
+    let flushed = g.W.Write.contents (inner_of c.flush-in-loop.new.writer) in
+    let written = g.W.Write.contents (inner_of c.serve_piece.new.writer) in
+    let end = subst (λ (o : Option Outcome). WritesFor g.R.Repo.answers bytes flushed written c.loop.server c.serve_piece.new.server o) c.in-Some-2.is c.in_ok-outcome-3.ensures.ok in
+    ends_with g.R.Repo.answers s c.loop.server c.serve_piece.new.server _ _ _ _ _ flushed written _ bytes _ c.in-Some-2.outcome
+    (c.loop.invariant.run s r) c.in_ok-flush-2.ensures.bytes c.in_ok-count.ensures.bytes.0 end c.in_ok-flush-3.ensures.bytes
+
+pub loop-preserved : goal.loop-preserved
+loop-preserved g c =
+    let bytes = take c.in_ok-count.count c.receive.new.piece in
+    let flushed = g.W.Write.contents (inner_of c.flush-in-loop.new.writer) in
+    let written = g.W.Write.contents (inner_of c.serve_piece.new.writer) in
+    let all = subst (λ (o : Option Outcome). WritesFor g.R.Repo.answers bytes flushed written c.loop.server c.serve_piece.new.server o) c.in_default-2.is c.in_ok-outcome-3.ensures.ok in
+    record {
+      reads = search rules;
+      reader_sound = search rules;
+      open_ended = search rules;
+      writer_sound = search rules;
+      wants = all.wants;
+      run = λ s r. turns_on g.R.Repo.answers s c.loop.server c.serve_piece.new.server _ _ _ _ _ flushed written bytes (c.loop.invariant.run s r) c.in_ok-flush-2.ensures.bytes c.in_ok-count.ensures.bytes.0 all;
+    }
+
+pub returns-clause-until : goal.returns-clause-until
+returns-clause-until g c = λ s r. answered g.R.Repo.answers s c.loop.server _ _ _ _ c.loop.invariant.wants (c.loop.invariant.run s r)

@@ -1,0 +1,38 @@
+use Rattle.std.proofs.Common.{◌⊎◌, ◌<◌, inl, inr, ℕ, List, ◌≡◌, ◌+◌, ◌-◌, true, false, take, drop, length, arith, subst, ap, sym, ◌∙◌, [], length-drop}
+use Rattle.git_pkt.proofs.Pieces.{left_of, take_joined}
+use Rattle.git_server.specs.Moves.{Goes}
+use Rattle.git_server.specs.Serving.{wants_input}
+use Rattle.git_server.proofs.Going.{goes_twice}
+use Rattle.git_server.proofs.server.Server.feed.Goals as goal
+
+true_not_false : true ≡ false → ⊥
+true_not_false e = cc
+
+more_used : (done used : ℕ) (P : Type 0) → 0 < used ⊎ P → 0 < done + used ⊎ P
+more_used done used P (inl some) = inl (omega arith)
+more_used done used P (inr h) = inr h
+
+pub returns-else-wants_input-clause-moves : goal.returns-else-wants_input-clause-moves
+returns-else-wants_input-clause-moves g c =
+    λ loud some.
+    elim (c.loop-used.invariant.moves loud) [
+      | inl still ↦ absurd (true_not_false (sym still ∙ sym c.wants_input.ensures.value ∙ c.if-wants_input.false))
+      | inr moved ↦ moved
+    ]
+
+pub loop-used-preserved : goal.loop-used-preserved
+loop-used-preserved g c =
+    let done = c.loop-used.used in
+    let piece = c.args.piece.now in
+    let both = goes_twice g.R.Repo.answers c.args.self.now c.loop-used.self c.step-used.new.self (take done piece) (take c.step-used.result (take (length piece - done) (drop done piece)))
+    c.loop-used.invariant.goes c.step-used.ensures.goes in
+    record {
+      within = omega (arith, c.step-used.ensures.used, ap length (left_of piece done c.loop-used.invariant.within), length-drop done piece);
+      goes = subst (λ (l : List ℕ). Goes g.R.Repo.answers l [] c.args.self.now c.step-used.new.self) (take_joined piece done c.step-used.result c.loop-used.invariant.within) both;
+      moves = λ loud. inr (more_used done c.step-used.result _ c.step-used.ensures.moves);
+      stays =
+          λ quiet.
+          let same = ap wants_input (c.loop-used.invariant.stays quiet).1 in
+          let loud : wants_input c.loop-used.self ≡ true = sym c.wants_input.ensures.value ∙ c.if-wants_input.true in
+          absurd (true_not_false (sym loud ∙ same ∙ quiet));
+    }

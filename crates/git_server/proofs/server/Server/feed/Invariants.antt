@@ -1,0 +1,17 @@
+use Rattle.std.proofs.Common.{◌⊎◌, IsSome, length, ◌-◌, ◌+◌, ◌≡◌, true, false, ◌≤◌, ◌<◌, [], take, if◌then◌else◌}
+use Rattle.git_server.specs.Moves.{Goes}
+use Rattle.git_server.specs.Serving.{wants_input, outcome_of}
+use Rattle.git_server.proofs.server.Server.feed.Given as goal
+
+-- what was used so far was used well, and a server that does not wait for bytes is as it was
+abbrev pub invariant-loop-used : goal.invariant-loop-used
+invariant-loop-used g l = record {
+  within : l.used ≤ length l.piece;
+  goes : Goes g.R.Repo.answers (take l.used l.piece) [] l.fn.self l.self;
+  moves : wants_input l.fn.self ≡ true → (wants_input l.self ≡ true) ⊎ (0 < l.used ⊎ IsSome (outcome_of l.self));
+  stays : wants_input l.fn.self ≡ false → (l.used ≡ 0) × (l.self ≡ l.fn.self);
+}
+
+-- a step uses bytes, or stops
+abbrev pub decreases-loop-used : goal.decreases-loop-used
+decreases-loop-used g l = (length l.piece - l.used) + (if wants_input l.self then 1 else 0)

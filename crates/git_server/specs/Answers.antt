@@ -1,0 +1,81 @@
+-- What a server gives: its advertisement, the answer to each request, and what it writes of an outcome.
+use Rattle.std.specs.Prelude.{◌≡◌, ℕ, Bool, ◌||◌, if◌then◌else◌, None, List, [], ◌∷◌, ◌++◌, true, false, codes, filter, map, nat_eq}
+use Rattle.std.specs.List.{list_any, flat_map, starts_with}
+use Rattle.git_names.specs.ObjectFormat.{name_of}
+use Rattle.git_pkt.specs.Packets.{Pkt, flush, payload, spelling_of}
+use Rattle.git_pkt.specs.FaultNames.{fault_text}
+use Rattle.git_pkt.specs.declared.fault.Fault.{Fault}
+use Rattle.git_pkt.specs.declared.fault.Kind.{Kind}
+use Rattle.git_pkt.specs.declared.fault.Kind.TheVariants.{RemoteError}
+use Rattle.git_msg.specs.declared.offers.Offer.{Offer}
+use Rattle.git_msg.specs.Asked.{Asked, LsRefsAsked, ls_refs}
+use Rattle.git_msg.specs.References.{Ref, reference_text}
+use Rattle.git_server.specs.Repository.{Entry, Repository}
+use Rattle.git_server.specs.declared.outcome.Outcome.{Outcome}
+use Rattle.git_server.specs.declared.outcome.Outcome.TheVariants.{Flush, Closed, Refused}
+
+-- the packet of a line of text
+abbrev pub line : List ℕ → Pkt
+line text = payload (text ++ 10 ∷ [])
+
+-- the packets as they are written
+abbrev pub spelled : List Pkt → List ℕ
+spelled = flat_map spelling_of
+
+-- the line of a capability that may be offered
+abbrev pub offered_line : Bool → List ℕ → List Pkt
+offered_line offered text = if offered then line text ∷ [] else []
+
+-- what a server says first
+abbrev pub advertisement_of : Offer → List Pkt
+advertisement_of offer =
+    line (codes "version 2") ∷ line (codes "agent=git2/1") ∷ line (codes "ls-refs")
+    ∷ (offered_line offer.server_option (codes "server-option") ++ line (codes "object-format=" ++ name_of offer.format) ∷ flush ∷ [])
+
+abbrev pub is_empty : List (List ℕ) → Bool
+is_empty [] = true
+is_empty (p ∷ ps) = false
+
+-- the name begins with one of the prefixes, or there are none
+abbrev pub is_shown : List (List ℕ) → List ℕ → Bool
+is_shown prefixes name = is_empty prefixes || list_any (starts_with nat_eq name) prefixes
+
+-- the references that are shown for these prefixes
+abbrev pub shown_refs : List (List ℕ) → List Entry → List Entry
+shown_refs prefixes refs = filter (λ entry. is_shown prefixes entry.name) refs
+
+-- what is shown of a reference: what was asked for of its target and its peeled object
+abbrev pub shown_line : (symrefs peel : Bool) → Entry → Ref
+shown_line symrefs peel entry = record {
+  id = entry.id;
+  name = entry.name;
+  target = if symrefs then entry.target else None;
+  peeled = if peel then entry.peeled else None;
+}
+
+-- the packet of a reference
+abbrev pub reference_packet : (symrefs peel : Bool) → Entry → Pkt
+reference_packet symrefs peel entry = line (reference_text (shown_line symrefs peel entry))
+
+-- the answer to a request for references
+abbrev pub ls_refs_answer : LsRefsAsked → List Entry → List Pkt
+ls_refs_answer q refs = map (reference_packet q.symrefs q.peel) (shown_refs q.ref_prefixes refs) ++ flush ∷ []
+
+-- the packets are an answer of the repository to the request
+abbrev pub IsAnswer : Repository → Asked → List Pkt → Type 0
+IsAnswer repo (ls_refs q) packets = packets ≡ ls_refs_answer q repo.refs
+
+-- the error packet that tells a fault by its name and offset
+abbrev pub error_packet : Fault → Pkt
+error_packet fault = line (codes "ERR " ++ fault_text fault)
+
+-- an error packet is not answered; any other fault is told by an error packet
+abbrev pub refusal_by : Kind → Fault → List Pkt
+refusal_by RemoteError fault = []
+refusal_by _ fault = error_packet fault ∷ []
+
+-- what is written at the end of a session, behind the answers
+abbrev pub tail_of : Outcome → List Pkt
+tail_of Flush = []
+tail_of Closed = []
+tail_of (Refused fault) = refusal_by fault.kind fault

@@ -1,0 +1,15 @@
+pub mod Repository
+pub mod Objects
+pub mod Lists
+pub mod ListRepo
+pub mod Answers
+pub mod Sessions
+pub mod Greetings
+pub mod Showing
+pub mod Writing
+pub mod Taking
+pub mod Phases
+pub mod Answering
+pub mod Serving
+pub mod Moves
+pub mod Runs

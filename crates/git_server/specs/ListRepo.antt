@@ -1,0 +1,19 @@
+-- What a clause sees of a `ListRepo`.
+use Rattle.git_server.specs.declared.list_repo.ListRepo.{ListRepo}
+use Rattle.git_server.specs.Repository.{Repository}
+use Rattle.git_server.specs.Lists.{Lists}
+
+-- the lists that it is made of
+abbrev pub lists_of : ListRepo → Lists
+lists_of repo = record {
+  format = repo.format;
+  refs = repo.refs.items;
+  objects = repo.objects.items;
+  ready_after = repo.ready_after;
+  boundaries = repo.boundaries.items;
+  pack = repo.pack.items;
+}
+
+-- what it answers
+abbrev pub repository_of : ListRepo → Repository
+repository_of repo = record { format = repo.format; refs = repo.refs.items }

@@ -1,0 +1,37 @@
+-- What a repository that is a few lists is made of, and what it is refused for.
+use Rattle.std.specs.Prelude.{◌≡◌, ℕ, List, Option, All}
+use Rattle.git_names.specs.declared.object_format.Format.{Format}
+use Rattle.git_names.specs.ObjectName.{ObjectName}
+use Rattle.git_msg.specs.declared.Boundary.{Boundary}
+use Rattle.git_server.specs.Repository.{Entry, IsRising, IsOfFormat}
+use Rattle.git_server.specs.Objects.{AreRising, object_of}
+use Rattle.git_server.specs.declared.list_repo.RepoFault.{RepoFault}
+use Rattle.git_server.specs.declared.list_repo.RepoFault.TheVariants.{UnsortedRefs, UnsortedObjects, MixedFormats}
+
+-- the format, the references, the objects with their sizes, after how many common objects it is ready, the shallow
+-- boundary, and the pack
+pub record Lists : Type 0 where
+  pub format : Format
+  pub refs : List Entry
+  pub objects : List (ObjectName × ℕ)
+  pub ready_after : Option ℕ
+  pub boundaries : List Boundary
+  pub pack : List ℕ
+
+-- all object names are of the format
+pub record AreOfFormat (lists : Lists) : Type 0 where
+  pub by_refs : All (IsOfFormat lists.format) lists.refs
+  pub by_objects : All (λ object. object.0.format ≡ lists.format) lists.objects
+  pub by_boundaries : All (λ boundary. (object_of boundary).format ≡ lists.format) lists.boundaries
+
+-- the lists make a repository
+pub record IsRepository (lists : Lists) : Type 0 where
+  pub rising_refs : IsRising lists.refs
+  pub rising_objects : AreRising lists.objects
+  pub of_format : AreOfFormat lists
+
+-- why they make none: the first of these that is so
+abbrev pub IsUnfit : RepoFault → Lists → Type 0
+IsUnfit UnsortedRefs lists = ¬ IsRising lists.refs
+IsUnfit UnsortedObjects lists = IsRising lists.refs × ¬ AreRising lists.objects
+IsUnfit MixedFormats lists = IsRising lists.refs × AreRising lists.objects × ¬ AreOfFormat lists

@@ -1,0 +1,87 @@
+-- Where a server stands in its session.
+use Rattle.std.specs.Prelude.{◌≡◌, ◌≢◌, ℕ, Bool, true, false, Option, Some, None, List, [], ◌∷◌, ◌++◌, drop, map}
+use Rattle.git_pkt.specs.Packets.{Pkt, flush}
+use Rattle.git_pkt.specs.Splits.{Given}
+use Rattle.git_pkt.specs.declared.fault.Fault.{Fault}
+use Rattle.git_pkt.specs.declared.fault.Kind.{Kind}
+use Rattle.git_pkt.specs.declared.fault.Kind.TheVariants.{RemoteError}
+use Rattle.git_msg.specs.declared.offers.Offer.{Offer}
+use Rattle.git_msg.specs.Asked.{Asked, ls_refs}
+use Rattle.git_msg.specs.Holding.{asked_of}
+use Rattle.git_server.specs.Repository.{Entry}
+use Rattle.git_server.specs.Answers.{error_packet, reference_packet, shown_refs}
+use Rattle.git_server.specs.Greetings.{greetings_from}
+use Rattle.git_server.specs.declared.greeting.Greeting.{Greeting as Line}
+use Rattle.git_server.specs.declared.outcome.Outcome.{Outcome}
+use Rattle.git_server.specs.declared.outcome.Outcome.TheVariants.{Flush, Refused}
+use Rattle.git_server.specs.declared.requests.Brought.{Brought}
+use Rattle.git_server.specs.declared.requests.Brought.TheVariants.{Part, Whole, Stop, Refused as RefusedPacket}
+use Rattle.git_server.specs.declared.server.Turn.{Turn}
+use Rattle.git_server.specs.declared.server.Turn.TheVariants.{NeedInput, Finished, Packet as OwesPacket}
+use Rattle.git_server.specs.declared.server.Phase.{Phase}
+use Rattle.git_server.specs.declared.server.Phase.TheVariants.{Greeting, Between, Within, Answering, Refusing, Ended}
+
+-- the packets of an answer from the reference at `next` on
+abbrev pub answer_from : Asked → List Entry → ℕ → List Pkt
+answer_from (ls_refs q) refs next = map (reference_packet q.symrefs q.peel) (shown_refs q.ref_prefixes (drop next refs)) ++ flush ∷ []
+
+-- the fault of an outcome, if it has one
+abbrev pub refusal_in : Option Outcome → Option Fault
+refusal_in (Some (Refused fault)) = Some fault
+refusal_in _ = None
+
+module _ {A : Type 0} where
+  -- the server waits for bytes
+  abbrev pub reads_in : Phase A → Bool
+  reads_in Between = true
+  reads_in Within = true
+  reads_in _ = false
+
+  -- a packet waits to be pulled
+  abbrev pub owes_in : Phase A → Bool
+  owes_in (Greeting line) = true
+  owes_in (Answering request next) = true
+  owes_in (Refusing fault) = true
+  owes_in _ = false
+
+  -- the outcome, once there is one
+  abbrev pub outcome_in : Phase A → Option Outcome
+  outcome_in (Refusing fault) = Some (Refused fault)
+  outcome_in (Ended outcome) = Some outcome
+  outcome_in _ = None
+
+  -- the packets that wait to be pulled
+  abbrev pub owed_in : Offer → List Entry → Phase A → List Pkt
+  owed_in offer refs (Greeting line) = greetings_from offer line
+  owed_in offer refs (Answering request next) = answer_from (asked_of request) refs next
+  owed_in offer refs (Refusing fault) = error_packet fault ∷ []
+  owed_in offer refs _ = []
+
+  -- of a request that is not whole, whether some packets came
+  abbrev pub LeftIn : Phase A → List Given → Type 0
+  LeftIn Within left = left ≢ []
+  LeftIn _ left = left ≡ []
+
+  -- an error packet ends the session at once; any other fault is told to the other end
+  abbrev pub refused_by : Kind → Fault → Phase A
+  refused_by RemoteError fault = Ended (Refused fault)
+  refused_by _ fault = Refusing fault
+
+  -- the phase behind a packet
+  abbrev pub phase_after : Brought A → Phase A
+  phase_after Part = Within
+  phase_after (Whole request) = Answering request 0
+  phase_after Stop = Ended Flush
+  phase_after (RefusedPacket fault) = refused_by fault.kind fault
+
+  -- the phase behind a line of the advertisement
+  abbrev pub greeting_phase : Option Line → Phase A
+  greeting_phase (Some next) = Greeting next
+  greeting_phase None = Between
+
+  -- whether a packet is owed, and what to do if none is
+  abbrev pub turn_in : Phase A → Turn
+  turn_in Between = NeedInput
+  turn_in Within = NeedInput
+  turn_in (Ended outcome) = Finished outcome
+  turn_in _ = OwesPacket

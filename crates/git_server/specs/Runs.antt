@@ -1,0 +1,62 @@
+-- What a run of a server over a reader and a writer does to their bytes.
+use Rattle.std.specs.Prelude.{◌≡◌, ℕ, Bool, true, List, [], ◌++◌, Option, Some, None}
+use Rattle.std.specs.Io.KnownBytes.{Appends, Consumes}
+use Rattle.git_pkt.specs.Engine.{Exchanges}
+use Rattle.git_pkt.specs.declared.fault.RunFault.{RunFault}
+use Rattle.git_pkt.specs.declared.fault.RunFault.TheVariants.{ReadFault, WriteFault, ReadLimit, Refused}
+use Rattle.git_server.specs.Repository.{Repository}
+use Rattle.git_server.specs.Sessions.{Setting, IsAnswered, IsSession}
+use Rattle.git_server.specs.Serving.{outcome_of, wants_input}
+use Rattle.git_server.specs.Moves.{EndsAs, Goes}
+use Rattle.git_server.specs.declared.outcome.Outcome.{Outcome}
+use Rattle.git_server.specs.declared.server.Server.{Server}
+
+module _ {R A : Type 0} (answers : R → Repository) (bytes : List ℕ) (held_before held_after : Option (List ℕ)) (old new : Server R A) where
+  -- all the bytes were used, and what was given for them so far was written
+  pub record WritesOn : Type 0 where
+    pub given : List ℕ
+    pub written : Appends held_before held_after given
+    pub goes : Goes answers bytes given old new
+
+  -- all the bytes were used, and all that was given for them was written
+  pub record WritesAll : Type 0 where
+    pub given : List ℕ
+    pub written : Appends held_before held_after given
+    pub goes : Goes answers bytes given old new
+    pub wants : wants_input new ≡ true
+
+  -- a front of the bytes was used, the session ended so, and all that was given was written
+  pub record WritesItsEnd (outcome : Outcome) : Type 0 where
+    pub used : List ℕ
+    pub unused : List ℕ
+    pub given : List ℕ
+    pub parts : bytes ≡ used ++ unused
+    pub written : Appends held_before held_after given
+    pub goes : Goes answers used given old new
+    pub ends : outcome_of new ≡ Some outcome
+    pub session : EndsAs answers new outcome
+
+  -- what was written, where the session goes on or ended
+  abbrev pub WritesFor : Option Outcome → Type 0
+  WritesFor None = WritesAll
+  WritesFor (Some outcome) = WritesItsEnd outcome
+
+-- a whole run: of what was read a front was used, and just what the session gives for it was written. Where the session
+-- ended with the input, all was used, and the reader told its end.
+pub record IsRun (s : Setting) (left_before left_after held_before held_after : Option (List ℕ)) (ended : Bool) (outcome : Outcome) : Type 0 where
+  pub used : List ℕ
+  pub unused : List ℕ
+  pub over : Bool
+  pub given : List ℕ
+  pub read : Consumes left_before left_after (used ++ unused)
+  pub written : Appends held_before held_after given
+  pub session : IsSession s used over given outcome
+  pub whole : over ≡ true → (unused ≡ []) × (ended ≡ true)
+
+-- a run that a fault ended: all that was read was used, and the advertisement and each answer were written whole. After
+-- a failing write nothing is said.
+abbrev pub RunsUntil : Setting → Option (List ℕ) → Option (List ℕ) → Option (List ℕ) → Option (List ℕ) → RunFault → Type 0
+RunsUntil s left_before left_after held_before held_after ReadFault = Exchanges (IsAnswered s) left_before left_after held_before held_after
+RunsUntil s left_before left_after held_before held_after WriteFault = Unit {0}
+RunsUntil s left_before left_after held_before held_after ReadLimit = Exchanges (IsAnswered s) left_before left_after held_before held_after
+RunsUntil s left_before left_after held_before held_after (Refused fault) = ⊥

@@ -1,0 +1,65 @@
+-- What a server stands for: the bytes that it used, and those that it gave.
+use Rattle.std.specs.Prelude.{◌≡◌, ℕ, Bool, Option, Some, None, List, []}
+use Rattle.git_pkt.specs.Packets.{Pkt}
+use Rattle.git_pkt.specs.Splits.{Given}
+use Rattle.git_pkt.specs.Reading.{Reads, fault_of}
+use Rattle.git_msg.specs.Asked.{Asked}
+use Rattle.git_msg.specs.Taking.{Takes, offer_of, limit_in}
+use Rattle.git_server.specs.Repository.{Repository}
+use Rattle.git_server.specs.Answers.{spelled}
+use Rattle.git_server.specs.Sessions.{Setting, Cuts, IsSent, IsEnding}
+use Rattle.git_server.specs.Phases.{LeftIn, outcome_in, owed_in, reads_in}
+use Rattle.git_server.specs.declared.outcome.Outcome.{Outcome}
+use Rattle.git_msg.specs.declared.offers.Offer.{Offer}
+use Rattle.git_server.specs.declared.server.Phase.{Phase}
+use Rattle.git_server.specs.declared.server.Server.{Server}
+
+module _ {R A : Type 0} where
+  -- the repository that the server answers from
+  abbrev pub repo_of : Server R A → R
+  repo_of server = server.repo
+
+  -- the server waits for bytes
+  abbrev pub wants_input : Server R A → Bool
+  wants_input server = reads_in server.phase
+
+  -- the outcome, once there is one
+  abbrev pub outcome_of : Server R A → Option Outcome
+  outcome_of server = outcome_in server.phase
+
+  -- the session goes on: the bytes were read, and what is owed was asked for or is the advertisement
+  pub record Serves (s : Setting) (used given : List ℕ) (server : Server R A) : Type 0 where
+    pub asked : List Asked
+    pub packets : List Given
+    pub left : List Given
+    pub rest : List ℕ
+    pub sent : List Pkt
+    pub reads : Reads server.reader 0 used packets rest
+    pub no_fault : fault_of server.reader ≡ None
+    pub cuts : Cuts s packets asked left
+    pub takes : Takes left server.requests
+    pub left_is : LeftIn server.phase left
+    pub is_sent : IsSent s asked sent (owed_in server.offer s.repo.refs server.phase)
+    pub given_is : given ≡ spelled sent
+
+  abbrev pub StandsBy : Option Outcome → Setting → List ℕ → Bool → List ℕ → Server R A → Type 0
+  StandsBy None s used over given server = Serves s used given server
+  StandsBy (Some outcome) s used over given server = IsEnding s used over given outcome (owed_in server.offer s.repo.refs server.phase)
+
+  -- the server has used these bytes, and `over` if the input ended with them, and has given those
+  pub record Running (answers : R → Repository) (s : Setting) (used : List ℕ) (over : Bool) (given : List ℕ) (server : Server R A) : Type 0 where
+    pub offer : server.offer ≡ s.offer
+    pub reads_for : offer_of server.requests ≡ s.offer
+    pub limit : limit_in server.requests ≡ s.limit
+    pub repo : answers server.repo ≡ s.repo
+    pub stands : StandsBy (outcome_of server) s used over given server
+
+  -- nothing was used or given yet
+  pub record Begins (repo : R) (offer : Offer) (limit : ℕ) (phase : Phase A) (server : Server R A) : Type 0 where
+    pub repo_is : server.repo ≡ repo
+    pub offer_is : server.offer ≡ offer
+    pub phase_is : server.phase ≡ phase
+    pub reads : Reads server.reader 0 [] [] []
+    pub takes : Takes [] server.requests
+    pub reads_for : offer_of server.requests ≡ offer
+    pub limit_is : limit_in server.requests ≡ limit

@@ -1,0 +1,160 @@
+-- Sessions: what a server gives for the bytes that it used. No machine is spoken of.
+use Rattle.std.specs.Prelude.{◌≡◌, ◌≢◌, ◌⊎◌, ℕ, ◌+◌, ◌-◌, Bool, true, if◌then◌else◌, List, [], ◌∷◌, ◌++◌, length}
+use Rattle.git_pkt.specs.Packets.{Pkt}
+use Rattle.git_pkt.specs.Splits.{Given, Splits}
+use Rattle.git_pkt.specs.Faults.{IsOpen, StopsBy}
+use Rattle.git_pkt.specs.declared.fault.Fault.{Fault}
+use Rattle.git_pkt.specs.declared.fault.Kind.TheVariants.{Truncated}
+use Rattle.git_msg.specs.declared.offers.Offer.{Offer}
+use Rattle.git_msg.specs.Asked.{Asked}
+use Rattle.git_msg.specs.Lines.{Line}
+use Rattle.git_msg.specs.Requests.{AreLines, Asks, IsStop}
+use Rattle.git_msg.specs.Taking.{IsTold}
+use Rattle.git_server.specs.Repository.{Repository}
+use Rattle.git_server.specs.Answers.{spelled, advertisement_of, IsAnswer, tail_of}
+use Rattle.git_server.specs.declared.outcome.Outcome.{Outcome}
+use Rattle.git_server.specs.declared.outcome.Outcome.TheVariants.{Flush, Closed, Refused}
+
+-- what a session rests on: the offer, how many bytes of arguments a request may have, whether the offer is
+-- advertised first, and the repository
+pub record Setting : Type 0 where
+  pub offer : Offer
+  pub limit : ℕ
+  pub advertise : Bool
+  pub repo : Repository
+
+-- what is given before the first answer
+abbrev pub advertised : Setting → List Pkt
+advertised s = if s.advertise then advertisement_of s.offer else []
+
+-- the packets are whole requests, which ask for these, and then what is left
+abbrev pub Cuts : Setting → List Given → List Asked → List Given → Type 0
+Cuts s packets [] left = packets ≡ left
+Cuts s packets (q ∷ qs) left =
+    (front : List Given) × (more : List Given) × (kept : ℕ) × (packets ≡ front ++ more) × Asks s.offer s.limit front q kept × Cuts s more qs left
+
+-- the packets are an answer to each request, in their order
+abbrev pub AreAnswers : Repository → List Asked → List Pkt → Type 0
+AreAnswers repo [] packets = packets ≡ []
+AreAnswers repo (q ∷ qs) packets =
+    (answer : List Pkt) × (more : List Pkt) × (packets ≡ answer ++ more) × IsAnswer repo q answer × AreAnswers repo qs more
+
+-- the bytes are whole requests, further packets, and a rest that no packet begins
+pub record Stream (s : Setting) (used : List ℕ) (asked : List Asked) (left : List Given) (rest : List ℕ) : Type 0 where
+  pub packets : List Given
+  pub splits : Splits 0 used packets rest
+  pub cuts : Cuts s packets asked left
+
+-- the packets begin a request, and none of them is refused
+pub record Begins (s : Setting) (left : List Given) : Type 0 where
+  pub lines : List Line
+  pub taken : AreLines s.offer s.limit [] left lines
+
+-- one of the packets is refused, or memory ran out while its argument was kept; of those before the last none is
+-- refused, and no byte stands behind the last
+pub record IsRefusedAtPacket (s : Setting) (left : List Given) (rest : List ℕ) (fault : Fault) : Type 0 where
+  pub front : List Given
+  pub last : Given
+  pub whole : left ≡ front ++ last ∷ []
+  pub begins : Begins s front
+  pub told : IsTold s.offer s.limit left fault
+  pub no_rest : rest ≡ []
+
+-- the bytes behind the packets, of which none is refused, are no packet's
+pub record IsRefusedAtByte (s : Setting) (left : List Given) (rest : List ℕ) (end : ℕ) (fault : Fault) : Type 0 where
+  pub begins : Begins s left
+  pub stops : StopsBy (end - length rest) rest end fault.kind fault.offset
+  pub not_the_end : fault.kind ≢ Truncated
+
+-- the input ended inside a request, which was not refused so far; told at the end of the last whole packet
+pub record IsCutShort (s : Setting) (over : Bool) (left : List Given) (rest : List ℕ) (end : ℕ) (fault : Fault) : Type 0 where
+  pub ended : over ≡ true
+  pub begins : Begins s left
+  pub unrefused : IsOpen rest
+  pub inside : (left ≢ []) ⊎ (rest ≢ [])
+  pub name : fault.kind ≡ Truncated
+  pub at : fault.offset + length rest ≡ end
+
+abbrev pub IsRefused : Setting → Bool → List Given → List ℕ → ℕ → Fault → Type 0
+IsRefused s over left rest end fault =
+    IsRefusedAtPacket s left rest fault ⊎ (IsRefusedAtByte s left rest end fault ⊎ IsCutShort s over left rest end fault)
+
+-- a session ends so, where this is left behind the whole requests and `end` bytes were used
+abbrev pub EndsBy : Setting → Bool → List Given → List ℕ → ℕ → Outcome → Type 0
+EndsBy s over left rest end Flush = IsStop left × (rest ≡ [])
+EndsBy s over left rest end Closed = (over ≡ true) × (left ≡ []) × (rest ≡ [])
+EndsBy s over left rest end (Refused fault) = IsRefused s over left rest end fault
+
+-- the session ended so: for the bytes used, and `over` where the input ended with them, just these were given
+pub record IsSession (s : Setting) (used : List ℕ) (over : Bool) (given : List ℕ) (outcome : Outcome) : Type 0 where
+  pub asked : List Asked
+  pub left : List Given
+  pub rest : List ℕ
+  pub answers : List Pkt
+  pub stream : Stream s used asked left rest
+  pub ends : EndsBy s over left rest (length used) outcome
+  pub answered : AreAnswers s.repo asked answers
+  pub given_is : given ≡ spelled (advertised s ++ answers ++ tail_of outcome)
+
+-- no request has come, and of the advertisement this was sent, and that is owed
+pub record IsOpening (s : Setting) (asked : List Asked) (sent owed : List Pkt) : Type 0 where
+  pub none : asked ≡ []
+  pub parts : sent ++ owed ≡ advertised s
+
+-- all requests but the last were answered, and of the last one's answer this was sent, and that is owed
+pub record IsAnswering (s : Setting) (asked : List Asked) (sent owed : List Pkt) : Type 0 where
+  pub earlier : List Asked
+  pub last : Asked
+  pub answers : List Pkt
+  pub front : List Pkt
+  pub whole : asked ≡ earlier ++ last ∷ []
+  pub answered : AreAnswers s.repo earlier answers
+  pub answer : IsAnswer s.repo last (front ++ owed)
+  pub sent_is : sent ≡ advertised s ++ answers ++ front
+
+-- what was sent, in whole packets, and what is owed for these requests: all but a part of the last message was sent
+abbrev pub IsSent : Setting → List Asked → List Pkt → List Pkt → Type 0
+IsSent s asked sent owed = IsOpening s asked sent owed ⊎ IsAnswering s asked sent owed
+
+-- the session goes on: nothing is refused and nobody has left
+pub record GoesOn (s : Setting) (used given : List ℕ) : Type 0 where
+  pub asked : List Asked
+  pub left : List Given
+  pub rest : List ℕ
+  pub sent : List Pkt
+  pub owed : List Pkt
+  pub stream : Stream s used asked left rest
+  pub begins : Begins s left
+  pub unrefused : IsOpen rest
+  pub is_sent : IsSent s asked sent owed
+  pub given_is : given ≡ spelled sent
+
+-- the session ends so, and all was given but a part of what is written at its end
+pub record IsEnding (s : Setting) (used : List ℕ) (over : Bool) (given : List ℕ) (outcome : Outcome) (owed : List Pkt) : Type 0 where
+  pub asked : List Asked
+  pub left : List Given
+  pub rest : List ℕ
+  pub answers : List Pkt
+  pub sent : List Pkt
+  pub stream : Stream s used asked left rest
+  pub ends : EndsBy s over left rest (length used) outcome
+  pub answered : AreAnswers s.repo asked answers
+  pub parts : tail_of outcome ≡ sent ++ owed
+  pub given_is : given ≡ spelled (advertised s ++ answers ++ sent)
+
+-- what stands at every moment between the bytes used and those given
+abbrev pub IsRunning : Setting → List ℕ → Bool → List ℕ → Type 0
+IsRunning s used over given =
+    GoesOn s used given ⊎ ((outcome : Outcome) × (owed : List Pkt) × IsEnding s used over given outcome owed)
+
+-- the session goes on, and the advertisement and each answer were given whole
+pub record IsAnswered (s : Setting) (used given : List ℕ) : Type 0 where
+  pub asked : List Asked
+  pub left : List Given
+  pub rest : List ℕ
+  pub answers : List Pkt
+  pub stream : Stream s used asked left rest
+  pub begins : Begins s left
+  pub unrefused : IsOpen rest
+  pub answered : AreAnswers s.repo asked answers
+  pub given_is : given ≡ spelled (advertised s ++ answers)

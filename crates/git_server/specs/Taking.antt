@@ -1,0 +1,33 @@
+-- What a packet brings to a reader of requests that keeps each argument at once.
+use Rattle.std.specs.Prelude.{◌≡◌, Bool, true, false, None, List, [], ◌∷◌, ◌++◌}
+use Rattle.git_pkt.specs.Splits.{Given}
+use Rattle.git_msg.specs.declared.reader.RequestReader.{RequestReader}
+use Rattle.git_msg.specs.Holding.{asked_of, kept_of}
+use Rattle.git_msg.specs.Requests.{Asks, IsStop}
+use Rattle.git_msg.specs.Taking.{Takes, IsTold, offer_of, limit_in, fault_of, is_waiting}
+use Rattle.git_server.specs.declared.requests.Brought.{Brought}
+use Rattle.git_server.specs.declared.requests.Brought.TheVariants.{Part, Whole, Stop, Refused}
+
+module _ {A : Type 0} where
+  -- what was brought, where the reader stood behind these packets
+  abbrev pub IsBrought : List Given → Brought A → RequestReader A → Type 0
+  IsBrought packets Part new = Takes packets new
+  IsBrought packets (Whole request) new =
+      Takes [] new × Asks (offer_of new) (limit_in new) packets (asked_of request) (kept_of request)
+  IsBrought packets Stop new = IsStop packets
+  IsBrought packets (Refused fault) new = IsTold (offer_of new) (limit_in new) packets fault
+
+  -- the session goes on
+  abbrev pub goes_on : Brought A → Bool
+  goes_on Part = true
+  goes_on (Whole request) = true
+  goes_on Stop = false
+  goes_on (Refused fault) = false
+
+  -- what a packet does
+  pub record Brings (old : RequestReader A) (g : Given) (brought : Brought A) (new : RequestReader A) : Type 0 where
+    pub brings : (packets : List Given) → Takes packets old → IsBrought (packets ++ g ∷ []) brought new
+    pub sound : goes_on brought ≡ true → fault_of new ≡ None
+    pub ready : goes_on brought ≡ true → is_waiting new ≡ false
+    pub offer : offer_of new ≡ offer_of old
+    pub limit : limit_in new ≡ limit_in old

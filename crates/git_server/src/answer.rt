@@ -1,0 +1,92 @@
+//! Answers to requests, a packet at a time.
+
+ghost use Rattle.std.specs.Prelude.{◌≡◌, ℕ, List, Some, None, false, if◌then◌else◌};
+ghost use Rattle.std.specs.Option.{option_copied};
+ghost use Rattle.git_names.specs.RefName.{IsRefName};
+ghost use Rattle.git_pkt.specs.Reading.{is_open};
+ghost use Rattle.git_msg.specs.Asked.{peel_of, symrefs_of};
+ghost use Rattle.git_msg.specs.Holding.{asked_of};
+ghost use Rattle.git_msg.specs.References.{IsWritable, shown_reference};
+ghost use Rattle.git_server.specs.Answering.{AnswersOne};
+ghost use Rattle.git_server.specs.Answers.{reference_packet, shown_line};
+ghost use Rattle.git_server.specs.Writing.{Writes};
+ghost use Rattle.git_server.specs.Repository.{HasOneFormat};
+
+use crate::entry::RefEntry;
+use crate::packets::write_packet;
+use crate::repo::Repo;
+use crate::shown::next_shown;
+use git_msg::{Reference, Request, put_reference};
+use git_names::Oid;
+use git_pkt::{Packet, PacketReader};
+use std::alloc::Allocator;
+
+/// Writes the next packet of the answer, from the reference at `next` on, into the reader's hold, and says where the
+/// packet behind it begins. There is none behind the flush that ends the answer.
+pub(crate) fn answer_one<R: Repo, A: Allocator + Copy>(
+    repo: &R,
+    request: &Request<A>,
+    next: usize,
+    reader: &mut PacketReader,
+) -> Option<usize>
+    requires { is_open reader.old ≡ false }
+    ensures { AnswersOne (asked_of request.now) (R.answers repo.now).refs next reader.old result reader.new }
+{
+    let refs = repo.refs();
+    match next_shown(refs, request, next) {
+        Some(at) => {
+            write_entry(reader, &refs[at], request);
+            Some(at + 1)
+        }
+        None => {
+            write_packet(reader, Packet::Flush);
+            None
+        }
+    }
+}
+
+// Makes the hold the line of a reference.
+fn write_entry<A: Allocator + Copy>(
+    reader: &mut PacketReader,
+    entry: &RefEntry,
+    request: &Request<A>,
+)
+    requires between { is_open reader.old ≡ false }
+    requires format { HasOneFormat entry.now }
+    ensures { Writes reader.old (reference_packet (symrefs_of (asked_of request.now)) (peel_of (asked_of request.now)) entry.now) reader.new }
+{
+    put_reference(reader.lend(), shown(entry, request));
+}
+
+// What the request asks for of a reference.
+fn shown<'a, A: Allocator + Copy>(entry: &'a RefEntry, request: &Request<A>) -> Reference<'a>
+    requires { HasOneFormat entry.now }
+    ensures shown { shown_reference result ≡ shown_line (symrefs_of (asked_of request.now)) (peel_of (asked_of request.now)) entry.now }
+    ensures writable { IsWritable (shown_reference result) }
+{
+    Reference {
+        id: entry.id(),
+        name: entry.name(),
+        target: shown_target(entry, request.symrefs()),
+        peeled: shown_peeled(entry, request.peel()),
+    }
+}
+
+fn shown_target(entry: &RefEntry, symrefs: bool) -> Option<&[u8]>
+    ensures value { option_copied result ≡ (if symrefs then entry.now.target else None) }
+    ensures name { (name : List ℕ) → option_copied result ≡ Some name → IsRefName name }
+{
+    if !symrefs {
+        return None;
+    }
+    entry.target()
+}
+
+fn shown_peeled(entry: &RefEntry, peel: bool) -> Option<Oid>
+    ensures { result ≡ (if peel then entry.now.peeled else None) }
+{
+    if !peel {
+        return None;
+    }
+    entry.peeled()
+}

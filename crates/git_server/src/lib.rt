@@ -1,0 +1,24 @@
+//! The server's end of Git's wire protocol version 2: a repository as the protocol sees it, and the
+//! machine that reads requests and gives answers.
+#![tactic(auto)]
+
+mod answer;
+mod entry;
+mod greeting;
+pub mod laws;
+mod list_repo;
+mod outcome;
+mod packets;
+mod refusal;
+mod repo;
+mod requests;
+mod run;
+mod server;
+mod shown;
+
+pub use entry::RefEntry;
+pub use list_repo::{ListRepo, RepoFault};
+pub use outcome::Outcome;
+pub use repo::Repo;
+pub use run::serve;
+pub use server::{Pulled, Server};

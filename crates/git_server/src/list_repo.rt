@@ -1,0 +1,206 @@
+//! A repository that is a few lists: of references, of objects, of shallow boundaries, and one pack.
+
+ghost use Rattle.std.specs.Prelude.{◌≡◌, ◌≢◌, ◌<◌, ◌↔◌, IsTrue, MatchOption, MatchResult, All, length};
+ghost use Rattle.std.specs.List.{HoldsAt};
+ghost use Rattle.std.specs.Ordering.{nat_cmp};
+ghost use Rattle.std.specs.Cmp.Lexicographic.{slice_cmp};
+ghost use Rattle.git_server.specs.Objects.{object_of, precedes, AreRising};
+ghost use Rattle.git_server.specs.Repository.{IsFound, IsOfFormat, IsRising, comes_before};
+
+use crate::entry::RefEntry;
+use crate::repo::Repo;
+use git_msg::Boundary;
+use git_names::{Format, Oid};
+use std::cmp::Ordering;
+use std::error::Error;
+use std::fmt;
+
+/// Why lists make no repository.
+#[derive(Clone, Copy, Debug, PartialEq, Eq, Hash)]
+pub enum RepoFault {
+    /// The references do not rise strictly by the bytes of their names.
+    UnsortedRefs,
+    /// The objects do not rise strictly by their names.
+    UnsortedObjects,
+    /// An object name is not of the repository's format.
+    MixedFormats,
+}
+
+impl fmt::Display for RepoFault {
+    fn fmt<W: fmt::Write>(&self, f: &mut fmt::Formatter<W>) -> fmt::Result {
+        f.write_str(match self {
+            RepoFault::UnsortedRefs => "UnsortedRefs",
+            RepoFault::UnsortedObjects => "UnsortedObjects",
+            RepoFault::MixedFormats => "MixedFormats",
+        })
+    }
+}
+
+impl Error for RepoFault {}
+
+/// A repository that is a few lists, kept in memory.
+#[derive(Drop)]
+pub struct ListRepo {
+    format: Format,
+    refs: Vec<RefEntry>,
+    objects: Vec<(Oid, u64)>,
+    ready_after: Option<u32>,
+    boundaries: Vec<Boundary>,
+    pack: Vec<u8>,
+    ghost rising: { IsRising refs.items },
+    ghost of_format: { All (IsOfFormat format) refs.items },
+}
+
+impl ListRepo {
+    ghost use Rattle.git_server.specs.Lists.{IsRepository, IsUnfit, Lists};
+    ghost use Rattle.git_server.specs.ListRepo.{lists_of};
+
+    /// The repository with these references, these objects with their sizes in bytes, this shallow boundary and
+    /// this pack for each request. It is ready to send a pack after so many common objects, or never.
+    ///
+    /// The references have to rise strictly by their names (`UnsortedRefs`), the objects by theirs
+    /// (`UnsortedObjects`), and all object names are of the format (`MixedFormats`).
+    pub fn new(
+        format: Format,
+        refs: Vec<RefEntry>,
+        objects: Vec<(Oid, u64)>,
+        ready_after: Option<u32>,
+        boundaries: Vec<Boundary>,
+        pack: Vec<u8>,
+    ) -> Result<ListRepo, RepoFault>
+        ensures { let lists : Lists = record {
+          format = format;
+          refs = refs.items;
+          objects = objects.items;
+          ready_after = ready_after;
+          boundaries = boundaries.items;
+          pack = pack.items;
+        } in
+            MatchResult result (λ repo. (lists_of repo ≡ lists) × IsRepository lists) (λ fault. IsUnfit fault lists) }
+    {
+        if !are_sorted_refs(&refs) {
+            return Err(RepoFault::UnsortedRefs);
+        }
+        if !are_sorted_objects(&objects) {
+            return Err(RepoFault::UnsortedObjects);
+        }
+        if !are_refs_of(format, &refs)
+            || !are_objects_of(format, &objects)
+            || !are_boundaries_of(format, &boundaries)
+        {
+            return Err(RepoFault::MixedFormats);
+        }
+        Ok(ListRepo {
+            format,
+            refs,
+            objects,
+            ready_after,
+            boundaries,
+            pack,
+        })
+    }
+}
+
+impl Repo for ListRepo {
+    ghost use Rattle.git_server.specs.ListRepo.{repository_of};
+
+    ghost answers = { repository_of };
+
+    ghost sound = { λ repo. record { rising = repo.rising; of_format = repo.of_format } };
+
+    fn format(&self) -> Format {
+        self.format
+    }
+
+    fn refs(&self) -> &[RefEntry] {
+        &self.refs
+    }
+
+    fn find(&self, name: &[u8]) -> Option<Oid> {
+        let at = find_name(&self.refs, name)?;
+        Some(self.refs[at].id())
+    }
+}
+
+fn are_sorted_refs(refs: &[RefEntry]) -> bool
+    ensures { IsTrue result ↔ IsRising refs.now }
+{
+    refs.is_sorted_by(
+        |a: &RefEntry, b: &RefEntry| -> bool
+            ensures { result ≡ comes_before a.now.name b.now.name }
+        { a.name().cmp(b.name()).is_lt() },
+    )
+}
+
+fn are_sorted_objects(objects: &[(Oid, u64)]) -> bool
+    ensures { IsTrue result ↔ AreRising objects.now }
+{
+    objects.is_sorted_by(
+        |a: &(Oid, u64), b: &(Oid, u64)| -> bool
+            ensures { result ≡ precedes a.now.0 b.now.0 }
+        { a.0.cmp(&b.0).is_lt() },
+    )
+}
+
+fn are_refs_of(format: Format, refs: &[RefEntry]) -> bool
+    ensures { IsTrue result ↔ All (IsOfFormat format) refs.now }
+{
+    for entry in refs {
+        if !is_entry_of(format, entry) {
+            return false;
+        }
+    }
+    true
+}
+
+fn is_entry_of(format: Format, entry: &RefEntry) -> bool
+    ensures { IsTrue result ↔ IsOfFormat format entry.now }
+{
+    if entry.id().format() != format {
+        return false;
+    }
+    match entry.peeled() {
+        Some(peeled) => peeled.format() == format,
+        None => true,
+    }
+}
+
+fn are_objects_of(format: Format, objects: &[(Oid, u64)]) -> bool
+    ensures { IsTrue result ↔ All (λ object. object.0.format ≡ format) objects.now }
+{
+    for (id, _) in objects {
+        if id.format() != format {
+            return false;
+        }
+    }
+    true
+}
+
+fn are_boundaries_of(format: Format, boundaries: &[Boundary]) -> bool
+    ensures { IsTrue result ↔ All (λ boundary. (object_of boundary).format ≡ format) boundaries.now }
+{
+    for boundary in boundaries {
+        let (Boundary::Shallow(id) | Boundary::Unshallow(id)) = boundary;
+        if id.format() != format {
+            return false;
+        }
+    }
+    true
+}
+
+// Where the reference of this name stands.
+fn find_name(refs: &[RefEntry], name: &[u8]) -> Option<usize>
+    requires { IsRising refs.now }
+    ensures { MatchOption result (All (λ entry. entry.name ≢ name.now) refs.now)
+        (λ at. (at < length refs.now) × HoldsAt (λ entry. entry.name ≡ name.now) refs.now at) }
+{
+    let searched = refs.binary_search_by(
+        |entry: &RefEntry| -> Ordering
+            ensures { result ≡ slice_cmp nat_cmp entry.now.name name.entry.now }
+        { entry.name().cmp(name) },
+    );
+    match searched {
+        Ok(at) => Some(at),
+        Err(_) => None,
+    }
+}

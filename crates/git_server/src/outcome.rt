@@ -1,0 +1,14 @@
+//! How sessions end.
+
+use git_pkt::Fault;
+
+/// How a session ended.
+#[derive(Clone, Copy, Debug, PartialEq, Eq)]
+pub enum Outcome {
+    /// The client left, by a flush in the place of a request.
+    Flush,
+    /// The input ended between two requests.
+    Closed,
+    /// A packet or a byte was refused, or the input ended inside a request.
+    Refused(Fault),
+}

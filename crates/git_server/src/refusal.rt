@@ -1,0 +1,41 @@
+//! The packet that tells a fault to the other end.
+
+ghost use Rattle.std.specs.Prelude.{◌≡◌, ◌+◌, ◌≤◌, ◌<◌, ◌++◌, ◌∷◌, [], codes, decimal, length, false};
+ghost use Rattle.git_pkt.specs.FaultNames.{fault_text};
+
+use arrayvec::ArrayVec;
+use git_pkt::Fault;
+
+/// The payload of an error packet, gitprotocol-pack(5), that tells this fault by its name and offset.
+pub(crate) fn error_line(fault: Fault) -> ArrayVec<u8, 64>
+    ensures { result.items ≡ codes "ERR " ++ fault_text fault ++ 10 ∷ [] }
+{
+    let mut line = ArrayVec::new();
+    append(&mut line, b"ERR ");
+    append(&mut line, fault.kind.name().as_bytes());
+    append(&mut line, b" at ");
+    append_decimal(&mut line, fault.offset);
+    append(&mut line, b"\n");
+    line
+}
+
+fn append(line: &mut ArrayVec<u8, 64>, bytes: &[u8])
+    requires { length line.old.items + length bytes.now ≤ 64 }
+    ensures items { line.new.items ≡ line.old.items ++ bytes.now }
+    ensures len { length line.new.items ≡ length line.old.items + length bytes.now }
+{
+    let _ = line.try_extend_from_slice(bytes);
+}
+
+fn append_decimal(line: &mut ArrayVec<u8, 64>, number: u64)
+    requires { length line.old.items + length (decimal number) ≤ 64 }
+    ensures items { line.new.items ≡ line.old.items ++ decimal number }
+    ensures len { length line.new.items ≡ length line.old.items + length (decimal number) }
+{
+    if number < 10 {
+        append(line, &[b'0' + number as u8]);
+        return;
+    }
+    append_decimal(line, number / 10);
+    append(line, &[b'0' + (number % 10) as u8]);
+}

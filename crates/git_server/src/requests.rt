@@ -1,0 +1,44 @@
+//! Requests, read packet by packet, each argument kept at once.
+
+ghost use Rattle.std.specs.Prelude.{◌≡◌, false, None};
+ghost use Rattle.git_pkt.specs.Packets.{seen};
+ghost use Rattle.git_msg.specs.Taking.{fault_of, is_waiting};
+ghost use Rattle.git_server.specs.Taking.{Brings};
+
+use git_msg::{Request, RequestReader, Taken};
+use git_pkt::{Fault, Packet};
+use std::alloc::Allocator;
+
+/// What a packet brought.
+#[derive(Drop)]
+pub(crate) enum Brought<A: Allocator + Copy> {
+    /// A part of a request.
+    Part,
+    /// The end of a whole request.
+    Whole(Request<A>),
+    /// The client leaves.
+    Stop,
+    Refused(Fault),
+}
+
+/// Takes a packet of a request, and keeps its argument, if it is one.
+pub(crate) fn take_packet<A: Allocator + Copy>(
+    requests: &mut RequestReader<A>,
+    packet: Packet<'_>,
+    offset: u64,
+) -> Brought<A>
+    requires sound { fault_of requests.old ≡ None }
+    requires ready { is_waiting requests.old ≡ false }
+    ensures { Brings requests.old (record { packet = seen packet.entry; offset = offset }) result requests.new }
+{
+    match requests.take(packet, offset) {
+        Ok(Taken::More) => Brought::Part,
+        Ok(Taken::Argument(argument)) => match requests.keep(argument) {
+            Ok(()) => Brought::Part,
+            Err(fault) => Brought::Refused(fault),
+        },
+        Ok(Taken::Request(request)) => Brought::Whole(request),
+        Ok(Taken::Stop) => Brought::Stop,
+        Err(fault) => Brought::Refused(fault),
+    }
+}

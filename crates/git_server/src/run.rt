@@ -1,0 +1,119 @@
+//! A server run over a reader and a writer.
+
+ghost use Rattle.std.specs.Prelude.{◌≡◌, ◌<◌, ◌≤◌, ◌||◌, [], false, true, length, IsTrue, IsSome, IfOk, IfErr, OnOk, is_err};
+ghost use Rattle.git_pkt.specs.Told.{inner_of, reads_of, has_failed, has_ended, IsNew};
+ghost use Rattle.git_pkt.specs.Engine.{IsShownBy, IsSpent};
+ghost use Rattle.git_server.specs.Runs.{IsRun, RunsUntil, WritesFor, WritesItsEnd};
+ghost use Rattle.git_server.specs.Serving.{Running, outcome_of, wants_input};
+ghost use Rattle.git_server.specs.Sessions.{Setting};
+
+use crate::outcome::Outcome;
+use crate::repo::Repo;
+use crate::server::{Pulled, Server};
+use git_pkt::{RunFault, Told, flush, receive, send};
+use std::alloc::Allocator;
+use std::io::{Read, Write};
+
+// Writes all that the server owes. The outcome, if the session has ended.
+fn drain<W: Write, R: Repo, A: Allocator + Copy>(
+    writer: &mut Told<W>,
+    server: &mut Server<R, A>,
+) -> Result<Option<Outcome>, RunFault>
+    ensures ok { IfOk result (WritesFor R.answers [] (W.contents (inner_of writer.old)) (W.contents (inner_of writer.new)) server.old server.new) }
+    ensures outcome { OnOk result (outcome_of server.new ≡ outcome_of server.old) }
+    ensures fault { IfErr result (λ fault. fault ≡ RunFault.WriteFault) }
+    ensures failed { has_failed writer.new ≡ (has_failed writer.old || is_err result) }
+{
+    loop {
+        match server.pull() {
+            Pulled::Packet(bytes) => send(writer, bytes)?,
+            Pulled::NeedInput => return Ok(None),
+            Pulled::Finished(outcome) => return Ok(Some(outcome)),
+        }
+    }
+}
+
+// Feeds the bytes to a server that waits for some, and writes what it gives for them. The outcome, if the session has
+// ended.
+fn serve_piece<W: Write, R: Repo, A: Allocator + Copy>(
+    writer: &mut Told<W>,
+    server: &mut Server<R, A>,
+    bytes: &[u8],
+) -> Result<Option<Outcome>, RunFault>
+    requires { wants_input server.old ≡ true }
+    ensures ok { IfOk result (WritesFor R.answers bytes.now (W.contents (inner_of writer.old)) (W.contents (inner_of writer.new)) server.old server.new) }
+    ensures fault { IfErr result (λ fault. fault ≡ RunFault.WriteFault) }
+    ensures failed { has_failed writer.new ≡ (has_failed writer.old || is_err result) }
+{
+    let mut used = 0;
+    while used < bytes.len() {
+        used += server.feed(&bytes[used..]);
+        if let Some(outcome) = drain(writer, server)? {
+            return Ok(Some(outcome));
+        }
+    }
+    Ok(None)
+}
+
+/// Runs a server that is new over a reader of requests and a writer of answers, to the session's end. The piece is where the
+/// bytes that are read go; it may not be empty. The writer is flushed before each read and at the end.
+///
+/// `ReadFault` where a read fails, `WriteFault` where a write or a flush does, and `ReadLimit` where a further read
+/// than the `turns` that are allowed would be needed. A session that a fault of the input ended is no such fault:
+/// it is the outcome `Refused`.
+pub fn serve<In: Read, W: Write, R: Repo, A: Allocator + Copy>(
+    reader: &mut Told<In>,
+    writer: &mut Told<W>,
+    piece: &mut [u8],
+    server: &mut Server<R, A>,
+    turns: u64,
+) -> Result<Outcome, RunFault>
+    requires room { 0 < length piece.old }
+    requires new_reader { IsNew reader.old }
+    requires sound_writer { has_failed writer.old ≡ false }
+
+    ensures reads { reads_of reader.new ≤ turns }
+    ensures run { IfOk result (λ outcome. (s : Setting) → Running R.answers s [] false [] server.old
+        → IsRun s (In.remaining (inner_of reader.old)) (In.remaining (inner_of reader.new)) (W.contents (inner_of writer.old)) (W.contents (inner_of writer.new)) (has_ended reader.new) outcome) }
+    ensures until { IfErr result (λ fault. (s : Setting) → Running R.answers s [] false [] server.old
+        → RunsUntil s (In.remaining (inner_of reader.old)) (In.remaining (inner_of reader.new)) (W.contents (inner_of writer.old)) (W.contents (inner_of writer.new)) fault) }
+    ensures fault { IfErr result (IsShownBy (IsTrue (has_failed reader.new)) (IsTrue (has_failed writer.new)) (IsSpent reader.new turns)) }
+{
+    if let Some(outcome) = drain(writer, server)? {
+        flush(writer)?;
+        return Ok(outcome);
+    }
+    for _ in 0..turns {
+        flush(writer)?;
+        let count = receive(reader, piece)?;
+        if count == 0 {
+            server.close();
+            let outcome = finish(writer, server)?;
+            return Ok(outcome);
+        }
+        if let Some(outcome) = serve_piece(writer, server, &piece[..count])? {
+            flush(writer)?;
+            return Ok(outcome);
+        }
+    }
+    Err(RunFault::ReadLimit)
+}
+
+// Writes what a server that has an outcome owes.
+fn finish<W: Write, R: Repo, A: Allocator + Copy>(
+    writer: &mut Told<W>,
+    server: &mut Server<R, A>,
+) -> Result<Outcome, RunFault>
+    requires { IsSome (outcome_of server.old) }
+    ensures ok { IfOk result (WritesItsEnd R.answers [] (W.contents (inner_of writer.old)) (W.contents (inner_of writer.new)) server.old server.new) }
+    ensures fault { IfErr result (λ fault. fault ≡ RunFault.WriteFault) }
+    ensures failed { has_failed writer.new ≡ (has_failed writer.old || is_err result) }
+{
+    match drain(writer, server)? {
+        Some(outcome) => {
+            flush(writer)?;
+            Ok(outcome)
+        }
+        None => unreachable!(),
+    }
+}

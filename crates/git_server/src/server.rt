@@ -1,0 +1,290 @@
+//! The server's end of a conversation, as a machine that takes bytes in pieces and gives packets.
+
+ghost use Rattle.std.specs.Prelude.{◌≡◌, true, false, None};
+ghost use Rattle.git_pkt.specs.Reading.{is_open};
+ghost use Rattle.git_msg.specs.Taking.{fault_of, is_waiting};
+ghost use Rattle.git_server.specs.Phases.{greeting_phase, outcome_in, owes_in, phase_after, refusal_in, refused_by, turn_in};
+
+use crate::answer::answer_one;
+use crate::greeting::Greeting as Line;
+use crate::outcome::Outcome;
+use crate::packets::write_packet;
+use crate::refusal::error_line;
+use crate::repo::Repo;
+use crate::requests::{Brought, take_packet};
+use git_msg::{Limits, Offer, Request, RequestReader};
+use git_pkt::{Fault, Got, Kind, Packet, PacketReader};
+use std::alloc::Allocator;
+
+/// Where a session stands.
+#[derive(Drop)]
+enum Phase<A: Allocator + Copy> {
+    // The advertisement is owed, from this line on.
+    Greeting(Line),
+    // All is given, and no packet of a further request has come.
+    Between,
+    // A request has begun.
+    Within,
+    // A whole request is answered: what is owed begins with the reference at this place.
+    Answering(Request<A>, usize),
+    // A fault is owed to the other end.
+    Refusing(Fault),
+    Ended(Outcome),
+}
+
+/// The server's end of a conversation: it reads requests and answers them from a repository, by gitprotocol-v2(5).
+#[derive(Drop)]
+pub struct Server<R, A: Allocator + Copy> {
+    reader: PacketReader,
+    requests: RequestReader<A>,
+    offer: Offer,
+    repo: R,
+    phase: Phase<A>,
+    ghost sound: { outcome_in phase ≡ None → fault_of requests ≡ None },
+    ghost ready: { outcome_in phase ≡ None → is_waiting requests ≡ false },
+    ghost between: { owes_in phase ≡ true → is_open reader ≡ false },
+}
+
+/// What is pulled from a server.
+#[derive(Clone, Copy, Debug)]
+pub enum Pulled<'a> {
+    /// The bytes of one whole packet, to be sent to the client.
+    Packet(&'a [u8]),
+    /// Nothing, until more bytes are fed or the input is closed.
+    NeedInput,
+    /// The session ended so, and all is given.
+    Finished(Outcome),
+}
+
+// What the next turn of a session brings.
+#[derive(Clone, Copy, Debug)]
+enum Turn {
+    Packet,
+    NeedInput,
+    Finished(Outcome),
+}
+
+impl<R: Repo, A: Allocator + Copy> Server<R, A> {
+    ghost use Rattle.std.specs.Prelude.{◌≤◌, ◌<◌, ◌⊎◌, ◌↔◌, [], length, take, IsTrue, IsSome};
+    ghost use Rattle.std.specs.Borrow.{sem};
+    ghost use Rattle.std.specs.Io.BufRead.{Rests};
+    ghost use Rattle.git_server.specs.contracts.server.Server.{the_row};
+    ghost use Rattle.git_server.specs.Sessions.{Setting};
+    ghost use Rattle.git_server.specs.Serving.{Begins, Running, repo_of, wants_input, outcome_of};
+    ghost use Rattle.git_server.specs.Moves.{Closes, Gives, Goes, Pulls, owed_by};
+    ghost use Rattle.git_pkt.specs.Reading.{held_of};
+
+    /// A server at the beginning of a session over this repository. It keeps at most `limits` of a request's
+    /// arguments, in memory from `alloc`, and gives the advertisement of the offer first where `advertise` is set.
+    pub fn new(alloc: A, repo: R, offer: Offer, limits: Limits, advertise: bool) -> Server<R, A>
+        requires format { offer.format ≡ (R.answers repo).format }
+        requires no_object_info { offer.object_info ≡ false }
+        ensures running { Running R.answers (record { offer = offer; limit = limits.args; advertise = advertise; repo = R.answers repo }) [] false [] result }
+        ensures repo { repo_of result ≡ repo }
+    {
+        if advertise {
+            return Self::begin(alloc, repo, offer, limits, Phase::Greeting(Line::Version));
+        }
+        Self::begin(alloc, repo, offer, limits, Phase::Between)
+    }
+
+    fn begin(alloc: A, repo: R, offer: Offer, limits: Limits, phase: Phase<A>) -> Server<R, A>
+        requires open_ended { outcome_in phase ≡ None }
+        ensures { Begins repo offer limits.args phase result }
+    {
+        Server {
+            reader: PacketReader::new(),
+            requests: RequestReader::new(alloc, offer, limits),
+            offer,
+            repo,
+            phase,
+        }
+    }
+
+    /// Ends the session, and gives the repository back.
+    pub fn into_repo(self) -> R
+        ensures { result ≡ repo_of self }
+    {
+        let Server { repo, .. } = self;
+        repo
+    }
+
+    /// Whether bytes are wanted: there is no outcome yet, and all that is owed was pulled.
+    pub fn wants_input(&self) -> bool
+        ensures value { result ≡ wants_input self.now }
+        ensures waits { IsTrue result ↔ ((outcome_of self.now ≡ None) × (owed_by R.answers self.now ≡ [])) }
+    {
+        match self.phase {
+            Phase::Between => true,
+            Phase::Within => true,
+            _ => false,
+        }
+    }
+
+    /// The fault that ended the session, if one did.
+    pub fn fault(&self) -> Option<Fault>
+        ensures { result ≡ refusal_in (outcome_of self.now) }
+    {
+        match self.phase {
+            Phase::Refusing(fault) => Some(fault),
+            Phase::Ended(Outcome::Refused(fault)) => Some(fault),
+            _ => None,
+        }
+    }
+
+    /// Takes bytes of the input, and says how many were used: all of them, or those up to the end of a request, a flush
+    /// in the place of one, or a fault. None is used while a packet waits to be pulled, nor after the end.
+    pub fn feed(&mut self, piece: &[u8]) -> usize
+        ensures used { result ≤ length piece.now }
+        ensures goes { Goes R.answers (take result piece.now) [] self.old self.new }
+        ensures whole { IsTrue (wants_input self.new) → result ≡ length piece.now }
+        ensures moves { wants_input self.old ≡ true → 0 < length piece.now → 0 < result ⊎ IsSome (outcome_of self.new) }
+        ensures stays { wants_input self.old ≡ false → (result ≡ 0) × (self.new ≡ self.old) }
+    {
+        let mut used = 0;
+        while used < piece.len() && self.wants_input() {
+            used += self.step(&piece[used..]);
+        }
+        used
+    }
+
+    /// Tells that the input ends here, where bytes are wanted. Between two requests the session ends well; inside one
+    /// it is refused as truncated, at the end of the last whole packet.
+    pub fn close(&mut self)
+        requires { wants_input self.old ≡ true }
+        ensures closes { Closes R.answers self.old self.new }
+        ensures ended { IsSome (outcome_of self.new) }
+    {
+        if let Err(fault) = self.reader.close() {
+            self.phase = refusal(fault);
+            return;
+        }
+        if let Phase::Between = self.phase {
+            self.phase = Phase::Ended(Outcome::Closed);
+            return;
+        }
+        self.phase = refusal(Fault {
+            kind: Kind::Truncated,
+            offset: self.reader.position(),
+        });
+    }
+
+    /// The next packet to be sent, or what to do in its place.
+    pub fn pull(&mut self) -> Pulled<'_>
+        ensures* { sem 𝓛 (Rests (the_row R.row A.row A.Allocator) self.entry (λ new. Pulls R.answers self.old result new)) }
+    {
+        match self.turn() {
+            Turn::NeedInput => Pulled::NeedInput,
+            Turn::Finished(outcome) => Pulled::Finished(outcome),
+            Turn::Packet => {
+                self.give();
+                Pulled::Packet(self.packet())
+            }
+        }
+    }
+
+    // Whether a packet is owed, and what to do if none is.
+    fn turn(&self) -> Turn
+        ensures { result ≡ turn_in self.now.phase }
+    {
+        match self.phase {
+            Phase::Between => Turn::NeedInput,
+            Phase::Within => Turn::NeedInput,
+            Phase::Ended(outcome) => Turn::Finished(outcome),
+            _ => Turn::Packet,
+        }
+    }
+
+    // The packet in the hold.
+    fn packet(&self) -> &[u8]
+        ensures { result.now ≡ held_of self.now.reader }
+    {
+        self.reader.hold().as_slice()
+    }
+
+    // Puts the next packet that is owed into the hold.
+    fn give(&mut self)
+        requires { turn_in self.old.phase ≡ Turn.Packet }
+        ensures { Gives R.answers self.old self.new }
+    {
+        match &mut self.phase {
+            Phase::Greeting(line) => {
+                let line = *line;
+                write_packet(&mut self.reader, line.packet(self.offer.format));
+                self.phase = greeting(line.next(&self.offer));
+            }
+            Phase::Answering(request, next) => {
+                match answer_one(&self.repo, request, *next, &mut self.reader) {
+                    Some(behind) => *next = behind,
+                    None => self.phase = Phase::Between,
+                }
+            }
+            Phase::Refusing(fault) => {
+                let fault = *fault;
+                write_packet(
+                    &mut self.reader,
+                    Packet::Payload(error_line(fault).as_slice()),
+                );
+                self.phase = Phase::Ended(Outcome::Refused(fault));
+            }
+            _ => unreachable!(),
+        }
+    }
+
+    // One packet, or all of the piece.
+    fn step(&mut self, piece: &[u8]) -> usize
+        requires wants { wants_input self.old ≡ true }
+        requires some { 0 < length piece.now }
+        ensures used { result ≤ length piece.now }
+        ensures goes { Goes R.answers (take result piece.now) [] self.old self.new }
+        ensures moves { 0 < result ⊎ IsSome (outcome_of self.new) }
+        ensures goes_on { wants_input self.new ≡ true → 0 < result }
+    {
+        let fed = self.reader.feed(piece);
+        let used = fed.used;
+        match fed.got {
+            Got::More => used,
+            Got::Packet(packet, offset) => {
+                let brought = take_packet(&mut self.requests, packet, offset);
+                self.phase = following(brought);
+                used
+            }
+            Got::Failed(fault) => {
+                self.phase = refusal(fault);
+                used
+            }
+        }
+    }
+}
+
+// The phase behind a packet.
+fn following<A: Allocator + Copy>(brought: Brought<A>) -> Phase<A>
+    ensures { result ≡ phase_after brought }
+{
+    match brought {
+        Brought::Part => Phase::Within,
+        Brought::Whole(request) => Phase::Answering(request, 0),
+        Brought::Stop => Phase::Ended(Outcome::Flush),
+        Brought::Refused(fault) => refusal(fault),
+    }
+}
+
+// An error packet of the other end is not answered; any other fault is told.
+fn refusal<A: Allocator + Copy>(fault: Fault) -> Phase<A>
+    ensures { result ≡ refused_by fault.kind fault }
+{
+    match fault.kind {
+        Kind::RemoteError => Phase::Ended(Outcome::Refused(fault)),
+        _ => Phase::Refusing(fault),
+    }
+}
+
+// The phase behind a line of the advertisement.
+fn greeting<A: Allocator + Copy>(next: Option<Line>) -> Phase<A>
+    ensures { result ≡ greeting_phase next }
+{
+    match next {
+        Some(line) => Phase::Greeting(line),
+        None => Phase::Between,
+    }
+}
