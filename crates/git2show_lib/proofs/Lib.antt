@@ -1,2 +1,4 @@
 pub mod Sendings
 pub mod Printing
+pub mod Transcribing
+pub mod Asking

@@ -90,7 +90,7 @@ gives_shown old new piece before held after w prints sent = record {
       };
 }
 
-timely : (k : Kind) (ended : Bool) (unused : List ℕ) → (k ≡ Truncated → ⊥) → (k ≡ StreamTooLong → 0 < length unused) → IsTimely k ended unused
+pub timely : (k : Kind) (ended : Bool) (unused : List ℕ) → (k ≡ Truncated → ⊥) → (k ≡ StreamTooLong → 0 < length unused) → IsTimely k ended unused
 timely Truncated ended unused early more = absurd (early refl)
 timely StreamTooLong ended unused early more = more refl
 timely k ended unused early more = tt

@@ -1,9 +1,26 @@
 -- How a check of two streams ends.
-use Rattle.std.specs.Prelude.{◌≡◌, ◌⊎◌, ℕ, ◌+◌, Bool, false, IsTrue}
+use Rattle.std.specs.Prelude.{◌≡◌, ◌≢◌, ◌⊎◌, ℕ, ◌+◌, ◌<◌, Bool, true, false, List, [], ◌++◌, length, take, Option, Some, None, Result, Ok, Err, IsTrue, MatchResult}
+use Rattle.std.specs.List.{flat_map}
+use Rattle.std.specs.Io.KnownBytes.{Appends, Consumes}
+use Rattle.git_names.specs.declared.object_format.Format.{Format}
 use Rattle.git_pkt.specs.declared.told.Told.{Told}
-use Rattle.git_pkt.specs.Told.{reads_of, has_failed, has_ended}
+use Rattle.git_pkt.specs.Told.{reads_of, has_failed, has_ended, AppendsFront}
+use Rattle.git_pkt.specs.Engine.{Relation, Exchanges, ExchangesFront}
+use Rattle.git_pkt.specs.Packets.{Pkt, flush, Spells, seen}
+use Rattle.git_pkt.specs.Faults.{IsOpen, StopsBy}
+use Rattle.git_pkt.specs.Reading.{Reads, ShownByFeed}
+use Rattle.git_pkt.specs.declared.packet.Packet.{Packet}
+use Rattle.git_pkt.specs.declared.reader.PacketReader.{PacketReader}
+use Rattle.git_pkt.specs.declared.fault.Fault.{Fault}
+use Rattle.git_pkt.specs.declared.fault.Kind.TheVariants.{UnexpectedPacket}
+use Rattle.git_client.specs.Events.{EventValue, turns_of}
+use Rattle.git_client.specs.Conversation.{HasEvents, FirstMalformed, GoesWell}
+use Rattle.git_client.specs.Transcript.{line_of}
+use Rattle.git_client.specs.Hearing.{HearsOn, fault_of}
+use Rattle.git_client.specs.declared.conversation.Client.{Client}
 use Rattle.git2show_lib.specs.declared.checking.CheckFault.{CheckFault}
 use Rattle.git2show_lib.specs.declared.checking.CheckFault.TheVariants.{Requests, Responses, ReadFault, WriteFault, ReadLimit}
+use Rattle.git2show_lib.specs.Showing.{IsTimely}
 
 -- what shows each fault that is no refusal: a reader failed, the writer failed, the reads of both streams are spent
 abbrev pub IsShownInCheck : {Q A : Type 0} → Told Q → Told A → Bool → ℕ → CheckFault → Type 0
@@ -37,3 +54,165 @@ IsShownInRequests requests turns (Responses f) = ⊥
 IsShownInRequests requests turns ReadFault = IsTrue (has_failed requests)
 IsShownInRequests requests turns WriteFault = ⊥
 IsShownInRequests requests turns ReadLimit = (reads_of requests ≡ turns) × (has_ended requests ≡ false)
+
+-- the transcript of events: a line for each
+abbrev pub transcript_of : List EventValue → List ℕ
+transcript_of events = flat_map (λ (e : EventValue). line_of e 0 0) events
+
+-- the responses are refused for their first fault: truncated only where they have ended, too long only where one more byte was read
+pub record IsMalformed (format : Format) (ended : Bool) (used unused : List ℕ) (f : Fault) : Type 0 where
+  pub first : FirstMalformed format used f
+  pub timely : IsTimely f.kind ended unused
+
+-- the advertisement is whole, and more was read behind it
+pub record IsLeftOver (used unused : List ℕ) (events : List EventValue) (f : Fault) : Type 0 where
+  pub whole : turns_of events ≡ 1
+  pub fault : f ≡ record { kind = UnexpectedPacket; offset = length used }
+  pub more : 0 < length unused
+
+-- what the bytes used of the responses, and those that were read and not used, have to do with how the check ended
+abbrev pub EndsAs : Format → Result (Unit {0}) CheckFault → Bool → List ℕ → List ℕ → List EventValue → Type 0
+EndsAs format (Ok done) ended used unused events = (turns_of events ≡ 1) × (unused ≡ []) × (ended ≡ true)
+EndsAs format (Err (Requests f)) ended used unused events = turns_of events ≡ 1
+EndsAs format (Err (Responses f)) ended used unused events = IsMalformed format ended used unused f ⊎ IsLeftOver used unused events f
+EndsAs format (Err ReadFault) ended used unused events = GoesWell format used events
+EndsAs format (Err WriteFault) ended used unused events = Unit {0}
+EndsAs format (Err ReadLimit) ended used unused events = GoesWell format used events
+
+-- the bytes given are the transcript of what was used of the responses
+pub record Checks (format : Format) (result : Result (Unit {0}) CheckFault) (ended : Bool) (read given : List ℕ) : Type 0 where
+  pub used : List ℕ
+  pub unused : List ℕ
+  pub events : List EventValue
+  pub cut : read ≡ used ++ unused
+  pub heard : HasEvents format used events
+  pub lines : given ≡ transcript_of events
+  pub ends : EndsAs format result ended used unused events
+
+-- what was written at the end of a check: all that was given, but after a failing write a front of it
+abbrev pub EndsCheck : Relation → Option (List ℕ) → Option (List ℕ) → Option (List ℕ) → Option (List ℕ) → Result (Unit {0}) CheckFault → Type 0
+EndsCheck P left_before left_after held_before held_after (Ok done) = Exchanges P left_before left_after held_before held_after
+EndsCheck P left_before left_after held_before held_after (Err (Requests f)) = Exchanges P left_before left_after held_before held_after
+EndsCheck P left_before left_after held_before held_after (Err (Responses f)) = Exchanges P left_before left_after held_before held_after
+EndsCheck P left_before left_after held_before held_after (Err ReadFault) = Exchanges P left_before left_after held_before held_after
+EndsCheck P left_before left_after held_before held_after (Err WriteFault) = ExchangesFront P left_before left_after held_before held_after
+EndsCheck P left_before left_after held_before held_after (Err ReadLimit) = Exchanges P left_before left_after held_before held_after
+
+-- the client went on over these bytes, and the lines of their events were written
+pub record Transcribes (old : Client) (bytes : List ℕ) (held_before held_after : Option (List ℕ)) (new : Client) : Type 0 where
+  pub events : List EventValue
+  pub hears : HearsOn old bytes events new
+  pub written : Appends held_before held_after (transcript_of events)
+
+-- the same, and then a write failed: a front of the lines was written
+pub record TranscribesFront (old : Client) (bytes : List ℕ) (held_before held_after : Option (List ℕ)) (new : Client) : Type 0 where
+  pub events : List EventValue
+  pub hears : HearsOn old bytes events new
+  pub written : AppendsFront held_before held_after (transcript_of events)
+
+-- a front of the piece was used up to a fault
+pub record TranscribesUpTo (f : Fault) (old : Client) (piece : List ℕ) (held_before held_after : Option (List ℕ)) (new : Client) : Type 0 where
+  pub used : ℕ
+  pub writes : Transcribes old (take used piece) held_before held_after new
+  pub told : fault_of new ≡ Some f
+  pub shown : ShownByFeed f used piece
+
+-- a write failed somewhere in the piece
+pub record TranscribesInto (old : Client) (piece : List ℕ) (held_before held_after : Option (List ℕ)) (new : Client) : Type 0 where
+  pub used : ℕ
+  pub writes : TranscribesFront old (take used piece) held_before held_after new
+
+-- how far a piece was heard when this fault ended it
+abbrev pub TranscribesUntil : CheckFault → Client → List ℕ → Option (List ℕ) → Option (List ℕ) → Client → Type 0
+TranscribesUntil (Requests f) old piece held_before held_after new = ⊥
+TranscribesUntil (Responses f) old piece held_before held_after new = TranscribesUpTo f old piece held_before held_after new
+TranscribesUntil ReadFault old piece held_before held_after new = ⊥
+TranscribesUntil WriteFault old piece held_before held_after new = TranscribesInto old piece held_before held_after new
+TranscribesUntil ReadLimit old piece held_before held_after new = ⊥
+
+-- bytes were read, of which the client used all but the last
+pub record Transcribed (old new : Client) (unused : List ℕ) (left_before left_after held_before held_after : Option (List ℕ)) : Type 0 where
+  pub used : List ℕ
+  pub read : Consumes left_before left_after (used ++ unused)
+  pub writes : Transcribes old used held_before held_after new
+
+-- the same, and then a write failed
+pub record TranscribedFront (old new : Client) (left_before left_after held_before held_after : Option (List ℕ)) : Type 0 where
+  pub used : List ℕ
+  pub unused : List ℕ
+  pub read : Consumes left_before left_after (used ++ unused)
+  pub writes : TranscribesFront old used held_before held_after new
+
+-- the same up to a fault of the bytes
+pub record TranscribedUpTo (f : Fault) (ended : Bool) (old new : Client) (left_before left_after held_before held_after : Option (List ℕ)) : Type 0 where
+  pub unused : List ℕ
+  pub writes : Transcribed old new unused left_before left_after held_before held_after
+  pub told : fault_of new ≡ Some f
+  pub timely : IsTimely f.kind ended unused
+
+-- all that was read was used, and nothing is wrong with it
+pub record TranscribedAll (old new : Client) (left_before left_after held_before held_after : Option (List ℕ)) : Type 0 where
+  pub writes : Transcribed old new [] left_before left_after held_before held_after
+  pub sound : fault_of new ≡ None
+
+-- how far the responses were heard when this fault ended them
+abbrev pub TranscribedUntil : CheckFault → Bool → Client → Client → Option (List ℕ) → Option (List ℕ) → Option (List ℕ) → Option (List ℕ) → Type 0
+TranscribedUntil (Requests f) ended old new left_before left_after held_before held_after = ⊥
+TranscribedUntil (Responses f) ended old new left_before left_after held_before held_after = TranscribedUpTo f ended old new left_before left_after held_before held_after
+TranscribedUntil ReadFault ended old new left_before left_after held_before held_after = TranscribedAll old new left_before left_after held_before held_after
+TranscribedUntil WriteFault ended old new left_before left_after held_before held_after = TranscribedFront old new left_before left_after held_before held_after
+TranscribedUntil ReadLimit ended old new left_before left_after held_before held_after = TranscribedAll old new left_before left_after held_before held_after
+
+-- the bytes begin with a spelling of this packet
+pub record BeginsWith (p : Pkt) (read : List ℕ) : Type 0 where
+  pub spelled : List ℕ
+  pub more : List ℕ
+  pub cut : read ≡ spelled ++ more
+  pub spells : Spells p spelled
+
+-- nothing was asked: the requests ended before their first byte, or begin with a flush
+abbrev pub AsksNothing : Bool → List ℕ → Type 0
+AsksNothing ended read = ((read ≡ []) × (ended ≡ true)) ⊎ BeginsWith flush read
+
+-- the requests begin with a packet that is no flush, which is refused at its first byte
+pub record IsOtherPacket (read : List ℕ) (f : Fault) : Type 0 where
+  pub packet : Pkt
+  pub begins : BeginsWith packet read
+  pub other : packet ≢ flush
+  pub fault : f ≡ record { kind = UnexpectedPacket; offset = 0 }
+
+-- the requests begin with no packet, and these bytes show it
+pub record IsNoPacket (ended : Bool) (read : List ℕ) (f : Fault) : Type 0 where
+  pub used : List ℕ
+  pub unused : List ℕ
+  pub cut : read ≡ used ++ unused
+  pub by : StopsBy 0 used (length used) f.kind f.offset
+  pub timely : IsTimely f.kind ended unused
+
+-- what the bytes read of the requests have to do with how the check ended; while the responses are heard none are read
+abbrev pub EndsAsked : Result (Unit {0}) CheckFault → Bool → List ℕ → Type 0
+EndsAsked (Ok done) ended read = AsksNothing ended read
+EndsAsked (Err (Requests f)) ended read = IsOtherPacket read f ⊎ IsNoPacket ended read f
+EndsAsked (Err (Responses f)) ended read = (read ≡ []) ⊎ AsksNothing ended read
+EndsAsked (Err ReadFault) ended read = IsOpen read ⊎ AsksNothing ended read
+EndsAsked (Err WriteFault) ended read = read ≡ []
+EndsAsked (Err ReadLimit) ended read = IsOpen read ⊎ AsksNothing ended read
+
+-- what was read of the requests
+pub record Asks (result : Result (Unit {0}) CheckFault) (ended : Bool) (left_before left_after : Option (List ℕ)) : Type 0 where
+  pub read : List ℕ
+  pub consumed : Consumes left_before left_after read
+  pub ends : EndsAsked result ended read
+
+-- no packet of the requests is whole so far
+pub record AsksSoFar (reader : PacketReader) (left_before left_after : Option (List ℕ)) : Type 0 where
+  pub read : List ℕ
+  pub rest : List ℕ
+  pub consumed : Consumes left_before left_after read
+  pub reads : Reads reader 0 read [] rest
+
+-- the first packet of the requests is a flush, or refused at this offset
+abbrev pub IsFirst : Packet → ℕ → Result (Unit {0}) CheckFault → Type 0
+IsFirst packet offset result =
+    MatchResult result (λ done. seen packet ≡ flush)
+    (λ fault. (seen packet ≢ flush) × (fault ≡ Requests (record { kind = UnexpectedPacket; offset = offset })))

@@ -1,9 +1,9 @@
 //! Two recorded streams, checked against each other.
 
-ghost use Rattle.std.specs.Prelude.{◌≡◌, ◌+◌, ◌≤◌, ◌<◌, true, false, None, length, IsTrue, OnOk, IfOk, IfErr};
-ghost use Rattle.git_pkt.specs.Told.{reads_of, has_failed, has_ended, IsNew};
-ghost use Rattle.git_client.specs.Hearing.{bytes_used, fault_of, wants_input};
-ghost use Rattle.git2show_lib.specs.Checking.{IsShownInCheck, IsShownInHearing, IsShownInPiece, IsShownInRequests};
+ghost use Rattle.std.specs.Prelude.{◌≡◌, ◌+◌, ◌-◌, ◌≤◌, ◌<◌, true, false, None, length, take, drop, IsTrue, OnOk, IfOk, IfErr};
+ghost use Rattle.git_pkt.specs.Told.{inner_of, reads_of, has_failed, has_ended, IsNew};
+ghost use Rattle.git_client.specs.Hearing.{bytes_used, fault_of, can_ask, wants_input};
+ghost use Rattle.git2show_lib.specs.Checking.{IsShownInCheck, IsShownInHearing, IsShownInPiece, IsShownInRequests, Checks, EndsCheck, Asks, IsFirst, Transcribes, TranscribesUntil, Transcribed, TranscribedUntil};
 
 use git_client::{Client, Ending, HeardGot, write_event};
 use git_names::Format;
@@ -62,6 +62,9 @@ pub fn check<Q: Read, A: Read, W: Write>(
     ensures reads { reads_of requests.new + reads_of responses.new ≤ turns }
     ensures ok { OnOk result (IsTrue (has_ended responses.new)) }
     ensures fault { IfErr result (IsShownInCheck requests.new responses.new (has_failed out.new) turns) }
+    ensures checked { EndsCheck (Checks format result (has_ended responses.new)) (A.remaining (inner_of responses.old)) (A.remaining (inner_of responses.new))
+        (W.contents (inner_of out.old)) (W.contents (inner_of out.new)) result }
+    ensures asked { Asks result (has_ended requests.new) (Q.remaining (inner_of requests.old)) (Q.remaining (inner_of requests.new)) }
 {
     let mut client = Client::new(format, ending);
     let heard = hear_advertisement(&mut client, responses, other_piece, out, turns);
@@ -100,8 +103,14 @@ fn hear_advertisement<A: Read, W: Write>(
     turns: u64,
 ) -> Result<Left, CheckFault>
     requires waits { wants_input client.old ≡ true }
+    requires room { 0 < length piece.old }
     requires new_responses { IsNew responses.old }
     ensures left { IfOk result (λ left. left.end ≤ length piece.new) }
+    ensures whole { OnOk result (can_ask client.new ≡ true) }
+    ensures heard { IfOk result (λ left. Transcribed client.old client.new (take (left.end - left.start) (drop left.start piece.new))
+        (A.remaining (inner_of responses.old)) (A.remaining (inner_of responses.new)) (W.contents (inner_of out.old)) (W.contents (inner_of out.new))) }
+    ensures stopped { IfErr result (λ fault. TranscribedUntil fault (has_ended responses.new) client.old client.new
+        (A.remaining (inner_of responses.old)) (A.remaining (inner_of responses.new)) (W.contents (inner_of out.old)) (W.contents (inner_of out.new))) }
     ensures reads { reads_of responses.new ≤ turns }
     ensures ok { OnOk result ((has_failed responses.new ≡ false) × (has_ended responses.new ≡ false)) }
     ensures out_stays { OnOk result (has_failed out.new ≡ has_failed out.old) }
@@ -133,7 +142,12 @@ fn hear_piece<W: Write>(
 ) -> Result<usize, CheckFault>
     requires { wants_input client.old ≡ true }
     ensures used { IfOk result (λ used. used ≤ length piece.now) }
+    ensures all { IfOk result (λ used. wants_input client.new ≡ true → used ≡ length piece.now) }
     ensures goes_on { OnOk result (fault_of client.new ≡ None) }
+    ensures heard { IfOk result (λ used. Transcribes client.old (take used piece.now)
+        (W.contents (inner_of out.old)) (W.contents (inner_of out.new)) client.new) }
+    ensures stopped { IfErr result (λ fault. TranscribesUntil fault client.old piece.now
+        (W.contents (inner_of out.old)) (W.contents (inner_of out.new)) client.new) }
     ensures out_stays { OnOk result (has_failed out.new ≡ has_failed out.old) }
     ensures fault { IfErr result (IsShownInPiece (has_failed out.new)) }
 {
@@ -163,6 +177,7 @@ fn read_requests<Q: Read>(
     ensures reads { reads_of requests.new ≤ turns }
     ensures ok { OnOk result (has_failed requests.new ≡ false) }
     ensures fault { IfErr result (IsShownInRequests requests.new turns) }
+    ensures asked { Asks result (has_ended requests.new) (Q.remaining (inner_of requests.old)) (Q.remaining (inner_of requests.new)) }
 {
     let mut packets = PacketReader::new();
     for _ in 0..turns {
@@ -173,14 +188,21 @@ fn read_requests<Q: Read>(
         match packets.feed(&piece[..count]).got {
             Got::More => {}
             Got::Failed(fault) => return Err(CheckFault::Requests(fault)),
-            Got::Packet(Packet::Flush, _) => return Ok(()),
-            Got::Packet(_, offset) => {
-                return Err(CheckFault::Requests(Fault {
-                    kind: Kind::UnexpectedPacket,
-                    offset,
-                }));
-            }
+            Got::Packet(packet, offset) => return read_first(packet, offset),
         }
     }
     Err(CheckFault::ReadLimit)
+}
+
+/// Reads the first packet of the requests: a flush asks nothing.
+fn read_first(packet: Packet<'_>, offset: u64) -> Result<(), CheckFault>
+    ensures { IsFirst packet.entry offset result }
+{
+    match packet {
+        Packet::Flush => Ok(()),
+        _ => Err(CheckFault::Requests(Fault {
+            kind: Kind::UnexpectedPacket,
+            offset,
+        })),
+    }
 }

@@ -1,14 +1,16 @@
-use Rattle.std.proofs.Common.{◌≡◌, ◌-◌, ◌≤◌, length, None}
-use Rattle.git_pkt.specs.Told.{has_failed}
+use Rattle.std.proofs.Common.{◌≡◌, ◌-◌, ◌≤◌, length, take, None}
+use Rattle.git_pkt.specs.Told.{inner_of, has_failed}
 use Rattle.git_client.specs.Hearing.{fault_of}
+use Rattle.git2show_lib.specs.Checking.{Transcribes}
 use Rattle.git2show_lib.proofs.checking.hear_piece.Given as goal
 
--- the client has not failed, and neither has the writer since the call began
+-- the client has not failed, and neither has the writer since the call began; the lines of what was used were written
 abbrev pub invariant-loop-used : goal.invariant-loop-used
 invariant-loop-used g l = record {
   within : l.used ≤ length l.piece;
   sound : fault_of l.client ≡ None;
   out_stays : has_failed l.out ≡ has_failed l.fn.out;
+  heard : Transcribes l.fn.client (take l.used l.piece) (g.W.Write.contents (inner_of l.fn.out)) (g.W.Write.contents (inner_of l.out)) l.client;
 }
 
 abbrev pub decreases-loop-used : goal.decreases-loop-used
