@@ -81,13 +81,15 @@ module _ (old new : PacketReader) (piece : List ℕ) (fed : Fed) (left_before at
   begins : (p : Packet) (offset : ℕ) → fed.got ≡ GotPacket p offset → BeginsWith (seen p) (so_far.read ++ piece) × (offset ≡ 0)
   begins p offset is =
       let (later, reads) = goes_on (GotPacket p offset) is in
-      let (s, more, cut, at_start, spells, last) = reads.splits.spelled in
-      (record {
-        spelled = s;
-        more = more ++ drop fed.used piece;
-        cut = whole ∙ ap (λ (l : List ℕ). l ++ drop fed.used piece) cut ∙ append_assoc s more (drop fed.used piece);
-        spells = spells;
-      }, at_start)
+      let (s, more, cut, at_start, spells, last) = reads.splits.spelled in (
+        record {
+          spelled = s;
+          more = more ++ drop fed.used piece;
+          cut = whole ∙ ap (λ (l : List ℕ). l ++ drop fed.used piece) cut ∙ append_assoc s more (drop fed.used piece);
+          spells = spells;
+        },
+        at_start,
+      )
 
   pub asks_first : (p : Packet) (offset : ℕ) (ended : Bool) (result : Result (Unit {0}) CheckFault) → IsFirst p offset result → fed.got ≡ GotPacket p offset → Asks result ended left_before left_after
   asks_first p offset ended (Ok done) first is = record {

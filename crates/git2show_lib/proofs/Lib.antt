@@ -2,3 +2,9 @@ pub mod Sendings
 pub mod Printing
 pub mod Transcribing
 pub mod Asking
+pub mod DigitValues
+pub mod LineEnds
+pub mod Saying
+pub mod Rising
+pub mod Drafting
+pub mod Reading

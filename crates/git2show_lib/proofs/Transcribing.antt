@@ -35,7 +35,7 @@ use Rattle.git_client.proofs.Faults.{first_fault}
 use Rattle.git2show_lib.specs.declared.checking.CheckFault.{CheckFault}
 use Rattle.git2show_lib.specs.declared.checking.CheckFault.TheVariants.{Requests, Responses, ReadFault, WriteFault, ReadLimit}
 use Rattle.git2show_lib.specs.Showing.{IsTimely}
-use Rattle.git2show_lib.specs.Checking.{transcript_of, Transcribes, TranscribesFront, TranscribesUpTo, TranscribesInto, TranscribesUntil, Transcribed, TranscribedFront, TranscribedUpTo, TranscribedUntil, Checks, EndsAs, EndsCheck, IsShownInRequests}
+use Rattle.git2show_lib.specs.Checking.{IsCutOff, transcript_of, Transcribes, TranscribesFront, TranscribesUpTo, TranscribesInto, TranscribesUntil, Transcribed, TranscribedFront, TranscribedUpTo, TranscribedUntil, Checks, EndsAs, EndsCheck, IsShownInRequests}
 use Rattle.git2show_lib.proofs.Printing.{left, timely}
 
 transcript-append : (es fs : List EventValue) → transcript_of (es ++ fs) ≡ transcript_of es ++ transcript_of fs
@@ -342,13 +342,14 @@ module _ (format : Format) (ending : Ending) (old new : Client) (begun : Hears f
   responses_stopped (Requests f) t = absurd t
   responses_stopped (Responses f) t =
       checks (Err (Responses f)) t.unused t.writes (λ used events h. inl (record { first = first_fault format ending new used events f h t.told; timely = t.timely }))
-  responses_stopped ReadFault t = checks (Err ReadFault) [] t.writes (λ used events h. goes_well format ending new used events h t.sound)
+  responses_stopped ReadFault t = checks (Err ReadFault) [] t.writes (λ used events h. record { sound = goes_well format ending new used events h t.sound; heard = inl refl })
   responses_stopped WriteFault t = checks_front t
-  responses_stopped ReadLimit t = checks (Err ReadLimit) [] t.writes (λ used events h. goes_well format ending new used events h t.sound)
+  responses_stopped ReadLimit t = checks (Err ReadLimit) [] t.writes (λ used events h. record { sound = goes_well format ending new used events h t.sound; heard = inl refl })
 
   module _ (ready : can_ask new ≡ true) (unused : List ℕ) (t : Transcribed old new unused left_before left_after held_before held) where
-    well : (used : List ℕ) (events : List EventValue) → Hears format ending new used events → GoesWell format used events
-    well used events h = goes_well format ending new used events h (is_whole format ending new used events h ready).0
+    well : (used : List ℕ) (events : List EventValue) → Hears format ending new used events → IsCutOff format used unused events
+    well used events h =
+        let whole = is_whole format ending new used events h ready in record { sound = goes_well format ending new used events h whole.0; heard = inr whole.1 }
 
     -- a fault ended the requests
     pub requests_stopped : {Q : Type 0} (requests : Told Q) (turns : ℕ) (fault : CheckFault) → IsShownInRequests requests turns fault → EndsCheck (Checks format (Err fault) ended) left_before left_after held_before held_after (Err fault)

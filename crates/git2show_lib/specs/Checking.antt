@@ -70,14 +70,19 @@ pub record IsLeftOver (used unused : List ℕ) (events : List EventValue) (f : F
   pub fault : f ≡ record { kind = UnexpectedPacket; offset = length used }
   pub more : 0 < length unused
 
+-- nothing is wrong with the responses so far; what was not used of them stands behind the whole advertisement
+pub record IsCutOff (format : Format) (used unused : List ℕ) (events : List EventValue) : Type 0 where
+  pub sound : GoesWell format used events
+  pub heard : (unused ≡ []) ⊎ (turns_of events ≡ 1)
+
 -- what the bytes used of the responses, and those that were read and not used, have to do with how the check ended
 abbrev pub EndsAs : Format → Result (Unit {0}) CheckFault → Bool → List ℕ → List ℕ → List EventValue → Type 0
 EndsAs format (Ok done) ended used unused events = (turns_of events ≡ 1) × (unused ≡ []) × (ended ≡ true)
 EndsAs format (Err (Requests f)) ended used unused events = turns_of events ≡ 1
 EndsAs format (Err (Responses f)) ended used unused events = IsMalformed format ended used unused f ⊎ IsLeftOver used unused events f
-EndsAs format (Err ReadFault) ended used unused events = GoesWell format used events
+EndsAs format (Err ReadFault) ended used unused events = IsCutOff format used unused events
 EndsAs format (Err WriteFault) ended used unused events = Unit {0}
-EndsAs format (Err ReadLimit) ended used unused events = GoesWell format used events
+EndsAs format (Err ReadLimit) ended used unused events = IsCutOff format used unused events
 
 -- the bytes given are the transcript of what was used of the responses
 pub record Checks (format : Format) (result : Result (Unit {0}) CheckFault) (ended : Bool) (read given : List ℕ) : Type 0 where

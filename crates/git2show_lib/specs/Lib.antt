@@ -3,3 +3,8 @@ pub mod Sending
 pub mod Showing
 pub mod Reports
 pub mod Checking
+pub mod Numbers
+pub mod RepositoryLines
+pub mod RepositoryText
+pub mod Drafts
+pub mod RepositoryFaults

@@ -2,10 +2,15 @@
 #![tactic(auto)]
 
 mod checking;
+mod drafts;
 mod lines;
+mod numbers;
 mod reports;
+mod repository_lines;
+mod repository_text;
 mod showing;
 
 pub use checking::{CheckFault, check};
 pub use reports::{ProgramFault, report};
+pub use repository_text::{TextFault, read_repo};
 pub use showing::show;

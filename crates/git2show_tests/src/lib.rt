@@ -4,4 +4,6 @@
 #[cfg(test)]
 mod check;
 #[cfg(test)]
+mod repository_text;
+#[cfg(test)]
 mod show;

@@ -1,0 +1,37 @@
+-- Digits and their values.
+use Rattle.std.proofs.Common.{arith, ◌≡◌, ℕ, ◌+◌, ◌-◌, ◌*◌, ◌<◌, ◌≤◌, List, [], ◌∷◌, sym, ap, ◌∙◌, length, drop, get_or}
+use Rattle.std.proofs.lemmas.Grind.{common_steps}
+use Rattle.std.proofs.lemmas.List.Elements.{All-get_or, All-from_get_or}
+use Rattle.git2show_lib.specs.Numbers.{IsDigit, IsNumber, value_behind}
+
+drop_cons : (text : List ℕ) (at : ℕ) → at < length text → drop at text ≡ get_or text at 0 ∷ drop (at + 1) text
+drop_cons text at h = grind (arith, common_steps)
+
+-- one more digit
+pub value_step : (text : List ℕ) (at front : ℕ) → at < length text → value_behind front (drop at text) ≡ value_behind (front * 10 + (get_or text at 0 - 48)) (drop (at + 1) text)
+value_step text at front h = ap (value_behind front) (drop_cons text at h)
+
+-- more digits make no number smaller
+value_grows : (digits : List ℕ) (front : ℕ) → front ≤ value_behind front digits
+value_grows [] front = omega arith
+value_grows (d ∷ ds) front = let h = value_grows ds (front * 10 + (d - 48)) in omega (arith, h)
+
+pub too_large : (text : List ℕ) (at front bound : ℕ) → at < length text → value_behind front (drop at text) ≡ value_behind 0 text → bound ≤ front * 10 + (get_or text at 0 - 48) → (number : ℕ) → number < bound → IsNumber text number → ⊥
+too_large text at front bound within same large number low is =
+    let step = value_step text at front within in
+    let grows = value_grows (drop (at + 1) text) (front * 10 + (get_or text at 0 - 48)) in
+    let value = is.value in
+    omega (arith, step, grows, value, same, large, low)
+
+pub no_digit : (text : List ℕ) (at : ℕ) → at < length text → (IsDigit (get_or text at 0) → ⊥) → (number : ℕ) → IsNumber text number → ⊥
+no_digit text at within bad number is = bad (All-get_or IsDigit text at 0 within is.digits)
+
+drop_all : (text : List ℕ) → drop (length text) text ≡ []
+drop_all text = grind (arith, common_steps)
+
+pub all_read : (text : List ℕ) (number : ℕ) → (text ≡ [] → ⊥) → ((k : ℕ) → k < length text → IsDigit (get_or text k 0)) → value_behind number (drop (length text) text) ≡ value_behind 0 text → IsNumber text number
+all_read text number some digits same = record {
+  some = some;
+  digits = All-from_get_or IsDigit text 0 digits;
+  value = sym (ap (value_behind number) (drop_all text)) ∙ same;
+}

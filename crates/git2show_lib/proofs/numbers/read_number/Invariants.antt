@@ -1,0 +1,9 @@
+use Rattle.std.proofs.Common.{◌≡◌, ℕ, ◌<◌, get_or, drop}
+use Rattle.git2show_lib.specs.Numbers.{IsDigit, value_behind}
+use Rattle.git2show_lib.proofs.numbers.read_number.Given as goal
+
+abbrev pub invariant-loop-digit : goal.invariant-loop-digit
+invariant-loop-digit l = record {
+  digits : (k : ℕ) → k < l.digit-index → IsDigit (get_or l.text k 0);
+  value : value_behind l.number (drop l.digit-index l.text) ≡ value_behind 0 l.text;
+}

@@ -1,0 +1,174 @@
+//! What the lines of a repository's text said so far.
+
+ghost use Rattle.std.specs.Prelude.{◌≡◌, ◌↔◌, IsTrue, IfOk};
+ghost use Rattle.git_server.specs.ListRepo.{lists_of};
+ghost use Rattle.std.specs.Option.{option_copied};
+ghost use Rattle.git_server.specs.Lists.{IsRepository};
+ghost use Rattle.git_server.specs.Repository.{IsNamed, bytes_of};
+ghost use Rattle.git_msg.specs.References.{shown_reference};
+ghost use Rattle.git2show_lib.specs.RepositoryLines.{shown};
+ghost use Rattle.git2show_lib.specs.RepositoryText.{entry_of};
+ghost use Rattle.git2show_lib.specs.Drafts.{AddsBoundary, AddsCount, AddsObject, AddsReference, AddsSaid, ComesLast, ComesLastObject, IsFit, drafted, empty_lists, with_pack};
+
+use crate::repository_lines::Item;
+use git_msg::{Boundary, Reference};
+use git_names::{Format, Oid};
+use git_server::{ListRepo, RefEntry};
+use std::alloc::{AllocError, Global};
+
+/// Why a line is not kept.
+#[derive(Clone, Copy, Debug, PartialEq, Eq)]
+pub(crate) enum LineFault {
+    /// It may not stand behind the lines before it.
+    Refused,
+    /// Memory ran out.
+    OutOfMemory,
+}
+
+/// What the lines said so far.
+#[derive(Drop)]
+pub(crate) struct Draft {
+    format: Format,
+    refs: Vec<RefEntry>,
+    objects: Vec<(Oid, u64)>,
+    ready_after: Option<u32>,
+    boundaries: Vec<Boundary>,
+}
+
+impl Draft {
+    /// Nothing yet.
+    pub(crate) fn new(alloc: Global, format: Format) -> Draft
+        ensures { drafted result ≡ empty_lists format }
+    {
+        Draft {
+            format,
+            refs: Vec::new(alloc),
+            objects: Vec::new(alloc),
+            ready_after: None,
+            boundaries: Vec::new(alloc),
+        }
+    }
+
+    /// Keeps what a line says, or answers that it may not stand behind the lines before it.
+    pub(crate) fn keep(&mut self, alloc: Global, item: &Item<'_>) -> Result<(), LineFault>
+        requires { IsFit (drafted self.old).format (shown item.now) }
+        ensures { AddsSaid (drafted self.old) (shown item.now) (drafted self.new) result }
+    {
+        match item {
+            Item::Reference(reference) => self.keep_reference(alloc, reference),
+            Item::Object(id, size) => self.keep_object(*id, *size),
+            Item::ReadyAfter(count) => self.keep_count(*count),
+            Item::BoundaryLine(boundary) => self.keep_boundary(*boundary),
+        }
+    }
+
+    fn keep_reference(&mut self, alloc: Global, reference: &Reference<'_>) -> Result<(), LineFault>
+        requires { IsNamed (shown_reference reference.now).name (shown_reference reference.now).target }
+        ensures { AddsReference (drafted self.old) (entry_of (shown_reference reference.now)) (drafted self.new) result }
+    {
+        if !comes_last(&self.refs, reference.name) {
+            return Err(LineFault::Refused);
+        }
+        let Ok(entry) = make_entry(alloc, reference) else {
+            return Err(LineFault::OutOfMemory);
+        };
+        match self.refs.push(entry) {
+            Ok(()) => Ok(()),
+            Err(_) => Err(LineFault::OutOfMemory),
+        }
+    }
+
+    fn keep_object(&mut self, id: Oid, size: u64) -> Result<(), LineFault>
+        ensures { AddsObject (drafted self.old) (id, size) (drafted self.new) result }
+    {
+        if !comes_last_object(&self.objects, &id) {
+            return Err(LineFault::Refused);
+        }
+        match self.objects.push((id, size)) {
+            Ok(()) => Ok(()),
+            Err(_) => Err(LineFault::OutOfMemory),
+        }
+    }
+
+    fn keep_count(&mut self, count: u32) -> Result<(), LineFault>
+        ensures { AddsCount (drafted self.old) count (drafted self.new) result }
+    {
+        if self.ready_after.is_some() {
+            return Err(LineFault::Refused);
+        }
+        self.ready_after = Some(count);
+        Ok(())
+    }
+
+    fn keep_boundary(&mut self, boundary: Boundary) -> Result<(), LineFault>
+        ensures { AddsBoundary (drafted self.old) boundary (drafted self.new) result }
+    {
+        match self.boundaries.push(boundary) {
+            Ok(()) => Ok(()),
+            Err(_) => Err(LineFault::OutOfMemory),
+        }
+    }
+
+    /// The repository that the lines said, with this pack.
+    pub(crate) fn finish(self, pack: Vec<u8>) -> ListRepo
+        requires { IsRepository (drafted self) }
+        ensures { lists_of result ≡ with_pack (drafted self) pack.items }
+    {
+        let Draft {
+            format,
+            refs,
+            objects,
+            ready_after,
+            boundaries,
+        } = self;
+        match ListRepo::new(format, refs, objects, ready_after, boundaries, pack) {
+            Ok(repo) => repo,
+            Err(_) => unreachable!(),
+        }
+    }
+}
+
+/// The entry of a reference, whose texts are copied.
+fn make_entry(alloc: Global, reference: &Reference<'_>) -> Result<RefEntry, AllocError>
+    requires { IsNamed (shown_reference reference.now).name (shown_reference reference.now).target }
+    ensures { IfOk result (λ entry. entry ≡ entry_of (shown_reference reference.now)) }
+{
+    let name = reference.name.to_vec(alloc)?;
+    let target = copy_target(alloc, reference.target)?;
+    match RefEntry::new(name, reference.id, target, reference.peeled) {
+        Ok(entry) => Ok(entry),
+        Err(_) => unreachable!(),
+    }
+}
+
+fn copy_target(alloc: Global, target: Option<&[u8]>) -> Result<Option<Vec<u8>>, AllocError>
+    ensures { IfOk result (λ copy. bytes_of copy ≡ option_copied target.entry) }
+{
+    match target {
+        Some(target) => {
+            let copy = target.to_vec(alloc)?;
+            Ok(Some(copy))
+        }
+        None => Ok(None),
+    }
+}
+
+/// Whether the name comes behind those of the references.
+fn comes_last(refs: &[RefEntry], name: &[u8]) -> bool
+    ensures { IsTrue result ↔ ComesLast refs.now name.now }
+{
+    if refs.is_empty() {
+        return true;
+    }
+    refs[refs.len() - 1].name().cmp(name).is_lt()
+}
+
+/// Whether the object name comes behind those of the objects.
+fn comes_last_object(objects: &[(Oid, u64)], id: &Oid) -> bool
+    ensures { IsTrue result ↔ ComesLastObject objects.now id.now }
+{
+    if objects.is_empty() {
+        return true;
+    }
+    objects[objects.len() - 1].0.cmp(id).is_lt()
+}

@@ -1,0 +1,159 @@
+//! The lines of a repository's text.
+
+ghost use Rattle.std.specs.Prelude.{◌≡◌, ◌≢◌, ◌==◌, ◌<◌, ◌∷◌, ◌++◌, ◌↔◌, ℕ, List, length, position, IsTrue, MatchOption};
+ghost use Rattle.std.specs.Option.{option_copied};
+ghost use Rattle.git_names.specs.declared.object_format.Format.{Format};
+ghost use Rattle.git_names.specs.ObjectName.{ObjectName};
+ghost use Rattle.git_msg.specs.Texts.{BeginsOtherThan};
+ghost use Rattle.git2show_lib.specs.RepositoryLines.{IsCount, IsSizedObject, Says, SaysNothing, ended_lines, format_line, lines_left, shown, without_last_end};
+
+use crate::numbers::read_number;
+use git_msg::{Boundary, Reference, read_reference};
+use git_names::{Format, Oid};
+
+/// The most common objects that a repository may want before it is ready.
+const MOST_COMMON: u64 = 2_147_483_647;
+
+/// What a line says of the repository.
+#[derive(Clone, Copy, Debug)]
+pub(crate) enum Item<'a> {
+    /// It has this reference.
+    Reference(Reference<'a>),
+    /// It has this object, of this size in bytes.
+    Object(Oid, u64),
+    /// It is ready after so many common objects.
+    ReadyAfter(u32),
+    /// This is a line of its shallow boundary.
+    BoundaryLine(Boundary),
+}
+
+/// The format that the first line tells.
+pub(crate) fn read_format(line: &[u8]) -> Option<Format>
+    ensures { MatchOption result ((format : Format) → line.now ≢ format_line format) (λ format. line.now ≡ format_line format) }
+{
+    match after(line, b"format ") {
+        Some(name) => Format::read(name),
+        None => None,
+    }
+}
+
+/// What a further line says.
+pub(crate) fn read_item(format: Format, line: &[u8]) -> Option<Item<'_>>
+    ensures { MatchOption result (SaysNothing format line.now) (λ item. Says format line.now (shown item)) }
+{
+    if let Some(text) = after(line, b"ref ") {
+        return match read_reference(format, text) {
+            Ok(reference) => Some(Item::Reference(reference)),
+            Err(_) => None,
+        };
+    }
+    if let Some(text) = after(line, b"object ") {
+        return match read_object(format, text) {
+            Some((id, size)) => Some(Item::Object(id, size)),
+            None => None,
+        };
+    }
+    if let Some(text) = after(line, b"ready ") {
+        return match read_count(text) {
+            Some(count) => Some(Item::ReadyAfter(count)),
+            None => None,
+        };
+    }
+    if let Some(text) = after(line, b"shallow ") {
+        return match Oid::read(format, text) {
+            Ok(id) => Some(Item::BoundaryLine(Boundary::Shallow(id))),
+            Err(_) => None,
+        };
+    }
+    if let Some(text) = after(line, b"unshallow ") {
+        return match Oid::read(format, text) {
+            Ok(id) => Some(Item::BoundaryLine(Boundary::Unshallow(id))),
+            Err(_) => None,
+        };
+    }
+    None
+}
+
+/// An object name, a space and a size.
+fn read_object(format: Format, text: &[u8]) -> Option<(Oid, u64)>
+    ensures { MatchOption result ((id : ObjectName) (size : ℕ) → ¬ IsSizedObject format id size text.now)
+        (λ object. IsSizedObject format object.0 object.1 text.now) }
+{
+    if text.len() < format.digits() {
+        return None;
+    }
+    let (name, rest) = text.split_at(format.digits());
+    let Ok(id) = Oid::read(format, name) else {
+        return None;
+    };
+    let Some(number) = after(rest, b" ") else {
+        return None;
+    };
+    match read_number(number) {
+        Some(size) => Some((id, size)),
+        None => None,
+    }
+}
+
+/// A number of objects, from 1 on.
+fn read_count(text: &[u8]) -> Option<u32>
+    ensures { MatchOption result ((count : ℕ) → ¬ IsCount count text.now) (λ count. IsCount count text.now) }
+{
+    match read_number(text) {
+        Some(count) => {
+            if count == 0 || count > MOST_COMMON {
+                return None;
+            }
+            Some(count as u32)
+        }
+        None => None,
+    }
+}
+
+/// The text without one LF at its end.
+pub(crate) fn without_last_end(text: &[u8]) -> &[u8]
+    ensures { result.now ≡ without_last_end text.now }
+{
+    if text.is_empty() || text[text.len() - 1] != b'\n' {
+        return text;
+    }
+    &text[..text.len() - 1]
+}
+
+/// The first line of a text, and what stands behind the LF that ends it.
+pub(crate) fn split_line(text: &[u8]) -> (&[u8], Option<&[u8]>)
+    ensures lines { ended_lines text.now ≡ result.0.now ∷ lines_left (option_copied result.1) }
+    ensures shorter { MatchOption result.1 (Unit {0}) (λ rest. length rest.now < length text.now) }
+{
+    match find_line_end(text) {
+        Some(at) => (&text[..at], Some(&text[at + 1..])),
+        None => (text, None),
+    }
+}
+
+fn find_line_end(text: &[u8]) -> Option<usize>
+    ensures { result ≡ position (λ c. c == 10) text.now }
+{
+    text.iter().position(|byte| *byte == b'\n')
+}
+
+/// What stands behind the word, if the text begins with it.
+fn after<'a>(text: &'a [u8], word: &[u8]) -> Option<&'a [u8]>
+    ensures { MatchOption result (BeginsOtherThan word.now text.now) (λ rest. text.now ≡ word.now ++ rest.now) }
+{
+    if word.len() > text.len() {
+        return None;
+    }
+    let (front, rest) = text.split_at(word.len());
+    if !is(front, word) {
+        return None;
+    }
+    Some(rest)
+}
+
+/// Whether the text is the word.
+fn is(text: &[u8], word: &[u8]) -> bool
+    ensures { IsTrue result ↔ (text.now ≡ word.now) }
+{
+    text == word
+}

@@ -1,0 +1,56 @@
+//! A repository that is a few lists, read from a text.
+
+ghost use Rattle.std.specs.Prelude.{MatchResult};
+ghost use Rattle.git2show_lib.specs.RepositoryFaults.{IsTextFault, IsWholeText};
+
+use crate::drafts::{Draft, LineFault};
+use crate::repository_lines::{read_format, read_item, split_line, without_last_end};
+use git_server::ListRepo;
+use std::alloc::Global;
+use thiserror::Error;
+
+/// Why a text could not be read.
+#[derive(Clone, Copy, Debug, PartialEq, Eq, Error)]
+pub enum TextFault {
+    /// A line says nothing that may stand there.
+    #[error("bad line {line}")]
+    Bad {
+        /// Which line, counted from 1.
+        line: u64,
+    },
+    /// Memory ran out.
+    #[error("OutOfMemory")]
+    OutOfMemory,
+}
+
+/// Reads the text of a repository, whose pack for each request is `pack`.
+///
+/// The first line is `format sha1` or `format sha256`. The others say, in any order of kinds: `ref`, a space and a
+/// reference line of ls-refs, gitprotocol-v2(5); `object`, an object name and a size in bytes; `ready` and the number of
+/// common objects, once at the most; `shallow` or `unshallow` and an object name. Lines are parted by LF, which the last
+/// may lack. References rise strictly by their names, and objects by theirs. The first line that is none of these, or
+/// may not stand behind those before it, is `Bad`.
+pub fn read_repo(alloc: Global, text: &[u8], pack: Vec<u8>) -> Result<ListRepo, TextFault>
+    ensures { MatchResult result (IsWholeText text.now pack.items) (IsTextFault text.now) }
+{
+    let (first, mut rest) = split_line(without_last_end(text));
+    let Some(format) = read_format(first) else {
+        return Err(TextFault::Bad { line: 1 });
+    };
+    let mut draft = Draft::new(alloc, format);
+    let mut line: u64 = 1;
+    'lines: while let Some(left) = rest {
+        line += 1;
+        let (this, next) = split_line(left);
+        let Some(item) = read_item(format, this) else {
+            return Err(TextFault::Bad { line });
+        };
+        match draft.keep(alloc, &item) {
+            Ok(()) => {}
+            Err(LineFault::Refused) => return Err(TextFault::Bad { line }),
+            Err(LineFault::OutOfMemory) => return Err(TextFault::OutOfMemory),
+        }
+        rest = next;
+    }
+    Ok(draft.finish(pack))
+}
