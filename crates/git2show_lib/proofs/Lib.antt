@@ -8,3 +8,4 @@ pub mod Saying
 pub mod Rising
 pub mod Drafting
 pub mod Reading
+pub mod TextLaws

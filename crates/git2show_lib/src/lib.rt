@@ -8,6 +8,7 @@ mod numbers;
 mod reports;
 mod repository_lines;
 mod repository_text;
+pub mod repository_text_laws;
 mod showing;
 
 pub use checking::{CheckFault, check};
