@@ -1,23 +1,28 @@
-//! The program `git2show`: shows the packets of Git's wire protocol.
+//! The program `git2show`: shows, checks and serves conversations of Git's wire protocol.
 #![tactic(auto)]
 
 use clap::error::ErrorKind;
-use clap::{Arg, ArgAction, ArgMatches, Command, Error};
+use clap::{Arg, ArgAction, ArgMatches, Command, Error, value_parser};
 use git_client::Ending;
+use git_msg::{Limits, Offer};
 use git_names::Format;
 use git_pkt::{RunFault, Told};
-use git2show_lib::{ProgramFault, check, report, show};
+use git_server::{ListRepo, Outcome, Repo, Server, serve};
+use git2show_lib::{ProgramFault, TextFault, check, read_repo, report, show};
 use std::alloc::{AllocError, Global};
-use std::env;
 use std::fs::File;
-use std::io;
+use std::io::BufWriter;
 use std::process::ExitCode;
+use std::{env, fs, io};
 
 /// How many bytes are read at a time.
 const PIECE: usize = 65_536;
 
 /// How many reads a run makes at the most.
 const TURNS: u64 = 1_073_741_824;
+
+/// The most bytes that the texts of a request's argument lines may have.
+const MOST_KEPT: u32 = 1_073_741_824;
 
 /// The status where the command line is refused.
 const BAD_COMMAND_LINE: u8 = 2;
@@ -29,12 +34,13 @@ static FORMATS: [&str; 2] = ["sha1", "sha256"];
 fn command<'a>(alloc: Global) -> Result<Command<'a>, AllocError> {
     Command::new(alloc, "git2show")
         .version("0.1.0")
-        .about("Shows conversations of Git's wire protocol, version 2")
+        .about("Shows, checks and serves conversations of Git's wire protocol, version 2")
         .subcommand_required(true)
-        .subcommand(
-            Command::new(alloc, "show").about("Shows each packet of standard input on a line"),
-        )?
-        .subcommand(check_command(alloc)?)
+        .subcommand(Command::new(alloc, "show").about(
+            "Shows each packet of standard input on a line",
+        ))?
+        .subcommand(check_command(alloc)?)?
+        .subcommand(serve_command(alloc)?)
 }
 
 /// What the words after `check` may be.
@@ -64,6 +70,33 @@ fn check_command<'a>(alloc: Global) -> Result<Command<'a>, AllocError> {
                 .long("stateless")
                 .action(ArgAction::SetTrue)
                 .help("Each response ends with a response-end packet"),
+        )
+}
+
+/// What the words after `serve` may be.
+fn serve_command<'a>(alloc: Global) -> Result<Command<'a>, AllocError> {
+    Command::new(alloc, "serve")
+        .about("Answers the requests on standard input, on standard output")
+        .arg(
+            Arg::new(alloc, "repo")
+                .long("repo")
+                .value_name("FILE")
+                .required(true)
+                .help("The repository, as a text"),
+        )?
+        .arg(
+            Arg::new(alloc, "pack")
+                .long("pack")
+                .value_name("FILE")
+                .required(true)
+                .help("The pack of each answer"),
+        )?
+        .arg(
+            Arg::new(alloc, "limit")
+                .long("limit")
+                .value_name("N")
+                .value_parser(value_parser!(u32).range(..=i64::from(MOST_KEPT)))
+                .help("How many bytes of a request's arguments are kept"),
         )
 }
 
@@ -109,11 +142,69 @@ fn open(rt: &HostRuntime, matches: &ArgMatches<'_>, argument: &str) -> Result<Fi
     File::open(rt, path).map_err(|_| ProgramFault::File)
 }
 
+/// Serves the repository whose files are named, on standard input and output.
+fn run_serve(rt: &HostRuntime, matches: &ArgMatches<'_>) -> Result<(), ProgramFault> {
+    let alloc = rt.alloc();
+    let repo = read_repository(rt, matches)?;
+    let offer = Offer {
+        format: repo.format(),
+        shallow: true,
+        ref_in_want: true,
+        object_info: false,
+        server_option: true,
+    };
+    // clap refuses more than the most, which is said once more for the prover.
+    let args = match matches.get_one::<u32>("limit") {
+        Some(args) => args.min(MOST_KEPT),
+        None => Limits::USUAL,
+    };
+    let mut server = Server::new(alloc, repo, offer, Limits { args }, true);
+    let Ok(out) = BufWriter::with_capacity(alloc, PIECE, rt.stdout()) else {
+        return Err(ProgramFault::OutOfMemory);
+    };
+    let mut reader = Told::new(rt.stdin());
+    let mut writer = Told::new(out);
+    let mut piece = [0; PIECE];
+    match serve(&mut reader, &mut writer, &mut piece, &mut server, TURNS) {
+        Ok(Outcome::Flush | Outcome::Closed) => Ok(()),
+        Ok(Outcome::Refused(fault)) => Err(ProgramFault::Run(RunFault::Refused(fault))),
+        Err(fault) => Err(ProgramFault::Run(fault)),
+    }
+}
+
+/// Reads the files of a repository whole, and then the repository's text.
+fn read_repository(rt: &HostRuntime, matches: &ArgMatches<'_>) -> Result<ListRepo, ProgramFault> {
+    let text = read_whole(rt, matches, "repo")?;
+    let pack = read_whole(rt, matches, "pack")?;
+    match read_repo(rt.alloc(), &text, pack) {
+        Ok(repo) => Ok(repo),
+        Err(TextFault::Bad { line }) => Err(ProgramFault::Repo(line)),
+        Err(TextFault::OutOfMemory) => Err(ProgramFault::OutOfMemory),
+    }
+}
+
+/// Reads the file that an argument names.
+fn read_whole(
+    rt: &HostRuntime,
+    matches: &ArgMatches<'_>,
+    argument: &str,
+) -> Result<Vec<u8>, ProgramFault> {
+    let path = matches.get_str(argument).unwrap_or("");
+    match fs::read(rt, path) {
+        Ok(bytes) => Ok(bytes),
+        Err(error) => Err(match error.kind() {
+            io::ErrorKind::OutOfMemory => ProgramFault::OutOfMemory,
+            _ => ProgramFault::File,
+        }),
+    }
+}
+
 /// Does what the command line asks for.
 fn run(rt: &HostRuntime, matches: &ArgMatches<'_>) -> Result<(), ProgramFault> {
     match matches.subcommand() {
         Some(("show", _)) => run_show(rt),
         Some(("check", words)) => run_check(rt, words),
+        Some(("serve", words)) => run_serve(rt, words),
         _ => Ok(()),
     }
 }

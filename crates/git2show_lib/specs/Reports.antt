@@ -1,8 +1,8 @@
 -- The line by which the program tells a fault.
-use Rattle.std.specs.Prelude.{ℕ, List, [], ◌∷◌, ◌++◌, codes}
+use Rattle.std.specs.Prelude.{ℕ, List, [], ◌∷◌, ◌++◌, codes, decimal}
 use Rattle.git_pkt.specs.FaultNames.{fault_text, run_fault_text}
 use Rattle.git2show_lib.specs.declared.reports.ProgramFault.{ProgramFault}
-use Rattle.git2show_lib.specs.declared.reports.ProgramFault.TheVariants.{Run, Check, File, OutOfMemory}
+use Rattle.git2show_lib.specs.declared.reports.ProgramFault.TheVariants.{Run, Check, Repo, File, OutOfMemory}
 use Rattle.git2show_lib.specs.declared.checking.CheckFault.{CheckFault}
 use Rattle.git2show_lib.specs.declared.checking.CheckFault.TheVariants.{Requests, Responses, ReadFault, WriteFault, ReadLimit}
 
@@ -17,6 +17,7 @@ check_fault_text ReadLimit = codes "ReadLimit"
 abbrev pub program_fault_text : ProgramFault → List ℕ
 program_fault_text (Run fault) = run_fault_text fault
 program_fault_text (Check fault) = check_fault_text fault
+program_fault_text (Repo line) = codes "BadRepo at " ++ decimal line
 program_fault_text File = codes "File"
 program_fault_text OutOfMemory = codes "OutOfMemory"
 

@@ -1,6 +1,6 @@
 //! What the program tells of a fault.
 
-ghost use Rattle.std.specs.Prelude.{◌≡◌, ◌≤◌, ◌++◌, ◌+◌, false, length, take};
+ghost use Rattle.std.specs.Prelude.{◌≡◌, ◌≤◌, ◌++◌, ◌+◌, false, length, take, codes, decimal};
 ghost use Rattle.std.specs.Io.KnownBytes.{Appends};
 ghost use Rattle.git_pkt.specs.Told.{inner_of, has_failed, AppendsFront};
 ghost use Rattle.git_pkt.specs.FaultNames.{fault_text};
@@ -28,6 +28,9 @@ pub enum ProgramFault {
     /// A check of two streams ended early.
     #[error("{0}")]
     Check(CheckFault),
+    /// A repository's text is bad from this line on, counted from 1.
+    #[error("BadRepo at {0}")]
+    Repo(u64),
     /// A file cannot be opened, or cannot be read whole where it is read whole.
     #[error("File")]
     File,
@@ -65,10 +68,22 @@ fn write_line(fault: &ProgramFault, out: &mut [u8]) -> usize
         ProgramFault::Run(RunFault::WriteFault) => put_at(out, at, b"WriteFault"),
         ProgramFault::Run(RunFault::ReadLimit) => put_at(out, at, b"ReadLimit"),
         ProgramFault::Check(fault) => put_check_fault(out, at, fault),
+        ProgramFault::Repo(line) => put_bad_repo(out, at, *line),
         ProgramFault::File => put_at(out, at, b"File"),
         ProgramFault::OutOfMemory => put_at(out, at, b"OutOfMemory"),
     };
     put_at(out, at, b"\n")
+}
+
+/// Puts at a place that a line of a repository's text is bad, and answers where that ends.
+fn put_bad_repo(out: &mut [u8], at: usize, line: u64) -> usize
+    requires { at + 31 ≤ length out.old }
+    ensures within { result ≤ at + 31 }
+    ensures put { take result out.new ≡ take at out.old ++ codes "BadRepo at " ++ decimal line }
+{
+    let mut digits = Buffer::new();
+    let at = put_at(out, at, b"BadRepo at ");
+    put_at(out, at, digits.format(line).as_bytes())
 }
 
 /// Puts a check's fault at a place, and answers where it ends.

@@ -1,6 +1,6 @@
 //! Texts of repositories, read.
-use git_server::Repo;
 use git_names::{Format, Oid};
+use git_server::Repo;
 use git2show_lib::{TextFault, read_repo};
 use std::test::Fail;
 
@@ -40,26 +40,72 @@ fn the_first_bad_line_is_told(rt: HostRuntime) -> Result<(), Fail> {
         (b"format sha1\nready 1 \n", 2),
         (b"format sha1\nready 1a\n", 2),
         (b"format sha1\r\n", 1),
-        (b"format sha1\nref 1111111111111111111111111111111111111111 refs/heads/b\nref 1111111111111111111111111111111111111111 refs/heads/a\n", 3),
-        (b"format sha1\nref 1111111111111111111111111111111111111111 refs/heads/b\nready 1\nref 1111111111111111111111111111111111111111 refs/heads/b", 4),
-        (b"format sha1\nref 1111111111111111111111111111111111111111 refs/heads/.b\n", 2),
-        (b"format sha1\nref 1111111111111111111111111111111111111111 refs/heads/b peeled:1\n", 2),
-        (b"format sha1\nref 111111111111111111111111111111111111111 refs/heads/b\n", 2),
-        (b"format sha1\nref 1111111111111111111111111111111111111111\n", 2),
+        (
+            b"format sha1\nref 1111111111111111111111111111111111111111 refs/heads/b\nref 1111111111111111111111111111111111111111 refs/heads/a\n",
+            3,
+        ),
+        (
+            b"format sha1\nref 1111111111111111111111111111111111111111 refs/heads/b\nready 1\nref 1111111111111111111111111111111111111111 refs/heads/b",
+            4,
+        ),
+        (
+            b"format sha1\nref 1111111111111111111111111111111111111111 refs/heads/.b\n",
+            2,
+        ),
+        (
+            b"format sha1\nref 1111111111111111111111111111111111111111 refs/heads/b peeled:1\n",
+            2,
+        ),
+        (
+            b"format sha1\nref 111111111111111111111111111111111111111 refs/heads/b\n",
+            2,
+        ),
+        (
+            b"format sha1\nref 1111111111111111111111111111111111111111\n",
+            2,
+        ),
         (b"format sha1\nref \n", 2),
-        (b"format sha1\nobject 2222222222222222222222222222222222222222 1\nobject 1111111111111111111111111111111111111111 1\n", 3),
-        (b"format sha1\nobject 2222222222222222222222222222222222222222 1\nobject 2222222222222222222222222222222222222222 1\n", 3),
-        (b"format sha1\nobject 2222222222222222222222222222222222222222 18446744073709551616\n", 2),
-        (b"format sha1\nobject 2222222222222222222222222222222222222222 \n", 2),
-        (b"format sha1\nobject 2222222222222222222222222222222222222222\n", 2),
-        (b"format sha256\nobject 2222222222222222222222222222222222222222 1\n", 2),
-        (b"format sha1\nshallow 222222222222222222222222222222222222222\n", 2),
-        (b"format sha1\nunshallow 22222222222222222222222222222222222222220\n", 2),
+        (
+            b"format sha1\nobject 2222222222222222222222222222222222222222 1\nobject 1111111111111111111111111111111111111111 1\n",
+            3,
+        ),
+        (
+            b"format sha1\nobject 2222222222222222222222222222222222222222 1\nobject 2222222222222222222222222222222222222222 1\n",
+            3,
+        ),
+        (
+            b"format sha1\nobject 2222222222222222222222222222222222222222 18446744073709551616\n",
+            2,
+        ),
+        (
+            b"format sha1\nobject 2222222222222222222222222222222222222222 \n",
+            2,
+        ),
+        (
+            b"format sha1\nobject 2222222222222222222222222222222222222222\n",
+            2,
+        ),
+        (
+            b"format sha256\nobject 2222222222222222222222222222222222222222 1\n",
+            2,
+        ),
+        (
+            b"format sha1\nshallow 222222222222222222222222222222222222222\n",
+            2,
+        ),
+        (
+            b"format sha1\nunshallow 22222222222222222222222222222222222222220\n",
+            2,
+        ),
         (b"format sha1\nready 1\nwords\nwords", 3),
     ];
     for (at, (text, line)) in cases.iter().enumerate() {
         let read = read_repo(rt.alloc(), text, Vec::new(rt.alloc()));
-        assert_eq!(rt; read.err(), Some(TextFault::Bad { line: *line }), "case {at}");
+        assert_eq!(rt;
+            read.err(),
+            Some(TextFault::Bad { line: *line }),
+            "case {at}"
+        );
     }
     Ok(())
 }
@@ -70,8 +116,16 @@ fn texts_without_a_last_line_end_are_read(rt: HostRuntime) -> Result<(), Fail> {
         (b"format sha1", Format::Sha1, 0),
         (b"format sha256\n", Format::Sha256, 0),
         (b"format sha1\nready 0001", Format::Sha1, 0),
-        (b"format sha1\nref 1111111111111111111111111111111111111111 refs/heads/b", Format::Sha1, 1),
-        (b"format sha256\nref 1111111111111111111111111111111111111111111111111111111111111111 HEAD\n", Format::Sha256, 1),
+        (
+            b"format sha1\nref 1111111111111111111111111111111111111111 refs/heads/b",
+            Format::Sha1,
+            1,
+        ),
+        (
+            b"format sha256\nref 1111111111111111111111111111111111111111111111111111111111111111 HEAD\n",
+            Format::Sha256,
+            1,
+        ),
         (WHOLE, Format::Sha1, 3),
     ];
     for (at, (text, format, count)) in cases.iter().enumerate() {
@@ -108,7 +162,13 @@ fn references_are_given_back(rt: HostRuntime) -> Result<(), Fail> {
 
 #[test]
 fn faults_have_texts(rt: HostRuntime) -> Result<(), Fail> {
-    assert_eq!(rt; TextFault::Bad { line: 3 }.to_string(rt.alloc())?.as_str(), "bad line 3");
-    assert_eq!(rt; TextFault::OutOfMemory.to_string(rt.alloc())?.as_str(), "OutOfMemory");
+    assert_eq!(rt;
+        TextFault::Bad { line: 3 }.to_string(rt.alloc())?.as_str(),
+        "bad line 3"
+    );
+    assert_eq!(rt;
+        TextFault::OutOfMemory.to_string(rt.alloc())?.as_str(),
+        "OutOfMemory"
+    );
     Ok(())
 }

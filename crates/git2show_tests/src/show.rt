@@ -185,6 +185,10 @@ fn faults_are_reported_on_one_line(rt: HostRuntime) -> Result<(), Fail> {
             b"git2show: ReadLimit\n".as_slice(),
         ),
         (
+            ProgramFault::Repo(18_446_744_073_709_551_615),
+            b"git2show: BadRepo at 18446744073709551615\n".as_slice(),
+        ),
+        (
             ProgramFault::OutOfMemory,
             b"git2show: OutOfMemory\n".as_slice(),
         ),
