@@ -77,6 +77,17 @@ fn a_byte_left_over_is_refused(rt: HostRuntime) -> Result<(), Fail> {
 }
 
 #[test]
+fn requests_are_judged_before_a_byte_left_over(rt: HostRuntime) -> Result<(), Fail> {
+    let mut responses = Vec::from_slice(rt.alloc(), ADVERTISEMENT)?;
+    responses.push(b'0')?;
+    let fault = CheckFault::Requests(Fault {
+        kind: Kind::UnexpectedPacket,
+        offset: 0,
+    });
+    checks(&rt, b"0001", responses.as_slice(), Err(fault), TRANSCRIPT)
+}
+
+#[test]
 fn another_first_packet_is_refused(rt: HostRuntime) -> Result<(), Fail> {
     checks(
         &rt,
