@@ -1,7 +1,7 @@
 -- The requests, of which the first packet alone is read.
-use Rattle.std.proofs.Common.{◌≡◌, ℕ, ◌+◌, ◌-◌, Bool, List, [], ◌++◌, length, take, drop, Option, Some, None, Ok, Err, Result, IfErr, inl, inr, arith, ap, sym, ◌∙◌, subst, append_assoc, length-drop, take-append-drop, zero-add}
+use Rattle.std.proofs.Common.{◌≡◌, ℕ, ◌+◌, ◌-◌, Bool, List, [], ◌++◌, length, take, drop, Option, Some, None, Ok, Err, Result, IfErr, inl, inr, arith, ap, sym, ◌∙◌, subst, append_assoc, length-drop, take-append-drop, zero-add, refl}
 use Rattle.std.proofs.Math.Seq.{take-length}
-use Rattle.std.proofs.KnownBytes.{Consumes-trans}
+use Rattle.std.proofs.KnownBytes.{Consumes-nil, Consumes-trans}
 use Rattle.std.specs.Io.KnownBytes.{Consumes}
 use Rattle.git_pkt.specs.Packets.{Pkt, seen}
 use Rattle.git_pkt.specs.Faults.{StopsBy}
@@ -15,8 +15,7 @@ use Rattle.git_pkt.specs.declared.reader.Got.{Got}
 use Rattle.git_pkt.specs.declared.reader.Got.TheVariants.{More, Failed, Packet as GotPacket}
 use Rattle.git_pkt.specs.declared.reader.PacketReader.{PacketReader}
 use Rattle.git2show_lib.specs.declared.checking.CheckFault.{CheckFault}
-use Rattle.git2show_lib.specs.declared.checking.CheckFault.TheVariants.{Requests}
-use Rattle.git2show_lib.specs.Checking.{BeginsWith, Asks, AsksSoFar, IsFirst, IsShownInRequests}
+use Rattle.git2show_lib.specs.Checking.{BeginsWith, Judges, unread, refused, judgement_of, AsksSoFar, IsFirst, IsShownInRequests}
 use Rattle.git2show_lib.proofs.Printing.{timely}
 
 -- a fault at the first packet
@@ -62,14 +61,14 @@ module _ (old new : PacketReader) (piece : List ℕ) (fed : Fed) (left_before at
         reads = subst (λ (l : List ℕ). Reads new 0 (so_far.read ++ l) [] later) same reads;
       }
 
-  pub asks_failed : (f : Fault) (ended : Bool) → fault_of old ≡ None → fed.got ≡ Failed f → Asks (Err (Requests f)) ended left_before left_after
+  pub asks_failed : (f : Fault) (ended : Bool) → fault_of old ≡ None → fed.got ≡ Failed f → Judges ended left_before left_after (refused f)
   asks_failed f ended sound is =
       let (later, reads) = goes_on (Failed f) is in
       let shown = feeds.news f sound is in
       record {
         read = so_far.read ++ piece;
         consumed = consumed;
-        ends = inr (record {
+        judged = inr (record {
           used = all;
           unused = drop fed.used piece;
           cut = whole;
@@ -91,16 +90,16 @@ module _ (old new : PacketReader) (piece : List ℕ) (fed : Fed) (left_before at
         at_start,
       )
 
-  pub asks_first : (p : Packet) (offset : ℕ) (ended : Bool) (result : Result (Unit {0}) CheckFault) → IsFirst p offset result → fed.got ≡ GotPacket p offset → Asks result ended left_before left_after
+  pub asks_first : (p : Packet) (offset : ℕ) (ended : Bool) (result : Result (Unit {0}) CheckFault) → IsFirst p offset result → fed.got ≡ GotPacket p offset → Judges ended left_before left_after (judgement_of result)
   asks_first p offset ended (Ok done) first is = record {
     read = so_far.read ++ piece;
     consumed = consumed;
-    ends = inr (subst (λ (q : Pkt). BeginsWith q (so_far.read ++ piece)) first (begins p offset is).0);
+    judged = inr (subst (λ (q : Pkt). BeginsWith q (so_far.read ++ piece)) first (begins p offset is).0);
   }
-  asks_first p offset ended (Err fault) first is = subst (λ (x : CheckFault). Asks (Err x) ended left_before left_after) (sym first.1) (record {
+  asks_first p offset ended (Err fault) first is = subst (λ (x : CheckFault). Judges ended left_before left_after (judgement_of (Err x))) (sym first.1) (record {
     read = so_far.read ++ piece;
     consumed = consumed;
-    ends = inl (record {
+    judged = inl (record {
       packet = seen p;
       begins = (begins p offset is).0;
       other = first.0;
@@ -112,3 +111,7 @@ module _ (old new : PacketReader) (piece : List ℕ) (fed : Fed) (left_before at
 pub first_shown : {Q : Type 0} (requests : Told Q) (turns : ℕ) (p : Packet) (offset : ℕ) (result : Result (Unit {0}) CheckFault) → IsFirst p offset result → IfErr result (IsShownInRequests requests turns)
 first_shown requests turns p offset (Ok done) first = tt
 first_shown requests turns p offset (Err fault) first = subst (λ (x : CheckFault). IsShownInRequests requests turns x) (sym first.1) tt
+
+-- nothing was read of the requests
+pub unread_yet : (ended : Bool) (at : Option (List ℕ)) → Judges ended at at unread
+unread_yet ended at = record { read = []; consumed = Consumes-nil at; judged = refl }

@@ -20,7 +20,7 @@ use Rattle.git_pkt.proofs.Pieces.{take_joined, left_of}
 use Rattle.git_client.specs.Events.{EventValue, turns_of}
 use Rattle.git_client.specs.Conversation.{GiveAll, Sounds, HasEvents, GoesWell}
 use Rattle.git_client.specs.Transcript.{line_of}
-use Rattle.git_client.specs.Hearing.{Hears, HearsOn, Feeds, Tells, StandsIn, fault_of, can_ask, bytes_used, phase_of, reader_of, events_of, value_of, LeavesAfter, is_ready, fault_in}
+use Rattle.git_client.specs.Hearing.{Hears, HearsOn, Feeds, Tells, StandsIn, fault_of, can_ask, wants_input, bytes_used, phase_of, reader_of, events_of, value_of, LeavesAfter, is_ready, fault_in}
 use Rattle.git_client.specs.declared.phase.Phase.{Phase}
 use Rattle.git_client.specs.declared.phase.Phase.TheVariants.{Opening, Advertisement, Ready, Failed as FailedPhase}
 use Rattle.git_client.specs.declared.events.Ending.{Ending}
@@ -30,12 +30,12 @@ use Rattle.git_client.specs.declared.events.Heard.{Heard}
 use Rattle.git_client.specs.declared.events.HeardGot.{HeardGot}
 use Rattle.git_client.specs.declared.events.HeardGot.TheVariants.{Event as EventGot, Failed}
 use Rattle.git_client.specs.declared.conversation.Client.{Client}
-use Rattle.git_client.proofs.Carries.{goes_in, hears_twice, takes_no_fault, turn_is}
+use Rattle.git_client.proofs.Carries.{goes_in, hears_twice, takes_no_fault, turn_is, none_while_due}
 use Rattle.git_client.proofs.Faults.{first_fault}
 use Rattle.git2show_lib.specs.declared.checking.CheckFault.{CheckFault}
 use Rattle.git2show_lib.specs.declared.checking.CheckFault.TheVariants.{Requests, Responses, ReadFault, WriteFault, ReadLimit}
 use Rattle.git2show_lib.specs.Showing.{IsTimely}
-use Rattle.git2show_lib.specs.Checking.{IsCutOff, transcript_of, Transcribes, TranscribesFront, TranscribesUpTo, TranscribesInto, TranscribesUntil, Transcribed, TranscribedFront, TranscribedUpTo, TranscribedUntil, Checks, EndsAs, EndsCheck, IsShownInRequests}
+use Rattle.git2show_lib.specs.Checking.{Judgement, unread, nothing_asked, judgement_of, IsCutOffAt, IsCutOff, transcript_of, Transcribes, TranscribesFront, TranscribesUpTo, TranscribesInto, TranscribesUntil, Transcribed, TranscribedFront, TranscribedUpTo, TranscribedAll, TranscribedUntil, Checks, EndsAs, EndsCheck, IsShownInRequests}
 use Rattle.git2show_lib.proofs.Printing.{left, timely}
 
 transcript-append : (es fs : List EventValue) → transcript_of (es ++ fs) ≡ transcript_of es ++ transcript_of fs
@@ -262,6 +262,9 @@ module _ (format : Format) (ending : Ending) (client : Client) (bytes : List ℕ
   is_whole : can_ask client ≡ true → (fault_of client ≡ None) × (turns_of events ≡ 1)
   is_whole ready = (turn_is (phase_of client) _ _ _ _ _ _ _ h.stands h.gives).0 ready
 
+  is_due : wants_input client ≡ true → turns_of events ≡ 0
+  is_due due = none_while_due (phase_of client) format h.clean h.given h.rest (length bytes) (reader_of client) events due h.stands h.gives
+
   position_is : bytes_used client ≡ length bytes
   position_is = h.reads.position ∙ zero-add (length bytes)
 
@@ -271,10 +274,10 @@ appends-kept_front a b c bytes written kept = (bytes, [], sym (append-nil bytes)
 front-kept : (a b c : Option (List ℕ)) (bytes : List ℕ) → AppendsFront a b bytes → Keeps b c → AppendsFront a c bytes
 front-kept a b c bytes (front, rest, split, written) kept = (front, rest, split, Appends-kept a b c front written kept)
 
-module _ (format : Format) (ending : Ending) (old new : Client) (begun : Hears format ending old [] []) (ended : Bool) (left_before left_after held_before held held_after : Option (List ℕ)) (kept : Keeps held held_after) where
+module _ (format : Format) (ending : Ending) (old new : Client) (begun : Hears format ending old [] []) (judged : Judgement → Type 0) (ended : Bool) (left_before left_after held_before held held_after : Option (List ℕ)) (kept : Keeps held held_after) where
   checks : (result : Result (Unit {0}) CheckFault) (unused : List ℕ) → Transcribed old new unused left_before left_after held_before held
-      → ((used : List ℕ) (events : List EventValue) → Hears format ending new used events → EndsAs format result ended used unused events)
-      → Exchanges (Checks format result ended) left_before left_after held_before held_after
+      → ((used : List ℕ) (events : List EventValue) → Hears format ending new used events → EndsAs format result judged ended used unused events)
+      → Exchanges (Checks format result judged ended) left_before left_after held_before held_after
   checks result unused t ends =
       let h : Hears format ending new t.used t.writes.events = t.writes.hears format ending [] [] begun in
       record {
@@ -293,8 +296,8 @@ module _ (format : Format) (ending : Ending) (old new : Client) (begun : Hears f
         };
       }
 
-  checks_front : TranscribedFront old new left_before left_after held_before held → ExchangesFront (Checks format (Err WriteFault) ended) left_before left_after held_before held_after
-  checks_front t =
+  checks_front : judged unread → TranscribedFront old new left_before left_after held_before held → ExchangesFront (Checks format (Err WriteFault) judged ended) left_before left_after held_before held_after
+  checks_front none t =
       let h : Hears format ending new t.used t.writes.events = t.writes.hears format ending [] [] begun in
       record {
         used = t.used ++ t.unused;
@@ -308,7 +311,7 @@ module _ (format : Format) (ending : Ending) (old new : Client) (begun : Hears f
           cut = refl;
           heard = has_events format ending new t.used t.writes.events h;
           lines = refl;
-          ends = tt;
+          ends = none;
         };
       }
 
@@ -332,52 +335,63 @@ module _ (format : Format) (ending : Ending) (old new : Client) (begun : Hears f
   front_until ReadLimit t = whole_front [] t.writes
 
   -- the flush failed, however the responses had ended
-  pub flush_failed : {T : Type 0} (r : Result T CheckFault) (unused_of : T → List ℕ) → IfOk r (λ x. Transcribed old new (unused_of x) left_before left_after held_before held)
-      → IfErr r (λ fault. TranscribedUntil fault ended old new left_before left_after held_before held) → ExchangesFront (Checks format (Err WriteFault) ended) left_before left_after held_before held_after
-  flush_failed (Ok x) unused_of ok err = checks_front (whole_front (unused_of x) ok)
-  flush_failed (Err fault) unused_of ok err = checks_front (front_until fault err)
+  pub flush_failed : judged unread → {T : Type 0} (r : Result T CheckFault) (unused_of : T → List ℕ) → IfOk r (λ x. Transcribed old new (unused_of x) left_before left_after held_before held)
+      → IfErr r (λ fault. TranscribedUntil fault ended old new left_before left_after held_before held) → ExchangesFront (Checks format (Err WriteFault) judged ended) left_before left_after held_before held_after
+  flush_failed none (Ok x) unused_of ok err = checks_front none (whole_front (unused_of x) ok)
+  flush_failed none (Err fault) unused_of ok err = checks_front none (front_until fault err)
+
+  still_due : judged unread → TranscribedAll old new left_before left_after held_before held → (used : List ℕ) (events : List EventValue) → Hears format ending new used events → IsCutOff format judged used [] events
+  still_due none t used events h = record {
+    sound = goes_well format ending new used events h t.sound;
+    at = inl (is_due format ending new used events h t.due, refl, none);
+  }
 
   -- a fault ended the responses
-  pub responses_stopped : (fault : CheckFault) → TranscribedUntil fault ended old new left_before left_after held_before held → EndsCheck (Checks format (Err fault) ended) left_before left_after held_before held_after (Err fault)
-  responses_stopped (Requests f) t = absurd t
-  responses_stopped (Responses f) t =
-      checks (Err (Responses f)) t.unused t.writes (λ used events h. inl (record { first = first_fault format ending new used events f h t.told; timely = t.timely }))
-  responses_stopped ReadFault t = checks (Err ReadFault) [] t.writes (λ used events h. record { sound = goes_well format ending new used events h t.sound; heard = inl refl })
-  responses_stopped WriteFault t = checks_front t
-  responses_stopped ReadLimit t = checks (Err ReadLimit) [] t.writes (λ used events h. record { sound = goes_well format ending new used events h t.sound; heard = inl refl })
+  pub responses_stopped : judged unread → (fault : CheckFault) → TranscribedUntil fault ended old new left_before left_after held_before held → EndsCheck (Checks format (Err fault) judged ended) left_before left_after held_before held_after (Err fault)
+  responses_stopped none (Requests f) t = absurd t
+  responses_stopped none (Responses f) t =
+      checks (Err (Responses f)) t.unused t.writes (λ used events h. inl (record { first = first_fault format ending new used events f h t.told; timely = t.timely }, none))
+  responses_stopped none ReadFault t = checks (Err ReadFault) [] t.writes (still_due none t)
+  responses_stopped none WriteFault t = checks_front none t
+  responses_stopped none ReadLimit t = checks (Err ReadLimit) [] t.writes (still_due none t)
 
   module _ (ready : can_ask new ≡ true) (unused : List ℕ) (t : Transcribed old new unused left_before left_after held_before held) where
-    well : (used : List ℕ) (events : List EventValue) → Hears format ending new used events → IsCutOff format used unused events
-    well used events h =
-        let whole = is_whole format ending new used events h ready in record { sound = goes_well format ending new used events h whole.0; heard = inr whole.1 }
+    behind_it : ((used : List ℕ) (events : List EventValue) → turns_of events ≡ 1 → IsCutOffAt judged unused events) → (used : List ℕ) (events : List EventValue) → Hears format ending new used events → IsCutOff format judged used unused events
+    behind_it at used events h =
+        let whole = is_whole format ending new used events h ready in record { sound = goes_well format ending new used events h whole.0; at = at used events whole.1 }
 
     -- a fault ended the requests
-    pub requests_stopped : {Q : Type 0} (requests : Told Q) (turns : ℕ) (fault : CheckFault) → IsShownInRequests requests turns fault → EndsCheck (Checks format (Err fault) ended) left_before left_after held_before held_after (Err fault)
-    requests_stopped requests turns (Requests f) shown = checks (Err (Requests f)) unused t (λ used events h. (is_whole format ending new used events h ready).1)
-    requests_stopped requests turns (Responses f) shown = absurd shown
-    requests_stopped requests turns ReadFault shown = checks (Err ReadFault) unused t well
-    requests_stopped requests turns WriteFault shown = absurd shown
-    requests_stopped requests turns ReadLimit shown = checks (Err ReadLimit) unused t well
+    pub requests_stopped : {Q : Type 0} (requests : Told Q) (turns : ℕ) (fault : CheckFault) → IsShownInRequests requests turns fault → judged (judgement_of (Err fault))
+        → EndsCheck (Checks format (Err fault) judged ended) left_before left_after held_before held_after (Err fault)
+    requests_stopped requests turns (Requests f) shown so = checks (Err (Requests f)) unused t (λ used events h. ((is_whole format ending new used events h ready).1, so))
+    requests_stopped requests turns (Responses f) shown so = absurd shown
+    requests_stopped requests turns ReadFault shown so = checks (Err ReadFault) unused t (behind_it (λ used events one. inr (inl (one, so))))
+    requests_stopped requests turns WriteFault shown so = absurd shown
+    requests_stopped requests turns ReadLimit shown so = checks (Err ReadLimit) unused t (behind_it (λ used events one. inr (inl (one, so))))
 
-    pub limit_met : Exchanges (Checks format (Err ReadLimit) ended) left_before left_after held_before held_after
-    limit_met = checks (Err ReadLimit) unused t well
+    module _ (so : judged nothing_asked) where
+      pub limit_met : unused ≡ [] → Exchanges (Checks format (Err ReadLimit) judged ended) left_before left_after held_before held_after
+      limit_met nothing = checks (Err ReadLimit) unused t (behind_it (λ used events one. inr (inr (one, nothing, so))))
 
-    pub read_failed : Exchanges (Checks format (Err ReadFault) ended) left_before left_after held_before held_after
-    read_failed = checks (Err ReadFault) unused t well
+      pub read_failed : unused ≡ [] → Exchanges (Checks format (Err ReadFault) judged ended) left_before left_after held_before held_after
+      read_failed nothing = checks (Err ReadFault) unused t (behind_it (λ used events one. inr (inr (one, nothing, so))))
 
-    pub all_was_used : unused ≡ [] → ended ≡ true → Exchanges (Checks format (Ok tt) ended) left_before left_after held_before held_after
-    all_was_used nothing at_end = checks (Ok tt) unused t (λ used events h. ((is_whole format ending new used events h ready).1, nothing, at_end))
+      pub all_was_used : unused ≡ [] → ended ≡ true → Exchanges (Checks format (Ok tt) judged ended) left_before left_after held_before held_after
+      all_was_used nothing at_end = checks (Ok tt) unused t (λ used events h. ((is_whole format ending new used events h ready).1, nothing, at_end, so))
 
-    -- more was read behind the advertisement
-    pub some_was_left : (fault : CheckFault) → fault ≡ Responses (record { kind = UnexpectedPacket; offset = bytes_used new }) → 0 < length unused
-        → EndsCheck (Checks format (Err fault) ended) left_before left_after held_before held_after (Err fault)
-    some_was_left fault named more =
-        subst (λ (x : CheckFault). EndsCheck (Checks format (Err x) ended) left_before left_after held_before held_after (Err x)) (sym named)
-        (checks (Err (Responses (record { kind = UnexpectedPacket; offset = bytes_used new }))) unused t (λ used events h. inr (record {
-          whole = (is_whole format ending new used events h ready).1;
-          fault = ap (λ (n : ℕ). record { kind = UnexpectedPacket; offset = n }) (position_is format ending new used events h);
-          more = more;
-        })))
+      -- more was read behind the advertisement
+      pub some_was_left : (fault : CheckFault) → fault ≡ Responses (record { kind = UnexpectedPacket; offset = bytes_used new }) → 0 < length unused
+          → EndsCheck (Checks format (Err fault) judged ended) left_before left_after held_before held_after (Err fault)
+      some_was_left fault named more =
+          subst (λ (x : CheckFault). EndsCheck (Checks format (Err x) judged ended) left_before left_after held_before held_after (Err x)) (sym named)
+          (checks (Err (Responses (record { kind = UnexpectedPacket; offset = bytes_used new }))) unused t (λ used events h. inr (
+            record {
+              whole = (is_whole format ending new used events h ready).1;
+              fault = ap (λ (n : ℕ). record { kind = UnexpectedPacket; offset = n }) (position_is format ending new used events h);
+              more = more;
+            },
+            so,
+          )))
 
 -- one more read, where nothing was left
 pub read_more : (old new : Client) (unused v : List ℕ) (left_before at left_after held_before held : Option (List ℕ)) → unused ≡ [] → Transcribed old new unused left_before at held_before held → Consumes at left_after v → Transcribed old new v left_before left_after held_before held
@@ -393,14 +407,14 @@ pub read_kept : (old new : Client) (unused : List ℕ) (left_before at left_afte
 read_kept old new unused left_before at left_after held_before held t kept = record { used = t.used; read = Consumes-kept left_before at left_after (t.used ++ unused) t.read kept; writes = t.writes }
 
 -- what a `?` answers is the fault that it met
-pub ends_at : (r : Result (Unit {0}) CheckFault) (fault : CheckFault) (format : Format) (ended : Bool) (left_before left_after held_before held_after : Option (List ℕ)) → IsErrAnd r (λ e. e ≡ fault)
-    → EndsCheck (Checks format (Err fault) ended) left_before left_after held_before held_after (Err fault) → EndsCheck (Checks format r ended) left_before left_after held_before held_after r
-ends_at r fault format ended left_before left_after held_before held_after met at =
+pub ends_at : (r : Result (Unit {0}) CheckFault) (fault : CheckFault) (format : Format) (judged : Judgement → Type 0) (ended : Bool) (left_before left_after held_before held_after : Option (List ℕ)) → IsErrAnd r (λ e. e ≡ fault)
+    → EndsCheck (Checks format (Err fault) judged ended) left_before left_after held_before held_after (Err fault) → EndsCheck (Checks format r judged ended) left_before left_after held_before held_after r
+ends_at r fault format judged ended left_before left_after held_before held_after met at =
     let (e, is, same) = err_from_is_err_and r met in
-    subst (λ (x : Result (Unit {0}) CheckFault). EndsCheck (Checks format x ended) left_before left_after held_before held_after x) (sym (is ∙ ap Err same)) at
+    subst (λ (x : Result (Unit {0}) CheckFault). EndsCheck (Checks format x judged ended) left_before left_after held_before held_after x) (sym (is ∙ ap Err same)) at
 
-pub ends_at_write : (r : Result (Unit {0}) CheckFault) (fault : CheckFault) (format : Format) (ended : Bool) (left_before left_after held_before held_after : Option (List ℕ)) → IsErrAnd r (λ e. e ≡ fault) → fault ≡ WriteFault
-    → ExchangesFront (Checks format (Err WriteFault) ended) left_before left_after held_before held_after → EndsCheck (Checks format r ended) left_before left_after held_before held_after r
-ends_at_write r fault format ended left_before left_after held_before held_after met named at =
-    ends_at r fault format ended left_before left_after held_before held_after met
-    (subst (λ (x : CheckFault). EndsCheck (Checks format (Err x) ended) left_before left_after held_before held_after (Err x)) (sym named) at)
+pub ends_at_write : (r : Result (Unit {0}) CheckFault) (fault : CheckFault) (format : Format) (judged : Judgement → Type 0) (ended : Bool) (left_before left_after held_before held_after : Option (List ℕ)) → IsErrAnd r (λ e. e ≡ fault) → fault ≡ WriteFault
+    → ExchangesFront (Checks format (Err WriteFault) judged ended) left_before left_after held_before held_after → EndsCheck (Checks format r judged ended) left_before left_after held_before held_after r
+ends_at_write r fault format judged ended left_before left_after held_before held_after met named at =
+    ends_at r fault format judged ended left_before left_after held_before held_after met
+    (subst (λ (x : CheckFault). EndsCheck (Checks format (Err x) judged ended) left_before left_after held_before held_after (Err x)) (sym named) at)

@@ -16,7 +16,7 @@ use Rattle.git_pkt.specs.declared.fault.Kind.TheVariants.{UnexpectedPacket}
 use Rattle.git_client.specs.Events.{EventValue, turns_of}
 use Rattle.git_client.specs.Conversation.{HasEvents, FirstMalformed, GoesWell}
 use Rattle.git_client.specs.Transcript.{line_of}
-use Rattle.git_client.specs.Hearing.{HearsOn, fault_of}
+use Rattle.git_client.specs.Hearing.{HearsOn, fault_of, wants_input}
 use Rattle.git_client.specs.declared.conversation.Client.{Client}
 use Rattle.git2show_lib.specs.declared.checking.CheckFault.{CheckFault}
 use Rattle.git2show_lib.specs.declared.checking.CheckFault.TheVariants.{Requests, Responses, ReadFault, WriteFault, ReadLimit}
@@ -70,29 +70,43 @@ pub record IsLeftOver (used unused : List ℕ) (events : List EventValue) (f : F
   pub fault : f ≡ record { kind = UnexpectedPacket; offset = length used }
   pub more : 0 < length unused
 
--- nothing is wrong with the responses so far; what was not used of them stands behind the whole advertisement
-pub record IsCutOff (format : Format) (used unused : List ℕ) (events : List EventValue) : Type 0 where
-  pub sound : GoesWell format used events
-  pub heard : (unused ≡ []) ⊎ (turns_of events ≡ 1)
+-- how far the requests were judged: not begun; read, and no packet is whole; read, and nothing is asked; or refused
+pub data Judgement : Type 0 where
+  unread : Judgement
+  unfinished : Judgement
+  nothing_asked : Judgement
+  refused : Fault → Judgement
 
--- what the bytes used of the responses, and those that were read and not used, have to do with how the check ended
-abbrev pub EndsAs : Format → Result (Unit {0}) CheckFault → Bool → List ℕ → List ℕ → List EventValue → Type 0
-EndsAs format (Ok done) ended used unused events = (turns_of events ≡ 1) × (unused ≡ []) × (ended ≡ true)
-EndsAs format (Err (Requests f)) ended used unused events = turns_of events ≡ 1
-EndsAs format (Err (Responses f)) ended used unused events = IsMalformed format ended used unused f ⊎ IsLeftOver used unused events f
-EndsAs format (Err ReadFault) ended used unused events = IsCutOff format used unused events
-EndsAs format (Err WriteFault) ended used unused events = Unit {0}
-EndsAs format (Err ReadLimit) ended used unused events = IsCutOff format used unused events
+-- where a check is cut off with nothing wrong so far: in the advertisement, in the requests behind it, or at the end of both
+abbrev pub IsCutOffAt : (Judgement → Type 0) → List ℕ → List EventValue → Type 0
+IsCutOffAt judged unused events =
+    ((turns_of events ≡ 0) × (unused ≡ []) × judged unread) ⊎ (((turns_of events ≡ 1) × judged unfinished) ⊎ ((turns_of events ≡ 1) × (unused ≡ []) × judged nothing_asked))
+
+-- nothing is wrong with the responses so far, and one more read was due
+pub record IsCutOff (format : Format) (judged : Judgement → Type 0) (used unused : List ℕ) (events : List EventValue) : Type 0 where
+  pub sound : GoesWell format used events
+  pub at : IsCutOffAt judged unused events
+
+-- what the bytes used of the responses, those that were read and not used, and how the requests were judged by then have to
+-- do with how the check ended: the requests are judged behind the advertisement, and before anything left over is
+abbrev pub EndsAs : Format → Result (Unit {0}) CheckFault → (Judgement → Type 0) → Bool → List ℕ → List ℕ → List EventValue → Type 0
+EndsAs format (Ok done) judged ended used unused events = (turns_of events ≡ 1) × (unused ≡ []) × (ended ≡ true) × judged nothing_asked
+EndsAs format (Err (Requests f)) judged ended used unused events = (turns_of events ≡ 1) × judged (refused f)
+EndsAs format (Err (Responses f)) judged ended used unused events =
+    (IsMalformed format ended used unused f × judged unread) ⊎ (IsLeftOver used unused events f × judged nothing_asked)
+EndsAs format (Err ReadFault) judged ended used unused events = IsCutOff format judged used unused events
+EndsAs format (Err WriteFault) judged ended used unused events = judged unread
+EndsAs format (Err ReadLimit) judged ended used unused events = IsCutOff format judged used unused events
 
 -- the bytes given are the transcript of what was used of the responses
-pub record Checks (format : Format) (result : Result (Unit {0}) CheckFault) (ended : Bool) (read given : List ℕ) : Type 0 where
+pub record Checks (format : Format) (result : Result (Unit {0}) CheckFault) (judged : Judgement → Type 0) (ended : Bool) (read given : List ℕ) : Type 0 where
   pub used : List ℕ
   pub unused : List ℕ
   pub events : List EventValue
   pub cut : read ≡ used ++ unused
   pub heard : HasEvents format used events
   pub lines : given ≡ transcript_of events
-  pub ends : EndsAs format result ended used unused events
+  pub ends : EndsAs format result judged ended used unused events
 
 -- what was written at the end of a check: all that was given, but after a failing write a front of it
 abbrev pub EndsCheck : Relation → Option (List ℕ) → Option (List ℕ) → Option (List ℕ) → Option (List ℕ) → Result (Unit {0}) CheckFault → Type 0
@@ -155,10 +169,11 @@ pub record TranscribedUpTo (f : Fault) (ended : Bool) (old new : Client) (left_b
   pub told : fault_of new ≡ Some f
   pub timely : IsTimely f.kind ended unused
 
--- all that was read was used, and nothing is wrong with it
+-- all that was read was used, and more is due
 pub record TranscribedAll (old new : Client) (left_before left_after held_before held_after : Option (List ℕ)) : Type 0 where
   pub writes : Transcribed old new [] left_before left_after held_before held_after
   pub sound : fault_of new ≡ None
+  pub due : wants_input new ≡ true
 
 -- how far the responses were heard when this fault ended them
 abbrev pub TranscribedUntil : CheckFault → Bool → Client → Client → Option (List ℕ) → Option (List ℕ) → Option (List ℕ) → Option (List ℕ) → Type 0
@@ -194,20 +209,27 @@ pub record IsNoPacket (ended : Bool) (read : List ℕ) (f : Fault) : Type 0 wher
   pub by : StopsBy 0 used (length used) f.kind f.offset
   pub timely : IsTimely f.kind ended unused
 
--- what the bytes read of the requests have to do with how the check ended; while the responses are heard none are read
-abbrev pub EndsAsked : Result (Unit {0}) CheckFault → Bool → List ℕ → Type 0
-EndsAsked (Ok done) ended read = AsksNothing ended read
-EndsAsked (Err (Requests f)) ended read = IsOtherPacket read f ⊎ IsNoPacket ended read f
-EndsAsked (Err (Responses f)) ended read = (read ≡ []) ⊎ AsksNothing ended read
-EndsAsked (Err ReadFault) ended read = IsOpen read ⊎ AsksNothing ended read
-EndsAsked (Err WriteFault) ended read = read ≡ []
-EndsAsked (Err ReadLimit) ended read = IsOpen read ⊎ AsksNothing ended read
+-- what the bytes read of the requests have to do with how they were judged
+abbrev pub IsJudged : Judgement → Bool → List ℕ → Type 0
+IsJudged unread ended read = read ≡ []
+IsJudged unfinished ended read = IsOpen read
+IsJudged nothing_asked ended read = AsksNothing ended read
+IsJudged (refused f) ended read = IsOtherPacket read f ⊎ IsNoPacket ended read f
 
--- what was read of the requests
-pub record Asks (result : Result (Unit {0}) CheckFault) (ended : Bool) (left_before left_after : Option (List ℕ)) : Type 0 where
+-- what was read of the requests was judged so
+pub record Judges (ended : Bool) (left_before left_after : Option (List ℕ)) (judgement : Judgement) : Type 0 where
   pub read : List ℕ
   pub consumed : Consumes left_before left_after read
-  pub ends : EndsAsked result ended read
+  pub judged : IsJudged judgement ended read
+
+-- how the requests were judged where reading them ended so
+abbrev pub judgement_of : Result (Unit {0}) CheckFault → Judgement
+judgement_of (Ok done) = nothing_asked
+judgement_of (Err (Requests f)) = refused f
+judgement_of (Err (Responses f)) = unread
+judgement_of (Err ReadFault) = unfinished
+judgement_of (Err WriteFault) = unread
+judgement_of (Err ReadLimit) = unfinished
 
 -- no packet of the requests is whole so far
 pub record AsksSoFar (reader : PacketReader) (left_before left_after : Option (List ℕ)) : Type 0 where

@@ -3,7 +3,7 @@
 ghost use Rattle.std.specs.Prelude.{◌≡◌, ◌+◌, ◌-◌, ◌≤◌, ◌<◌, true, false, None, length, take, drop, IsTrue, OnOk, IfOk, IfErr};
 ghost use Rattle.git_pkt.specs.Told.{inner_of, reads_of, has_failed, has_ended, IsNew};
 ghost use Rattle.git_client.specs.Hearing.{bytes_used, fault_of, can_ask, wants_input};
-ghost use Rattle.git2show_lib.specs.Checking.{IsShownInCheck, IsShownInHearing, IsShownInPiece, IsShownInRequests, Checks, EndsCheck, Asks, IsFirst, Transcribes, TranscribesUntil, Transcribed, TranscribedUntil};
+ghost use Rattle.git2show_lib.specs.Checking.{IsShownInCheck, IsShownInHearing, IsShownInPiece, IsShownInRequests, Checks, EndsCheck, Judges, judgement_of, IsFirst, Transcribes, TranscribesUntil, Transcribed, TranscribedUntil};
 
 use git_client::{Client, Ending, HeardGot, write_event};
 use git_names::Format;
@@ -62,9 +62,9 @@ pub fn check<Q: Read, A: Read, W: Write>(
     ensures reads { reads_of requests.new + reads_of responses.new ≤ turns }
     ensures ok { OnOk result (IsTrue (has_ended responses.new)) }
     ensures fault { IfErr result (IsShownInCheck requests.new responses.new (has_failed out.new) turns) }
-    ensures checked { EndsCheck (Checks format result (has_ended responses.new)) (A.remaining (inner_of responses.old)) (A.remaining (inner_of responses.new))
+    ensures checked { EndsCheck (Checks format result (Judges (has_ended requests.new) (Q.remaining (inner_of requests.old)) (Q.remaining (inner_of requests.new)))
+        (has_ended responses.new)) (A.remaining (inner_of responses.old)) (A.remaining (inner_of responses.new))
         (W.contents (inner_of out.old)) (W.contents (inner_of out.new)) result }
-    ensures asked { Asks result (has_ended requests.new) (Q.remaining (inner_of requests.old)) (Q.remaining (inner_of requests.new)) }
 {
     let mut client = Client::new(format, ending);
     let heard = hear_advertisement(&mut client, responses, other_piece, out, turns);
@@ -177,7 +177,7 @@ fn read_requests<Q: Read>(
     ensures reads { reads_of requests.new ≤ turns }
     ensures ok { OnOk result (has_failed requests.new ≡ false) }
     ensures fault { IfErr result (IsShownInRequests requests.new turns) }
-    ensures asked { Asks result (has_ended requests.new) (Q.remaining (inner_of requests.old)) (Q.remaining (inner_of requests.new)) }
+    ensures asked { Judges (has_ended requests.new) (Q.remaining (inner_of requests.old)) (Q.remaining (inner_of requests.new)) (judgement_of result) }
 {
     let mut packets = PacketReader::new();
     for _ in 0..turns {

@@ -139,6 +139,15 @@ turn_is Ready format clean given rest end reader events h g =
     (λ e. (refl, omega (arith, turns, h.behind)), λ _. refl)
 turn_is (Failed fault) format clean given rest end reader events h g = (λ e. absurd (cc), λ (none, one). absurd (cc))
 
+-- no turn has come while the advertisement is due
+pub none_while_due : (phase : Phase) (format : Format) (clean given : List Given) (rest : List ℕ) (end : ℕ) (reader : PacketReader) (events : List EventValue) → takes_packets phase ≡ true → StandsIn phase format clean given rest end reader → GiveAll format [] clean events → turns_of events ≡ 0
+none_while_due Opening format clean given rest end reader events due h g =
+    let turns = turns_are_flushes format [] clean events g in omega (arith, turns, ap flushes h.behind)
+none_while_due Advertisement format clean given rest end reader events due h g =
+    let turns = turns_are_flushes format [] clean events g in omega (arith, turns, h.behind.1)
+none_while_due Ready format clean given rest end reader events due h g = absurd (cc)
+none_while_due (Failed fault) format clean given rest end reader events due h g = absurd (cc)
+
 -- two steps in a row
 pub hears_twice : (a b c : Client) (u v : List ℕ) (now later : List EventValue) → HearsOn a u now b → HearsOn b v later c → HearsOn a (u ++ v) (now ++ later) c
 hears_twice a b c u v now later h k format ending bytes events r =

@@ -131,7 +131,7 @@ pub record SameCut (clean others more tail : List Given) (events later : List Ev
   pub more_is : more ≡ tail
   pub events_are : events ≡ later
 
-same_cut : (format : Format) (before : List Pkt) (clean others more tail : List Given) (events later : List EventValue) → clean ++ more ≡ others ++ tail → GiveAll format before clean events → GiveAll format before others later → IsStop format (nearest clean before) more → IsStop format (nearest others before) tail → SameCut clean others more tail events later
+pub same_cut : (format : Format) (before : List Pkt) (clean others more tail : List Given) (events later : List EventValue) → clean ++ more ≡ others ++ tail → GiveAll format before clean events → GiveAll format before others later → IsStop format (nearest clean before) more → IsStop format (nearest others before) tail → SameCut clean others more tail events later
 same_cut format before [] [] more tail events later e a b s t = record { clean_is = refl; more_is = e; events_are = a ∙ sym b }
 same_cut format before [] (h ∷ hs) more tail events later e a b s t = absurd (stopped format before h (hs ++ tail) more b.0 e s b.3)
 same_cut format before (g ∷ gs) [] more tail events later e a b s t = absurd (stopped format before g (gs ++ more) tail a.0 (sym e) t a.3)

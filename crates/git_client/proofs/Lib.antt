@@ -8,3 +8,4 @@ pub mod Twice
 pub mod Determined
 pub mod Writing
 pub mod Faults
+pub mod OneFault

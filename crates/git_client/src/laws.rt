@@ -1,11 +1,12 @@
 //! What follows from the definitions alone: each law is the contract of a function without parameters.
 
-ghost use Rattle.std.specs.Prelude.{◌≡◌, ℕ, List, Some, None};
+ghost use Rattle.std.specs.Prelude.{◌≡◌, ◌≢◌, ℕ, List, Some, None};
 ghost use Rattle.git_names.specs.declared.object_format.Format.{Format};
 ghost use Rattle.git_pkt.specs.Packets.{Pkt};
 ghost use Rattle.git_pkt.specs.Splits.{Given};
 ghost use Rattle.git_pkt.specs.declared.fault.Fault.{Fault};
 ghost use Rattle.git_pkt.specs.declared.fault.Kind.{Kind};
+ghost use Rattle.git_pkt.specs.declared.fault.Kind.TheVariants.{Truncated, StreamTooLong};
 ghost use Rattle.git_msg.specs.declared.offers.Caps.{Caps};
 ghost use Rattle.git_client.specs.Events.{EventValue};
 ghost use Rattle.git_client.specs.Conversation.{GivesAt, RefusesAt, FirstFault, HasEvents, HasNoted, FirstMalformed, GoesWell};
@@ -47,6 +48,16 @@ pub fn one_note()
 pub fn one_first_fault()
     ensures { (format : Format) (given : List Given) (kind other : Kind) (offset place : ℕ)
         → FirstFault format given kind offset → FirstFault format given other place → (kind ≡ other) × (offset ≡ place) }
+{}
+
+/// Bytes have one first malformed packet: beside it stand only the faults of an input that ended and of a stream that is
+/// too long, each at one offset.
+pub fn one_first_malformed()
+    ensures shown { (format : Format) (bytes : List ℕ) (fault other : Fault)
+        → FirstMalformed format bytes fault → FirstMalformed format bytes other
+        → fault.kind ≢ Truncated → fault.kind ≢ StreamTooLong → fault ≡ other }
+    ensures by_name { (format : Format) (bytes : List ℕ) (fault other : Fault)
+        → FirstMalformed format bytes fault → FirstMalformed format bytes other → fault.kind ≡ other.kind → fault ≡ other }
 {}
 
 /// What a client has handed out are the events of the bytes that it used.

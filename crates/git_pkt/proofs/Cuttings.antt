@@ -1,7 +1,7 @@
 -- Readers of the same bytes, however these came.
 use Rattle.std.proofs.Common.{◌≡◌, ◌≢◌, ℕ, ◌+◌, ◌-◌, List, length, Option, Some, None, sym, ◌∙◌, ap, subst, refl}
 use Rattle.git_pkt.specs.Splits.{Given}
-use Rattle.git_pkt.specs.Faults.{IsRefused, RestFault, StopsBy}
+use Rattle.git_pkt.specs.Faults.{IsOpen, IsRefused, RestFault, StopsBy}
 use Rattle.git_pkt.specs.Reading.{Reads, StandsAt, fault_of, rest_of}
 use Rattle.git_pkt.specs.declared.fault.Fault.{Fault}
 use Rattle.git_pkt.specs.declared.fault.Kind.{Kind}
@@ -24,7 +24,7 @@ unstopped r start bytes given rest h none =
     subst (λ (o : Option Fault). StandsAt o (start + length bytes - length rest) (start + length bytes) rest r) none h.state
 
 -- a fault by one name stands at one offset
-one_offset : (p : ℕ) (rest : List ℕ) (end : ℕ) (kind : Kind) (m n : ℕ) → StopsBy p rest end kind m → StopsBy p rest end kind n → m ≡ n
+pub one_offset : (p : ℕ) (rest : List ℕ) (end : ℕ) (kind : Kind) (m n : ℕ) → StopsBy p rest end kind m → StopsBy p rest end kind n → m ≡ n
 one_offset p rest end Truncated m n a b = a.2 ∙ sym b.2
 one_offset p rest end StreamTooLong m n a b = a.2 ∙ sym b.2
 one_offset p rest end kind m n a b =
@@ -46,6 +46,15 @@ of_bytes : (p end : ℕ) (rest : List ℕ) (kind : Kind) (offset : ℕ) → kind
 of_bytes p end rest Truncated offset a b h = absurd (a refl)
 of_bytes p end rest StreamTooLong offset a b h = absurd (b refl)
 of_bytes p end rest kind offset a b h = h.0
+
+-- a fault that is none of an ending is the only one, and an open rest has none
+pub stops_once : (p end : ℕ) (rest : List ℕ) (kind other : Kind) (m n : ℕ) → kind ≢ Truncated → kind ≢ StreamTooLong → StopsBy p rest end kind m → StopsBy p rest end other n → (kind ≡ other) × (m ≡ n)
+stops_once p end rest kind other m n a b h k =
+    told_again_at p end rest (record { kind = kind; offset = m }) other n (of_bytes p end rest kind m a b h) k
+
+pub not_open : (p end : ℕ) (rest : List ℕ) (kind : Kind) (offset : ℕ) → kind ≢ Truncated → kind ≢ StreamTooLong → StopsBy p rest end kind offset → IsOpen rest → ⊥
+not_open p end rest kind offset a b h sound =
+    not_open_and_faulty p rest (record { kind = kind; offset = offset }) sound (of_bytes p end rest kind offset a b h)
 
 told_by : (s : PacketReader) (f : Fault) (o : Option Fault) (p end : ℕ) (rest : List ℕ) → RestFault p rest f → StandsAt o p end rest s → o ≡ Some f
 told_by s f None p end rest h stands = absurd (not_open_and_faulty p rest f stands.1 h)
