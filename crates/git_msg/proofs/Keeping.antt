@@ -18,18 +18,18 @@ use Rattle.git_msg.specs.Checks.{Passes}
 use Rattle.git_msg.specs.Holding.{command_of, format_of, kept_of, limit_of, Keeps, keep_checks, IsRefused, IsValueFault}
 use Rattle.git_msg.specs.Lines.{Line, argument, commands_of, arguments_of, IsLine, IsArgumentLine, HasFault, HasFaultIn}
 use Rattle.git_msg.specs.Requests.{AreLines, FirstFault, WantsMemory}
-use Rattle.git_msg.specs.Taking.{WaitsIn, WaitsBehind, InArguments, IsTold, KeepsOn}
+use Rattle.git_msg.specs.Taking.{WaitsIn, WaitsBehind, InArguments, IsTold, KeepsOn, limit_in}
 use Rattle.git_msg.proofs.LineLists.{commands_snoc, arguments_snoc, boundary_snoc, kept_snoc, asked_snoc, lines_snoc, argument_is_line}
 
 -- the line of an argument that waited
-waited_line : {A : Type 0} (packets : List Given) (offset long : ℕ) (arg : Arg) (r : RequestReader A) → (w : WaitsBehind packets offset long arg r) → kept_of r.request + long ≤ limit_of r.request → IsLine r.offer r.limits.args w.lines w.last.packet (argument arg long)
+waited_line : {A : Type 0} (packets : List Given) (offset long : ℕ) (arg : Arg) (r : RequestReader A) → (w : WaitsBehind packets offset long arg r) → kept_of r.request + long ≤ limit_of r.request → IsLine r.offer (limit_in r) w.lines w.last.packet (argument arg long)
 waited_line packets offset long arg r w fits =
-    let line : IsArgumentLine r.offer r.limits.args w.lines (text_of w.bytes) arg long = record {
+    let line : IsArgumentLine r.offer (limit_in r) w.lines (text_of w.bytes) arg long = record {
       is_text = w.is_text;
       long_is = w.long_is;
-      fits = omega (arith, fits, w.in_part.kept, w.in_part.limit);
+      fits = omega (arith, fits, w.in_part.kept);
     } in
-    subst (λ (p : Pkt). IsLine r.offer r.limits.args w.lines p (argument arg long)) (sym w.data_packet) (argument_is_line r.offer r.limits.args w.lines w.bytes arg long w.in_part.behind line)
+    subst (λ (p : Pkt). IsLine r.offer (limit_in r) w.lines p (argument arg long)) (sym w.data_packet) (argument_is_line r.offer (limit_in r) w.lines w.bytes arg long w.in_part.behind line)
 
 -- the argument part with one argument more
 one_more : {A : Type 0} (lines : List Line) (arg : Arg) (long : ℕ) (r : RequestReader A) (q : Request A) → InArguments lines r → Keeps r.request arg long q → InArguments (lines ++ argument arg long ∷ []) (record r { part = Arguments; request = q })
@@ -39,7 +39,6 @@ one_more lines arg long r q h k = record {
   asked = k.asked ∙ ap (λ a. with_argument a arg) h.asked ∙ sym (asked_snoc (command_of r.request) (arguments_of lines) arg) ∙ ap (λ args. asked_by (command_of r.request) args) (sym (arguments_snoc lines (argument arg long))) ∙ ap (λ c. asked_by c (arguments_of (lines ++ argument arg long ∷ []))) (sym k.command);
   kept = k.kept ∙ ap (λ n. n + long) h.kept ∙ sym (kept_snoc lines (argument arg long));
   format = k.format ∙ h.format;
-  limit = k.limit ∙ h.limit;
 }
 
 -- an argument's text is not shorter than the argument's written form
@@ -62,27 +61,30 @@ keeps_ok {A} r offset long arg q part k passes = record {
       let kept : Keeps r.request arg long q = subst (λ (n : ℕ). Keeps r.request arg n q) same k in
       let fine : Passes (keep_checks r.request arg long) = subst (λ (n : ℕ). Passes (keep_checks r.request arg n)) same passes in
       let line = waited_line packets offset long arg r waits fine.1.0 in
+      let all : AreLines r.offer (limit_in r) [] packets (waits.lines ++ argument arg long ∷ []) =
+      subst (λ (gs : List Given). AreLines r.offer (limit_in r) [] gs (waits.lines ++ argument arg long ∷ [])) (sym waits.whole) (lines_snoc r.offer (limit_in r) [] waits.front waits.lines waits.last (argument arg long) waits.taken line) in
       record {
         stands = record {
           lines = waits.lines ++ argument arg long ∷ [];
-          taken = subst (λ (gs : List Given). AreLines r.offer r.limits.args [] gs (waits.lines ++ argument arg long ∷ [])) (sym waits.whole) (lines_snoc r.offer r.limits.args [] waits.front waits.lines waits.last (argument arg long) waits.taken line);
+          taken = subst (λ (n : ℕ). AreLines r.offer n [] packets (waits.lines ++ argument arg long ∷ [])) (sym k.limit) all;
           in_part = one_more waits.lines arg long r q waits.in_part kept;
         };
       };
   leaves = (refl, refl);
   offer = refl;
-  limit = refl;
+  limit = k.limit;
+  within = λ _. omega (arith, k.kept, k.limit, passes.1.0);
 }
 
 -- an argument that the limit refuses
-too_much : {A : Type 0} (packets : List Given) (offset long : ℕ) (arg : Arg) (r : RequestReader A) → WaitsBehind packets offset long arg r → limit_of r.request < kept_of r.request + long → FirstFault r.offer r.limits.args packets TooMuchKept offset
+too_much : {A : Type 0} (packets : List Given) (offset long : ℕ) (arg : Arg) (r : RequestReader A) → WaitsBehind packets offset long arg r → limit_of r.request < kept_of r.request + long → FirstFault r.offer (limit_in r) packets TooMuchKept offset
 too_much packets offset long arg r w over =
-    let fault : HasFaultIn true r.offer r.limits.args w.lines (payload w.bytes) TooMuchKept = record {
+    let fault : HasFaultIn true r.offer (limit_in r) w.lines (payload w.bytes) TooMuchKept = record {
       of = w.is_text.of;
       asked = w.is_text.asked;
-      refuses = inr (w.is_text.no_error, inr ((arg, w.is_text.reads), inl (omega (arith, over, w.long_is, w.in_part.kept, w.in_part.limit), refl)));
+      refuses = inr (w.is_text.no_error, inr ((arg, w.is_text.reads), inl (omega (arith, over, w.long_is, w.in_part.kept), refl)));
     } in
-    let there : HasFault r.offer r.limits.args w.lines (payload w.bytes) TooMuchKept = subst (λ (b : Bool). HasFaultIn b r.offer r.limits.args w.lines (payload w.bytes) TooMuchKept) (sym w.in_part.behind) fault in
+    let there : HasFault r.offer (limit_in r) w.lines (payload w.bytes) TooMuchKept = subst (λ (b : Bool). HasFaultIn b r.offer (limit_in r) w.lines (payload w.bytes) TooMuchKept) (sym w.in_part.behind) fault in
     record {
       front = w.front;
       bad = w.last;
@@ -90,12 +92,12 @@ too_much packets offset long arg r w over =
       lines = w.lines;
       whole = w.whole;
       taken = w.taken;
-      fault = subst (λ (p : Pkt). HasFault r.offer r.limits.args w.lines p TooMuchKept) (sym w.data_packet) there;
+      fault = subst (λ (p : Pkt). HasFault r.offer (limit_in r) w.lines p TooMuchKept) (sym w.data_packet) there;
       at = sym w.at;
     }
 
 -- an argument for which there is no memory
-no_memory : {A : Type 0} (packets : List Given) (offset long : ℕ) (arg : Arg) (r : RequestReader A) → WaitsBehind packets offset long arg r → kept_of r.request + long ≤ limit_of r.request → TakesMemory arg → WantsMemory r.offer r.limits.args packets OutOfMemory offset
+no_memory : {A : Type 0} (packets : List Given) (offset long : ℕ) (arg : Arg) (r : RequestReader A) → WaitsBehind packets offset long arg r → kept_of r.request + long ≤ limit_of r.request → TakesMemory arg → WantsMemory r.offer (limit_in r) packets OutOfMemory offset
 no_memory packets offset long arg r w fits takes = record {
   front = w.front;
   last = w.last;
@@ -124,19 +126,21 @@ sound_value packets offset long arg r kind w fault =
     let is : IsArgument (command_of r.request) r.offer.format (text_of w.bytes) arg = subst (λ (c : Command). IsArgument c r.offer.format (text_of w.bytes) arg) of w.is_text.reads.is_argument in
     value_or_fault (command_of r.request) r.offer.format (format_of r.request) (text_of w.bytes) arg kind is fault
 
-told : {A : Type 0} (packets : List Given) (offset long : ℕ) (arg : Arg) (r : RequestReader A) (kind : Kind) → WaitsBehind packets offset long arg r → IsRefused (keep_checks r.request arg long) arg kind → IsTold r.offer r.limits.args packets (record { kind = kind; offset = offset })
+told : {A : Type 0} (packets : List Given) (offset long : ℕ) (arg : Arg) (r : RequestReader A) (kind : Kind) → WaitsBehind packets offset long arg r → IsRefused (keep_checks r.request arg long) arg kind → IsTold r.offer (limit_in r) packets (record { kind = kind; offset = offset })
 told packets offset long arg r kind w (inl (inl h)) = absurd (sound_value packets offset long arg r kind w h)
-told packets offset long arg r kind w (inl (inr (value, inl h))) = inl (subst (λ (k : Kind). FirstFault r.offer r.limits.args packets k offset) (sym h.1) (too_much packets offset long arg r w h.0))
+told packets offset long arg r kind w (inl (inr (value, inl h))) = inl (subst (λ (k : Kind). FirstFault r.offer (limit_in r) packets k offset) (sym h.1) (too_much packets offset long arg r w h.0))
 told packets offset long arg r kind w (inl (inr (value, inr h))) = absurd h.1
-told packets offset long arg r kind w (inr h) = inr (subst (λ (k : Kind). WantsMemory r.offer r.limits.args packets k offset) (sym h.name) (no_memory packets offset long arg r w h.passes.1.0 h.takes_memory))
+told packets offset long arg r kind w (inr h) = inr (subst (λ (k : Kind). WantsMemory r.offer (limit_in r) packets k offset) (sym h.name) (no_memory packets offset long arg r w h.passes.1.0 h.takes_memory))
 
-pub keeps_err : {A : Type 0} (r : RequestReader A) (offset long : ℕ) (arg : Arg) (q : Request A) (kind : Kind) → r.part ≡ Waiting offset long → IsRefused (keep_checks r.request arg (max long (length (written_text arg)))) arg kind → KeepsOn r arg (Err (record { kind = kind; offset = offset })) (record r { part = Failed (record { kind = kind; offset = offset }); request = q })
-keeps_err {A} r offset long arg q kind part refused = record {
-  settles = λ packets w.
-      let waits : WaitsBehind packets offset long arg r = subst (λ (p : Part). WaitsIn p packets arg r) part w.waits in
-      let it : IsTold r.offer r.limits.args packets (record { kind = kind; offset = offset }) = told packets offset long arg r kind waits (subst (λ (n : ℕ). IsRefused (keep_checks r.request arg n) arg kind) (counted packets offset long arg r waits) refused) in
-      (record { stands = it }, it);
-  leaves = (refl, refl);
-  offer = refl;
-  limit = refl;
-}
+pub keeps_err : {A : Type 0} (r : RequestReader A) (offset long : ℕ) (arg : Arg) (q : Request A) (kind : Kind) → r.part ≡ Waiting offset long → q ≡ r.request → IsRefused (keep_checks r.request arg (max long (length (written_text arg)))) arg kind → KeepsOn r arg (Err (record { kind = kind; offset = offset })) (record r { part = Failed (record { kind = kind; offset = offset }); request = q })
+keeps_err {A} r offset long arg q kind part same refused =
+    subst (λ (x : Request A). KeepsOn r arg (Err (record { kind = kind; offset = offset })) (record r { part = Failed (record { kind = kind; offset = offset }); request = x })) (sym same) (record {
+      settles = λ packets w.
+          let waits : WaitsBehind packets offset long arg r = subst (λ (p : Part). WaitsIn p packets arg r) part w.waits in
+          let it : IsTold r.offer (limit_in r) packets (record { kind = kind; offset = offset }) = told packets offset long arg r kind waits (subst (λ (n : ℕ). IsRefused (keep_checks r.request arg n) arg kind) (counted packets offset long arg r waits) refused) in
+          (record { stands = it }, it);
+      leaves = (refl, refl);
+      offer = refl;
+      limit = refl;
+      within = λ h. h;
+    })

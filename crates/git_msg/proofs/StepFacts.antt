@@ -17,10 +17,10 @@ use Rattle.git_msg.specs.declared.reader.Taken.TheVariants.{More, Request as Tak
 use Rattle.git_msg.specs.Arguments.{Arg}
 use Rattle.git_msg.specs.Asked.{nothing_asked, asked_by}
 use Rattle.git_msg.specs.Checks.{Refuses, Passes}
-use Rattle.git_msg.specs.Holding.{IsEmpty, command_of}
+use Rattle.git_msg.specs.Holding.{IsEmpty, command_of, limit_of}
 use Rattle.git_msg.specs.Judging.{text_checks}
 use Rattle.git_msg.specs.Lines.{Line, command, agent, server_option, object_format, boundary, argument, is_none, commands_of, arguments_of, kept_in, has_format, is_object_format, command_in, argument_in, long_of, is_boundary, IsLineOf, key_checks, IsCapabilityLine, argument_checks, capability_checks, part_checks, end_checks, flush_checks_in, IsLineIn, HasFaultIn}
-use Rattle.git_msg.specs.Taking.{InCapabilities, InArguments, is_nil, fault_in, waits_in}
+use Rattle.git_msg.specs.Taking.{InCapabilities, InArguments, is_nil, fault_in, waits_in, limit_in, kept_so_far}
 use Rattle.git_msg.specs.TakingSteps.{InLines, Advances, StepsOn, Notes, IsDue, is_first, with_line, restarted}
 use Rattle.git_msg.proofs.LineLists.{commands_snoc, arguments_snoc, format_snoc, boundary_snoc, kept_snoc, capability_is_line}
 
@@ -130,7 +130,15 @@ module _ {A : Type 0} where
   with_line_offer boundary r = refl
   with_line_offer (argument arg long) r = refl
 
-  with_line_limit : (line : Line) (r : RequestReader A) → (with_line line r).limits.args ≡ r.limits.args
+  with_line_kept : (line : Line) (r : RequestReader A) → kept_so_far (with_line line r) ≡ kept_so_far r
+  with_line_kept (command c) r = refl
+  with_line_kept agent r = refl
+  with_line_kept server_option r = refl
+  with_line_kept object_format r = refl
+  with_line_kept boundary r = refl
+  with_line_kept (argument arg long) r = refl
+
+  with_line_limit : (line : Line) (r : RequestReader A) → limit_in (with_line line r) ≡ limit_in r
   with_line_limit (command c) r = refl
   with_line_limit agent r = refl
   with_line_limit server_option r = refl
@@ -151,7 +159,7 @@ module _ {A : Type 0} where
       let there : IsCapabilityLine r.offer (is_none (commands_of lines)) (text_of bytes) line = subst (λ (b : Bool). IsCapabilityLine r.offer b (text_of bytes) line) (sym same) is in
       record {
         line = line;
-        is_line = capability_is_line r.offer r.limits.args lines bytes line h.before there;
+        is_line = capability_is_line r.offer (limit_in r) lines bytes line h.before there;
         in_lines = subst (λ (x : Part). InLines x (lines ++ line ∷ []) (with_line line r)) (sym (with_line_part line r ∙ part)) (noted_in (text_of bytes) line lines r is h);
       }
 
@@ -161,6 +169,7 @@ module _ {A : Type 0} where
     leaves = stands_ready (with_line line r).part (with_line_part line r ∙ part);
     offer = with_line_offer line r;
     limit = with_line_limit line r;
+    within = λ h. omega (arith, h, with_line_limit line r, with_line_kept line r);
   }
 
   pub noted : (r new : RequestReader A) (bytes : List ℕ) (offset : ℕ) → r.part ≡ Capabilities → Notes r (text_of bytes) new → StepsOn r (payload bytes) offset (Ok More) new
@@ -171,11 +180,12 @@ module _ {A : Type 0} where
     goes = λ lines there.
         let h = in_capabilities lines r part there in
         let same : is_none (commands_of lines) ≡ is_first r = ap is_none h.command in
-        let fault : HasFaultIn false r.offer r.limits.args lines (payload bytes) kind = subst (λ (b : Bool). Refuses (capability_checks r.offer b (text_of bytes)) kind) (sym same) refuses in
-        subst (λ (b : Bool). HasFaultIn b r.offer r.limits.args lines (payload bytes) kind) (sym h.before) fault;
+        let fault : HasFaultIn false r.offer (limit_in r) lines (payload bytes) kind = subst (λ (b : Bool). Refuses (capability_checks r.offer b (text_of bytes)) kind) (sym same) refuses in
+        subst (λ (b : Bool). HasFaultIn b r.offer (limit_in r) lines (payload bytes) kind) (sym h.before) fault;
     leaves = tt;
     offer = refl;
     limit = refl;
+    within = λ h. h;
   }
 
   pub refused : (r new : RequestReader A) (bytes : List ℕ) (offset : ℕ) (kind : Kind) → r.part ≡ Capabilities → new ≡ r → Refuses (capability_checks r.offer (is_first r) (text_of bytes)) kind → StepsOn r (payload bytes) offset (Err kind) new
@@ -191,34 +201,34 @@ module _ {A : Type 0} where
   commands_due lines r c h due = h.command ∙ ap option_to_list due.there
 
   -- the delimiter
-  pub delimited : (r : RequestReader A) (offset : ℕ) (c : Command) (q : Request A) → r.part ≡ Capabilities → IsDue r c → IsEmpty c r.offer.format r.limits.args q → StepsOn r delim offset (Ok More) (record r { part = Arguments; request = q })
+  pub delimited : (r : RequestReader A) (offset : ℕ) (c : Command) (q : Request A) → r.part ≡ Capabilities → IsDue r c → IsEmpty c r.offer.format (limit_in r) q → StepsOn r delim offset (Ok More) (record r { part = Arguments; request = q })
   delimited r offset c q part due empty = record {
     goes = λ lines there.
         let h = in_capabilities lines r part there in
-        let line : IsLineIn false r.offer r.limits.args lines delim boundary = judged lines r c h due in
+        let line : IsLineIn false r.offer (limit_in r) lines delim boundary = judged lines r c h due in
         record {
           line = boundary;
-          is_line = subst (λ (b : Bool). IsLineIn b r.offer r.limits.args lines delim boundary) (sym h.before) line;
+          is_line = subst (λ (b : Bool). IsLineIn b r.offer (limit_in r) lines delim boundary) (sym h.before) line;
           in_lines = record {
             behind = boundary_snoc lines boundary;
             command = commands_snoc lines boundary ∙ rw append-nil (commands_due lines r c h due) ∙ ap (λ x. x ∷ []) (sym empty.command_is);
             asked = empty.asked ∙ nothing_asked_by c ∙ ap (λ args. asked_by c args) (sym (arguments_snoc lines boundary ∙ rw append-nil h.no_argument)) ∙ ap (λ x. asked_by x (arguments_of (lines ++ boundary ∷ []))) (sym empty.command_is);
             kept = omega (arith, empty.kept, kept_snoc lines boundary, h.nothing_kept);
             format = empty.format_is;
-            limit = empty.limit_is;
           };
         };
     leaves = (refl, refl);
     offer = refl;
-    limit = refl;
+    limit = empty.limit_is;
+    within = λ h. omega (arith, empty.kept);
   }
 
-  empty_lines : (r : RequestReader A) → InCapabilities [] (restarted r)
-  empty_lines r = record { before = refl; begun = refl; command = refl; format = refl; no_argument = refl; nothing_kept = refl }
+  empty_lines : (q : Request A) (r : RequestReader A) → InCapabilities [] (restarted q r)
+  empty_lines q r = record { before = refl; begun = refl; command = refl; format = refl; no_argument = refl; nothing_kept = refl }
 
   -- the flush of a request without delimiter
-  pub flushed : (r new : RequestReader A) (offset : ℕ) (c : Command) (q : Request A) → r.part ≡ Capabilities → IsDue r c → IsEmpty c r.offer.format r.limits.args q → new ≡ restarted r → StepsOn r flush offset (Ok (TakenRequest q)) new
-  flushed r new offset c q part due empty same = subst (λ (n : RequestReader A). StepsOn r flush offset (Ok (TakenRequest q)) n) (sym same) (record {
+  pub flushed : (r new : RequestReader A) (offset : ℕ) (c : Command) (q : Request A) → r.part ≡ Capabilities → IsDue r c → IsEmpty c r.offer.format (limit_in r) q → IsEmpty LsRefs r.offer.format (limit_of q) new.request → new ≡ restarted new.request r → StepsOn r flush offset (Ok (TakenRequest q)) new
+  flushed r new offset c q part due empty next same = record {
     goes = λ lines there.
         let h = in_capabilities lines r part there in
         let once = commands_due lines r c h due in
@@ -230,19 +240,19 @@ module _ {A : Type 0} where
           checks = subst (λ (b : Bool). Passes (flush_checks_in b r.offer lines)) (sym h.before) checks;
           asked = empty.asked ∙ nothing_asked_by c ∙ ap (λ args. asked_by c args) (sym h.no_argument) ∙ ap (λ x. asked_by x (arguments_of lines)) (sym empty.command_is);
           kept = empty.kept ∙ sym h.nothing_kept;
-          format = empty.format_is;
-          limit = empty.limit_is;
-          fresh = empty_lines r;
-          part = refl;
+          format = empty.format_is ∙ ap (λ (x : RequestReader A). x.offer.format) (sym same);
+          fresh = subst (λ (n : RequestReader A). InCapabilities [] n) (sym same) (empty_lines new.request r);
+          part = ap (λ (x : RequestReader A). x.part) same;
         };
-    leaves = (refl, refl);
-    offer = refl;
-    limit = refl;
-  })
+    leaves = (ap (λ (x : RequestReader A). fault_in x.part) same, ap (λ (x : RequestReader A). waits_in x.part) same);
+    offer = ap (λ (x : RequestReader A). x.offer) same;
+    limit = next.limit_is ∙ empty.limit_is;
+    within = λ h. (sym next.limit_is, omega (arith, empty.kept), next.kept);
+  }
 
   -- the flush behind the arguments
-  pub completed : (r s new : RequestReader A) (offset : ℕ) → r.part ≡ Arguments → s.offer ≡ r.offer → s.limits.args ≡ r.limits.args → new ≡ restarted s → StepsOn r flush offset (Ok (TakenRequest r.request)) new
-  completed r s new offset part offer limit same = subst (λ (n : RequestReader A). StepsOn r flush offset (Ok (TakenRequest r.request)) n) (sym same) (record {
+  pub completed : (r new : RequestReader A) (offset : ℕ) → r.part ≡ Arguments → IsEmpty LsRefs r.offer.format (limit_in r) new.request → new ≡ restarted new.request r → StepsOn r flush offset (Ok (TakenRequest r.request)) new
+  completed r new offset part next same = record {
     goes = λ lines there.
         let h = in_arguments lines r part there in
         let checks : Passes (flush_checks_in true r.offer lines) = ((command_of r.request, h.command, end_passes (command_of r.request) (arguments_of lines)), tt) in
@@ -252,27 +262,28 @@ module _ {A : Type 0} where
           checks = subst (λ (b : Bool). Passes (flush_checks_in b r.offer lines)) (sym h.behind) checks;
           asked = h.asked;
           kept = h.kept;
-          format = h.format ∙ ap (λ o. o.format) (sym offer);
-          limit = h.limit ∙ sym limit;
-          fresh = empty_lines s;
-          part = refl;
+          format = h.format ∙ ap (λ (x : RequestReader A). x.offer.format) (sym same);
+          fresh = subst (λ (n : RequestReader A). InCapabilities [] n) (sym same) (empty_lines new.request r);
+          part = ap (λ (x : RequestReader A). x.part) same;
         };
-    leaves = (refl, refl);
-    offer = offer;
-    limit = limit;
-  })
+    leaves = (ap (λ (x : RequestReader A). fault_in x.part) same, ap (λ (x : RequestReader A). waits_in x.part) same);
+    offer = ap (λ (x : RequestReader A). x.offer) same;
+    limit = next.limit_is;
+    within = λ h. (sym next.limit_is, omega (arith, h, next.limit_is), next.kept);
+  }
 
   pub unread : (r : RequestReader A) (bytes : List ℕ) (offset : ℕ) (kind : Kind) → r.part ≡ Arguments → Refuses (text_checks (command_of r.request) r.offer (text_of bytes)) kind → StepsOn r (payload bytes) offset (Err kind) r
   unread r bytes offset kind part refuses = record {
     goes = λ lines there.
         let h = in_arguments lines r part there in
-        let fault : HasFaultIn true r.offer r.limits.args lines (payload bytes) kind = record {
+        let fault : HasFaultIn true r.offer (limit_in r) lines (payload bytes) kind = record {
           of = command_of r.request;
           asked = h.command;
-          refuses = text_refused (command_of r.request) r.offer r.limits.args (kept_in lines) (text_of bytes) kind refuses;
+          refuses = text_refused (command_of r.request) r.offer (limit_in r) (kept_in lines) (text_of bytes) kind refuses;
         } in
-        subst (λ (b : Bool). HasFaultIn b r.offer r.limits.args lines (payload bytes) kind) (sym h.behind) fault;
+        subst (λ (b : Bool). HasFaultIn b r.offer (limit_in r) lines (payload bytes) kind) (sym h.behind) fault;
     leaves = tt;
     offer = refl;
     limit = refl;
+    within = λ h. h;
   }

@@ -12,21 +12,21 @@ use Rattle.git_msg.specs.declared.reader.RequestReader.{RequestReader}
 use Rattle.git_msg.specs.declared.reader.Taken.{Taken}
 use Rattle.git_msg.specs.declared.reader.Taken.TheVariants.{More, Argument as TakenArgument, Request as TakenRequest, Stop}
 use Rattle.git_msg.specs.Arguments.{Arg, shown}
-use Rattle.git_msg.specs.Holding.{asked_of, command_of, kept_of, format_of, limit_of}
+use Rattle.git_msg.specs.Holding.{asked_of, command_of, kept_of, format_of}
 use Rattle.git_msg.specs.Checks.{Passes}
 use Rattle.git_msg.specs.Lines.{Line, IsLine, HasFault, IsArgumentText, flush_checks}
 use Rattle.git_msg.specs.Requests.{AreLines, Asks, FirstFault, IsStop}
-use Rattle.git_msg.specs.Taking.{Takes, TakesIn, WaitsFor, WaitsIn, WaitsBehind, InCapabilities, TakesOn, Brings, LeavesTaken, fault_of, fault_in, is_waiting, waits_in}
+use Rattle.git_msg.specs.Taking.{Takes, TakesIn, WaitsFor, WaitsIn, WaitsBehind, InCapabilities, TakesOn, Brings, LeavesTaken, fault_of, fault_in, is_waiting, waits_in, limit_in}
 use Rattle.git_msg.specs.TakingSteps.{InLines, Advances, Offers, Completes, Leaves, Goes, LeavesStep, StepsOn}
 use Rattle.git_msg.proofs.LineLists.{lines_snoc}
 
 -- the packets are lines, behind which the reader stands in its part
 record Stood {A : Type 0} (packets : List Given) (r : RequestReader A) : Type 0 where
   lines : List Line
-  taken : AreLines r.offer r.limits.args [] packets lines
+  taken : AreLines r.offer (limit_in r) [] packets lines
   in_lines : InLines r.part lines r
 
-stood_in : {A : Type 0} (part : Part) (packets : List Given) (r : RequestReader A) → fault_in part ≡ None → waits_in part ≡ false → TakesIn part packets r → (lines : List Line) × AreLines r.offer r.limits.args [] packets lines × InLines part lines r
+stood_in : {A : Type 0} (part : Part) (packets : List Given) (r : RequestReader A) → fault_in part ≡ None → waits_in part ≡ false → TakesIn part packets r → (lines : List Line) × AreLines r.offer (limit_in r) [] packets lines × InLines part lines r
 stood_in Capabilities packets r sound ready h = (h.lines, h.taken, h.in_part)
 stood_in Arguments packets r sound ready h = (h.lines, h.taken, h.in_part)
 stood_in (Waiting offset long) packets r sound ready h = cc
@@ -37,7 +37,7 @@ stood packets r sound ready h =
     let s = stood_in r.part packets r sound ready h.stands in
     record { lines = s.0; taken = s.1; in_lines = s.2 }
 
-takes_lines : {A : Type 0} (part : Part) (packets : List Given) (lines : List Line) (r : RequestReader A) → AreLines r.offer r.limits.args [] packets lines → InLines part lines r → TakesIn part packets r
+takes_lines : {A : Type 0} (part : Part) (packets : List Given) (lines : List Line) (r : RequestReader A) → AreLines r.offer (limit_in r) [] packets lines → InLines part lines r → TakesIn part packets r
 takes_lines Capabilities packets lines r are h = record { lines = lines; taken = are; in_part = h }
 takes_lines Arguments packets lines r are h = record { lines = lines; taken = are; in_part = h }
 takes_lines (Waiting offset long) packets lines r are h = absurd h
@@ -50,15 +50,15 @@ moved offer other limit most packets lines e f h = subst (λ (o : Offer). AreLin
 fresh : {A : Type 0} (r : RequestReader A) → r.part ≡ Capabilities → InCapabilities [] r → Takes [] r
 fresh r part h = record { stands = subst (λ (x : Part). TakesIn x [] r) (sym part) (takes_lines Capabilities [] [] r tt h) }
 
-module _ {A : Type 0} (old new : RequestReader A) (packets : List Given) (p : Pkt) (offset : ℕ) (s : Stood packets old) (offer : new.offer ≡ old.offer) (limit : new.limits.args ≡ old.limits.args) where
-  front_lines : AreLines new.offer new.limits.args [] packets s.lines
-  front_lines = moved old.offer new.offer old.limits.args new.limits.args packets s.lines offer limit s.taken
+module _ {A : Type 0} (old new : RequestReader A) (packets : List Given) (p : Pkt) (offset : ℕ) (s : Stood packets old) (offer : new.offer ≡ old.offer) (limit : limit_in new ≡ limit_in old) where
+  front_lines : AreLines new.offer (limit_in new) [] packets s.lines
+  front_lines = moved old.offer new.offer (limit_in old) (limit_in new) packets s.lines offer limit s.taken
 
   brings_more : Advances s.lines old p new → Takes (packets ++ record { packet = p; offset = offset } ∷ []) new
   brings_more h =
-      let line : IsLine old.offer old.limits.args s.lines p h.line = h.is_line in
-      let all : AreLines old.offer old.limits.args [] (packets ++ record { packet = p; offset = offset } ∷ []) (s.lines ++ h.line ∷ []) = lines_snoc old.offer old.limits.args [] packets s.lines (record { packet = p; offset = offset }) h.line s.taken line in
-      record { stands = takes_lines new.part _ (s.lines ++ h.line ∷ []) new (moved old.offer new.offer old.limits.args new.limits.args _ _ offer limit all) h.in_lines }
+      let line : IsLine old.offer (limit_in old) s.lines p h.line = h.is_line in
+      let all : AreLines old.offer (limit_in old) [] (packets ++ record { packet = p; offset = offset } ∷ []) (s.lines ++ h.line ∷ []) = lines_snoc old.offer (limit_in old) [] packets s.lines (record { packet = p; offset = offset }) h.line s.taken line in
+      record { stands = takes_lines new.part _ (s.lines ++ h.line ∷ []) new (moved old.offer new.offer (limit_in old) (limit_in new) _ _ offer limit all) h.in_lines }
 
   waits_behind : (arg : Arg) → (h : Offers s.lines old p offset arg new) → WaitsBehind (packets ++ record { packet = p; offset = offset } ∷ []) offset (length (text_of h.bytes)) arg new
   waits_behind arg h = record {
@@ -82,7 +82,7 @@ module _ {A : Type 0} (old new : RequestReader A) (packets : List Given) (p : Pk
         record { waits = subst (λ (x : Part). WaitsIn x (packets ++ record { packet = p; offset = offset } ∷ []) arg new) (sym h.part) w },
       )
 
-  brings_request : (q : Request A) → Completes s.lines old p q new → Takes [] new × Asks new.offer new.limits.args (packets ++ record { packet = p; offset = offset } ∷ []) (asked_of q) (kept_of q) × (format_of q ≡ new.offer.format) × (limit_of q ≡ new.limits.args)
+  brings_request : (q : Request A) → Completes s.lines old p q new → Takes [] new × Asks new.offer (limit_in new) (packets ++ record { packet = p; offset = offset } ∷ []) (asked_of q) (kept_of q) × (format_of q ≡ new.offer.format)
   brings_request q h = (
     fresh new h.part h.fresh,
     record {
@@ -99,21 +99,20 @@ module _ {A : Type 0} (old new : RequestReader A) (packets : List Given) (p : Pk
       kept_is = h.kept;
     },
     h.format,
-    h.limit,
   )
 
-  nothing_before : (gs : List Given) → AreLines old.offer old.limits.args [] gs [] → gs ≡ []
+  nothing_before : (gs : List Given) → AreLines old.offer (limit_in old) [] gs [] → gs ≡ []
   nothing_before [] h = refl
   nothing_before (g ∷ gs) h = absurd h
 
   brings_stop : Leaves s.lines p new → Takes [] new × IsStop (packets ++ record { packet = p; offset = offset } ∷ [])
   brings_stop h =
-      let none = nothing_before packets (subst (λ (ls : List Line). AreLines old.offer old.limits.args [] packets ls) h.nothing s.taken) in (
+      let none = nothing_before packets (subst (λ (ls : List Line). AreLines old.offer (limit_in old) [] packets ls) h.nothing s.taken) in (
         fresh new h.part h.fresh,
         record { last = record { packet = p; offset = offset }; alone = ap (λ gs. gs ++ record { packet = p; offset = offset } ∷ []) none; ends = h.ends },
       )
 
-  first_fault : (kind : Kind) → HasFault old.offer old.limits.args s.lines p kind → FirstFault new.offer new.limits.args (packets ++ record { packet = p; offset = offset } ∷ []) kind offset
+  first_fault : (kind : Kind) → HasFault old.offer (limit_in old) s.lines p kind → FirstFault new.offer (limit_in new) (packets ++ record { packet = p; offset = offset } ∷ []) kind offset
   first_fault kind h = record {
     front = packets;
     bad = record { packet = p; offset = offset };
@@ -121,7 +120,7 @@ module _ {A : Type 0} (old new : RequestReader A) (packets : List Given) (p : Pk
     lines = s.lines;
     whole = refl;
     taken = front_lines;
-    fault = subst (λ (o : Offer). HasFault o new.limits.args s.lines p kind) (sym offer) (subst (λ (n : ℕ). HasFault old.offer n s.lines p kind) (sym limit) h);
+    fault = subst (λ (o : Offer). HasFault o (limit_in new) s.lines p kind) (sym offer) (subst (λ (n : ℕ). HasFault old.offer n s.lines p kind) (sym limit) h);
     at = refl;
   }
 
@@ -150,6 +149,7 @@ takes_ok old new p offset taken sound ready h = record {
   stays = λ f told. absurd (some_is_not_none (fault_of old) f sound told);
   offer = h.offer;
   limit = h.limit;
+  within = h.within;
 }
 
 -- a step that refuses the packet
@@ -157,10 +157,11 @@ pub takes_err : {A : Type 0} (old new : RequestReader A) (p : Pkt) (offset : ℕ
 takes_err old new p offset kind sound ready h = record {
   brings = λ packets fine takes.
       let s = stood packets old sound ready takes in
-      let f : FirstFault new.offer new.limits.args (packets ++ record { packet = p; offset = offset } ∷ []) kind offset = first_fault old new packets p offset s h.offer h.limit kind (h.goes s.lines s.in_lines) in
+      let f : FirstFault new.offer (limit_in new) (packets ++ record { packet = p; offset = offset } ∷ []) kind offset = first_fault old new packets p offset s h.offer h.limit kind (h.goes s.lines s.in_lines) in
       (record { stands = inl f }, f);
   leaves = (refl, refl);
   stays = λ f told. absurd (some_is_not_none (fault_of old) f sound told);
   offer = h.offer;
   limit = h.limit;
+  within = h.within;
 }

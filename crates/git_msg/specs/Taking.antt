@@ -1,5 +1,5 @@
 -- What a reader of requests stands for: the packets since the request began, as lines.
-use Rattle.std.specs.Prelude.{◌≡◌, ◌⊎◌, ℕ, Bool, true, false, not, Option, Some, None, option_to_list, Result, Ok, Err, List, [], ◌∷◌, ◌++◌, length}
+use Rattle.std.specs.Prelude.{◌≡◌, ◌⊎◌, ℕ, ◌≤◌, Bool, true, false, not, Option, Some, None, option_to_list, Result, Ok, Err, List, [], ◌∷◌, ◌++◌, length}
 use Rattle.git_pkt.specs.Packets.{payload, text_of}
 use Rattle.git_pkt.specs.Splits.{Given}
 use Rattle.git_pkt.specs.declared.fault.Fault.{Fault}
@@ -40,7 +40,11 @@ module _ {A : Type 0} where
 
   -- how many bytes a request's argument texts may have
   abbrev pub limit_in : RequestReader A → ℕ
-  limit_in r = r.limits.args
+  limit_in r = limit_of r.request
+
+  -- how many those have that are kept so far
+  abbrev pub kept_so_far : RequestReader A → ℕ
+  kept_so_far r = kept_of r.request
 
   -- the fault that ended the reading
   abbrev pub fault_of : RequestReader A → Option Fault
@@ -66,7 +70,6 @@ module _ {A : Type 0} where
     pub asked : asked_of r.request ≡ asked_by (command_of r.request) (arguments_of lines)
     pub kept : kept_of r.request ≡ kept_in lines
     pub format : format_of r.request ≡ r.offer.format
-    pub limit : limit_of r.request ≡ r.limits.args
 
   -- the last of the packets is an argument that waits to be kept
   pub record WaitsBehind (packets : List Given) (offset long : ℕ) (arg : Arg) (r : RequestReader A) : Type 0 where
@@ -77,7 +80,7 @@ module _ {A : Type 0} where
     pub whole : packets ≡ front ++ last ∷ []
     pub data_packet : last.packet ≡ payload bytes
     pub at : last.offset ≡ offset
-    pub taken : AreLines r.offer r.limits.args [] front lines
+    pub taken : AreLines r.offer (limit_in r) [] front lines
     pub in_part : InArguments lines r
     pub is_text : IsArgumentText r.offer lines (text_of bytes) arg
     pub long_is : long ≡ length (text_of bytes)
@@ -85,14 +88,14 @@ module _ {A : Type 0} where
   -- the packets are lines, and the reader stands behind them
   pub record StandsBehind (packets : List Given) (In : List Line → RequestReader A → Type 0) (r : RequestReader A) : Type 0 where
     pub lines : List Line
-    pub taken : AreLines r.offer r.limits.args [] packets lines
+    pub taken : AreLines r.offer (limit_in r) [] packets lines
     pub in_part : In lines r
 
   abbrev pub TakesIn : Part → List Given → RequestReader A → Type 0
   TakesIn Capabilities packets r = StandsBehind packets InCapabilities r
   TakesIn Arguments packets r = StandsBehind packets InArguments r
   TakesIn (Waiting offset long) packets r = (arg : Arg) × WaitsBehind packets offset long arg r
-  TakesIn (Failed f) packets r = IsTold r.offer r.limits.args packets f
+  TakesIn (Failed f) packets r = IsTold r.offer (limit_in r) packets f
 
   -- the packets are what the reader has taken since the last request began
   pub record Takes (packets : List Given) (r : RequestReader A) : Type 0 where
@@ -114,7 +117,7 @@ module _ {A : Type 0} where
       Takes (packets ++ g ∷ []) new × WaitsFor (packets ++ g ∷ []) (shown argument) new
   Brings packets g (Ok (TakenRequest q)) new =
       Takes [] new × Asks (offer_of new) (limit_in new) (packets ++ g ∷ []) (asked_of q) (kept_of q)
-      × (format_of q ≡ (offer_of new).format) × (limit_of q ≡ limit_in new)
+      × (format_of q ≡ (offer_of new).format)
   Brings packets g (Ok Stop) new = Takes [] new × IsStop (packets ++ g ∷ [])
   Brings packets g (Err f) new =
       Takes (packets ++ g ∷ []) new × FirstFault (offer_of new) (limit_in new) (packets ++ g ∷ []) f.kind f.offset
@@ -127,6 +130,11 @@ module _ {A : Type 0} where
   LeavesTaken (Ok Stop) new = (fault_of new ≡ None) × (is_waiting new ≡ false)
   LeavesTaken (Err f) new = (fault_of new ≡ Some f) × (is_waiting new ≡ false)
 
+  -- what is kept is within the limit; what was kept of a whole request is given away with it
+  abbrev pub KeepsWithin : {E : Type 0} → Result (Taken A) E → RequestReader A → Type 0
+  KeepsWithin (Ok (TakenRequest q)) new = (limit_of q ≡ limit_in new) × (kept_of q ≤ limit_in new) × (kept_so_far new ≡ 0)
+  KeepsWithin _ new = kept_so_far new ≤ limit_in new
+
   -- what a call of `take` does with a packet
   pub record TakesOn (old : RequestReader A) (g : Given) (result : Result (Taken A) Fault) (new : RequestReader A) : Type 0 where
     pub brings : (packets : List Given) → fault_of old ≡ None → Takes packets old → Brings packets g result new
@@ -134,6 +142,7 @@ module _ {A : Type 0} where
     pub stays : (f : Fault) → fault_of old ≡ Some f → (result ≡ Err f) × (new ≡ old)
     pub offer : offer_of new ≡ offer_of old
     pub limit : limit_in new ≡ limit_in old
+    pub within : kept_so_far old ≤ limit_in old → KeepsWithin result new
 
   -- the argument was kept, or refused where it stands
   abbrev pub Settles : List Given → Result (Unit {0}) Fault → RequestReader A → Type 0
@@ -150,3 +159,4 @@ module _ {A : Type 0} where
     pub leaves : LeavesKept result new
     pub offer : offer_of new ≡ offer_of old
     pub limit : limit_in new ≡ limit_in old
+    pub within : kept_so_far old ≤ limit_in old → kept_so_far new ≤ limit_in new

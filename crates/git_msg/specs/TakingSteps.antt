@@ -1,5 +1,5 @@
 -- What the parts of a request reader do, whose lines so far are given.
-use Rattle.std.specs.Prelude.{◌≡◌, ℕ, Bool, true, false, Some, None, option_to_list, Result, Ok, Err, List, [], ◌∷◌, ◌++◌, length}
+use Rattle.std.specs.Prelude.{◌≡◌, ℕ, ◌≤◌, Bool, true, false, Some, None, option_to_list, Result, Ok, Err, List, [], ◌∷◌, ◌++◌, length}
 use Rattle.git_pkt.specs.Packets.{Pkt, flush, payload, text_of}
 use Rattle.git_pkt.specs.declared.fault.Kind.{Kind}
 use Rattle.git_msg.specs.declared.arguments.Command.{Command}
@@ -11,10 +11,10 @@ use Rattle.git_msg.specs.declared.reader.Taken.{Taken}
 use Rattle.git_msg.specs.declared.reader.Taken.TheVariants.{More, Argument as TakenArgument, Request as TakenRequest, Stop}
 use Rattle.git_msg.specs.Arguments.{Arg, shown}
 use Rattle.git_msg.specs.Asked.{asked_by}
-use Rattle.git_msg.specs.Holding.{asked_of, command_of, format_of, kept_of, limit_of}
+use Rattle.git_msg.specs.Holding.{asked_of, command_of, format_of, kept_of}
 use Rattle.git_msg.specs.Checks.{Passes, Refuses}
 use Rattle.git_msg.specs.Lines.{Line, command, object_format, commands_of, arguments_of, kept_in, IsCapabilityLine, IsArgumentText, IsLine, HasFault, part_checks, flush_checks, is_none}
-use Rattle.git_msg.specs.Taking.{InCapabilities, InArguments, fault_of, is_waiting}
+use Rattle.git_msg.specs.Taking.{InCapabilities, InArguments, fault_of, is_waiting, limit_in, kept_so_far, KeepsWithin}
 
 module _ {A : Type 0} where
   -- no command line came yet
@@ -27,9 +27,9 @@ module _ {A : Type 0} where
   with_line object_format r = record r { begun = true; has_format = true }
   with_line _ r = record r { begun = true }
 
-  -- the reader at the beginning of a request
-  abbrev pub restarted : RequestReader A → RequestReader A
-  restarted r = record r { part = Capabilities; begun = false; command = None; has_format = false }
+  -- the reader at the beginning of a request, which is kept in `q`
+  abbrev pub restarted : Request A → RequestReader A → RequestReader A
+  restarted q r = record r { part = Capabilities; begun = false; command = None; has_format = false; request = q }
 
   -- the text was noted as a line
   pub record Notes (old : RequestReader A) (text : List ℕ) (new : RequestReader A) : Type 0 where
@@ -54,7 +54,7 @@ module _ {A : Type 0} where
   -- a line came
   pub record Advances (lines : List Line) (old : RequestReader A) (p : Pkt) (new : RequestReader A) : Type 0 where
     pub line : Line
-    pub is_line : IsLine old.offer old.limits.args lines p line
+    pub is_line : IsLine old.offer (limit_in old) lines p line
     pub in_lines : InLines new.part (lines ++ line ∷ []) new
 
   -- an argument came
@@ -73,7 +73,6 @@ module _ {A : Type 0} where
     pub asked : asked_of q ≡ asked_by (command_of q) (arguments_of lines)
     pub kept : kept_of q ≡ kept_in lines
     pub format : format_of q ≡ new.offer.format
-    pub limit : limit_of q ≡ new.limits.args
     pub fresh : InCapabilities [] new
     pub part : new.part ≡ Capabilities
 
@@ -89,7 +88,7 @@ module _ {A : Type 0} where
   Goes lines old p offset (Ok (TakenArgument a)) new = Offers lines old p offset (shown a) new
   Goes lines old p offset (Ok (TakenRequest q)) new = Completes lines old p q new
   Goes lines old p offset (Ok Stop) new = Leaves lines p new
-  Goes lines old p offset (Err kind) new = HasFault old.offer old.limits.args lines p kind
+  Goes lines old p offset (Err kind) new = HasFault old.offer (limit_in old) lines p kind
 
   abbrev pub LeavesStep : Result (Taken A) Kind → RequestReader A → Type 0
   LeavesStep (Ok More) new = (fault_of new ≡ None) × (is_waiting new ≡ false)
@@ -103,4 +102,5 @@ module _ {A : Type 0} where
     pub goes : (lines : List Line) → InLines old.part lines old → Goes lines old p offset result new
     pub leaves : LeavesStep result new
     pub offer : new.offer ≡ old.offer
-    pub limit : new.limits.args ≡ old.limits.args
+    pub limit : limit_in new ≡ limit_in old
+    pub within : kept_so_far old ≤ limit_in old → KeepsWithin result new

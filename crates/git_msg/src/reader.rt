@@ -35,13 +35,12 @@ enum Part {
 pub struct RequestReader<A: Allocator + Copy> {
     alloc: A,
     offer: Offer,
-    limits: Limits,
     part: Part,
     // Whether a packet came since the last request.
     begun: bool,
     command: Option<Command>,
     has_format: bool,
-    // In the argument part, what is kept so far.
+    // What is kept so far. It also has the limit.
     request: Request<A>,
 }
 
@@ -52,7 +51,7 @@ impl<A: Allocator + Copy> RequestReader<A> {
     ghost use Rattle.git_msg.specs.Checks.{Refuses};
     ghost use Rattle.git_msg.specs.Holding.{IsEmpty};
     ghost use Rattle.git_msg.specs.Lines.{capability_checks};
-    ghost use Rattle.git_msg.specs.Taking.{Takes, TakesOn, KeepsOn, offer_of, limit_in, fault_of, is_waiting};
+    ghost use Rattle.git_msg.specs.Taking.{Takes, TakesOn, KeepsOn, offer_of, limit_in, kept_so_far, fault_of, is_waiting};
     ghost use Rattle.git_msg.specs.TakingSteps.{Notes, IsDue, IsUndue, StepsOn, is_first, restarted};
 
     /// A reader at the beginning of a request. It takes memory from `alloc` when an argument with a text is kept.
@@ -62,11 +61,11 @@ impl<A: Allocator + Copy> RequestReader<A> {
         ensures ready { is_waiting result ≡ false }
         ensures offer { offer_of result ≡ offer }
         ensures limit { limit_in result ≡ limits.args }
+        ensures kept { kept_so_far result ≡ 0 }
     {
         RequestReader {
             alloc,
             offer,
-            limits,
             part: Part::Capabilities,
             begun: false,
             command: None,
@@ -142,9 +141,8 @@ impl<A: Allocator + Copy> RequestReader<A> {
                     return Ok(Taken::Stop);
                 }
                 let command = self.command_due()?;
-                let request = self.empty_request(command);
-                self.restart();
-                Ok(Taken::Request(request))
+                self.request = self.empty_request(command);
+                Ok(Taken::Request(self.restart()))
             }
             Packet::RespEnd => Err(Kind::UnexpectedPacket),
         }
@@ -161,12 +159,7 @@ impl<A: Allocator + Copy> RequestReader<A> {
                 self.part = Part::Waiting(offset, text.len());
                 Ok(Taken::Argument(argument))
             }
-            Packet::Flush => {
-                let next = self.empty_request(Command::LsRefs);
-                let request = mem::replace(&mut self.request, next);
-                self.restart();
-                Ok(Taken::Request(request))
-            }
+            Packet::Flush => Ok(Taken::Request(self.restart())),
             Packet::Delim => Err(Kind::UnexpectedPacket),
             Packet::RespEnd => Err(Kind::UnexpectedPacket),
         }
@@ -207,18 +200,27 @@ impl<A: Allocator + Copy> RequestReader<A> {
     }
 
     fn empty_request(&self, command: Command) -> Request<A>
-        ensures { IsEmpty command self.now.offer.format self.now.limits.args result }
+        ensures { IsEmpty command self.now.offer.format (limit_in self.now) result }
     {
-        Request::new(self.alloc, command, self.offer.format, self.limits)
+        Request::new(
+            self.alloc,
+            command,
+            self.offer.format,
+            self.request.limits(),
+        )
     }
 
-    // The next packet begins a request.
-    fn restart(&mut self)
-        ensures { self.new ≡ restarted self.old }
+    // Gives the request away. The next packet begins another.
+    fn restart(&mut self) -> Request<A>
+        ensures given { result ≡ self.old.request }
+        ensures next { IsEmpty Command.LsRefs self.old.offer.format (limit_in self.old) self.new.request }
+        ensures new { self.new ≡ restarted self.new.request self.old }
     {
         self.part = Part::Capabilities;
         self.begun = false;
         self.command = None;
         self.has_format = false;
+        let next = self.empty_request(Command::LsRefs);
+        mem::replace(&mut self.request, next)
     }
 }

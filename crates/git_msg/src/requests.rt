@@ -234,6 +234,17 @@ impl<A: Allocator + Copy> Request<A> {
         }
     }
 
+    // How many bytes those texts may have.
+    pub(crate) fn limits(&self) -> Limits
+        ensures { result.args ≡ limit_of self.now }
+    {
+        match self {
+            Request::LsRefs(request) => Limits {
+                args: request.limit,
+            },
+        }
+    }
+
     /// The flag `symrefs` of `ls-refs`.
     pub fn symrefs(&self) -> bool
         ensures { result ≡ symrefs_of (asked_of self.now) }

@@ -5,7 +5,7 @@ use Rattle.git_pkt.specs.Reading.{is_open, rest_of, fault_of, position_of}
 use Rattle.git_pkt.specs.declared.fault.Fault.{Fault}
 use Rattle.git_pkt.specs.declared.fault.Kind.TheVariants.{Truncated}
 use Rattle.git_pkt.proofs.ReaderMoves.{rest_of_shut}
-use Rattle.git_msg.specs.Taking.{offer_of, limit_in, is_waiting, fault_of as requests_fault}
+use Rattle.git_msg.specs.Taking.{offer_of, limit_in, kept_so_far, is_waiting, fault_of as requests_fault}
 use Rattle.git_server.specs.Repository.{Repository}
 use Rattle.git_server.specs.Answers.{tail_of, spelled}
 use Rattle.git_server.specs.Sessions.{Setting, EndsBy}
@@ -20,7 +20,7 @@ use Rattle.git_server.specs.declared.server.Server.{Server}
 use Rattle.git_server.proofs.Readers.{open_rest, sound_rest}
 use Rattle.git_server.proofs.Sent.{all_sent}
 use Rattle.git_server.proofs.WholeRequests.{begins}
-use Rattle.git_server.proofs.Going.{all_sent_of, refused_outcome_by, refused_owes_by, serves_of}
+use Rattle.git_server.proofs.Going.{all_sent_of, refused_outcome_by, refused_owes_by, serves_of, none_kept_at_end}
 
 none_is_left : {A : Type 0} (phase : Phase A) (left : List Given) → phase ≡ Between → LeftIn phase left → left ≡ []
 none_is_left {A = A} phase left is h = subst (λ (p : Phase A). LeftIn p left) is h
@@ -43,6 +43,7 @@ module _ {R A : Type 0} (answers : R → Repository) (old new : Server R A) wher
         reads_for = ap offer_of keeps.requests ∙ r.reads_for;
         limit = ap limit_in keeps.requests ∙ r.limit;
         repo = ap answers keeps.repo ∙ r.repo;
+        within = omega (arith, r.within, ap kept_so_far keeps.requests, none_kept_at_end new.phase outcome outcome_is);
         stands = subst (λ (o : Option Outcome). StandsBy o s so_far true before new) (sym outcome_is) (record {
           asked = h.asked;
           left = h.left;

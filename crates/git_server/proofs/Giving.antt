@@ -1,23 +1,23 @@
 -- A server that gives a packet.
-use Rattle.std.proofs.Common.{◌≡◌, ℕ, Bool, List, [], ◌∷◌, ◌++◌, Option, Some, None, sym, ap, ◌∙◌, append_assoc, append-nil, subst}
+use Rattle.std.proofs.Common.{arith, ◌≡◌, ◌≤◌, ℕ, Bool, List, [], ◌∷◌, ◌++◌, Option, Some, None, sym, ap, ◌∙◌, append_assoc, append-nil, subst}
 use Rattle.git_pkt.specs.Packets.{Pkt}
 use Rattle.git_pkt.specs.Splits.{Given}
 use Rattle.git_pkt.specs.Reading.{held_of}
 use Rattle.git_server.specs.Repository.{Repository}
 use Rattle.git_server.specs.Answers.{spelled}
 use Rattle.git_server.specs.Sessions.{Setting, IsSent, advertised}
-use Rattle.git_server.specs.Phases.{LeftIn, owed_in}
+use Rattle.git_server.specs.Phases.{LeftIn, kept_in, owed_in}
 use Rattle.git_server.specs.Writing.{Writes}
 use Rattle.git_server.specs.Serving.{StandsBy, outcome_of}
 use Rattle.git_server.specs.Moves.{Gives, Keeps, owed_by}
-use Rattle.git_msg.specs.Taking.{Takes, offer_of, limit_in}
+use Rattle.git_msg.specs.Taking.{Takes, offer_of, limit_in, kept_so_far}
 use Rattle.git_server.specs.declared.outcome.Outcome.{Outcome}
 use Rattle.git_server.specs.declared.server.Server.{Server}
 use Rattle.git_server.proofs.Sent.{sent_one, spelled_one}
 
 module _ {R A : Type 0} (answers : R → Repository) (old new : Server R A) (packet : Pkt) (writes : Writes old.reader packet new.reader) (keeps : Keeps old new)
     (owed : owed_by answers old ≡ packet ∷ owed_by answers new) (same : outcome_of new ≡ outcome_of old)
-    (left_stays : (left : List Given) → LeftIn old.phase left → LeftIn new.phase left) where
+    (left_stays : (left : List Given) → LeftIn old.phase left → LeftIn new.phase left) (no_more : kept_in new.phase ≤ kept_in old.phase) where
   -- what is owed, as the session's repository has it
   owed_here : (s : Setting) → answers old.repo ≡ s.repo → owed_in old.offer s.repo.refs old.phase ≡ packet ∷ owed_in new.offer s.repo.refs new.phase
   owed_here s repo =
@@ -72,6 +72,7 @@ module _ {R A : Type 0} (answers : R → Repository) (old new : Server R A) (pac
               reads_for = ap offer_of keeps.requests ∙ r.reads_for;
               limit = ap limit_in keeps.requests ∙ r.limit;
               repo = ap answers keeps.repo ∙ r.repo;
+              within = omega (arith, r.within, ap kept_so_far keeps.requests, no_more);
               stands = subst (λ (o : Option Outcome). StandsBy o s (so_far ++ []) over (before ++ held_of new.reader) new) (sym same)
                   (subst (λ (l : List ℕ). StandsBy (outcome_of old) s l over (before ++ held_of new.reader) new) (sym (append-nil so_far)) stands);
             };

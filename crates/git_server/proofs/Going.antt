@@ -1,5 +1,5 @@
 -- A server that takes bytes goes on in its session, or ends it.
-use Rattle.std.proofs.Common.{◌≡◌, ◌≢◌, ℕ, Bool, true, false, List, [], ◌∷◌, ◌++◌, length, Option, Some, None, refl, sym, ap, ◌∙◌, append_assoc, append-nil, subst, inl, inr}
+use Rattle.std.proofs.Common.{arith, ◌≡◌, ◌≢◌, ℕ, ◌+◌, ◌≤◌, Bool, true, false, List, [], ◌∷◌, ◌++◌, length, Option, Some, None, refl, sym, ap, ◌∙◌, append_assoc, append-nil, subst, inl, inr}
 use Rattle.git_pkt.specs.Packets.{Pkt}
 use Rattle.git_pkt.specs.Splits.{Given}
 use Rattle.git_pkt.specs.Reading.{Reads, is_open, fault_of}
@@ -9,13 +9,14 @@ use Rattle.git_pkt.specs.declared.fault.Kind.TheVariants.{RemoteError, Truncated
 use Rattle.git_msg.specs.Asked.{Asked, ls_refs}
 use Rattle.git_msg.specs.Holding.{asked_of, kept_of}
 use Rattle.git_msg.specs.Requests.{Asks}
-use Rattle.git_msg.specs.Taking.{Takes, IsTold, offer_of, limit_in, is_waiting, fault_of as requests_fault}
+use Rattle.git_msg.specs.Taking.{Takes, IsTold, offer_of, limit_in, kept_so_far, is_waiting, fault_of as requests_fault}
 use Rattle.git_msg.specs.declared.offers.Offer.{Offer}
+use Rattle.git_msg.specs.declared.reader.RequestReader.{RequestReader}
 use Rattle.git_server.specs.Repository.{Entry, Repository}
 use Rattle.git_server.specs.Answers.{IsAnswer, tail_of, spelled}
 use Rattle.git_server.specs.Sessions.{Begins, Setting, Cuts, IsSent, IsEnding, IsRefused, EndsBy}
-use Rattle.git_server.specs.Phases.{LeftIn, answer_from, outcome_in, owed_in, reads_in, phase_after, refused_by}
-use Rattle.git_server.specs.Taking.{Brings, IsBrought}
+use Rattle.git_server.specs.Phases.{LeftIn, answer_from, kept_in, outcome_in, owed_in, reads_in, phase_after, refused_by}
+use Rattle.git_server.specs.Taking.{Brings, IsBrought, IsWithin}
 use Rattle.git_server.specs.Serving.{Running, Serves, StandsBy, outcome_of, wants_input}
 use Rattle.git_server.specs.Moves.{Goes, ReadsFor}
 use Rattle.git_server.specs.declared.outcome.Outcome.{Outcome}
@@ -52,6 +53,30 @@ module _ {A : Type 0} where
   no_outcome (Refusing fault) h = absurd (cc)
   no_outcome (Ended outcome) h = absurd (cc)
 
+  -- nor does it keep a request to answer, and neither does one whose session ended
+  pub none_kept : (phase : Phase A) → reads_in phase ≡ true → kept_in phase ≡ 0
+  none_kept Between h = refl
+  none_kept Within h = refl
+  none_kept (Greeting line) h = absurd (cc)
+  none_kept (Answering request next) h = absurd (cc)
+  none_kept (Refusing fault) h = absurd (cc)
+  none_kept (Ended outcome) h = absurd (cc)
+
+  pub none_kept_at_end : (phase : Phase A) (outcome : Outcome) → outcome_in phase ≡ Some outcome → kept_in phase ≡ 0
+  none_kept_at_end Between outcome h = refl
+  none_kept_at_end Within outcome h = refl
+  none_kept_at_end (Greeting line) outcome h = refl
+  none_kept_at_end (Answering request next) outcome h = absurd (cc)
+  none_kept_at_end (Refusing fault) outcome h = refl
+  none_kept_at_end (Ended outcome) _ h = refl
+
+  -- behind a packet the request is kept by the reader of requests, or by what answers it
+  kept_behind : (brought : Brought A) (requests : RequestReader A) → IsWithin brought requests → kept_so_far requests + kept_in (phase_after brought) ≤ limit_in requests
+  kept_behind Part requests h = omega (arith, h)
+  kept_behind (Whole request) requests h = omega (arith, h.0, h.1)
+  kept_behind Stop requests h = omega (arith, h)
+  kept_behind (RefusedPacket fault) requests h = omega (arith, h, none_kept_at_end (refused_by fault.kind fault) (Refused fault) (refused_outcome_by A fault.kind fault))
+
   pub nothing_owed : (offer : Offer) (refs : List Entry) (phase : Phase A) → reads_in phase ≡ true → owed_in offer refs phase ≡ []
   nothing_owed offer refs Between h = refl
   nothing_owed offer refs Within h = refl
@@ -84,6 +109,7 @@ module _ {R A : Type 0} (answers : R → Repository) (old new : Server R A) (u :
         reads_for = ap offer_of same_requests ∙ r.reads_for;
         limit = ap limit_in same_requests ∙ r.limit;
         repo = ap answers reads.repo ∙ r.repo;
+        within = omega (arith, r.within, ap kept_so_far same_requests, ap kept_in same_phase);
         stands = subst (λ (o : Option Outcome). StandsBy o s (so_far ++ u) over (before ++ []) new) (sym (ap outcome_in same_phase ∙ no_outcome old.phase wants)) (record {
           asked = h.asked;
           packets = h.packets;
@@ -183,12 +209,14 @@ module _ {R A : Type 0} (answers : R → Repository) (old new : Server R A) (u :
       let offer = brings.offer ∙ r.reads_for in
       let limit = brings.limit ∙ r.limit in
       let open_ended = no_outcome old.phase wants in
+      let kept : kept_so_far old.requests ≤ limit_in old.requests = omega (arith, r.within, r.limit, none_kept old.phase wants) in
       let begun = begins s h.left old.requests r.reads_for r.limit (old.sound open_ended) (old.ready open_ended) h.takes in
       record {
         offer = reads.offer ∙ r.offer;
         reads_for = offer;
         limit = limit;
         repo = ap answers reads.repo ∙ r.repo;
+        within = omega (arith, kept_behind brought new.requests (brings.within kept), limit, ap kept_in phase_is);
         stands = subst (λ (o : Option Outcome). StandsBy o s (so_far ++ u) over (before ++ []) new) (sym (ap outcome_in phase_is))
             (packet_stands s so_far over before g brought wants h rest stream sound shut offer limit begun (brings.brings h.left h.takes) phase_is);
       }
@@ -214,6 +242,7 @@ module _ {R A : Type 0} (answers : R → Repository) (old new : Server R A) (u :
         reads_for = ap offer_of same_requests ∙ r.reads_for;
         limit = ap limit_in same_requests ∙ r.limit;
         repo = ap answers reads.repo ∙ r.repo;
+        within = omega (arith, r.within, ap kept_so_far same_requests, none_kept_at_end new.phase (Refused fault) (ap outcome_in phase_is ∙ refused_outcome_by A fault.kind fault));
         stands = ends_refused s so_far over before h.left h.packets rest fault wants h stream h.cuts
             (inr (inl (record {
               begins = begins s h.left old.requests r.reads_for r.limit sound ready h.takes;

@@ -8,7 +8,7 @@ use Rattle.git_msg.specs.declared.requests.Request.{Request}
 use Rattle.git_server.specs.Repository.{Entry}
 use Rattle.git_server.specs.Answers.{offered_line, error_packet}
 use Rattle.git_server.specs.Greetings.{greeting_packet, greeting_after, greetings_from, greetings_after}
-use Rattle.git_server.specs.Phases.{LeftIn, greeting_phase, outcome_in, owed_in}
+use Rattle.git_server.specs.Phases.{LeftIn, greeting_phase, kept_in, outcome_in, owed_in}
 use Rattle.git_server.specs.declared.greeting.Greeting.{Greeting as Line}
 use Rattle.git_server.specs.declared.greeting.Greeting.TheVariants.{Version, Agent, LsRefs, ServerOption, ObjectFormat, End}
 use Rattle.git_server.specs.declared.outcome.Outcome.TheVariants.{Refused}
@@ -31,6 +31,11 @@ module _ {A : Type 0} where
   greeting_owes : (offer : Offer) (refs : List Entry) (o : Option Line) (phase : Phase A) → phase ≡ greeting_phase o → owed_in offer refs phase ≡ greetings_after offer o
   greeting_owes offer refs (Some line) phase is = ap (owed_in offer refs) is
   greeting_owes offer refs None phase is = ap (owed_in offer refs) is
+
+  -- behind such a line no request is kept
+  pub none_kept_in_greeting : (o : Option Line) (phase : Phase A) → phase ≡ greeting_phase o → kept_in phase ≡ 0
+  none_kept_in_greeting (Some line) phase is = ap kept_in is
+  none_kept_in_greeting None phase is = ap kept_in is
 
   -- behind a line of the advertisement the other lines are owed
   pub line_behind : (offer : Offer) (refs : List Entry) (old new : Phase A) (line : Line) (next : Option Line) (packet : Pkt) → old ≡ Greeting line → packet ≡ greeting_packet offer.format line

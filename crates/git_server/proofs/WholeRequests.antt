@@ -38,7 +38,7 @@ answers_more repo (p ∷ ps) packets q answer (first, more, whole, is_first, res
 
 module _ {A : Type 0} where
   begun_by : (part : Part) (left : List Given) (r : RequestReader A) → fault_in part ≡ None → waits_in part ≡ false → TakesIn part left r
-      → (lines : List Line) × AreLines r.offer r.limits.args [] left lines
+      → (lines : List Line) × AreLines r.offer (limit_in r) [] left lines
   begun_by Capabilities left r sound ready stands = (stands.lines, stands.taken)
   begun_by Arguments left r sound ready stands = (stands.lines, stands.taken)
   begun_by (Waiting offset long) left r sound ready stands = absurd (cc)

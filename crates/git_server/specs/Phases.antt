@@ -7,7 +7,7 @@ use Rattle.git_pkt.specs.declared.fault.Kind.{Kind}
 use Rattle.git_pkt.specs.declared.fault.Kind.TheVariants.{RemoteError}
 use Rattle.git_msg.specs.declared.offers.Offer.{Offer}
 use Rattle.git_msg.specs.Asked.{Asked, ls_refs}
-use Rattle.git_msg.specs.Holding.{asked_of}
+use Rattle.git_msg.specs.Holding.{asked_of, kept_of}
 use Rattle.git_server.specs.Repository.{Entry}
 use Rattle.git_server.specs.Answers.{error_packet, reference_packet, shown_refs}
 use Rattle.git_server.specs.Greetings.{greetings_from}
@@ -56,6 +56,11 @@ module _ {A : Type 0} where
   owed_in offer refs (Answering request next) = answer_from (asked_of request) refs next
   owed_in offer refs (Refusing fault) = error_packet fault ∷ []
   owed_in offer refs _ = []
+
+  -- how many bytes the argument lines of the request have that is answered
+  abbrev pub kept_in : Phase A → ℕ
+  kept_in (Answering request next) = kept_of request
+  kept_in _ = 0
 
   -- of a request that is not whole, whether some packets came
   abbrev pub LeftIn : Phase A → List Given → Type 0

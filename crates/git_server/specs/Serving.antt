@@ -1,14 +1,14 @@
 -- What a server stands for: the bytes that it used, and those that it gave.
-use Rattle.std.specs.Prelude.{◌≡◌, ℕ, Bool, Option, Some, None, List, []}
+use Rattle.std.specs.Prelude.{◌≡◌, ◌≤◌, ◌+◌, ℕ, Bool, Option, Some, None, List, []}
 use Rattle.git_pkt.specs.Packets.{Pkt}
 use Rattle.git_pkt.specs.Splits.{Given}
 use Rattle.git_pkt.specs.Reading.{Reads, fault_of}
 use Rattle.git_msg.specs.Asked.{Asked}
-use Rattle.git_msg.specs.Taking.{Takes, offer_of, limit_in}
+use Rattle.git_msg.specs.Taking.{Takes, offer_of, limit_in, kept_so_far}
 use Rattle.git_server.specs.Repository.{Repository}
 use Rattle.git_server.specs.Answers.{spelled}
 use Rattle.git_server.specs.Sessions.{Setting, Cuts, IsSent, IsEnding}
-use Rattle.git_server.specs.Phases.{LeftIn, outcome_in, owed_in, reads_in}
+use Rattle.git_server.specs.Phases.{LeftIn, kept_in, outcome_in, owed_in, reads_in}
 use Rattle.git_server.specs.declared.outcome.Outcome.{Outcome}
 use Rattle.git_msg.specs.declared.offers.Offer.{Offer}
 use Rattle.git_server.specs.declared.server.Phase.{Phase}
@@ -26,6 +26,10 @@ module _ {R A : Type 0} where
   -- the outcome, once there is one
   abbrev pub outcome_of : Server R A → Option Outcome
   outcome_of server = outcome_in server.phase
+
+  -- how many bytes of argument lines are kept: of the request that is read, and of the one that is answered
+  abbrev pub kept_by : Server R A → ℕ
+  kept_by server = kept_so_far server.requests + kept_in server.phase
 
   -- the session goes on: the bytes were read, and what is owed was asked for or is the advertisement
   pub record Serves (s : Setting) (used given : List ℕ) (server : Server R A) : Type 0 where
@@ -52,6 +56,7 @@ module _ {R A : Type 0} where
     pub reads_for : offer_of server.requests ≡ s.offer
     pub limit : limit_in server.requests ≡ s.limit
     pub repo : answers server.repo ≡ s.repo
+    pub within : kept_by server ≤ s.limit
     pub stands : StandsBy (outcome_of server) s used over given server
 
   -- nothing was used or given yet
@@ -63,3 +68,4 @@ module _ {R A : Type 0} where
     pub takes : Takes [] server.requests
     pub reads_for : offer_of server.requests ≡ offer
     pub limit_is : limit_in server.requests ≡ limit
+    pub kept : kept_so_far server.requests ≡ 0

@@ -1,10 +1,10 @@
 -- What a packet brings to a reader of requests that keeps each argument at once.
-use Rattle.std.specs.Prelude.{◌≡◌, Bool, true, false, None, List, [], ◌∷◌, ◌++◌}
+use Rattle.std.specs.Prelude.{◌≡◌, ◌≤◌, Bool, true, false, None, List, [], ◌∷◌, ◌++◌}
 use Rattle.git_pkt.specs.Splits.{Given}
 use Rattle.git_msg.specs.declared.reader.RequestReader.{RequestReader}
 use Rattle.git_msg.specs.Holding.{asked_of, kept_of}
 use Rattle.git_msg.specs.Requests.{Asks, IsStop}
-use Rattle.git_msg.specs.Taking.{Takes, IsTold, offer_of, limit_in, fault_of, is_waiting}
+use Rattle.git_msg.specs.Taking.{Takes, IsTold, offer_of, limit_in, kept_so_far, fault_of, is_waiting}
 use Rattle.git_server.specs.declared.requests.Brought.{Brought}
 use Rattle.git_server.specs.declared.requests.Brought.TheVariants.{Part, Whole, Stop, Refused}
 
@@ -24,6 +24,11 @@ module _ {A : Type 0} where
   goes_on Stop = false
   goes_on (Refused fault) = false
 
+  -- what is kept is within the limit; what was kept of a whole request is given away with it
+  abbrev pub IsWithin : Brought A → RequestReader A → Type 0
+  IsWithin (Whole request) new = (kept_of request ≤ limit_in new) × (kept_so_far new ≡ 0)
+  IsWithin _ new = kept_so_far new ≤ limit_in new
+
   -- what a packet does
   pub record Brings (old : RequestReader A) (g : Given) (brought : Brought A) (new : RequestReader A) : Type 0 where
     pub brings : (packets : List Given) → Takes packets old → IsBrought (packets ++ g ∷ []) brought new
@@ -31,3 +36,4 @@ module _ {A : Type 0} where
     pub ready : goes_on brought ≡ true → is_waiting new ≡ false
     pub offer : offer_of new ≡ offer_of old
     pub limit : limit_in new ≡ limit_in old
+    pub within : kept_so_far old ≤ limit_in old → IsWithin brought new

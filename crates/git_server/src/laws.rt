@@ -1,14 +1,16 @@
 //! What a server's contract says of the bytes alone: each function does nothing, and its contract is the law.
 
-ghost use Rattle.std.specs.Prelude.{◌≡◌, ℕ, Bool, List};
+ghost use Rattle.std.specs.Prelude.{◌≡◌, ◌≤◌, ℕ, Bool, List};
 ghost use Rattle.git_server.specs.Sessions.{IsRunning, Setting};
-ghost use Rattle.git_server.specs.Serving.{Running};
+ghost use Rattle.git_server.specs.Serving.{Running, kept_by};
 
 use crate::repo::Repo;
 use crate::server::Server;
 use std::alloc::Allocator;
 
-/// At every moment what a server has given stands to what it has used as a session has it.
+/// At every moment what a server has given stands to what it has used as a session has it, and the argument lines that
+/// it keeps are within its limit.
 pub fn server_keeps_to_its_session<R: Repo, A: Allocator + Copy>(server: &Server<R, A>)
-    ensures { (s : Setting) (used : List ℕ) (over : Bool) (given : List ℕ) → Running R.answers s used over given server.now → IsRunning s used over given }
+    ensures within { (s : Setting) (used : List ℕ) (over : Bool) (given : List ℕ) → Running R.answers s used over given server.now → kept_by server.now ≤ s.limit }
+    ensures session { (s : Setting) (used : List ℕ) (over : Bool) (given : List ℕ) → Running R.answers s used over given server.now → IsRunning s used over given }
 {}

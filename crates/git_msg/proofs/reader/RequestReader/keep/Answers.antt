@@ -15,6 +15,6 @@ returns-in-Ok g c =
 pub returns-in-Err : goal.returns-in-Err
 returns-in-Err g c =
     let same : c.max-long.result ≡ max c.in-Waiting.long (length (written_text (shown c.args.argument))) = c.max-long.ensures ∙ ap (λ (n : ℕ). max c.in-Waiting.long n) c.written_length.ensures in
-    let h = keeps_err c.args.self.now c.in-Waiting.offset c.in-Waiting.long (shown c.args.argument) c.keep.new.self c.in-Err.kind c.in-Waiting.is
+    let h = keeps_err c.args.self.now c.in-Waiting.offset c.in-Waiting.long (shown c.args.argument) c.keep.new.self c.in-Err.kind c.in-Waiting.is c.in-Err.ensures.unchanged
     (subst (λ (n : ℕ). IsRefused (keep_checks c.args.self.now.request (shown c.args.argument) n) (shown c.args.argument) c.in-Err.kind) same c.in-Err.ensures.refused) in
     rw (c.refuse.ensures.ends, c.refuse.ensures.fault) h

@@ -1,4 +1,3 @@
-use Rattle.std.proofs.Common.{refl}
 use Rattle.std.proofs.lemmas.Result.{err_from_is_err_and}
 use Rattle.git_msg.proofs.StepFacts.{unread, completed}
 use Rattle.git_msg.proofs.reader.RequestReader.take_argument.Goals as goal
@@ -12,5 +11,4 @@ returns-in_err-argument-in-Payload g c =
 
 pub returns-in-Flush : goal.returns-in-Flush
 returns-in-Flush g c =
-    rw (c.in-Flush.is, c.replace-request.ensures.value)
-    (completed c.args.self.now (record c.args.self.now { request = c.replace-request.new.dest }) c.restart.new.self c.args.offset c.requires refl refl c.restart.ensures)
+    rw (c.in-Flush.is, c.restart.ensures.given) (completed c.args.self.now c.restart.new.self c.args.offset c.requires c.restart.ensures.next c.restart.ensures.new)

@@ -19,4 +19,4 @@ pub returns-in_ok-command-in-Delim : goal.returns-in_ok-command-in-Delim
 returns-in_ok-command-in-Delim g c = rw c.in-Delim.is (delimited c.args.self.now c.args.offset c.in_ok-command-in-Delim.command c.empty_request.result c.requires c.in_ok-command-in-Delim.ensures c.empty_request.ensures)
 
 pub returns-in_ok-command-in-Flush : goal.returns-in_ok-command-in-Flush
-returns-in_ok-command-in-Flush g c = rw c.in-Flush.is (flushed c.args.self.now c.restart.new.self c.args.offset c.in_ok-command-in-Flush.command c.empty_request-request.result c.requires c.in_ok-command-in-Flush.ensures c.empty_request-request.ensures c.restart.ensures)
+returns-in_ok-command-in-Flush g c = rw (c.in-Flush.is, c.restart.ensures.given) (flushed c.args.self.now c.restart.new.self c.args.offset c.in_ok-command-in-Flush.command c.empty_request-in-Flush.result c.requires c.in_ok-command-in-Flush.ensures c.empty_request-in-Flush.ensures c.restart.ensures.next c.restart.ensures.new)
