@@ -1,0 +1,64 @@
+//! Memory that runs out at each growth in turn.
+use crate::runs::{converse, new_server, usual};
+use crate::steps::refusal;
+use git_pkt::{Kind, Told};
+use git_server::{Outcome, serve};
+use linked_list_allocator::LocalHeap;
+use std::test::Fail;
+
+/// A request that keeps two texts.
+const REQUEST: &[u8] =
+    b"0014command=ls-refs\n00010009peel\n001bref-prefix refs/heads/\n001aref-prefix refs/tags/\n0000";
+
+#[test]
+fn each_growth_is_refused_in_turn(rt: HostRuntime) -> Result<(), Fail> {
+    let mut answered = 0;
+    let mut refusals = [0; 2];
+    for size in (32..1024).step_by(8) {
+        let heap = LocalHeap::new(rt.alloc(), size)?;
+        let mut server = new_server(&rt, &heap, usual(), false)?;
+        let (given, ended) = converse(&mut server, rt.alloc(), &[REQUEST])?;
+        if ended == Some(Outcome::Closed) {
+            answered = size;
+            continue;
+        }
+        assert_eq!(rt; answered, 0, "with {size} bytes");
+        if ended == Some(refusal(Kind::OutOfMemory, 33)) {
+            let told = b"001aERR OutOfMemory at 33\n";
+            assert_eq!(rt; given.as_slice(), told.as_slice());
+            refusals[0] = size;
+        } else {
+            let told = b"001aERR OutOfMemory at 60\n";
+            assert_eq!(rt; given.as_slice(), told.as_slice());
+            assert_eq!(rt; ended, Some(refusal(Kind::OutOfMemory, 60)));
+            refusals[1] = size;
+        }
+    }
+    assert!(rt; 0 < refusals[0] && refusals[0] < refusals[1] && refusals[1] < answered);
+    Ok(())
+}
+
+#[test]
+fn without_memory_the_first_text_is_refused(rt: HostRuntime) -> Result<(), Fail> {
+    let input = b"0014command=ls-refs\n0016object-format=sha10001\
+        0009peel\n000csymrefs\n001bref-prefix refs/heads/\n0000";
+    let told = b"001aERR OutOfMemory at 67\n";
+    let heap = LocalHeap::new(rt.alloc(), 32)?;
+    let mut server = new_server(&rt, &heap, usual(), false)?;
+    let (given, ended) = converse(&mut server, rt.alloc(), &[input])?;
+    assert_eq!(rt; given.as_slice(), told.as_slice());
+    assert_eq!(rt; ended, Some(refusal(Kind::OutOfMemory, 67)));
+    let mut server = new_server(&rt, &heap, usual(), false)?;
+    let mut given = Vec::new(rt.alloc());
+    let mut piece = [0; 7];
+    let run = serve(
+        &mut Told::new(input.as_slice()),
+        &mut Told::new(&mut given),
+        &mut piece,
+        &mut server,
+        100,
+    );
+    assert_eq!(rt; given.as_slice(), told.as_slice());
+    assert_eq!(rt; run, Ok(refusal(Kind::OutOfMemory, 67)));
+    Ok(())
+}
