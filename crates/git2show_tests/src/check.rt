@@ -1,8 +1,10 @@
 //! Recorded streams checked against each other, however they are cut.
+use crate::packets::{Packet, whole_packets};
 use git_client::Ending;
 use git_names::Format;
 use git_pkt::{Fault, Kind, Told};
 use git2show_lib::{CheckFault, ProgramFault, check, report};
+use std::io::Read;
 use std::process::Abort;
 use std::test::Fail;
 use test_streams::{Sink, Stream};
@@ -25,8 +27,36 @@ fn refused(kind: Kind, offset: u64) -> Result<(), CheckFault> {
     Err(CheckFault::Responses(Fault { kind, offset }))
 }
 
-/// Checks two streams, read at most `step` bytes at a time for each step up to the whole, and compares the answer and
-/// the transcript.
+/// Checks what two readers give, and compares the answer and the transcript. Where they differ, it is told at which place
+/// the streams are cut.
+fn checks_read<Q: Read + Drop, A: Read + Drop>(
+    rt: &(impl Abort + AllocGlobal),
+    requests: Q,
+    responses: A,
+    answer: Result<(), CheckFault>,
+    transcript: &[u8],
+    place: usize,
+) -> Result<(), Fail> {
+    let mut sink = Sink::new(Vec::new(rt.alloc()), usize::MAX, NEVER);
+    let mut piece = [0; 256];
+    let mut other_piece = [0; 256];
+    let got = check(
+        &mut Told::new(requests),
+        &mut Told::new(responses),
+        Format::Sha1,
+        Ending::FlushOnly,
+        &mut piece,
+        &mut other_piece,
+        &mut Told::new(&mut sink),
+        TURNS,
+    );
+    assert_eq!(rt; got, answer, "cut at {place}");
+    assert_eq!(rt; sink.taken.as_slice(), transcript, "cut at {place}");
+    Ok(())
+}
+
+/// Checks two streams, read at most `step` bytes at a time for each step up to the whole, and each cut in two at each
+/// byte.
 fn checks(
     rt: &(impl Abort + AllocGlobal),
     requests: &[u8],
@@ -34,24 +64,22 @@ fn checks(
     answer: Result<(), CheckFault>,
     transcript: &[u8],
 ) -> Result<(), Fail> {
-    for step in 1..=responses.len().min(1000) + 1 {
-        let mut sink = Sink::new(Vec::new(rt.alloc()), usize::MAX, NEVER);
-        let mut asked = Told::new(Stream::new(requests, step, NEVER));
-        let mut answered = Told::new(Stream::new(responses, step, NEVER));
-        let mut piece = [0; 256];
-        let mut other_piece = [0; 256];
-        let got = check(
-            &mut asked,
-            &mut answered,
-            Format::Sha1,
-            Ending::FlushOnly,
-            &mut piece,
-            &mut other_piece,
-            &mut Told::new(&mut sink),
-            TURNS,
-        );
-        assert_eq!(rt; got, answer, "in steps of {step}");
-        assert_eq!(rt; sink.taken.as_slice(), transcript, "in steps of {step}");
+    let longest = requests.len().max(responses.len());
+    for place in 0..=longest.min(1000) {
+        let step = place + 1;
+        let asked = Stream::new(requests, step, NEVER);
+        let answered = Stream::new(responses, step, NEVER);
+        checks_read(rt, asked, answered, answer, transcript, place)?;
+        let (asked, asked_last) = requests.split_at(place.min(requests.len()));
+        let (answered, answered_last) = responses.split_at(place.min(responses.len()));
+        checks_read(
+            rt,
+            asked.chain(asked_last),
+            answered.chain(answered_last),
+            answer,
+            transcript,
+            place,
+        )?;
     }
     Ok(())
 }
@@ -89,33 +117,100 @@ fn requests_are_judged_before_a_byte_left_over(rt: HostRuntime) -> Result<(), Fa
 
 #[test]
 fn another_first_packet_is_refused(rt: HostRuntime) -> Result<(), Fail> {
-    checks(
-        &rt,
-        b"",
-        b"000eversion 1\n",
-        refused(Kind::NotVersion2, 0),
-        b"",
-    )?;
-    checks(&rt, b"", b"0007ERR", refused(Kind::NotVersion2, 0), b"")?;
-    checks(
-        &rt,
-        b"",
-        b"000dERR nope\n",
-        refused(Kind::RemoteError, 0),
-        b"",
-    )
+    for (responses, kind) in [
+        (b"000eversion 1\n".as_slice(), Kind::NotVersion2),
+        (b"0007ERR".as_slice(), Kind::NotVersion2),
+        (b"000dERR nope\n".as_slice(), Kind::RemoteError),
+    ] {
+        checks(&rt, b"", responses, refused(kind, 0), b"")?;
+        ends_in_its_first_packet(&rt, responses)?;
+    }
+    Ok(())
+}
+
+/// These responses, one packet, are truncated wherever else they end.
+fn ends_in_its_first_packet(rt: &(impl Abort + AllocGlobal), responses: &[u8]) -> Result<(), Fail> {
+    for end in 0..responses.len() {
+        let nothing: &[u8] = b"";
+        let answer = refused(Kind::Truncated, 0);
+        checks_read(rt, nothing, &responses[..end], answer, b"", end)?;
+    }
+    Ok(())
 }
 
 #[test]
 fn an_advertisement_that_ends_early_is_truncated(rt: HostRuntime) -> Result<(), Fail> {
+    let packets: [Packet; 7] = [
+        (b"000eversion 2\n", b""),
+        (b"0011agent=git2/1\n", b"capability agent=git2/1\n"),
+        (b"000cls-refs\n", b"capability ls-refs\n"),
+        (b"0012fetch=shallow\n", b"capability fetch=shallow\n"),
+        (
+            b"0017object-format=sha1\n",
+            b"capability object-format=sha1\n",
+        ),
+        (b"000cx-later\n", b"capability x-later\n"),
+        (b"0000", b"offered\n"),
+    ];
+    for end in 0..=ADVERTISEMENT.len() {
+        let (whole, transcript) = whole_packets(rt.alloc(), &packets, end)?;
+        let answer = if end < ADVERTISEMENT.len() {
+            refused(Kind::Truncated, whole as u64)
+        } else {
+            Ok(())
+        };
+        let flush: &[u8] = b"0000";
+        checks_read(&rt, flush, &ADVERTISEMENT[..end], answer, &transcript, end)?;
+    }
     checks(
         &rt,
         b"",
         &ADVERTISEMENT[..98],
         refused(Kind::Truncated, 96),
         &TRANSCRIPT[..TRANSCRIPT.len() - 8],
-    )?;
-    checks(&rt, b"", b"", refused(Kind::Truncated, 0), b"")
+    )
+}
+
+/// Requests that end before `told` of their bytes are truncated, and others have the answer. No byte asks for nothing.
+fn asks(
+    rt: &(impl Abort + AllocGlobal),
+    requests: &[u8],
+    told: usize,
+    answer: Result<(), CheckFault>,
+) -> Result<(), Fail> {
+    let truncated = CheckFault::Requests(Fault {
+        kind: Kind::Truncated,
+        offset: 0,
+    });
+    for end in 0..=requests.len() {
+        let due = match end {
+            0 => Ok(()),
+            _ if end < told => Err(truncated),
+            _ => answer,
+        };
+        checks_read(rt, &requests[..end], ADVERTISEMENT, due, TRANSCRIPT, end)?;
+    }
+    Ok(())
+}
+
+#[test]
+fn requests_that_end_early_are_truncated(rt: HostRuntime) -> Result<(), Fail> {
+    asks(&rt, b"0000", 4, Ok(()))?;
+    asks(&rt, b"0000not read", 4, Ok(()))?;
+    for (requests, told, kind, offset) in [
+        (b"0001".as_slice(), 4, Kind::UnexpectedPacket, 0),
+        (
+            b"0014command=ls-refs\n0000".as_slice(),
+            20,
+            Kind::UnexpectedPacket,
+            0,
+        ),
+        (b"00x0".as_slice(), 3, Kind::BadDigit, 2),
+    ] {
+        let fault = CheckFault::Requests(Fault { kind, offset });
+        asks(&rt, requests, told, Err(fault))?;
+    }
+    Ok(())
 }
 
 #[test]

@@ -4,6 +4,8 @@
 #[cfg(test)]
 mod check;
 #[cfg(test)]
+mod packets;
+#[cfg(test)]
 mod repository_text;
 #[cfg(test)]
 mod show;

@@ -18,12 +18,14 @@ shallow 3333333333333333333333333333333333333333\n";
 
 #[test]
 fn the_first_bad_line_is_told(rt: HostRuntime) -> Result<(), Fail> {
-    let cases: [(&[u8], u64); 37] = [
+    let cases: [(&[u8], u64); 42] = [
         (b"", 1),
         (b"\n", 1),
         (b"\n\n", 1),
         (b"format sha1\n\n", 2),
         (b"format sha1\n\nready 1", 2),
+        (b"format sha1\nready 1\n\n", 3),
+        (b"format sha1\nready 1\n\n\n", 3),
         (b"format sha2\n", 1),
         (b"format sha1 \n", 1),
         (b"format  sha1\n", 1),
@@ -40,6 +42,15 @@ fn the_first_bad_line_is_told(rt: HostRuntime) -> Result<(), Fail> {
         (b"format sha1\nready 1 \n", 2),
         (b"format sha1\nready 1a\n", 2),
         (b"format sha1\r\n", 1),
+        (b"format sha1\nready 1\r\n", 2),
+        (
+            b"format sha1\nref 1111111111111111111111111111111111111111 refs/heads/b\r\n",
+            2,
+        ),
+        (
+            b"format sha1\nobject 1111111111111111111111111111111111111111 1\r",
+            2,
+        ),
         (
             b"format sha1\nref 1111111111111111111111111111111111111111 refs/heads/b\nref 1111111111111111111111111111111111111111 refs/heads/a\n",
             3,
@@ -111,11 +122,27 @@ fn the_first_bad_line_is_told(rt: HostRuntime) -> Result<(), Fail> {
 }
 
 #[test]
-fn texts_without_a_last_line_end_are_read(rt: HostRuntime) -> Result<(), Fail> {
-    let cases: [(&[u8], Format, usize); 6] = [
+fn texts_are_read_with_their_last_line_end_or_without(rt: HostRuntime) -> Result<(), Fail> {
+    let cases: [(&[u8], Format, usize); 10] = [
         (b"format sha1", Format::Sha1, 0),
         (b"format sha256\n", Format::Sha256, 0),
         (b"format sha1\nready 0001", Format::Sha1, 0),
+        (b"format sha1\nready 1\n", Format::Sha1, 0),
+        (
+            b"format sha1\nobject 1111111111111111111111111111111111111111 12\n",
+            Format::Sha1,
+            0,
+        ),
+        (
+            b"format sha1\nshallow 1111111111111111111111111111111111111111\n",
+            Format::Sha1,
+            0,
+        ),
+        (
+            b"format sha1\nunshallow 1111111111111111111111111111111111111111\n",
+            Format::Sha1,
+            0,
+        ),
         (
             b"format sha1\nref 1111111111111111111111111111111111111111 refs/heads/b",
             Format::Sha1,

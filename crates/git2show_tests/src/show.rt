@@ -1,4 +1,5 @@
-//! Packets shown as lines, each stream in one piece and in pieces of one byte.
+//! Packets shown as lines, however the stream is cut.
+use crate::packets::{Packet, whole_packets};
 use git_pkt::{Fault, Kind, RunFault, Told};
 use git2show_lib::{ProgramFault, report, show};
 use std::io::{self, Read};
@@ -16,22 +17,86 @@ fn refused(kind: Kind, offset: u64) -> Result<(), RunFault> {
     Err(RunFault::Refused(Fault { kind, offset }))
 }
 
-/// Shows a stream, whole and a byte at a time, and compares the answer and the lines.
+/// Shows what a reader gives, and compares the answer and the lines. Where they differ, it is told at which place the
+/// stream is cut.
+fn shows_read<R: Read + Drop>(
+    rt: &(impl Abort + AllocGlobal),
+    reader: R,
+    answer: Result<(), RunFault>,
+    lines: &[u8],
+    place: usize,
+) -> Result<(), Fail> {
+    let mut sink = Sink::new(Vec::new(rt.alloc()), usize::MAX, NEVER);
+    let mut piece = [0; 4096];
+    let got = show(
+        &mut Told::new(reader),
+        &mut Told::new(&mut sink),
+        &mut piece,
+        TURNS,
+    );
+    assert_eq!(rt; got, answer, "cut at {place}");
+    assert_eq!(rt; sink.taken.as_slice(), lines, "cut at {place}");
+    Ok(())
+}
+
+/// Whether a stream of this length is cut here: a long one near its ends alone.
+fn is_cut_at(length: usize, place: usize) -> bool {
+    length < 1000 || place < 8 || length.saturating_sub(place) < 8
+}
+
+/// Shows a stream cut in two at each byte, and a byte at a time.
 fn shows(
     rt: &(impl Abort + AllocGlobal),
     stream: &[u8],
     answer: Result<(), RunFault>,
     lines: &[u8],
 ) -> Result<(), Fail> {
-    for step in [usize::MAX, 1] {
-        let mut sink = Sink::new(Vec::new(rt.alloc()), usize::MAX, NEVER);
-        let mut reader = Told::new(Stream::new(stream, step, NEVER));
-        let mut piece = [0; 4096];
-        let got = show(&mut reader, &mut Told::new(&mut sink), &mut piece, TURNS);
-        assert_eq!(rt; got, answer, "in steps of {step}");
-        assert_eq!(rt; sink.taken.as_slice(), lines, "in steps of {step}");
+    for place in 0..=stream.len() {
+        if is_cut_at(stream.len(), place) {
+            let (first, rest) = stream.split_at(place);
+            shows_read(rt, first.chain(rest), answer, lines, place)?;
+        }
+    }
+    let slow = Stream::new(stream, 1, NEVER);
+    shows_read(rt, slow, answer, lines, usize::MAX)
+}
+
+/// Shows a stream ended at each byte before its last one: the lines of its whole packets, and the fault where one is open.
+fn shows_ended(rt: &(impl Abort + AllocGlobal), packets: &[Packet]) -> Result<(), Fail> {
+    let mut stream = Vec::new(rt.alloc());
+    for (packet, _) in packets {
+        stream.extend_from_slice(packet)?;
+    }
+    for end in 0..stream.len() {
+        let (whole, lines) = whole_packets(rt.alloc(), packets, end)?;
+        let answer = if whole == end {
+            Ok(())
+        } else {
+            refused(Kind::Truncated, whole as u64)
+        };
+        shows_read(rt, &stream[..end], answer, &lines, end)?;
     }
     Ok(())
+}
+
+#[test]
+fn a_stream_that_ends_early_is_shown_up_to_its_last_whole_packet(
+    rt: HostRuntime,
+) -> Result<(), Fail> {
+    shows_ended(
+        &rt,
+        &[
+            (b"0006a\n", b"0 data 2 a\\n\n"),
+            (b"0005a", b"6 data 1 a\n"),
+            (b"000bfoobar\n", b"11 data 7 foobar\\n\n"),
+            (b"0004", b"22 data 0\n"),
+            (b"0000", b"26 flush\n"),
+            (b"0009abcde", b""),
+        ],
+    )?;
+    shows_ended(&rt, &[(b"0000", b"0 flush\n"), (b"fff1", b"")])?;
+    shows_ended(&rt, &[(b"0003", b"")])?;
+    shows_ended(&rt, &[(b"00g", b"")])
 }
 
 #[test]
