@@ -4,6 +4,8 @@ use crate::runs::{Wanted, check, run_pieces};
 use git_msg::Caps;
 use git_names::Format;
 use git_pkt::{Fault, Kind};
+use std::alloc::Global;
+use std::process::Abort;
 use std::test::Fail;
 
 /// An advertisement with a key that nobody knows.
@@ -25,6 +27,22 @@ fn offered() -> Caps {
         sha1: true,
         ..Caps::new()
     }
+}
+
+/// Runs a client over the bytes, and over those before each byte up to `told`, none of which is a whole packet.
+fn check_first(
+    rt: &impl Abort,
+    alloc: Global,
+    bytes: &[u8],
+    told: usize,
+    wanted: &Wanted,
+) -> Result<(), Fail> {
+    check(rt, alloc, Format::Sha1, bytes, wanted)?;
+    for end in 0..told.min(bytes.len()) {
+        let truncated = refused(Kind::Truncated, 0, end as u64);
+        check(rt, alloc, Format::Sha1, &bytes[..end], &truncated)?;
+    }
+    Ok(())
 }
 
 /// An advertisement that is refused before its first capability.
@@ -77,7 +95,7 @@ fn what_stands_behind_the_advertisement_is_not_used(rt: HostRuntime) -> Result<(
 
 #[test]
 fn the_first_packet_is_the_version_or_refused(rt: HostRuntime) -> Result<(), Fail> {
-    let rows: [(&[u8], Kind, u64); 12] = [
+    let rows: [(&[u8], Kind, usize); 12] = [
         (b"000eversion 1\n", Kind::NotVersion2, 14),
         (b"0007ERR", Kind::NotVersion2, 7),
         (b"000fversion 2\n\n", Kind::NotVersion2, 15),
@@ -92,30 +110,39 @@ fn the_first_packet_is_the_version_or_refused(rt: HostRuntime) -> Result<(), Fai
         (b"000cls-refs\n0000", Kind::NotVersion2, 12),
     ];
     for (bytes, kind, position) in rows {
-        let wanted = refused(kind, 0, position);
-        check(&rt, rt.alloc(), Format::Sha1, bytes, &wanted)?;
+        let wanted = refused(kind, 0, position as u64);
+        check_first(&rt, rt.alloc(), bytes, position, &wanted)?;
     }
     Ok(())
 }
 
 #[test]
 fn an_error_packet_and_its_message(rt: HostRuntime) -> Result<(), Fail> {
-    let rows: [(&[u8], u64, u64, &[u8]); 6] = [
-        (b"000dERR nope\n", 0, 13, b"nope"),
-        (b"000cERR nope", 0, 12, b"nope"),
-        (b"000eERR nope\n\n", 0, 14, b"nope\n"),
-        (b"0008ERR ", 0, 8, b""),
-        (b"0009ERR \n", 0, 9, b""),
-        (b"000eversion 2\n000eERR a=b c\n", 14, 28, b"a=b c"),
+    let rows: [(&[u8], &[u8]); 5] = [
+        (b"000dERR nope\n", b"nope"),
+        (b"000cERR nope", b"nope"),
+        (b"000eERR nope\n\n", b"nope\n"),
+        (b"0008ERR ", b""),
+        (b"0009ERR \n", b""),
     ];
-    for (bytes, offset, position, message) in rows {
+    for (bytes, message) in rows {
         let wanted = Wanted {
             message: Some(message),
-            ..refused(Kind::RemoteError, offset, position)
+            ..refused(Kind::RemoteError, 0, bytes.len() as u64)
         };
-        check(&rt, rt.alloc(), Format::Sha1, bytes, &wanted)?;
+        check_first(&rt, rt.alloc(), bytes, bytes.len(), &wanted)?;
     }
-    Ok(())
+    let behind_the_version = Wanted {
+        message: Some(b"a=b c"),
+        ..refused(Kind::RemoteError, 14, 28)
+    };
+    check(
+        &rt,
+        rt.alloc(),
+        Format::Sha1,
+        b"000eversion 2\n000eERR a=b c\n",
+        &behind_the_version,
+    )
 }
 
 #[test]
