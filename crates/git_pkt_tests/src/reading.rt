@@ -5,7 +5,7 @@ ghost use Rattle.git_pkt.specs.Faults.{last_position};
 
 use crate::runs::{Shown, read_pieces};
 use git_pkt::{Got, Kind, Packet, PacketReader, put};
-use std::alloc::Global;
+use std::alloc::{AllocError, Global};
 use std::process::Abort;
 use std::test::Fail;
 
@@ -13,7 +13,7 @@ use std::test::Fail;
 const LAST: u64 = 9_223_372_036_854_775_807;
 
 /// Reads a stream whole, cut in two at each byte, and byte by byte with empty pieces between: each time it gives
-/// the same, uses as many bytes and ends with no packet open.
+/// the same, uses as many bytes and ends with no packet open. Then reads it ended at each byte.
 fn check_stream(
     rt: &impl Abort,
     alloc: Global,
@@ -49,7 +49,64 @@ fn check_stream(
         whole.position,
         "in {bytes:?} byte by byte"
     );
+    check_ends(rt, alloc, start, bytes, shown, whole.position)
+}
+
+/// Reads a stream ended at each byte. One that has a fault shows it with the last byte that is used, or with the one behind
+/// it where that is too far.
+fn check_ends(
+    rt: &impl Abort,
+    alloc: Global,
+    start: u64,
+    bytes: &[u8],
+    shown: &[Shown],
+    position: u64,
+) -> Result<(), Fail>
+    requires { start ≤ last_position }
+{
+    let told = if position == LAST { LAST + 1 } else { position };
+    for length in 0..=bytes.len() {
+        let end = start.saturating_add(length as u64);
+        let due = due_at(alloc, start, shown, told, end)?;
+        let ended = read_pieces(alloc, start, &[&bytes[..length]])?;
+        assert_eq!(rt; ended.shown, due, "in {bytes:?} ended at {length}");
+    }
     Ok(())
+}
+
+/// What is due of a stream that ends here: its packets up to there, and its fault if that was told by then, else the one
+/// that an open packet makes.
+fn due_at(
+    alloc: Global,
+    start: u64,
+    shown: &[Shown],
+    told: u64,
+    end: u64,
+) -> Result<Vec<Shown>, AllocError> {
+    let mut due = Vec::new(alloc);
+    let mut last = start;
+    for one in shown {
+        let behind = match one {
+            Shown::Flush(offset) | Shown::Delim(offset) | Shown::RespEnd(offset) => {
+                offset.saturating_add(4)
+            }
+            Shown::Data(offset, length) => offset.saturating_add(4).saturating_add(*length as u64),
+            Shown::Failed(Kind::Truncated, _) => break,
+            Shown::Failed(..) => told,
+        };
+        if behind > end {
+            break;
+        }
+        due.push(*one)?;
+        if matches!(one, Shown::Failed(..)) {
+            return Ok(due);
+        }
+        last = behind;
+    }
+    if last < end {
+        due.push(Shown::Failed(Kind::Truncated, last))?;
+    }
+    Ok(due)
 }
 
 #[test]
