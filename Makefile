@@ -1,7 +1,7 @@
 # RT is the command of the Rattle kit.
 RT ?= rt
 
-.PHONY: run test bench
+.PHONY: run test test-program bench
 
 # Proves and builds the program, and shows a recorded conversation of Git.
 run:
@@ -11,6 +11,11 @@ run:
 # gate's own.
 test:
 	@$(RT) ci
+
+# The built program from outside: as the real Git calls it, and by hand. It is what `make test` or `make run` left, and is
+# built first where they left none.
+test-program:
+	@RT="$(RT)" tests/run.sh
 
 # Builds the Rattle programs, and measures them beside C.
 bench:

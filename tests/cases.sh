@@ -1,0 +1,77 @@
+# Runs cases, and counts them. A case is a function whose name begins with `case_`. It fails where something that it expects
+# is not so, and where a command in it fails.
+
+passed=0
+failed=0
+
+# limited COMMAND..: runs a program for half a minute at the most. What hangs ends with status 124 or 137.
+limited() {
+    timeout -k 5 30 "$@"
+}
+
+# run COMMAND..: runs a program, and leaves `status` and what it wrote, the files `out` and `err`.
+run() {
+    status=0
+    limited "$@" > out 2> err || status=$?
+}
+
+# expect STATUS OUT ERR: that the last run ended so, and wrote just what these two files have.
+expect() {
+    expect_status "$1"
+    expect_same 'standard output' "$2" out
+    expect_same 'standard error' "$3" err
+}
+
+expect_status() {
+    [ "$status" = "$1" ] || differs "status $status in place of $1"
+}
+
+# expect_same WHAT WANTED WRITTEN: that two files have the same bytes.
+expect_same() {
+    diff -a -U 0 --label wanted --label written "$2" "$3" > differences || differs "$1" differences
+}
+
+# expect_line WHAT LINE FILE: that the file has this line.
+expect_line() {
+    grep -a -q -x -F -e "$2" "$3" || differs "$1 without the line '$2'" "$3"
+}
+
+# differs WHAT [FILE]: tells what is not as expected, and shows the beginning of a file. The case goes on, to tell all.
+differs() {
+    well=no
+    echo "$1"
+    [ $# = 1 ] || head -n 20 "$2" | cut -c 1-160 | sed 's/^/    /'
+}
+
+# The case runs in a shell of its own, so that nothing of it lasts. That shell stands behind no `if` or `||`, where bash would
+# not stop it at a command that fails.
+run_case() {
+    local status
+    set +e
+    (
+        set -e
+        well=yes
+        "$1"
+        [ $well = yes ]
+    ) < /dev/null > told 2>&1
+    status=$?
+    set -e
+    if [ $status = 0 ]; then
+        passed=$((passed + 1))
+        return
+    fi
+    failed=$((failed + 1))
+    [ -s told ] || echo "a command ended with status $status" > told
+    echo "FAILED $1: $(head -n 1 told)"
+    tail -n +2 told
+}
+
+# Runs every case, and ends with the plain closing line.
+run_cases() {
+    local name
+    for name in $(compgen -A function case_); do
+        run_case "$name"
+    done
+    echo "$passed passed, $failed failed"
+    [ $passed -gt 0 ] && [ $failed = 0 ]
+}

@@ -1,0 +1,270 @@
+# Cases in which the program is called by hand: its statuses, its fault lines, and when it answers.
+
+# packet TEXT: a data packet of the text and a LF.
+packet() {
+    printf '%04x%s\n' $((${#1} + 5)) "$1"
+}
+
+# advertisement FORMAT: what a server says first.
+advertisement() {
+    packet 'version 2'
+    packet agent=git2/1
+    packet ls-refs
+    packet server-option
+    packet "object-format=$1"
+    printf 0000
+}
+
+# request [ARGUMENT..]: asks for references.
+request() {
+    local argument
+    packet command=ls-refs
+    printf 0001
+    for argument; do
+        packet "$argument"
+    done
+    printf 0000
+}
+
+# The answers of small.repo to a request with `peel` and `symrefs`, and to one with `ref-prefix refs/tags/` alone.
+whole_answer() {
+    packet '1111111111111111111111111111111111111111 HEAD symref-target:refs/heads/main'
+    packet '1111111111111111111111111111111111111111 refs/heads/main'
+    packet '2222222222222222222222222222222222222222 refs/tags/v1 peeled:3333333333333333333333333333333333333333'
+    printf 0000
+}
+tags_answer() {
+    packet '2222222222222222222222222222222222222222 refs/tags/v1'
+    printf 0000
+}
+
+# serve [OPTION..] < REQUESTS
+serve() {
+    run git2show serve --repo small.repo --pack empty.pack "$@"
+}
+
+# fault NAME: the line that tells a fault.
+fault() {
+    echo "git2show: $1"
+}
+
+# expect_refused WORD..: that the program does not take these words, and says so on standard error alone.
+expect_refused() {
+    run git2show "$@"
+    expect_status 2
+    expect_same "standard output of '$*'" /dev/null out
+    [ -s err ] || differs "nothing on standard error for '$*'"
+}
+
+# expect_help USAGE WORD..: that these words are answered by a help text with that line, on standard output alone.
+expect_help() {
+    local usage=$1
+    shift
+    run git2show "$@"
+    expect_status 0
+    expect_same "standard error of '$*'" /dev/null err
+    expect_line "the text of '$*'" "$usage" out
+}
+
+case_help_goes_to_standard_output() {
+    expect_help 'Usage: git2show <COMMAND>' --help
+    expect_help 'Usage: git2show serve [OPTIONS] --repo <FILE> --pack <FILE>' serve --help
+}
+
+case_version_goes_to_standard_output() {
+    run git2show --version
+    expect 0 <(echo 'git2show 0.1.0') /dev/null
+}
+
+case_words_that_are_no_command_are_refused() {
+    expect_refused
+    expect_refused push
+    expect_refused show more
+    expect_refused check one
+    expect_refused check --format md5 /dev/null /dev/null
+    expect_refused serve --repo small.repo
+    expect_refused serve --pack empty.pack
+}
+
+case_a_word_that_is_no_utf8_is_refused() {
+    run git2show $'\xff'
+    expect 2 /dev/null <(echo 'error: an argument is not UTF-8')
+}
+
+case_a_limit_past_the_most_is_refused() {
+    expect_refused serve --repo small.repo --pack empty.pack --limit 1073741825
+    serve --limit 1073741824
+    expect 0 <(advertisement sha1) /dev/null
+}
+
+case_serve_answers_each_request() {
+    serve < <(request peel symrefs; request 'ref-prefix refs/tags/'; printf 0000)
+    expect 0 <(advertisement sha1; whole_answer; tags_answer) /dev/null
+}
+
+case_serve_ends_where_its_input_ends() {
+    serve < <(request peel symrefs)
+    expect 0 <(advertisement sha1; whole_answer) /dev/null
+}
+
+case_serve_tells_a_malformed_packet() {
+    serve < <(printf 00g0)
+    expect 1 <(advertisement sha1; packet 'ERR BadDigit at 2') <(fault 'BadDigit at 2')
+}
+
+case_serve_tells_an_input_that_is_cut_off() {
+    serve < <(printf 0000 | head -c 3)
+    expect 1 <(advertisement sha1; packet 'ERR Truncated at 0') <(fault 'Truncated at 0')
+}
+
+# Offsets go on over the requests that were answered.
+case_serve_tells_a_second_request_that_is_none() {
+    local at
+    request peel symrefs > first
+    at=$(wc -c < first)
+    serve < <(cat first; packet command=push; printf 0000)
+    expect 1 <(advertisement sha1; whole_answer; packet "ERR UnknownCommand at $at") <(fault "UnknownCommand at $at")
+}
+
+# The argument has 21 bytes, and stands behind 20 bytes of command and the delimiter's four.
+case_serve_keeps_to_its_limit() {
+    request 'ref-prefix refs/tags/' > first
+    serve --limit 21 < first
+    expect 0 <(advertisement sha1; tags_answer) /dev/null
+    serve --limit 20 < first
+    expect 1 <(advertisement sha1; packet 'ERR TooMuchKept at 24') <(fault 'TooMuchKept at 24')
+}
+
+case_serve_tells_a_wrong_text() {
+    sed '$p' small.repo > wrong.repo # the last line twice
+    run git2show serve --repo wrong.repo --pack empty.pack
+    expect 1 /dev/null <(fault 'BadRepo at 5')
+}
+
+case_serve_tells_a_missing_file() {
+    run git2show serve --repo nowhere.repo --pack empty.pack
+    expect 1 /dev/null <(fault File)
+    run git2show serve --repo small.repo --pack nowhere.pack
+    expect 1 /dev/null <(fault File)
+}
+
+case_serve_reads_its_files_before_it_judges_the_text() {
+    echo 'format md5' > wrong.repo
+    run git2show serve --repo wrong.repo --pack nowhere.pack
+    expect 1 /dev/null <(fault File)
+}
+
+# expect_next WHAT WANTED: that a server whose input stays open has written just this so far.
+expect_next() {
+    cat "$2" > wanted
+    limited head -c "$(wc -c < wanted)" <&"$from" > out || differs "$1 did not come"
+    expect_same "$1" wanted out
+}
+
+# A client that waits for its answer before it asks again gets it, and a flush ends the session though the input stays open.
+case_serve_answers_before_its_input_ends() {
+    local server from to
+    coproc limited git2show serve --repo small.repo --pack empty.pack 2> err
+    server=$COPROC_PID
+    exec {from}<&"${COPROC[0]}" {to}>&"${COPROC[1]}"
+    expect_next 'the advertisement' <(advertisement sha1)
+    request peel symrefs >&"$to"
+    expect_next 'the first answer' <(whole_answer)
+    request 'ref-prefix refs/tags/' > second
+    head -c 30 second >&"$to"
+    sleep 0.2
+    tail -c +31 second >&"$to"
+    expect_next 'the second answer' <(tags_answer)
+    printf 0000 >&"$to"
+    status=0
+    wait "$server" || status=$?
+    cat <&"$from" > out
+    expect 0 /dev/null /dev/null
+}
+
+case_show_ends_well() {
+    run git2show show < <(printf '0006a\n0000')
+    expect 0 <(printf '%s\n' '0 data 2 a\n' '6 flush') /dev/null
+}
+
+case_show_tells_a_stream_that_is_cut_off() {
+    run git2show show < <(printf '0006a\n000')
+    expect 1 <(printf '%s\n' '0 data 2 a\n') <(fault 'Truncated at 6')
+}
+
+case_show_tells_an_input_that_cannot_be_read() {
+    run git2show show < /
+    expect 1 /dev/null <(fault ReadFault)
+}
+
+# capabilities FORMAT: what `check` shows of an advertisement before its end.
+capabilities() {
+    printf 'capability %s\n' agent=git2/1 ls-refs server-option "object-format=$1"
+}
+
+case_check_ends_well() {
+    advertisement sha256 > responses
+    run git2show check --format sha256 /dev/null responses
+    expect 0 <(capabilities sha256; echo offered) /dev/null
+}
+
+case_check_tells_a_fault_of_the_responses() {
+    local flush
+    advertisement sha256 > responses
+    flush=$(($(wc -c < responses) - 4))
+    run git2show check /dev/null responses
+    expect 1 <(capabilities sha256) <(fault "responses: WrongFormat at $flush")
+}
+
+case_check_tells_a_fault_of_the_requests() {
+    printf 00g0 > requests
+    advertisement sha1 > responses
+    run git2show check requests responses
+    expect 1 <(capabilities sha1; echo offered) <(fault 'requests: BadDigit at 2')
+}
+
+case_check_tells_a_missing_file() {
+    run git2show check /dev/null nowhere
+    expect 1 /dev/null <(fault File)
+}
+
+# run_cut_off COMMAND..: runs a program that writes into a pipe whose reader takes one byte and goes. The signal of such a pipe
+# is no more ignored than in a terminal, whatever started this test.
+run_cut_off() {
+    status=0
+    limited env --default-signal=PIPE "$@" > >(head -c 1 > out) 2> err || status=$?
+}
+
+# repeat COUNT TEXT
+repeat() {
+    local i
+    for ((i = 0; i < $1; i++)); do
+        printf '%s' "$2"
+    done
+}
+
+# The inputs are large enough for their outputs to fill a pipe, and every buffer before it.
+case_a_closed_output_is_a_write_fault() {
+    repeat 100000 0005a > large
+    run_cut_off git2show show < large
+    expect 1 <(printf 0) <(fault WriteFault)
+    repeat 10000 "$(request)" > large
+    run_cut_off git2show serve --repo small.repo --pack empty.pack < large
+    expect 1 <(printf 0) <(fault WriteFault)
+}
+
+# expect_device_full WORD..: that the program tells of an output that takes nothing.
+expect_device_full() {
+    status=0
+    limited git2show "$@" < <(printf 0000) > /dev/full 2> err || status=$?
+    expect_status 1
+    expect_same "standard error of '$1'" <(fault WriteFault) err
+}
+
+case_a_full_device_is_a_write_fault() {
+    advertisement sha1 > responses
+    expect_device_full --help
+    expect_device_full show
+    expect_device_full check /dev/null responses
+    expect_device_full serve --repo small.repo --pack empty.pack
+}

@@ -1,0 +1,65 @@
+#!/usr/bin/env bash
+# Tests the built program `git2show` from outside: as the real Git calls it (real_git.sh), and by hand (program.sh).
+#
+#     tests/run.sh [PROGRAM]
+#
+# PROGRAM is the program to test; without it, what the gate or `make run` left in this repository, which is built first where
+# it is missing or older than a source. Where there is no git, Debian's package is installed. Each failed case is told as it
+# fails; the last line is 'N passed, N failed', and the status is 1 where one failed.
+set -eu -o pipefail
+shopt -s inherit_errexit
+export LC_ALL=C TZ=UTC
+
+top=$(cd "$(dirname "$0")/.." && pwd)
+
+stop() {
+    echo "tests/run.sh: $*" >&2
+    echo '0 passed, 1 failed'
+    exit 1
+}
+
+install_git() {
+    export DEBIAN_FRONTEND=noninteractive
+    timeout 600 apt-get update >&2 && timeout 600 apt-get install -y git < /dev/null >&2
+}
+
+# `rt` has no word that builds a program and does not run it, so the run is one that reads nothing and ends at once.
+build() {
+    (cd "$top/crates/git2show" && timeout 3600 "${RT:-rt}" run -- --version < /dev/null >&2)
+}
+
+is_current() {
+    [ -x "$1" ] && [ -z "$(find "$top"/crates/*/src -name '*.rt' -newer "$1" -print -quit)" ]
+}
+
+if [ $# -gt 0 ]; then
+    program=$(realpath -m "$1")
+else
+    program=$top/crates/git2show/out/git2show
+    is_current "$program" || build || stop "the program could not be built"
+fi
+[ -x "$program" ] || stop "no program $program"
+command -v git > /dev/null || install_git || stop "no git, and it could not be installed"
+
+room=$(mktemp -d "${TMPDIR:-/tmp}/git2show-tests.XXXXXX")
+trap 'rm -rf "$room"' EXIT
+cd "$room"
+
+# Nobody's own configuration takes part, nor a repository that the folder happens to lie in.
+unset "${!GIT_@}" XDG_CONFIG_HOME
+export HOME=$room/home GIT_CONFIG_NOSYSTEM=1 GIT_CEILING_DIRECTORIES=${room%/*}
+mkdir "$HOME"
+
+# By this link the commands are those of the README, wherever the program lies.
+mkdir bin
+ln -s "$program" bin/git2show
+export PATH=$room/bin:$PATH
+
+. "$top/tests/cases.sh"
+. "$top/tests/repositories.sh"
+. "$top/tests/real_git.sh"
+. "$top/tests/program.sh"
+
+git --version
+write_repositories
+run_cases
