@@ -6,12 +6,12 @@
  * PACKETS data packets of PAYLOAD bytes each (1 to 65,516), then a flush packet. `text` is printable words with a LF at
  * the end of each payload, `binary` is pseudo-random bytes. The same arguments always give the same bytes.
  */
-#include <errno.h>
 #include <stdint.h>
 #include <stdio.h>
 #include <stdlib.h>
 #include <string.h>
-#include <unistd.h>
+
+#include "write_whole.h"
 
 #define MOST_PAYLOAD 65516
 #define POOL_BYTES (256 * 1024)
@@ -43,15 +43,8 @@ static void fill_pool(int is_text)
 
 static void write_out(void)
 {
-	size_t done = 0;
-	while (done < filled) {
-		ssize_t written = write(STDOUT_FILENO, out + done, filled - done);
-		if (written < 0 && errno == EINTR)
-			continue;
-		if (written <= 0)
-			exit(1);
-		done += (size_t)written;
-	}
+	if (!write_whole(out, filled))
+		exit(1);
 	filled = 0;
 }
 

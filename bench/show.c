@@ -5,6 +5,7 @@
 #include <stdlib.h>
 
 #include "pkt_line.h"
+#include "write_whole.h"
 
 #define BLOCK 32                 /* payload bytes that are looked at together */
 #define OUT_BYTES 65536
@@ -42,16 +43,9 @@ static void prepare_escapes(void)
 
 static void write_out(void)
 {
-	size_t done = 0;
-	while (done < filled) {
-		ssize_t written = write(STDOUT_FILENO, out + done, filled - done);
-		if (written < 0 && errno == EINTR)
-			continue;
-		if (written <= 0) {
-			fputs("git2show: WriteFault\n", stderr);
-			exit(1);
-		}
-		done += (size_t)written;
+	if (!write_whole(out, filled)) {
+		fputs("git2show: WriteFault\n", stderr);
+		exit(1);
 	}
 	filled = 0;
 }
