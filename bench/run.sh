@@ -1,12 +1,13 @@
 #!/usr/bin/env bash
-# Measures the Rattle programs against the C programs beside this script, and prints a table.
+# Measures the Rattle programs against the C programs beside this script, and against the real Git, and prints a table.
 #
 #     bench/run.sh [BENCH_PACKETS [GIT2SHOW [BENCH_NAMES]]]
 #
 # The arguments are the paths of the Rattle programs; without them, where `rt run` leaves them in this repository.
-# `bench/run.sh --c-only` measures the C programs alone. The streams lie in a new folder of /tmp (or of $BENCH_FOLDER),
-# which is removed at the end, and take 1.5 GB. Times are wall-clock seconds, the best of five runs that alternate; a
-# ratio is C's time by ours, so 1.00 is as fast as C and more is faster.
+# `bench/run.sh --c-only` measures the C programs and Git alone. Where there is no git the row `serve` is left out. The
+# streams lie in a new folder of /tmp (or of $BENCH_FOLDER), which is removed at the end, and take 1.7 GB. Times are
+# wall-clock seconds, the best of five runs that alternate; a ratio is C's time by ours, so 1.00 is as fast as C and
+# more is faster.
 set -eu -o pipefail
 shopt -s inherit_errexit
 export LC_ALL=C
@@ -52,14 +53,17 @@ huge() {
     "$out/generate" 152640 65515 "$1"
 }
 
-# Prints how many microseconds the program took, with its input from a file and its output thrown away.
-microseconds() {
-    local input=$1 begin end
-    shift
+# time_run BEST INPUT PROGRAM [ARGUMENT..]
+# Runs the program with its input from a file and its output thrown away. The variable that BEST names keeps the fewest
+# microseconds that a run took, and is 0 before the first.
+time_run() {
+    local -n best=$1
+    local input=$2 begin time
+    shift 2
     begin=${EPOCHREALTIME/./}
     "$@" < "$input" > /dev/null
-    end=${EPOCHREALTIME/./}
-    echo $((end - begin))
+    time=$((${EPOCHREALTIME/./} - begin))
+    if [ "$best" = 0 ] || [ "$time" -lt "$best" ]; then best=$time; fi
 }
 
 row() {
@@ -72,14 +76,11 @@ row() {
 
 # measure NAME STREAM C-PROGRAM OUR-PROGRAM [ARGUMENT]
 measure() {
-    local name=$1 input=$streams/$2 c=$3 ours=$4 best_c=0 best_ours=0 time i
+    local name=$1 input=$streams/$2 c=$3 ours=$4 best_c=0 best_ours=0 i
     shift 4
     for ((i = 0; i < runs; i++)); do
-        time=$(microseconds "$input" "$c")
-        if [ "$best_c" = 0 ] || [ "$time" -lt "$best_c" ]; then best_c=$time; fi
-        [ -z "$c_only" ] || continue
-        time=$(microseconds "$input" "$ours" "$@")
-        if [ "$best_ours" = 0 ] || [ "$time" -lt "$best_ours" ]; then best_ours=$time; fi
+        time_run best_c "$input" "$c"
+        [ -n "$c_only" ] || time_run best_ours "$input" "$ours" "$@"
     done
     row "$name" "$(wc -c < "$input")" "$best_c" "$best_ours"
 }
@@ -110,6 +111,10 @@ print(resource.getrusage(resource.RUSAGE_CHILDREN).ru_maxrss)' "$@"
     fi
 }
 
+# shellcheck source=bench/serve.sh
+source "$top/bench/serve.sh"
+has_git=$(command -v git || true)
+
 echo "$(nproc) processors, load $(cut -d ' ' -f 1 /proc/loadavg); $(${CC:-gcc} --version | head -n 1), -O3; best of $runs"
 echo
 printf '%-34s %22s   %22s   %6s\n' '' 'C' 'Rattle' 'ratio'
@@ -120,6 +125,7 @@ measure 'show, 50 text, 200 MB' small "$out/show" "$our_show" show
 measure 'show, 65,515 binary, 250 MB' binary "$out/show" "$our_show" show
 head -c 100000000 /dev/zero > "$streams/names" # its size alone counts: about the bytes of the names read and written
 measure 'names, 1,000,000 of each kind' names "$out/names" "$our_names"
+[ -z "$has_git" ] || measure_serve
 echo
 if [ -z "$c_only" ]; then
     same_output
@@ -129,4 +135,9 @@ echo "Peak resident set on 10 GB from a pipe: show.c $c_peak KiB."
 if [ -z "$c_only" ]; then
     our_peak=$(huge text | peak_memory "$our_show" show)
     echo "Peak resident set on 10 GB from a pipe: git2show show $our_peak KiB."
+fi
+if [ -z "$has_git" ]; then
+    echo "There is no git here: the row 'serve' is left out."
+elif [ -z "$c_only" ]; then
+    tell_serve
 fi
