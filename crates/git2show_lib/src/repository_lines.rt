@@ -4,10 +4,10 @@ ghost use Rattle.std.specs.Prelude.{◌≡◌, ◌≢◌, ◌==◌, ◌<◌, ◌
 ghost use Rattle.std.specs.Option.{option_copied};
 ghost use Rattle.git_names.specs.declared.object_format.Format.{Format};
 ghost use Rattle.git_names.specs.ObjectName.{ObjectName};
-ghost use Rattle.git_msg.specs.Texts.{BeginsOtherThan};
 ghost use Rattle.git2show_lib.specs.RepositoryLines.{IsCount, IsSizedObject, Says, SaysNothing, ended_lines, format_line, lines_left, shown, without_last_end};
 
 use crate::numbers::read_number;
+use git_msg::texts::{after, is};
 use git_msg::{Boundary, Reference, read_reference};
 use git_names::{Format, Oid};
 
@@ -135,25 +135,4 @@ fn find_line_end(text: &[u8]) -> Option<usize>
     ensures { result ≡ position (λ c. c == 10) text.now }
 {
     text.iter().position(|byte| *byte == b'\n')
-}
-
-/// What stands behind the word, if the text begins with it.
-fn after<'a>(text: &'a [u8], word: &[u8]) -> Option<&'a [u8]>
-    ensures { MatchOption result (BeginsOtherThan word.now text.now) (λ rest. text.now ≡ word.now ++ rest.now) }
-{
-    if word.len() > text.len() {
-        return None;
-    }
-    let (front, rest) = text.split_at(word.len());
-    if !is(front, word) {
-        return None;
-    }
-    Some(rest)
-}
-
-/// Whether the text is the word.
-fn is(text: &[u8], word: &[u8]) -> bool
-    ensures { IsTrue result ↔ (text.now ≡ word.now) }
-{
-    text == word
 }

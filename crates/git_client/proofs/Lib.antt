@@ -9,3 +9,4 @@ pub mod Determined
 pub mod Writing
 pub mod Faults
 pub mod OneFault
+pub mod EventsHeard

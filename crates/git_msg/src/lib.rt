@@ -13,7 +13,7 @@ mod reference_lines;
 mod references;
 pub mod request_laws;
 mod requests;
-mod texts;
+pub mod texts;
 mod writer;
 mod writing;
 

@@ -9,6 +9,7 @@ ghost use Rattle.git_msg.specs.Capability.{IsCapability};
 ghost use Rattle.git_msg.specs.Advertisement.{noted_of, offer_of, words_of, is_spoken};
 
 use crate::capabilities::Capability;
+use crate::texts::is;
 use git_names::Format;
 
 /// What a server offers to a client. The capabilities `agent`, `ls-refs` and `fetch` are always offered.
@@ -117,12 +118,6 @@ impl Caps {
             server_option: self.server_option,
         }
     }
-}
-
-fn is(text: &[u8], word: &[u8]) -> bool
-    ensures { result ≡ bytes_eq text.now word.now }
-{
-    text == word
 }
 
 /// Whether single spaces part the value so that one part is the word.

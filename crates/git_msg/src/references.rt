@@ -7,9 +7,8 @@ ghost use Rattle.git_names.specs.ObjectName.{ObjectName, IsObjectName, hex_of};
 ghost use Rattle.git_pkt.specs.Packets.{payload, spelling_of};
 ghost use Rattle.git_msg.specs.References.{IsReferenceFault, IsReferenceLine, IsWritable, peeled_count, peeled_text, reference_of, reference_text, shown_reference, target_text};
 
-use crate::writing::{append, begin};
 use git_names::Oid;
-use git_pkt::Hold;
+use git_pkt::{Hold, append, begin};
 
 /// A reference, whose texts are lent.
 #[derive(Clone, Copy, Debug)]

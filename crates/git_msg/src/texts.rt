@@ -1,16 +1,18 @@
 //! What lines begin with.
 ghost use Rattle.std.specs.Prelude.{◌≡◌, ◌↔◌, ◌++◌, IsTrue, MatchOption, codes};
+ghost use Rattle.std.specs.Str.{bytes_eq};
 ghost use Rattle.git_msg.specs.Texts.{BeginsOtherThan, IsErrorText};
 
 /// Whether the text is the word.
-pub(crate) fn is(text: &[u8], word: &[u8]) -> bool
-    ensures { IsTrue result ↔ (text.now ≡ word.now) }
+pub fn is(text: &[u8], word: &[u8]) -> bool
+    ensures value { result ≡ bytes_eq text.now word.now }
+    ensures same { IsTrue result ↔ (text.now ≡ word.now) }
 {
     text == word
 }
 
 /// What stands behind the word, if the text begins with it.
-pub(crate) fn after<'a>(text: &'a [u8], word: &[u8]) -> Option<&'a [u8]>
+pub fn after<'a>(text: &'a [u8], word: &[u8]) -> Option<&'a [u8]>
     ensures { MatchOption result (BeginsOtherThan word.now text.now) (λ rest. text.now ≡ word.now ++ rest.now) }
 {
     if word.len() > text.len() {

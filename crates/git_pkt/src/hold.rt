@@ -13,7 +13,7 @@ pub const LONGEST_PACKET: usize = 65_520;
 pub type Hold = ArrayVec<u8, 65_520>;
 
 /// Appends bytes for which there is room.
-pub(crate) fn append(hold: &mut Hold, bytes: &[u8])
+pub fn append(hold: &mut Hold, bytes: &[u8])
     requires { array_vec_len hold.old + length bytes.now ≤ 65520 }
     ensures { hold.new.items ≡ hold.old.items ++ bytes.now }
 {

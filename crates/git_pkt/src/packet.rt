@@ -42,6 +42,14 @@ pub fn text(payload: &[u8]) -> &[u8]
     }
 }
 
+/// Makes the hold the four digits of a data packet. Its payload, of `length` bytes, is to be appended then.
+pub fn begin(hold: &mut Hold, length: usize)
+    requires { length ≤ 65516 }
+    ensures { hold.new.items ≡ digits_of (length + 4) }
+{
+    spell(hold, length + 4, b"");
+}
+
 /// Four digits and the bytes after them.
 fn spell(hold: &mut Hold, field: usize, body: &[u8])
     requires digits { field < 65536 }
