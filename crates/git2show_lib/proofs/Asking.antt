@@ -1,5 +1,5 @@
 -- The requests, of which the first packet alone is read.
-use Rattle.std.proofs.Common.{◌≡◌, ℕ, ◌+◌, ◌-◌, Bool, List, [], ◌++◌, length, take, drop, Option, Some, None, Ok, Err, Result, IfErr, inl, inr, arith, ap, sym, ◌∙◌, subst, append_assoc, length-drop, take-append-drop, zero-add, refl}
+use Rattle.std.proofs.Common.{◌≡◌, ℕ, ◌+◌, ◌-◌, Bool, false, List, [], ◌++◌, length, take, drop, Option, Some, None, Ok, Err, Result, IfErr, inl, inr, arith, ap, sym, ◌∙◌, subst, append_assoc, length-drop, take-append-drop, zero-add, refl}
 use Rattle.std.proofs.Math.Seq.{take-length}
 use Rattle.std.proofs.KnownBytes.{Consumes-nil, Consumes-trans}
 use Rattle.std.specs.Io.KnownBytes.{Consumes}
@@ -15,7 +15,7 @@ use Rattle.git_pkt.specs.declared.reader.Got.{Got}
 use Rattle.git_pkt.specs.declared.reader.Got.TheVariants.{More, Failed, Packet as GotPacket}
 use Rattle.git_pkt.specs.declared.reader.PacketReader.{PacketReader}
 use Rattle.git2show_lib.specs.declared.checking.CheckFault.{CheckFault}
-use Rattle.git2show_lib.specs.Checking.{BeginsWith, Judges, unread, refused, judgement_of, AsksSoFar, IsFirst, IsShownInRequests}
+use Rattle.git2show_lib.specs.Checking.{FailsInCheck, BeginsWith, Judges, unread, refused, judgement_of, AsksSoFar, IsFirst, IsShownInRequests}
 use Rattle.git2show_lib.proofs.Printing.{timely}
 
 -- a fault at the first packet
@@ -115,3 +115,8 @@ first_shown requests turns p offset (Err fault) first = subst (λ (x : CheckFaul
 -- nothing was read of the requests
 pub unread_yet : (ended : Bool) (at : Option (List ℕ)) → Judges ended at at unread
 unread_yet ended at = record { read = []; consumed = Consumes-nil at; judged = refl }
+
+-- what is wrong with the first packet is no fault of a stream
+pub first_fails : (p : Packet) (offset : ℕ) (failed : Bool) (result : Result (Unit {0}) CheckFault) → IsFirst p offset result → failed ≡ false → FailsInCheck result failed false
+first_fails p offset failed (Ok done) first sound = (sound, refl)
+first_fails p offset failed (Err fault) first sound = subst (λ (x : CheckFault). FailsInCheck {T = Unit {0}} (Err x) failed false) (sym first.1) (sound, refl)

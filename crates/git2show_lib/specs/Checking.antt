@@ -31,6 +31,16 @@ IsShownInCheck requests responses out_failed turns WriteFault = IsTrue out_faile
 IsShownInCheck requests responses out_failed turns ReadLimit =
     (reads_of requests + reads_of responses ≡ turns) × ((has_ended requests ≡ false) ⊎ (has_ended responses ≡ false))
 
+-- which of its streams failed, by how the check ended: the one that it tells, and else none. What was written is flushed
+-- behind a failing read too, so both may fail, and the writing is told then.
+abbrev pub FailsInCheck : {T : Type 0} → Result T CheckFault → Bool → Bool → Type 0
+FailsInCheck (Ok done) read_failed write_failed = (read_failed ≡ false) × (write_failed ≡ false)
+FailsInCheck (Err (Requests f)) read_failed write_failed = (read_failed ≡ false) × (write_failed ≡ false)
+FailsInCheck (Err (Responses f)) read_failed write_failed = (read_failed ≡ false) × (write_failed ≡ false)
+FailsInCheck (Err ReadFault) read_failed write_failed = (read_failed ≡ true) × (write_failed ≡ false)
+FailsInCheck (Err WriteFault) read_failed write_failed = write_failed ≡ true
+FailsInCheck (Err ReadLimit) read_failed write_failed = (read_failed ≡ false) × (write_failed ≡ false)
+
 -- the same while the responses are heard
 abbrev pub IsShownInHearing : {A : Type 0} → Told A → Bool → ℕ → CheckFault → Type 0
 IsShownInHearing responses out_failed turns (Requests f) = ⊥

@@ -1,9 +1,9 @@
 //! Two recorded streams, checked against each other.
 
-ghost use Rattle.std.specs.Prelude.{◌≡◌, ◌+◌, ◌-◌, ◌≤◌, ◌<◌, true, false, None, length, take, drop, IsTrue, OnOk, IfOk, IfErr};
+ghost use Rattle.std.specs.Prelude.{◌≡◌, ◌+◌, ◌-◌, ◌≤◌, ◌<◌, ◌||◌, true, false, None, length, take, drop, IsTrue, OnOk, IfOk, IfErr};
 ghost use Rattle.git_pkt.specs.Told.{inner_of, reads_of, has_failed, has_ended, IsNew};
 ghost use Rattle.git_client.specs.Hearing.{bytes_used, fault_of, can_ask, wants_input};
-ghost use Rattle.git2show_lib.specs.Checking.{IsShownInCheck, IsShownInHearing, IsShownInPiece, IsShownInRequests, Checks, EndsCheck, Judges, judgement_of, IsFirst, Transcribes, TranscribesUntil, Transcribed, TranscribedUntil};
+ghost use Rattle.git2show_lib.specs.Checking.{FailsInCheck, IsShownInCheck, IsShownInHearing, IsShownInPiece, IsShownInRequests, Checks, EndsCheck, Judges, judgement_of, IsFirst, Transcribes, TranscribesUntil, Transcribed, TranscribedUntil};
 
 use git_client::{Client, Ending, HeardGot, write_event};
 use git_names::Format;
@@ -62,6 +62,7 @@ pub fn check<Q: Read, A: Read, W: Write>(
     ensures reads { reads_of requests.new + reads_of responses.new ≤ turns }
     ensures ok { OnOk result (IsTrue (has_ended responses.new)) }
     ensures fault { IfErr result (IsShownInCheck requests.new responses.new (has_failed out.new) turns) }
+    ensures told { FailsInCheck result (has_failed requests.new || has_failed responses.new) (has_failed out.new) }
     ensures checked { EndsCheck (Checks format result (Judges (has_ended requests.new) (Q.remaining (inner_of requests.old)) (Q.remaining (inner_of requests.new)))
         (has_ended responses.new)) (A.remaining (inner_of responses.old)) (A.remaining (inner_of responses.new))
         (W.contents (inner_of out.old)) (W.contents (inner_of out.new)) result }
@@ -105,6 +106,8 @@ fn hear_advertisement<A: Read, W: Write>(
     requires waits { wants_input client.old ≡ true }
     requires room { 0 < length piece.old }
     requires new_responses { IsNew responses.old }
+    requires sound_out { has_failed out.old ≡ false }
+    ensures told { FailsInCheck result (has_failed responses.new) (has_failed out.new) }
     ensures left { IfOk result (λ left. left.end ≤ length piece.new) }
     ensures whole { OnOk result (can_ask client.new ≡ true) }
     ensures heard { IfOk result (λ left. Transcribed client.old client.new (take (left.end - left.start) (drop left.start piece.new))
@@ -140,7 +143,9 @@ fn hear_piece<W: Write>(
     piece: &[u8],
     out: &mut Told<W>,
 ) -> Result<usize, CheckFault>
-    requires { wants_input client.old ≡ true }
+    requires waits { wants_input client.old ≡ true }
+    requires sound_out { has_failed out.old ≡ false }
+    ensures told { FailsInCheck result false (has_failed out.new) }
     ensures used { IfOk result (λ used. used ≤ length piece.now) }
     ensures all { IfOk result (λ used. wants_input client.new ≡ true → used ≡ length piece.now) }
     ensures goes_on { OnOk result (fault_of client.new ≡ None) }
@@ -174,6 +179,7 @@ fn read_requests<Q: Read>(
 ) -> Result<(), CheckFault>
     requires room { 0 < length piece.old }
     requires new_requests { IsNew requests.old }
+    ensures told { FailsInCheck result (has_failed requests.new) false }
     ensures reads { reads_of requests.new ≤ turns }
     ensures ok { OnOk result (has_failed requests.new ≡ false) }
     ensures fault { IfErr result (IsShownInRequests requests.new turns) }

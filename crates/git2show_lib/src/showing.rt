@@ -3,7 +3,7 @@
 ghost use Rattle.std.specs.Prelude.{◌≡◌, ◌<◌, ◌≤◌, [], ◌||◌, Bool, None, Err, false, length, IsTrue, OnOk, OnErr, IfErr, IfOk, is_err};
 ghost use Rattle.std.specs.Io.KnownBytes.{IsAtEnd};
 ghost use Rattle.git_pkt.specs.Told.{inner_of, reads_of, has_failed, has_ended, IsNew};
-ghost use Rattle.git_pkt.specs.Engine.{EndsExchange, Gives, GivesUntil, IsShownBy, IsSpent};
+ghost use Rattle.git_pkt.specs.Engine.{EndsExchange, FailsAs, Gives, GivesUntil, IsShownBy, IsSpent};
 ghost use Rattle.git_pkt.specs.Reading.{fault_of};
 ghost use Rattle.git2show_lib.specs.Showing.{Shows, ShowsSoFar, PrintsPiece, PrintsInto};
 
@@ -31,6 +31,7 @@ pub fn show<R: Read, W: Write>(
     ensures ok { OnOk result (IsTrue (has_ended reader.new)) }
     ensures end { OnOk result (IsAtEnd (R.remaining (inner_of reader.new))) }
     ensures fault { IfErr result (IsShownBy (IsTrue (has_failed reader.new)) (IsTrue (has_failed writer.new)) (IsSpent reader.new turns)) }
+    ensures told { FailsAs result (has_failed reader.new) (has_failed writer.new) }
     ensures shown { EndsExchange (Shows result (has_ended reader.new)) (R.remaining (inner_of reader.old)) (R.remaining (inner_of reader.new))
         (W.contents (inner_of writer.old)) (W.contents (inner_of writer.new)) result }
 {
@@ -55,14 +56,15 @@ fn show_piece<W: Write>(
 ) -> Result<(), RunFault>
     requires sound { fault_of packets.old ≡ None }
     requires empty { lines.old ≡ [] }
+    requires sound_writer { has_failed writer.old ≡ false }
     ensures ok { OnOk result (Gives (ShowsSoFar packets.old) (ShowsSoFar packets.new) piece.now
         (W.contents (inner_of writer.old)) (W.contents (inner_of writer.new))) }
     ensures goes_on { OnOk result (fault_of packets.new ≡ None) }
     ensures sent { OnOk result (lines.new ≡ []) }
     ensures err { IfErr result (λ fault. (ended : Bool) → GivesUntil (ShowsSoFar packets.old) (Shows (Err fault) ended) piece.now
         (W.contents (inner_of writer.old)) (W.contents (inner_of writer.new)) fault) }
+    ensures told { FailsAs result false (has_failed writer.new) }
     ensures fault { IfErr result (IsShownBy ⊥ (IsTrue (has_failed writer.new)) ⊥) }
-    ensures failed { OnOk result (has_failed writer.new ≡ has_failed writer.old) }
 {
     let stopped = print_piece(packets, piece, lines, writer)?;
     lines.send_all(writer)?;

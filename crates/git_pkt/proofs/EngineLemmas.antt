@@ -1,11 +1,12 @@
 -- Lemmas for runs over a reader and a writer: what each call does to all bytes read and written so far.
-use Rattle.std.proofs.Common.{◌≡◌, ℕ, ◌+◌, ◌-◌, take, drop, arith, List, [], ◌++◌, Option, Result, IsErrAnd, MatchResult, refl, ap, ◌∙◌, sym, subst, append_assoc, append-nil}
+use Rattle.std.proofs.Common.{◌≡◌, ◌≤◌, ◌<◌, ℕ, ◌+◌, ◌-◌, length, take, drop, arith, List, [], ◌++◌, Option, Result, IsErrAnd, MatchResult, refl, ap, ◌∙◌, sym, subst, append_assoc, append-nil}
 use Rattle.std.proofs.Math.Seq.{take-add}
+use Rattle.std.proofs.lemmas.List.{length-append, length-take-le}
 use Rattle.std.proofs.lemmas.Result.{err_from_is_err_and}
 use Rattle.std.specs.Io.KnownBytes.{Appends, Consumes, Keeps}
 use Rattle.std.proofs.KnownBytes.{Appends-nil, Appends-trans, Appends-kept, Consumes-nil, Consumes-trans, Consumes-kept}
 use Rattle.git_pkt.specs.Told.{AppendsFront}
-use Rattle.git_pkt.specs.Engine.{Relation, Exchanges, ExchangesFront, ExchangesUntil, EndsExchange, Gives, GivesFront, GivesUntil}
+use Rattle.git_pkt.specs.Engine.{Relation, Exchanges, ExchangesFront, ExchangesUntil, EndsExchange, Gives, GivesFront, GivesUntil, HasRead}
 use Rattle.git_pkt.specs.declared.fault.RunFault.{RunFault}
 use Rattle.git_pkt.specs.declared.fault.RunFault.TheVariants.{ReadFault, WriteFault, ReadLimit, Refused}
 
@@ -145,3 +146,17 @@ module _ {T : Type 0} {P : Relation} {left_before left_after held_before held_af
   EndsExchange-write_fault named met front =
       holds_at_fault r fault (λ value. Exchanges P left_before left_after held_before held_after) (ExchangesUntil P left_before left_after held_before held_after) met
       (subst (ExchangesUntil P left_before left_after held_before held_after) (sym named) front)
+
+-- no read was made yet
+pub nothing_read : (left : Option (List ℕ)) → HasRead 0 left left
+nothing_read left = record { bytes = []; read = Consumes-nil left; enough = omega arith }
+
+-- a read that brought some bytes
+pub one_more_read : (count n : ℕ) (left_before left left_after : Option (List ℕ)) (piece : List ℕ) → HasRead count left_before left → Consumes left left_after (take n piece) → n ≤ length piece → 0 < n
+    → HasRead (count + 1) left_before left_after
+one_more_read count n left_before left left_after piece so_far read within some =
+    record {
+      bytes = so_far.bytes ++ take n piece;
+      read = Consumes-trans left_before left left_after so_far.bytes (take n piece) so_far.read read;
+      enough = omega (arith, so_far.enough, length-append so_far.bytes (take n piece), length-take-le n piece within);
+    }

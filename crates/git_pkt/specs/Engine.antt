@@ -1,5 +1,5 @@
 -- What a run over a reader and a writer does to their bytes, and what each end of it means.
-use Rattle.std.specs.Prelude.{◌≡◌, ℕ, false, List, ◌++◌, Option, Result, MatchResult}
+use Rattle.std.specs.Prelude.{◌≡◌, ◌≤◌, ℕ, Bool, true, false, List, ◌++◌, length, Option, Result, Ok, Err, MatchResult}
 use Rattle.std.specs.Io.KnownBytes.{Appends, Consumes}
 use Rattle.git_pkt.specs.declared.told.Told.{Told}
 use Rattle.git_pkt.specs.declared.fault.RunFault.{RunFault}
@@ -37,6 +37,20 @@ ExchangesUntil P left_before left_after held_before held_after (Refused fault) =
 abbrev pub EndsExchange : {T : Type 0} → Relation → Option (List ℕ) → Option (List ℕ) → Option (List ℕ) → Option (List ℕ) → Result T RunFault → Type 0
 EndsExchange P left_before left_after held_before held_after result =
     MatchResult result (λ value. Exchanges P left_before left_after held_before held_after) (ExchangesUntil P left_before left_after held_before held_after)
+
+-- which of a run's streams failed, by its answer: the one that it tells, and else none
+abbrev pub FailsAs : {T : Type 0} → Result T RunFault → Bool → Bool → Type 0
+FailsAs (Ok outcome) read_failed write_failed = (read_failed ≡ false) × (write_failed ≡ false)
+FailsAs (Err ReadFault) read_failed write_failed = (read_failed ≡ true) × (write_failed ≡ false)
+FailsAs (Err WriteFault) read_failed write_failed = (read_failed ≡ false) × (write_failed ≡ true)
+FailsAs (Err ReadLimit) read_failed write_failed = (read_failed ≡ false) × (write_failed ≡ false)
+FailsAs (Err (Refused fault)) read_failed write_failed = (read_failed ≡ false) × (write_failed ≡ false)
+
+-- so many bytes were read, or more
+pub record HasRead (count : ℕ) (left_before left_after : Option (List ℕ)) : Type 0 where
+  pub bytes : List ℕ
+  pub read : Consumes left_before left_after bytes
+  pub enough : count ≤ length bytes
 
 -- a step of a run used these bytes and wrote all that it gave for them: what P said of all bytes so far, Q says with these
 pub record Gives (P Q : Relation) (bytes : List ℕ) (held_before held_after : Option (List ℕ)) : Type 0 where

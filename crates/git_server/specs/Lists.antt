@@ -1,5 +1,5 @@
 -- What a repository that is a few lists is made of, and what it is refused for.
-use Rattle.std.specs.Prelude.{◌≡◌, ℕ, List, Option, All}
+use Rattle.std.specs.Prelude.{◌≡◌, ℕ, List, Option, All, codes}
 use Rattle.git_names.specs.declared.object_format.Format.{Format}
 use Rattle.git_names.specs.ObjectName.{ObjectName}
 use Rattle.git_msg.specs.declared.Boundary.{Boundary}
@@ -29,6 +29,12 @@ pub record IsRepository (lists : Lists) : Type 0 where
   pub rising_refs : IsRising lists.refs
   pub rising_objects : AreRising lists.objects
   pub of_format : AreOfFormat lists
+
+-- the name that users see
+abbrev pub repo_fault_name : RepoFault → List ℕ
+repo_fault_name UnsortedRefs = codes "UnsortedRefs"
+repo_fault_name UnsortedObjects = codes "UnsortedObjects"
+repo_fault_name MixedFormats = codes "MixedFormats"
 
 -- why they make none: the first of these that is so
 abbrev pub IsUnfit : RepoFault → Lists → Type 0

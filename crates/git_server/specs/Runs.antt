@@ -1,7 +1,7 @@
 -- What a run of a server over a reader and a writer does to their bytes.
 use Rattle.std.specs.Prelude.{◌≡◌, ℕ, Bool, true, List, [], ◌++◌, Option, Some, None}
 use Rattle.std.specs.Io.KnownBytes.{Appends, Consumes}
-use Rattle.git_pkt.specs.Engine.{Exchanges}
+use Rattle.git_pkt.specs.Engine.{Exchanges, HasRead}
 use Rattle.git_pkt.specs.declared.fault.RunFault.{RunFault}
 use Rattle.git_pkt.specs.declared.fault.RunFault.TheVariants.{ReadFault, WriteFault, ReadLimit, Refused}
 use Rattle.git_server.specs.Repository.{Repository}
@@ -53,10 +53,10 @@ pub record IsRun (s : Setting) (left_before left_after held_before held_after : 
   pub session : IsSession s used over given outcome
   pub whole : over ≡ true → (unused ≡ []) × (ended ≡ true)
 
--- a run that a fault ended: all that was read was used, and the advertisement and each answer were written whole. After
--- a failing write nothing is said.
-abbrev pub RunsUntil : Setting → Option (List ℕ) → Option (List ℕ) → Option (List ℕ) → Option (List ℕ) → RunFault → Type 0
-RunsUntil s left_before left_after held_before held_after ReadFault = Exchanges (IsAnswered s) left_before left_after held_before held_after
-RunsUntil s left_before left_after held_before held_after WriteFault = Unit {0}
-RunsUntil s left_before left_after held_before held_after ReadLimit = Exchanges (IsAnswered s) left_before left_after held_before held_after
-RunsUntil s left_before left_after held_before held_after (Refused fault) = ⊥
+-- a run that a fault ended: all that was read was used, and the advertisement and each answer were written whole. Where
+-- its reads were spent each of them had brought some bytes. After a failing write nothing is said.
+abbrev pub RunsUntil : Setting → ℕ → Option (List ℕ) → Option (List ℕ) → Option (List ℕ) → Option (List ℕ) → RunFault → Type 0
+RunsUntil s turns left_before left_after held_before held_after ReadFault = Exchanges (IsAnswered s) left_before left_after held_before held_after
+RunsUntil s turns left_before left_after held_before held_after WriteFault = Unit {0}
+RunsUntil s turns left_before left_after held_before held_after ReadLimit = Exchanges (IsAnswered s) left_before left_after held_before held_after × HasRead turns left_before left_after
+RunsUntil s turns left_before left_after held_before held_after (Refused fault) = ⊥

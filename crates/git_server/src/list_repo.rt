@@ -1,9 +1,10 @@
 //! A repository that is a few lists: of references, of objects, of shallow boundaries, and one pack.
 
-ghost use Rattle.std.specs.Prelude.{◌≡◌, ◌≢◌, ◌<◌, ◌↔◌, IsTrue, MatchOption, MatchResult, All, length};
+ghost use Rattle.std.specs.Prelude.{◌≡◌, ◌≢◌, ◌<◌, ◌↔◌, IsTrue, MatchOption, MatchResult, All, Some, length};
 ghost use Rattle.std.specs.List.{HoldsAt};
 ghost use Rattle.std.specs.Ordering.{nat_cmp};
 ghost use Rattle.std.specs.Cmp.Lexicographic.{slice_cmp};
+ghost use Rattle.git_server.specs.Lists.{repo_fault_name};
 ghost use Rattle.git_server.specs.Objects.{object_of, precedes, AreRising};
 ghost use Rattle.git_server.specs.Repository.{IsFound, IsOfFormat, IsRising, comes_before};
 
@@ -27,6 +28,8 @@ pub enum RepoFault {
 }
 
 impl fmt::Display for RepoFault {
+    ghost output = { λ fault. Some (repo_fault_name fault) };
+
     fn fmt<W: fmt::Write>(&self, f: &mut fmt::Formatter<W>) -> fmt::Result {
         f.write_str(match self {
             RepoFault::UnsortedRefs => "UnsortedRefs",

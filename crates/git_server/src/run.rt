@@ -1,8 +1,8 @@
 //! A server run over a reader and a writer.
 
-ghost use Rattle.std.specs.Prelude.{◌≡◌, ◌<◌, ◌≤◌, ◌||◌, [], false, true, length, IsTrue, IsSome, IfOk, IfErr, OnOk, is_err};
+ghost use Rattle.std.specs.Prelude.{◌≡◌, ◌<◌, ◌≤◌, ◌||◌, [], false, true, length, Some, IsTrue, IsSome, IfOk, IfErr, OnOk, is_err};
 ghost use Rattle.git_pkt.specs.Told.{inner_of, reads_of, has_failed, has_ended, IsNew};
-ghost use Rattle.git_pkt.specs.Engine.{IsShownBy, IsSpent};
+ghost use Rattle.git_pkt.specs.Engine.{FailsAs, IsShownBy, IsSpent};
 ghost use Rattle.git_server.specs.Runs.{IsRun, RunsUntil, WritesFor, WritesItsEnd};
 ghost use Rattle.git_server.specs.Serving.{Running, outcome_of, wants_input};
 ghost use Rattle.git_server.specs.Sessions.{Setting};
@@ -76,8 +76,10 @@ pub fn serve<In: Read, W: Write, R: Repo, A: Allocator + Copy>(
     ensures run { IfOk result (λ outcome. (s : Setting) → Running R.answers s [] false [] server.old
         → IsRun s (In.remaining (inner_of reader.old)) (In.remaining (inner_of reader.new)) (W.contents (inner_of writer.old)) (W.contents (inner_of writer.new)) (has_ended reader.new) outcome) }
     ensures until { IfErr result (λ fault. (s : Setting) → Running R.answers s [] false [] server.old
-        → RunsUntil s (In.remaining (inner_of reader.old)) (In.remaining (inner_of reader.new)) (W.contents (inner_of writer.old)) (W.contents (inner_of writer.new)) fault) }
+        → RunsUntil s turns (In.remaining (inner_of reader.old)) (In.remaining (inner_of reader.new)) (W.contents (inner_of writer.old)) (W.contents (inner_of writer.new)) fault) }
     ensures fault { IfErr result (IsShownBy (IsTrue (has_failed reader.new)) (IsTrue (has_failed writer.new)) (IsSpent reader.new turns)) }
+    ensures told { FailsAs result (has_failed reader.new) (has_failed writer.new) }
+    ensures ends { IfOk result (λ outcome. outcome_of server.new ≡ Some outcome) }
 {
     if let Some(outcome) = drain(writer, server)? {
         flush(writer)?;

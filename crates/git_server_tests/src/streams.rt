@@ -1,10 +1,13 @@
-//! Servers over readers and writers: what is flushed when, and reads that are spent.
+//! Servers over readers and writers: what is flushed when, what is told of streams that fail, and reads that are spent.
 use crate::runs::{new_server, usual};
 use git_pkt::{RunFault, Told};
-use git_server::serve;
+use git_server::{Outcome, serve};
+use std::cell::Cell;
 use std::io;
-use std::io::Write;
+use std::io::{Read, Write};
+use std::process::Abort;
 use std::test::Fail;
+use test_streams::{Sink, Stream};
 
 // A writer that passes bytes on when it is flushed.
 #[derive(Drop)]
@@ -28,10 +31,11 @@ impl Write for Held {
 
 #[test]
 fn all_is_flushed_at_the_end(rt: HostRuntime) -> Result<(), Fail> {
-    let endings: [&[u8]; 3] = [
+    let endings: [&[u8]; 4] = [
         b"0014command=ls-refs\n0000",
         b"0014command=ls-refs\n00000000",
         b"0014command=ls-refs\n000000",
+        b"0014command=ls-refs\n0000g",
     ];
     for input in endings {
         let mut server = new_server(&rt, rt.alloc(), usual(), true)?;
@@ -47,6 +51,105 @@ fn all_is_flushed_at_the_end(rt: HostRuntime) -> Result<(), Fail> {
         assert!(rt; held.waiting.is_empty());
         assert!(rt; held.passed.len() > 150);
     }
+    Ok(())
+}
+
+// Gives a piece at a read, and notes how many bytes had been flushed by then.
+#[derive(Drop)]
+struct Asking<'a> {
+    pieces: &'a [&'a [u8]],
+    next: usize,
+    flushed: &'a Cell<usize>,
+    seen: Vec<usize>,
+}
+
+impl<'a> Read for Asking<'a> {
+    fn read(&mut self, buf: &mut [u8]) -> io::Result<usize> {
+        self.seen.push(self.flushed.get())?;
+        let Some(piece) = self.pieces.get(self.next) else {
+            return Ok(0);
+        };
+        self.next = self.next.saturating_add(1);
+        let count = piece.len().min(buf.len());
+        buf[..count].copy_from_slice(&piece[..count]);
+        Ok(count)
+    }
+}
+
+// Counts the bytes that its flushes passed on.
+#[derive(Drop)]
+struct Counted<'a> {
+    waiting: usize,
+    flushed: &'a Cell<usize>,
+}
+
+impl<'a> Write for Counted<'a> {
+    fn write(&mut self, buf: &[u8]) -> io::Result<usize> {
+        self.waiting = self.waiting.saturating_add(buf.len());
+        Ok(buf.len())
+    }
+
+    fn flush(&mut self) -> io::Result<()> {
+        let flushed = self.flushed.get().saturating_add(self.waiting);
+        self.flushed.set(flushed);
+        self.waiting = 0;
+        Ok(())
+    }
+}
+
+#[test]
+fn each_answer_is_flushed_before_the_next_read(rt: HostRuntime) -> Result<(), Fail> {
+    let request = b"0014command=ls-refs\n0000".as_slice();
+    let pieces: [&[u8]; 3] = [request, request, b"0000"];
+    let flushed = Cell::new(0);
+    let mut asking = Asking {
+        pieces: &pieces,
+        next: 0,
+        flushed: &flushed,
+        seen: Vec::new(rt.alloc()),
+    };
+    let mut reader = Told::new(&mut asking);
+    let mut writer = Told::new(Counted {
+        waiting: 0,
+        flushed: &flushed,
+    });
+    let mut piece = [0; 64];
+    let mut server = new_server(&rt, rt.alloc(), usual(), false)?;
+    let run = serve(&mut reader, &mut writer, &mut piece, &mut server, 100);
+    assert_eq!(rt; run, Ok(Outcome::Flush));
+    assert_eq!(rt; asking.seen.as_slice(), [0, 173, 346].as_slice());
+    Ok(())
+}
+
+// How a run of so many turns ends where the read, the write or the flush of this number fails, counted from 0.
+fn run_failing(
+    rt: &(impl Abort + AllocGlobal),
+    read: u32,
+    write: u32,
+    last_flush: u32,
+    turns: u64,
+) -> Result<Result<Outcome, RunFault>, Fail> {
+    let mut server = new_server(rt, rt.alloc(), usual(), false)?;
+    let mut stream = Stream::new(b"0014command=ls-refs\n00000000", 12, read);
+    let mut sink = Sink::new(Vec::new(rt.alloc()), usize::MAX, write);
+    sink.last_flush = last_flush;
+    let mut reader = Told::new(&mut stream);
+    let mut writer = Told::new(&mut sink);
+    let mut piece = [0; 64];
+    Ok(serve(&mut reader, &mut writer, &mut piece, &mut server, turns))
+}
+
+#[test]
+fn failing_streams_are_told(rt: HostRuntime) -> Result<(), Fail> {
+    let never = u32::MAX;
+    let run = run_failing(&rt, never, never, never, 100)?;
+    assert_eq!(rt; run, Ok(Outcome::Flush));
+    let run = run_failing(&rt, 1, never, never, 100)?;
+    assert_eq!(rt; run, Err(RunFault::ReadFault));
+    let run = run_failing(&rt, never, 2, never, 100)?;
+    assert_eq!(rt; run, Err(RunFault::WriteFault));
+    let run = run_failing(&rt, never, never, 1, 2)?;
+    assert_eq!(rt; run, Err(RunFault::WriteFault));
     Ok(())
 }
 

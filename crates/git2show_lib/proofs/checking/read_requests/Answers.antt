@@ -1,7 +1,7 @@
 use Rattle.std.proofs.Common.{rules, take}
 use Rattle.std.specs.Io.KnownBytes.{Consumes}
-use Rattle.git_pkt.specs.Told.{inner_of}
-use Rattle.git2show_lib.proofs.Asking.{asks_more, asks_failed, asks_first, first_shown, more_sound}
+use Rattle.git_pkt.specs.Told.{inner_of, has_failed}
+use Rattle.git2show_lib.proofs.Asking.{asks_more, asks_failed, asks_first, first_fails, first_shown, more_sound}
 use Rattle.git2show_lib.proofs.checking.read_requests.Goals as goal
 
 pub returns-in-Failed-clause-asked : goal.returns-in-Failed-clause-asked
@@ -13,6 +13,7 @@ pub returns-in-Packet : goal.returns-in-Packet
 returns-in-Packet g c =
     let read : Consumes (g.Q.Read.remaining (inner_of c.loop.requests)) (g.Q.Read.remaining (inner_of c.receive.new.reader)) (take c.in_ok-count.count c.receive.new.piece) = search rules in
     record {
+      told = first_fails _ _ (has_failed c.receive.new.reader) _ c.read_first.ensures (search rules);
       reads = search rules;
       ok = search rules;
       fault = first_shown c.receive.new.reader c.args.turns _ _ _ c.read_first.ensures;

@@ -2,7 +2,7 @@ use Rattle.std.proofs.Common.{rules, subst, Option, [], sym, take, ℕ}
 use Rattle.std.specs.Io.KnownBytes.{Consumes}
 use Rattle.std.proofs.KnownBytes.{Consumes-nil}
 use Rattle.git_pkt.specs.Told.{inner_of}
-use Rattle.git_pkt.proofs.EngineLemmas.{Exchanges-flush, Exchanges-nothing, Exchanges-read_fault}
+use Rattle.git_pkt.proofs.EngineLemmas.{Exchanges-flush, Exchanges-nothing, Exchanges-read_fault, one_more_read}
 use Rattle.git_server.specs.Runs.{RunsUntil, WritesFor}
 use Rattle.git_server.specs.declared.outcome.Outcome.{Outcome}
 use Rattle.git_server.proofs.RunLemmas.{turns_on, answered, ends_with, ends_closed, keeps_same, if_err_at}
@@ -23,7 +23,7 @@ pub returns-in_err-count-clause-until : goal.returns-in_err-count-clause-until
 returns-in_err-count-clause-until g c =
     if_err_at _ _ _ c.from_residual-in_err-count.ensures.1
     (λ s r.
-    subst (RunsUntil s _ _ _ _) (sym c.in_err-count.ensures.fault)
+    subst (RunsUntil s c.args.turns _ _ _ _) (sym c.in_err-count.ensures.fault)
     (answered g.R.Repo.answers s c.loop.server _ _ _ _ c.loop.invariant.wants (Exchanges-read_fault (Exchanges-flush (c.loop.invariant.run s r) c.in_ok-flush-2.ensures.bytes) c.in_err-count.ensures.bytes)))
 
 pub returns-then-count-eq0-clause-run : goal.returns-then-count-eq0-clause-run
@@ -57,8 +57,9 @@ loop-preserved g c =
       open_ended = search rules;
       writer_sound = search rules;
       wants = all.wants;
+      brought = one_more_read c.loop.counter c.in_ok-count.count _ _ _ c.receive.new.piece c.loop.invariant.brought c.in_ok-count.ensures.bytes.0 (search rules) (search rules);
       run = λ s r. turns_on g.R.Repo.answers s c.loop.server c.serve_piece.new.server _ _ _ _ _ flushed written bytes (c.loop.invariant.run s r) c.in_ok-flush-2.ensures.bytes c.in_ok-count.ensures.bytes.0 all;
     }
 
 pub returns-clause-until : goal.returns-clause-until
-returns-clause-until g c = λ s r. answered g.R.Repo.answers s c.loop.server _ _ _ _ c.loop.invariant.wants (c.loop.invariant.run s r)
+returns-clause-until g c = λ s r. (answered g.R.Repo.answers s c.loop.server _ _ _ _ c.loop.invariant.wants (c.loop.invariant.run s r), search rules)
