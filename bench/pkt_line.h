@@ -45,7 +45,7 @@ static void prepare_digits(void)
 		digit_value['a' + i] = digit_value['A' + i] = (signed char)(10 + i);
 }
 
-static const unsigned char *payload_of(const struct reader *r)
+static inline const unsigned char *payload_of(const struct reader *r)
 {
 	return r->hold + HEAD_BYTES;
 }
@@ -120,7 +120,7 @@ static enum packet next_packet(struct reader *r)
 }
 
 /* Tells the fault, if there is one, on standard error. The answer is the program's status. */
-static int tell_fault(const struct reader *r, const char *program)
+static inline int tell_fault(const struct reader *r, const char *program)
 {
 	if (!r->fault)
 		return 0;

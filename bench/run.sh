@@ -1,13 +1,12 @@
 #!/usr/bin/env bash
-# Measures the Rattle programs against the C programs beside this script, and against the real Git, and prints a table.
+# Measures the Rattle programs against the C programs beside this script and the real Git, and prints a table.
 #
 #     bench/run.sh [BENCH_PACKETS [GIT2SHOW [BENCH_NAMES]]]
 #
 # The arguments are the paths of the Rattle programs; without them, where `rt run` leaves them in this repository.
-# `bench/run.sh --c-only` measures the C programs and Git alone. Where there is no git the row `serve` is left out. The
-# streams lie in a new folder of /tmp (or of $BENCH_FOLDER), which is removed at the end, and take 1.7 GB. Times are
-# wall-clock seconds, the best of five runs that alternate; a ratio is C's time by ours, so 1.00 is as fast as C and
-# more is faster.
+# `bench/run.sh --c-only` measures the C programs and Git alone; without a git the row `serve` is left out. The streams
+# lie in a new folder of /tmp (or of $BENCH_FOLDER), which is removed at the end, and take 1.7 GB. Times are wall-clock
+# seconds, the best of five runs that alternate; a ratio is C's time by ours, so 1.00 is as fast as C and more is faster.
 set -eu -o pipefail
 shopt -s inherit_errexit
 export LC_ALL=C
@@ -36,7 +35,7 @@ if [ -z "$c_only" ]; then
 fi
 
 mkdir -p "$out"
-for program in packets show names generate; do
+for program in packets show names generate ask; do
     ${CC:-gcc} -O3 -Wall -Wextra -o "$out/$program" "$top/bench/$program.c"
 done
 
@@ -53,17 +52,21 @@ huge() {
     "$out/generate" 152640 65515 "$1"
 }
 
-# time_run BEST INPUT PROGRAM [ARGUMENT..]
-# Runs the program with its input from a file and its output thrown away. The variable that BEST names keeps the fewest
-# microseconds that a run took, and is 0 before the first.
-time_run() {
-    local -n best=$1
-    local input=$2 begin time
-    shift 2
+# Prints how many microseconds the program took, with its input from a file and its output thrown away.
+microseconds() {
+    local input=$1 begin end
+    shift
     begin=${EPOCHREALTIME/./}
     "$@" < "$input" > /dev/null
-    time=$((${EPOCHREALTIME/./} - begin))
-    if [ "$best" = 0 ] || [ "$time" -lt "$best" ]; then best=$time; fi
+    end=${EPOCHREALTIME/./}
+    echo $((end - begin))
+}
+
+# keep_least NAME TIME
+# The variable of this name keeps the least of its times, and is 0 before the first.
+keep_least() {
+    local -n least=$1
+    if [ "$least" = 0 ] || [ "$2" -lt "$least" ]; then least=$2; fi
 }
 
 row() {
@@ -76,11 +79,14 @@ row() {
 
 # measure NAME STREAM C-PROGRAM OUR-PROGRAM [ARGUMENT]
 measure() {
-    local name=$1 input=$streams/$2 c=$3 ours=$4 best_c=0 best_ours=0 i
+    local name=$1 input=$streams/$2 c=$3 ours=$4 best_c=0 best_ours=0 time i
     shift 4
     for ((i = 0; i < runs; i++)); do
-        time_run best_c "$input" "$c"
-        [ -n "$c_only" ] || time_run best_ours "$input" "$ours" "$@"
+        time=$(microseconds "$input" "$c")
+        keep_least best_c "$time"
+        [ -z "$c_only" ] || continue
+        time=$(microseconds "$input" "$ours" "$@")
+        keep_least best_ours "$time"
     done
     row "$name" "$(wc -c < "$input")" "$best_c" "$best_ours"
 }
