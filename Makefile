@@ -17,7 +17,7 @@ test:
 test-program:
 	@RT="$(RT)" tests/run.sh
 
-# Builds the Rattle programs, and measures them beside C.
+# Builds the Rattle programs, and measures them beside C and the real Git.
 bench:
 	@cd crates/bench_packets && $(RT) run < stdin > /dev/null
 	@cd crates/bench_names && $(RT) run > /dev/null

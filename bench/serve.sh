@@ -12,7 +12,8 @@ our_serve=("$our_show" serve --repo "$streams/text" --pack /dev/null)
 serve_start=0 # the best time of ours until its advertisement has come
 serve_peak=0  # its greatest resident set in KiB
 
-# Asks git upload-pack for version 2, and keeps this machine's configuration out of it.
+# Asks git upload-pack for version 2. Nobody's own configuration takes part, nor a repository that the caller stands in.
+unset "${!GIT_@}"
 export GIT_PROTOCOL=version=2 GIT_CONFIG_NOSYSTEM=1 GIT_CONFIG_GLOBAL=/dev/null
 
 # Writes the same references as a repository text and as packed refs, and the request. The objects are not there: git
