@@ -26,11 +26,18 @@ request() {
     printf 0000
 }
 
-# The answers of small.repo to a request with `peel` and `symrefs`, and to one with `ref-prefix refs/tags/` alone.
+# The answers of small.repo to a request with `peel` and `symrefs`, to one without arguments, and to one with
+# `ref-prefix refs/tags/` alone.
 whole_answer() {
     packet '1111111111111111111111111111111111111111 HEAD symref-target:refs/heads/main'
     packet '1111111111111111111111111111111111111111 refs/heads/main'
     packet '2222222222222222222222222222222222222222 refs/tags/v1 peeled:3333333333333333333333333333333333333333'
+    printf 0000
+}
+plain_answer() {
+    packet '1111111111111111111111111111111111111111 HEAD'
+    packet '1111111111111111111111111111111111111111 refs/heads/main'
+    packet '2222222222222222222222222222222222222222 refs/tags/v1'
     printf 0000
 }
 tags_answer() {
@@ -68,6 +75,8 @@ expect_help() {
 
 case_help_goes_to_standard_output() {
     expect_help 'Usage: git2show <COMMAND>' --help
+    expect_help 'Usage: git2show show' show --help
+    expect_help 'Usage: git2show check [OPTIONS] <REQUESTS> <RESPONSES>' check --help
     expect_help 'Usage: git2show serve [OPTIONS] --repo <FILE> --pack <FILE>' serve --help
 }
 
@@ -84,6 +93,7 @@ case_words_that_are_no_command_are_refused() {
     expect_refused check --format md5 /dev/null /dev/null
     expect_refused serve --repo small.repo
     expect_refused serve --pack empty.pack
+    expect_refused serve --repo small.repo --pack empty.pack --limit x
 }
 
 case_a_word_that_is_no_utf8_is_refused() {
@@ -135,6 +145,20 @@ case_serve_keeps_to_its_limit() {
     expect 1 <(advertisement sha1; packet 'ERR TooMuchKept at 24') <(fault 'TooMuchKept at 24')
 }
 
+# With a limit of 0 a request without arguments is answered.
+case_serve_keeps_nothing_where_it_may_not() {
+    serve --limit 0 < <(packet command=ls-refs; printf 0000)
+    expect 0 <(advertisement sha1; plain_answer) /dev/null
+    serve --limit 0 < <(request peel)
+    expect 1 <(advertisement sha1; packet 'ERR TooMuchKept at 24') <(fault 'TooMuchKept at 24')
+}
+
+# An error packet of the client is told, and is not answered.
+case_serve_tells_an_error_of_its_client() {
+    serve < <(packet 'ERR nope')
+    expect 1 <(advertisement sha1) <(fault 'RemoteError at 0')
+}
+
 case_serve_tells_a_wrong_text() {
     sed '$p' small.repo > wrong.repo # the last line twice
     run git2show serve --repo wrong.repo --pack empty.pack
@@ -145,6 +169,10 @@ case_serve_tells_a_missing_file() {
     run git2show serve --repo nowhere.repo --pack empty.pack
     expect 1 /dev/null <(fault File)
     run git2show serve --repo small.repo --pack nowhere.pack
+    expect 1 /dev/null <(fault File)
+    run git2show serve --repo / --pack empty.pack
+    expect 1 /dev/null <(fault File)
+    run git2show serve --repo small.repo --pack /
     expect 1 /dev/null <(fault File)
 }
 
@@ -226,6 +254,23 @@ case_check_tells_a_fault_of_the_requests() {
 case_check_tells_a_missing_file() {
     run git2show check /dev/null nowhere
     expect 1 /dev/null <(fault File)
+    run git2show check nowhere /dev/null
+    expect 1 /dev/null <(fault File)
+}
+
+case_check_tells_what_is_left_over() {
+    local end
+    advertisement sha1 > responses
+    end=$(wc -c < responses)
+    printf 000 >> responses
+    run git2show check /dev/null responses
+    expect 1 <(capabilities sha1; echo offered) <(fault "responses: UnexpectedPacket at $end")
+}
+
+case_check_takes_an_advertisement_of_stateless_sessions() {
+    advertisement sha1 > responses
+    run git2show check --stateless /dev/null responses
+    expect 0 <(capabilities sha1; echo offered) /dev/null
 }
 
 # run_cut_off COMMAND..: runs a program that writes into a pipe whose reader takes one byte and goes. The signal of such a pipe

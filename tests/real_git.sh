@@ -104,6 +104,33 @@ case_git_sends_a_server_option() {
     sent server-option=lang=en
 }
 
+# What Git lists of a repository of its own it lists of our server too, for the text that is written of that repository.
+lists_as_its_own() {
+    git init -q -b main --object-format="$1" "own-$1"
+    (
+        cd "own-$1"
+        git config user.name nobody
+        git config user.email nobody@example.org
+        git commit -q --allow-empty -m one
+        git tag light
+        git tag -a -m tag annotated
+        git branch topic
+        git symbolic-ref refs/heads/alias refs/heads/topic
+        "$top/sample/repository-text.sh" > ../own.repo
+    )
+    git ls-remote --symref "./own-$1" > own.list
+    ls_remote --symref "$(served own.repo)"
+    lists 9 own.list
+}
+
+case_git_lists_a_repository_of_its_own() {
+    lists_as_its_own sha1
+}
+
+case_git_lists_a_repository_of_its_own_of_sha256() {
+    lists_as_its_own sha256
+}
+
 case_git_lists_nothing_of_an_empty_repository() {
     ls_remote "$(served empty.repo)"
     lists 0 /dev/null

@@ -8,11 +8,7 @@ write_repositories() {
         table "$format" > "$format.table"
         text "$format" > "$format.repo"
     done
-    small_table > small.table
-    {
-        echo 'format sha1'
-        reference_lines < small.table
-    } > small.repo
+    cp "$top/sample/small.repo" .
     echo 'format sha1' > empty.repo
     : > empty.pack
 }
@@ -55,14 +51,6 @@ table() {
         [ "$kind" = - ] || peeled=$(object "$1" "what $named stands for")
         echo "$(object "$1" "$named") $name $target $peeled"
     done
-}
-
-# A table that is short enough for an answer to be written out by hand.
-small_table() {
-    local main=1111111111111111111111111111111111111111
-    echo "$main HEAD refs/heads/main -"
-    echo "$main refs/heads/main - -"
-    echo '2222222222222222222222222222222222222222 refs/tags/v1 - 3333333333333333333333333333333333333333'
 }
 
 # text FORMAT: the repository text of a large table. Around its references stand lines of other kinds, which no list shows.

@@ -11,7 +11,7 @@ use git_server::{ListRepo, Outcome, Repo, Server, serve};
 use git2show_lib::{ProgramFault, TextFault, check, read_repo, report, show};
 use std::alloc::{AllocError, Global};
 use std::fs::File;
-use std::io::BufWriter;
+use std::io::{BufWriter, Stdout};
 use std::process::ExitCode;
 use std::{env, fs, io};
 
@@ -27,6 +27,11 @@ const MOST_KEPT: u32 = 1_073_741_824;
 /// The status where the command line is refused.
 const BAD_COMMAND_LINE: u8 = 2;
 
+/// What stands below the list of commands: what a status says, and the one fault line whose word needs it.
+const STATUSES: &str =
+    "Status: 0 where all went well; 1 with one line on standard error where a stream or a file is at fault; 2 where the command line is.
+A fault is told by name and offset. `File` alone is a file that cannot be opened or read.";
+
 /// The object formats, as the command line names them.
 static FORMATS: [&str; 2] = ["sha1", "sha256"];
 
@@ -35,9 +40,10 @@ fn command<'a>(alloc: Global) -> Result<Command<'a>, AllocError> {
     Command::new(alloc, "git2show")
         .version("0.1.0")
         .about("Shows, checks and serves conversations of Git's wire protocol, version 2")
+        .after_help(STATUSES)
         .subcommand_required(true)
         .subcommand(Command::new(alloc, "show").about(
-            "Shows each packet of standard input on a line",
+            "Prints a line for each packet on standard input: its offset, kind, length and payload",
         ))?
         .subcommand(check_command(alloc)?)?
         .subcommand(serve_command(alloc)?)
@@ -46,16 +52,16 @@ fn command<'a>(alloc: Global) -> Result<Command<'a>, AllocError> {
 /// What the words after `check` may be.
 fn check_command<'a>(alloc: Global) -> Result<Command<'a>, AllocError> {
     Command::new(alloc, "check")
-        .about("Checks a recorded conversation, and prints its transcript")
+        .about("Reads a recorded advertisement as a client does, and prints its events")
         .arg(
             Arg::new(alloc, "REQUESTS")
                 .required(true)
-                .help("What the client sent"),
+                .help("File of what the client sent: so far nothing, or a flush"),
         )?
         .arg(
-            Arg::new(alloc, "RESPONSES")
-                .required(true)
-                .help("What the server sent, its advertisement first"),
+            Arg::new(alloc, "RESPONSES").required(true).help(
+                "File of what the server sent: so far its advertisement alone",
+            ),
         )?
         .arg(
             Arg::new(alloc, "format")
@@ -63,40 +69,40 @@ fn check_command<'a>(alloc: Global) -> Result<Command<'a>, AllocError> {
                 .value_name("FORMAT")
                 .value_parser(FORMATS.as_slice())
                 .default_value("sha1")
-                .help("The object format"),
+                .help("Object format of the repository"),
         )?
         .arg(
             Arg::new(alloc, "stateless")
                 .long("stateless")
                 .action(ArgAction::SetTrue)
-                .help("Each response ends with a response-end packet"),
+                .help("Each response ends with a response-end packet (no response is read yet)"),
         )
 }
 
 /// What the words after `serve` may be.
 fn serve_command<'a>(alloc: Global) -> Result<Command<'a>, AllocError> {
     Command::new(alloc, "serve")
-        .about("Answers the requests on standard input, on standard output")
+        .about("Answers the ls-refs requests on standard input, on standard output")
         .arg(
             Arg::new(alloc, "repo")
                 .long("repo")
                 .value_name("FILE")
                 .required(true)
-                .help("The repository, as a text"),
+                .help("Text that lists the references, one to a line"),
         )?
         .arg(
             Arg::new(alloc, "pack")
                 .long("pack")
                 .value_name("FILE")
                 .required(true)
-                .help("The pack of each answer"),
+                .help("Pack for answers to fetch: read, and not sent yet"),
         )?
         .arg(
             Arg::new(alloc, "limit")
                 .long("limit")
                 .value_name("N")
                 .value_parser(value_parser!(u32).range(..=i64::from(MOST_KEPT)))
-                .help("How many bytes of a request's arguments are kept"),
+                .help("Refuses a request whose arguments have more than N bytes [usual: 16777216]"),
         )
 }
 
@@ -120,7 +126,7 @@ fn run_check(rt: &HostRuntime, matches: &ArgMatches<'_>) -> Result<(), ProgramFa
         true => Ending::ResponseEnd,
         false => Ending::FlushOnly,
     };
-    let mut out = Told::new(rt.stdout());
+    let mut out = Told::new(buffered_output(rt)?);
     let mut piece = [0; PIECE];
     let mut other_piece = [0; PIECE];
     check(
@@ -142,6 +148,11 @@ fn open(rt: &HostRuntime, matches: &ArgMatches<'_>, argument: &str) -> Result<Fi
     File::open(rt, path).map_err(|_| ProgramFault::File)
 }
 
+/// Standard output, where what is written goes out by large pieces and at each flush.
+fn buffered_output(rt: &HostRuntime) -> Result<BufWriter<Stdout>, ProgramFault> {
+    BufWriter::with_capacity(rt.alloc(), PIECE, rt.stdout()).map_err(|_| ProgramFault::OutOfMemory)
+}
+
 /// Serves the repository whose files are named, on standard input and output.
 fn run_serve(rt: &HostRuntime, matches: &ArgMatches<'_>) -> Result<(), ProgramFault> {
     let alloc = rt.alloc();
@@ -159,11 +170,8 @@ fn run_serve(rt: &HostRuntime, matches: &ArgMatches<'_>) -> Result<(), ProgramFa
         None => Limits::USUAL,
     };
     let mut server = Server::new(alloc, repo, offer, Limits { args }, true);
-    let Ok(out) = BufWriter::with_capacity(alloc, PIECE, rt.stdout()) else {
-        return Err(ProgramFault::OutOfMemory);
-    };
     let mut reader = Told::new(rt.stdin());
-    let mut writer = Told::new(out);
+    let mut writer = Told::new(buffered_output(rt)?);
     let mut piece = [0; PIECE];
     match serve(&mut reader, &mut writer, &mut piece, &mut server, TURNS) {
         Ok(Outcome::Flush | Outcome::Closed) => Ok(()),
@@ -199,13 +207,18 @@ fn read_whole(
     }
 }
 
-/// Does what the command line asks for.
-fn run(rt: &HostRuntime, matches: &ArgMatches<'_>) -> Result<(), ProgramFault> {
-    match matches.subcommand() {
+/// Does what the command line asks for. Answers the status.
+fn run(rt: &HostRuntime, matches: &ArgMatches<'_>) -> u8 {
+    let done = match matches.subcommand() {
         Some(("show", _)) => run_show(rt),
         Some(("check", words)) => run_check(rt, words),
         Some(("serve", words)) => run_serve(rt, words),
-        _ => Ok(()),
+        // clap takes no other word for a command.
+        _ => return BAD_COMMAND_LINE,
+    };
+    match done {
+        Ok(()) => 0,
+        Err(fault) => tell_fault(rt, fault),
     }
 }
 
@@ -215,7 +228,7 @@ enum NotTaken {
     /// Memory ran out.
     Memory,
     /// A word is no UTF-8.
-    Words,
+    NotUtf8,
     /// clap refuses the words, or was asked for help or the version.
     Clap(Error),
 }
@@ -239,27 +252,24 @@ impl From<io::Error> for NotTaken {
     fn from(error: io::Error) -> NotTaken {
         match error.kind() {
             io::ErrorKind::OutOfMemory => NotTaken::Memory,
-            _ => NotTaken::Words,
+            _ => NotTaken::NotUtf8,
         }
     }
 }
 
 /// Reads the command line and does what it asks for. Answers the status.
-fn status(rt: &HostRuntime) -> Result<u8, NotTaken> {
+fn run_command_line(rt: &HostRuntime) -> Result<u8, NotTaken> {
     let alloc = rt.alloc();
     let words: Vec<String> = env::args(rt)?.collect(alloc)?;
     let matches = command(alloc)?.try_get_matches_from(words.as_slice())?;
-    Ok(match run(rt, &matches) {
-        Ok(()) => 0,
-        Err(fault) => tell_fault(rt, fault),
-    })
+    Ok(run(rt, &matches))
 }
 
 /// Tells why the command line was not taken, by clap's own text. Answers the status.
 fn tell(rt: &HostRuntime, error: NotTaken) -> u8 {
     match error {
         NotTaken::Memory => tell_fault(rt, ProgramFault::OutOfMemory),
-        NotTaken::Words => {
+        NotTaken::NotUtf8 => {
             let _ = rt.eprintln("error: an argument is not UTF-8");
             BAD_COMMAND_LINE
         }
@@ -282,7 +292,7 @@ fn tell_fault(rt: &HostRuntime, fault: ProgramFault) -> u8 {
 }
 
 fn main(rt: HostRuntime) -> ExitCode {
-    ExitCode::from(match status(&rt) {
+    ExitCode::from(match run_command_line(&rt) {
         Ok(status) => status,
         Err(error) => tell(&rt, error),
     })

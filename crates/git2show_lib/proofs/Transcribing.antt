@@ -14,8 +14,9 @@ use Rattle.git_pkt.specs.declared.fault.Kind.TheVariants.{Truncated, UnexpectedP
 use Rattle.git_pkt.specs.declared.told.Told.{Told}
 use Rattle.git_pkt.proofs.EngineLemmas.{AppendsFront-after}
 use Rattle.git_pkt.proofs.Pieces.{take_joined, left_of}
-use Rattle.git_client.specs.Events.{EventValue, turns_of}
+use Rattle.git_client.specs.Events.{EventValue}
 use Rattle.git_client.specs.Transcript.{line_of}
+use Rattle.git_client.specs.Conversation.{IsAdvertisement}
 use Rattle.git_client.specs.Hearing.{Hears, HearsOn, Feeds, Tells, fault_of, can_ask, bytes_used, phase_of, events_of, value_of, LeavesAfter, is_ready, fault_in}
 use Rattle.git_client.specs.declared.phase.Phase.{Phase}
 use Rattle.git_client.specs.declared.phase.Phase.TheVariants.{Opening, Advertisement, Ready, Failed as FailedPhase}
@@ -28,7 +29,7 @@ use Rattle.git_client.specs.declared.events.HeardGot.TheVariants.{Event as Event
 use Rattle.git_client.specs.declared.conversation.Client.{Client}
 use Rattle.git_client.proofs.Carries.{hears_twice, takes_no_fault}
 use Rattle.git_client.proofs.Faults.{first_fault}
-use Rattle.git_client.proofs.EventsHeard.{has_events, goes_well, is_whole, is_due, position_is}
+use Rattle.git_client.proofs.EventsHeard.{has_events, goes_well, goes_on_asking, is_whole, is_due, position_is}
 use Rattle.git2show_lib.specs.declared.checking.CheckFault.{CheckFault}
 use Rattle.git2show_lib.specs.declared.checking.CheckFault.TheVariants.{Requests, Responses, ReadFault, WriteFault, ReadLimit}
 use Rattle.git2show_lib.specs.Showing.{IsTimely}
@@ -303,28 +304,28 @@ module _ (format : Format) (ending : Ending) (old new : Client) (begun : Hears f
   responses_stopped none ReadLimit t = checks (Err ReadLimit) [] t.writes (still_due none t)
 
   module _ (ready : can_ask new ≡ true) (unused : List ℕ) (t : Transcribed old new unused left_before left_after held_before held) where
-    behind_it : ((used : List ℕ) (events : List EventValue) → turns_of events ≡ 1 → IsCutOffAt judged unused events) → (used : List ℕ) (events : List EventValue) → Hears format ending new used events → IsCutOff format judged used unused events
+    behind_it : ((used : List ℕ) (events : List EventValue) → IsAdvertisement format used events → IsCutOffAt format judged used unused events) → (used : List ℕ) (events : List EventValue) → Hears format ending new used events → IsCutOff format judged used unused events
     behind_it at used events h =
-        let whole = is_whole format ending new used events h ready in record { sound = goes_well format ending new used events h whole.0; at = at used events whole.1 }
+        record { sound = goes_on_asking format ending new used events h ready; at = at used events (is_whole format ending new used events h ready) }
 
     -- a fault ended the requests
     pub requests_stopped : {Q : Type 0} (requests : Told Q) (turns : ℕ) (fault : CheckFault) → IsShownInRequests requests turns fault → judged (judgement_of (Err fault))
         → EndsCheck (Checks format (Err fault) judged ended) left_before left_after held_before held_after (Err fault)
-    requests_stopped requests turns (Requests f) shown so = checks (Err (Requests f)) unused t (λ used events h. ((is_whole format ending new used events h ready).1, so))
+    requests_stopped requests turns (Requests f) shown so = checks (Err (Requests f)) unused t (λ used events h. (is_whole format ending new used events h ready, so))
     requests_stopped requests turns (Responses f) shown so = absurd shown
-    requests_stopped requests turns ReadFault shown so = checks (Err ReadFault) unused t (behind_it (λ used events one. inr (inl (one, so))))
+    requests_stopped requests turns ReadFault shown so = checks (Err ReadFault) unused t (behind_it (λ used events whole. inr (inl (whole, so))))
     requests_stopped requests turns WriteFault shown so = absurd shown
-    requests_stopped requests turns ReadLimit shown so = checks (Err ReadLimit) unused t (behind_it (λ used events one. inr (inl (one, so))))
+    requests_stopped requests turns ReadLimit shown so = checks (Err ReadLimit) unused t (behind_it (λ used events whole. inr (inl (whole, so))))
 
     module _ (so : judged nothing_asked) where
       pub limit_met : unused ≡ [] → Exchanges (Checks format (Err ReadLimit) judged ended) left_before left_after held_before held_after
-      limit_met nothing = checks (Err ReadLimit) unused t (behind_it (λ used events one. inr (inr (one, nothing, so))))
+      limit_met nothing = checks (Err ReadLimit) unused t (behind_it (λ used events whole. inr (inr (whole, nothing, so))))
 
       pub read_failed : unused ≡ [] → Exchanges (Checks format (Err ReadFault) judged ended) left_before left_after held_before held_after
-      read_failed nothing = checks (Err ReadFault) unused t (behind_it (λ used events one. inr (inr (one, nothing, so))))
+      read_failed nothing = checks (Err ReadFault) unused t (behind_it (λ used events whole. inr (inr (whole, nothing, so))))
 
       pub all_was_used : unused ≡ [] → ended ≡ true → Exchanges (Checks format (Ok tt) judged ended) left_before left_after held_before held_after
-      all_was_used nothing at_end = checks (Ok tt) unused t (λ used events h. ((is_whole format ending new used events h ready).1, nothing, at_end, so))
+      all_was_used nothing at_end = checks (Ok tt) unused t (λ used events h. (is_whole format ending new used events h ready, nothing, at_end, so))
 
       -- more was read behind the advertisement
       pub some_was_left : (fault : CheckFault) → fault ≡ Responses (record { kind = UnexpectedPacket; offset = bytes_used new }) → 0 < length unused
@@ -333,7 +334,7 @@ module _ (format : Format) (ending : Ending) (old new : Client) (begun : Hears f
           subst (λ (x : CheckFault). EndsCheck (Checks format (Err x) judged ended) left_before left_after held_before held_after (Err x)) (sym named)
           (checks (Err (Responses (record { kind = UnexpectedPacket; offset = bytes_used new }))) unused t (λ used events h. inr (
             record {
-              whole = (is_whole format ending new used events h ready).1;
+              whole = is_whole format ending new used events h ready;
               fault = ap (λ (n : ℕ). record { kind = UnexpectedPacket; offset = n }) (position_is format ending new used events h);
               more = more;
             },

@@ -14,7 +14,7 @@ use Rattle.git_pkt.specs.declared.reader.PacketReader.{PacketReader}
 use Rattle.git_pkt.specs.declared.fault.Fault.{Fault}
 use Rattle.git_pkt.specs.declared.fault.Kind.TheVariants.{UnexpectedPacket}
 use Rattle.git_client.specs.Events.{EventValue, turns_of}
-use Rattle.git_client.specs.Conversation.{HasEvents, FirstMalformed, GoesWell}
+use Rattle.git_client.specs.Conversation.{HasEvents, FirstMalformed, GoesWell, IsAdvertisement}
 use Rattle.git_client.specs.Transcript.{line_of}
 use Rattle.git_client.specs.Hearing.{HearsOn, fault_of, wants_input}
 use Rattle.git_client.specs.declared.conversation.Client.{Client}
@@ -75,8 +75,8 @@ pub record IsMalformed (format : Format) (ended : Bool) (used unused : List ℕ)
   pub timely : IsTimely f.kind ended unused
 
 -- the advertisement is whole, and more was read behind it
-pub record IsLeftOver (used unused : List ℕ) (events : List EventValue) (f : Fault) : Type 0 where
-  pub whole : turns_of events ≡ 1
+pub record IsLeftOver (format : Format) (used unused : List ℕ) (events : List EventValue) (f : Fault) : Type 0 where
+  pub whole : IsAdvertisement format used events
   pub fault : f ≡ record { kind = UnexpectedPacket; offset = length used }
   pub more : 0 < length unused
 
@@ -88,22 +88,22 @@ pub data Judgement : Type 0 where
   refused : Fault → Judgement
 
 -- where a check is cut off with nothing wrong so far: in the advertisement, in the requests behind it, or at the end of both
-abbrev pub IsCutOffAt : (Judgement → Type 0) → List ℕ → List EventValue → Type 0
-IsCutOffAt judged unused events =
-    ((turns_of events ≡ 0) × (unused ≡ []) × judged unread) ⊎ (((turns_of events ≡ 1) × judged unfinished) ⊎ ((turns_of events ≡ 1) × (unused ≡ []) × judged nothing_asked))
+abbrev pub IsCutOffAt : Format → (Judgement → Type 0) → List ℕ → List ℕ → List EventValue → Type 0
+IsCutOffAt format judged used unused events =
+    ((turns_of events ≡ 0) × (unused ≡ []) × judged unread) ⊎ ((IsAdvertisement format used events × judged unfinished) ⊎ (IsAdvertisement format used events × (unused ≡ []) × judged nothing_asked))
 
 -- nothing is wrong with the responses so far, and one more read was due
 pub record IsCutOff (format : Format) (judged : Judgement → Type 0) (used unused : List ℕ) (events : List EventValue) : Type 0 where
   pub sound : GoesWell format used events
-  pub at : IsCutOffAt judged unused events
+  pub at : IsCutOffAt format judged used unused events
 
 -- what the bytes used of the responses, those that were read and not used, and how the requests were judged by then have to
 -- do with how the check ended: the requests are judged behind the advertisement, and before anything left over is
 abbrev pub EndsAs : Format → Result (Unit {0}) CheckFault → (Judgement → Type 0) → Bool → List ℕ → List ℕ → List EventValue → Type 0
-EndsAs format (Ok done) judged ended used unused events = (turns_of events ≡ 1) × (unused ≡ []) × (ended ≡ true) × judged nothing_asked
-EndsAs format (Err (Requests f)) judged ended used unused events = (turns_of events ≡ 1) × judged (refused f)
+EndsAs format (Ok done) judged ended used unused events = IsAdvertisement format used events × (unused ≡ []) × (ended ≡ true) × judged nothing_asked
+EndsAs format (Err (Requests f)) judged ended used unused events = IsAdvertisement format used events × judged (refused f)
 EndsAs format (Err (Responses f)) judged ended used unused events =
-    (IsMalformed format ended used unused f × judged unread) ⊎ (IsLeftOver used unused events f × judged nothing_asked)
+    (IsMalformed format ended used unused f × judged unread) ⊎ (IsLeftOver format used unused events f × judged nothing_asked)
 EndsAs format (Err ReadFault) judged ended used unused events = IsCutOff format judged used unused events
 EndsAs format (Err WriteFault) judged ended used unused events = judged unread
 EndsAs format (Err ReadLimit) judged ended used unused events = IsCutOff format judged used unused events

@@ -1,10 +1,10 @@
 -- Numbers in decimal digits.
-use Rattle.std.specs.Prelude.{◌≡◌, ◌≢◌, ℕ, ◌+◌, ◌-◌, ◌*◌, ◌≤◌, List, [], ◌∷◌, All}
+use Rattle.std.specs.Prelude.{◌≡◌, ◌≢◌, ℕ, ◌+◌, ◌-◌, ◌*◌, ◌^◌, ◌≤◌, List, [], ◌∷◌, length, All}
 
--- the value of digits, behind digits of this value
-abbrev pub value_behind : ℕ → List ℕ → ℕ
-value_behind front [] = front
-value_behind front (digit ∷ digits) = value_behind (front * 10 + (digit - 48)) digits
+-- the value of decimal digits: each counts ten times as much as the one after it
+abbrev pub decimal_value : List ℕ → ℕ
+decimal_value [] = 0
+decimal_value (digit ∷ digits) = (digit - 48) * 10 ^ length digits + decimal_value digits
 
 abbrev pub IsDigit : ℕ → Type 0
 IsDigit c = (48 ≤ c) × (c ≤ 57)
@@ -13,4 +13,4 @@ IsDigit c = (48 ≤ c) × (c ≤ 57)
 pub record IsNumber (text : List ℕ) (number : ℕ) : Type 0 where
   pub some : text ≢ []
   pub digits : All IsDigit text
-  pub value : number ≡ value_behind 0 text
+  pub value : number ≡ decimal_value text

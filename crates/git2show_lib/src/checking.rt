@@ -69,6 +69,7 @@ pub fn check<Q: Read, A: Read, W: Write>(
 {
     let mut client = Client::new(format, ending);
     let heard = hear_advertisement(&mut client, responses, other_piece, out, turns);
+    // What was heard is sent before anything is told of it, a fault too.
     flush(out).map_err(|_| CheckFault::WriteFault)?;
     let left = heard?;
     read_requests(requests, piece, turns - responses.reads())?;

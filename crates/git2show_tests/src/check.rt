@@ -52,6 +52,7 @@ fn checks_read<Q: Read + Drop, A: Read + Drop>(
     );
     assert_eq!(rt; got, answer, "cut at {place}");
     assert_eq!(rt; sink.taken.as_slice(), transcript, "cut at {place}");
+    assert_eq!(rt; sink.flushes, 1, "cut at {place}");
     Ok(())
 }
 
@@ -92,16 +93,19 @@ fn an_advertisement_alone_has_a_transcript(rt: HostRuntime) -> Result<(), Fail> 
 }
 
 #[test]
-fn a_byte_left_over_is_refused(rt: HostRuntime) -> Result<(), Fail> {
-    let mut responses = Vec::from_slice(rt.alloc(), ADVERTISEMENT)?;
-    responses.push(b'0')?;
-    checks(
-        &rt,
-        b"",
-        responses.as_slice(),
-        refused(Kind::UnexpectedPacket, 100),
-        TRANSCRIPT,
-    )
+fn bytes_left_over_are_refused_at_the_first(rt: HostRuntime) -> Result<(), Fail> {
+    for left_over in ["0", "00", "zzzz", "0000", "00000", "0003", "0006a\n"] {
+        let mut responses = Vec::from_slice(rt.alloc(), ADVERTISEMENT)?;
+        responses.extend_from_slice(left_over.as_bytes())?;
+        checks(
+            &rt,
+            b"",
+            responses.as_slice(),
+            refused(Kind::UnexpectedPacket, 100),
+            TRANSCRIPT,
+        )?;
+    }
+    Ok(())
 }
 
 #[test]
@@ -260,5 +264,106 @@ fn faults_are_reported_with_their_stream(rt: HostRuntime) -> Result<(), Fail> {
     let mut sink = Sink::new(Vec::new(rt.alloc()), 7, NEVER);
     assert_eq!(rt; report(&ProgramFault::File, &mut Told::new(&mut sink)), 1);
     assert_eq!(rt; sink.taken.as_slice(), b"git2show: File\n".as_slice());
+    Ok(())
+}
+
+/// Which call of each stream fails, and how many reads may be made.
+#[derive(Clone, Copy)]
+struct Failing {
+    requests: u32,
+    responses: u32,
+    write: u32,
+    flush: u32,
+    turns: u64,
+}
+
+/// Streams of which none fails.
+const SOUND: Failing = Failing {
+    requests: NEVER,
+    responses: NEVER,
+    write: NEVER,
+    flush: NEVER,
+    turns: TURNS,
+};
+
+/// Checks no requests and an advertisement, each read whole, over streams that fail so. What was written.
+fn check_failing(
+    rt: &(impl Abort + AllocGlobal),
+    failing: Failing,
+    answer: Result<(), CheckFault>,
+) -> Result<Sink, Fail> {
+    let mut sink = Sink::new(Vec::new(rt.alloc()), usize::MAX, failing.write);
+    sink.last_flush = failing.flush;
+    let got = check(
+        &mut Told::new(Stream::new(b"", 256, failing.requests)),
+        &mut Told::new(Stream::new(ADVERTISEMENT, 256, failing.responses)),
+        Format::Sha1,
+        Ending::FlushOnly,
+        &mut [0; 256],
+        &mut [0; 256],
+        &mut Told::new(&mut sink),
+        failing.turns,
+    );
+    assert_eq!(rt; got, answer);
+    Ok(sink)
+}
+
+#[test]
+fn a_failing_read_is_told_behind_what_was_heard(rt: HostRuntime) -> Result<(), Fail> {
+    let fault = Err(CheckFault::ReadFault);
+    for (requests, responses, transcript) in [
+        (NEVER, 0, b"".as_slice()),
+        (0, NEVER, TRANSCRIPT),
+        (NEVER, 1, TRANSCRIPT),
+    ] {
+        let failing = Failing {
+            requests,
+            responses,
+            ..SOUND
+        };
+        let sink = check_failing(&rt, failing, fault)?;
+        assert_eq!(rt; sink.taken.as_slice(), transcript);
+        assert_eq!(rt; sink.flushes, 1);
+    }
+    Ok(())
+}
+
+#[test]
+fn each_failing_write_is_told(rt: HostRuntime) -> Result<(), Fail> {
+    let writes = check_failing(&rt, SOUND, Ok(()))?.writes;
+    for write in 0..writes {
+        let failing = Failing { write, ..SOUND };
+        let sink = check_failing(&rt, failing, Err(CheckFault::WriteFault))?;
+        assert!(rt; TRANSCRIPT.starts_with(sink.taken.as_slice()));
+    }
+    Ok(())
+}
+
+#[test]
+fn a_failing_flush_is_told_before_a_failing_read(rt: HostRuntime) -> Result<(), Fail> {
+    for responses in [NEVER, 0] {
+        let failing = Failing {
+            responses,
+            flush: 0,
+            ..SOUND
+        };
+        check_failing(&rt, failing, Err(CheckFault::WriteFault))?;
+    }
+    Ok(())
+}
+
+/// One read takes the advertisement, and two find that both streams end.
+#[test]
+fn reads_that_are_spent_are_told(rt: HostRuntime) -> Result<(), Fail> {
+    for (turns, answer, transcript) in [
+        (0, Err(CheckFault::ReadLimit), b"".as_slice()),
+        (1, Err(CheckFault::ReadLimit), TRANSCRIPT),
+        (2, Err(CheckFault::ReadLimit), TRANSCRIPT),
+        (3, Ok(()), TRANSCRIPT),
+    ] {
+        let sink = check_failing(&rt, Failing { turns, ..SOUND }, answer)?;
+        assert_eq!(rt; sink.taken.as_slice(), transcript);
+        assert_eq!(rt; sink.flushes, 1);
+    }
     Ok(())
 }

@@ -1,13 +1,14 @@
 -- What a client has heard, by the bytes that it used.
-use Rattle.std.proofs.Common.{◌≡◌, ℕ, ◌+◌, ◌-◌, true, List, [], ◌∷◌, length, Option, None, inl, inr, sym, ◌∙◌, subst, append-nil, zero-add}
+use Rattle.std.proofs.Common.{◌≡◌, ℕ, ◌+◌, ◌-◌, true, List, [], ◌∷◌, length, Option, None, inl, inr, refl, sym, ◌∙◌, subst, append-nil, zero-add}
 use Rattle.git_names.specs.declared.object_format.Format.{Format}
 use Rattle.git_pkt.specs.Splits.{Given, Splits}
 use Rattle.git_pkt.specs.Reading.{StandsAt}
 use Rattle.git_pkt.specs.declared.fault.Fault.{Fault}
 use Rattle.git_pkt.specs.declared.reader.PacketReader.{PacketReader}
 use Rattle.git_client.specs.Events.{EventValue, turns_of}
-use Rattle.git_client.specs.Conversation.{GiveAll, Sounds, HasEvents, GoesWell}
-use Rattle.git_client.specs.Hearing.{Hears, StandsIn, fault_of, can_ask, wants_input, bytes_used, phase_of, reader_of}
+use Rattle.git_client.specs.Parts.{nearest, flushes}
+use Rattle.git_client.specs.Conversation.{GiveAll, Sounds, HasEvents, GoesWell, IsAdvertisement}
+use Rattle.git_client.specs.Hearing.{Hears, StandsIn, is_ready, fault_of, can_ask, wants_input, bytes_used, phase_of, reader_of}
 use Rattle.git_client.specs.declared.phase.Phase.{Phase}
 use Rattle.git_client.specs.declared.phase.Phase.TheVariants.{Opening, Advertisement, Ready, Failed as FailedPhase}
 use Rattle.git_client.specs.declared.events.Ending.{Ending}
@@ -38,6 +39,14 @@ sounds_in (FailedPhase f) format bytes clean given rest events reader splits giv
   ]
 ]
 
+-- where a client can ask, its packets are clean, the last of them is the one flush, and nothing stands behind it
+ready_in : (phase : Phase) (format : Format) (clean given : List Given) (rest : List ℕ) (end : ℕ) (reader : PacketReader) → is_ready phase ≡ true → StandsIn phase format clean given rest end reader
+    → (given ≡ clean) × (flushes (nearest clean []) ≡ 1) × (rest ≡ [])
+ready_in Opening format clean given rest end reader ready h = absurd (cc)
+ready_in Advertisement format clean given rest end reader ready h = absurd (cc)
+ready_in Ready format clean given rest end reader ready h = (h.cut, h.behind, h.shut refl)
+ready_in (FailedPhase fault) format clean given rest end reader ready h = absurd (cc)
+
 module _ (format : Format) (ending : Ending) (client : Client) (bytes : List ℕ) (events : List EventValue) (h : Hears format ending client bytes events) where
   pub has_events : HasEvents format bytes events
   has_events = (h.clean, sounds_in (phase_of client) format bytes h.clean h.given h.rest events (reader_of client) h.reads.splits h.gives h.stands)
@@ -55,8 +64,18 @@ module _ (format : Format) (ending : Ending) (client : Client) (bytes : List ℕ
         still_open = state.1;
       }
 
-  pub is_whole : can_ask client ≡ true → (fault_of client ≡ None) × (turns_of events ≡ 1)
-  is_whole ready = (turn_is (phase_of client) _ _ _ _ _ _ _ h.stands h.gives).0 ready
+  pub is_whole : can_ask client ≡ true → IsAdvertisement format bytes events
+  is_whole ready =
+      let (cut, one, none) = ready_in (phase_of client) format h.clean h.given h.rest (length bytes) (reader_of client) ready h.stands in
+      record {
+        given = h.given;
+        splits = subst (λ (rest : List ℕ). Splits 0 bytes h.given rest) none h.reads.splits;
+        gives = subst (λ (gs : List Given). GiveAll format [] gs events) (sym cut) h.gives;
+        one_flush = subst (λ (gs : List Given). flushes (nearest gs []) ≡ 1) (sym cut) one;
+      }
+
+  pub goes_on_asking : can_ask client ≡ true → GoesWell format bytes events
+  goes_on_asking ready = goes_well ((turn_is (phase_of client) _ _ _ _ _ _ _ h.stands h.gives).0 ready).0
 
   pub is_due : wants_input client ≡ true → turns_of events ≡ 0
   is_due due = none_while_due (phase_of client) format h.clean h.given h.rest (length bytes) (reader_of client) events due h.stands h.gives

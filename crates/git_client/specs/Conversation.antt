@@ -105,3 +105,10 @@ pub record GoesWell (format : Format) (bytes : List ℕ) (events : List EventVal
   pub splits : Splits 0 bytes given rest
   pub sound : GiveAll format [] given events
   pub still_open : IsOpen rest
+
+-- the bytes are just one whole advertisement of which no packet has a fault, and these are its events
+pub record IsAdvertisement (format : Format) (bytes : List ℕ) (events : List EventValue) : Type 0 where
+  pub given : List Given
+  pub splits : Splits 0 bytes given []
+  pub gives : GiveAll format [] given events
+  pub one_flush : flushes (nearest given []) ≡ 1

@@ -1,6 +1,6 @@
 //! What follows from the definitions alone: each law is the contract of a function without parameters.
 
-ghost use Rattle.std.specs.Prelude.{◌≡◌, ◌≢◌, ℕ, List, Some, None};
+ghost use Rattle.std.specs.Prelude.{◌≡◌, ◌≢◌, ℕ, List, Some, None, true};
 ghost use Rattle.git_names.specs.declared.object_format.Format.{Format};
 ghost use Rattle.git_pkt.specs.Packets.{Pkt};
 ghost use Rattle.git_pkt.specs.Splits.{Given};
@@ -9,8 +9,8 @@ ghost use Rattle.git_pkt.specs.declared.fault.Kind.{Kind};
 ghost use Rattle.git_pkt.specs.declared.fault.Kind.TheVariants.{Truncated, StreamTooLong};
 ghost use Rattle.git_msg.specs.declared.offers.Caps.{Caps};
 ghost use Rattle.git_client.specs.Events.{EventValue};
-ghost use Rattle.git_client.specs.Conversation.{GivesAt, RefusesAt, FirstFault, HasEvents, HasNoted, FirstMalformed, GoesWell};
-ghost use Rattle.git_client.specs.Hearing.{Hears, fault_of};
+ghost use Rattle.git_client.specs.Conversation.{GivesAt, RefusesAt, FirstFault, HasEvents, HasNoted, FirstMalformed, GoesWell, IsAdvertisement};
+ghost use Rattle.git_client.specs.Hearing.{Hears, fault_of, can_ask};
 ghost use Rattle.git_client.specs.declared.conversation.Client.{Client};
 ghost use Rattle.git_client.specs.declared.events.Ending.{Ending};
 
@@ -76,4 +76,10 @@ pub fn first_fault()
 pub fn no_fault()
     ensures { (format : Format) (ending : Ending) (client : Client) (bytes : List ℕ) (events : List EventValue)
         → Hears format ending client bytes events → fault_of client ≡ None → GoesWell format bytes events }
+{}
+
+/// A client that can ask has used just one whole advertisement.
+pub fn whole_advertisement()
+    ensures { (format : Format) (ending : Ending) (client : Client) (bytes : List ℕ) (events : List EventValue)
+        → Hears format ending client bytes events → can_ask client ≡ true → IsAdvertisement format bytes events }
 {}

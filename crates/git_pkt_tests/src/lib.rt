@@ -2,6 +2,8 @@
 #![tactic(auto)]
 
 #[cfg(test)]
+mod escapes;
+#[cfg(test)]
 mod fault;
 #[cfg(test)]
 mod reading;

@@ -1,5 +1,6 @@
 use Rattle.std.proofs.Common.{◌≡◌, ℕ, ◌<◌, get_or, drop}
-use Rattle.git2show_lib.specs.Numbers.{IsDigit, value_behind}
+use Rattle.git2show_lib.specs.Numbers.{IsDigit}
+use Rattle.git2show_lib.proofs.DigitValues.{value_behind}
 use Rattle.git2show_lib.proofs.numbers.read_number.Given as goal
 
 abbrev pub invariant-loop-digit : goal.invariant-loop-digit
