@@ -16,101 +16,103 @@ ref 2222222222222222222222222222222222222222 refs/tags/v1 peeled:111111111111111
 unshallow 5555555555555555555555555555555555555555\n\
 shallow 3333333333333333333333333333333333333333\n";
 
+/// Texts, and the first bad line of each.
+const BAD: [(&[u8], u64); 42] = [
+    (b"", 1),
+    (b"\n", 1),
+    (b"\n\n", 1),
+    (b"format sha1\n\n", 2),
+    (b"format sha1\n\nready 1", 2),
+    (b"format sha1\nready 1\n\n", 3),
+    (b"format sha1\nready 1\n\n\n", 3),
+    (b"format sha2\n", 1),
+    (b"format sha1 \n", 1),
+    (b"format  sha1\n", 1),
+    (b"Format sha1\n", 1),
+    (b"format\n", 1),
+    (b"ready 1\nformat sha1\n", 1),
+    (b"format sha1\nformat sha1\n", 2),
+    (b"format sha1\nready 1\nready 1\n", 3),
+    (b"format sha1\nready 0\n", 2),
+    (b"format sha1\nready 2147483648\n", 2),
+    (b"format sha1\nready 18446744073709551617\n", 2),
+    (b"format sha1\nready \n", 2),
+    (b"format sha1\nready +1\n", 2),
+    (b"format sha1\nready 1 \n", 2),
+    (b"format sha1\nready 1a\n", 2),
+    (b"format sha1\r\n", 1),
+    (b"format sha1\nready 1\r\n", 2),
+    (
+        b"format sha1\nref 1111111111111111111111111111111111111111 refs/heads/b\r\n",
+        2,
+    ),
+    (
+        b"format sha1\nobject 1111111111111111111111111111111111111111 1\r",
+        2,
+    ),
+    (
+        b"format sha1\nref 1111111111111111111111111111111111111111 refs/heads/b\nref 1111111111111111111111111111111111111111 refs/heads/a\n",
+        3,
+    ),
+    (
+        b"format sha1\nref 1111111111111111111111111111111111111111 refs/heads/b\nready 1\nref 1111111111111111111111111111111111111111 refs/heads/b",
+        4,
+    ),
+    (
+        b"format sha1\nref 1111111111111111111111111111111111111111 refs/heads/.b\n",
+        2,
+    ),
+    (
+        b"format sha1\nref 1111111111111111111111111111111111111111 refs/heads/b peeled:1\n",
+        2,
+    ),
+    (
+        b"format sha1\nref 111111111111111111111111111111111111111 refs/heads/b\n",
+        2,
+    ),
+    (
+        b"format sha1\nref 1111111111111111111111111111111111111111\n",
+        2,
+    ),
+    (b"format sha1\nref \n", 2),
+    (
+        b"format sha1\nobject 2222222222222222222222222222222222222222 1\nobject 1111111111111111111111111111111111111111 1\n",
+        3,
+    ),
+    (
+        b"format sha1\nobject 2222222222222222222222222222222222222222 1\nobject 2222222222222222222222222222222222222222 1\n",
+        3,
+    ),
+    (
+        b"format sha1\nobject 2222222222222222222222222222222222222222 18446744073709551616\n",
+        2,
+    ),
+    (
+        b"format sha1\nobject 2222222222222222222222222222222222222222 \n",
+        2,
+    ),
+    (
+        b"format sha1\nobject 2222222222222222222222222222222222222222\n",
+        2,
+    ),
+    (
+        b"format sha256\nobject 2222222222222222222222222222222222222222 1\n",
+        2,
+    ),
+    (
+        b"format sha1\nshallow 222222222222222222222222222222222222222\n",
+        2,
+    ),
+    (
+        b"format sha1\nunshallow 22222222222222222222222222222222222222220\n",
+        2,
+    ),
+    (b"format sha1\nready 1\nwords\nwords", 3),
+];
+
 #[test]
 fn the_first_bad_line_is_told(rt: HostRuntime) -> Result<(), Fail> {
-    let cases: [(&[u8], u64); 42] = [
-        (b"", 1),
-        (b"\n", 1),
-        (b"\n\n", 1),
-        (b"format sha1\n\n", 2),
-        (b"format sha1\n\nready 1", 2),
-        (b"format sha1\nready 1\n\n", 3),
-        (b"format sha1\nready 1\n\n\n", 3),
-        (b"format sha2\n", 1),
-        (b"format sha1 \n", 1),
-        (b"format  sha1\n", 1),
-        (b"Format sha1\n", 1),
-        (b"format\n", 1),
-        (b"ready 1\nformat sha1\n", 1),
-        (b"format sha1\nformat sha1\n", 2),
-        (b"format sha1\nready 1\nready 1\n", 3),
-        (b"format sha1\nready 0\n", 2),
-        (b"format sha1\nready 2147483648\n", 2),
-        (b"format sha1\nready 18446744073709551617\n", 2),
-        (b"format sha1\nready \n", 2),
-        (b"format sha1\nready +1\n", 2),
-        (b"format sha1\nready 1 \n", 2),
-        (b"format sha1\nready 1a\n", 2),
-        (b"format sha1\r\n", 1),
-        (b"format sha1\nready 1\r\n", 2),
-        (
-            b"format sha1\nref 1111111111111111111111111111111111111111 refs/heads/b\r\n",
-            2,
-        ),
-        (
-            b"format sha1\nobject 1111111111111111111111111111111111111111 1\r",
-            2,
-        ),
-        (
-            b"format sha1\nref 1111111111111111111111111111111111111111 refs/heads/b\nref 1111111111111111111111111111111111111111 refs/heads/a\n",
-            3,
-        ),
-        (
-            b"format sha1\nref 1111111111111111111111111111111111111111 refs/heads/b\nready 1\nref 1111111111111111111111111111111111111111 refs/heads/b",
-            4,
-        ),
-        (
-            b"format sha1\nref 1111111111111111111111111111111111111111 refs/heads/.b\n",
-            2,
-        ),
-        (
-            b"format sha1\nref 1111111111111111111111111111111111111111 refs/heads/b peeled:1\n",
-            2,
-        ),
-        (
-            b"format sha1\nref 111111111111111111111111111111111111111 refs/heads/b\n",
-            2,
-        ),
-        (
-            b"format sha1\nref 1111111111111111111111111111111111111111\n",
-            2,
-        ),
-        (b"format sha1\nref \n", 2),
-        (
-            b"format sha1\nobject 2222222222222222222222222222222222222222 1\nobject 1111111111111111111111111111111111111111 1\n",
-            3,
-        ),
-        (
-            b"format sha1\nobject 2222222222222222222222222222222222222222 1\nobject 2222222222222222222222222222222222222222 1\n",
-            3,
-        ),
-        (
-            b"format sha1\nobject 2222222222222222222222222222222222222222 18446744073709551616\n",
-            2,
-        ),
-        (
-            b"format sha1\nobject 2222222222222222222222222222222222222222 \n",
-            2,
-        ),
-        (
-            b"format sha1\nobject 2222222222222222222222222222222222222222\n",
-            2,
-        ),
-        (
-            b"format sha256\nobject 2222222222222222222222222222222222222222 1\n",
-            2,
-        ),
-        (
-            b"format sha1\nshallow 222222222222222222222222222222222222222\n",
-            2,
-        ),
-        (
-            b"format sha1\nunshallow 22222222222222222222222222222222222222220\n",
-            2,
-        ),
-        (b"format sha1\nready 1\nwords\nwords", 3),
-    ];
-    for (at, (text, line)) in cases.iter().enumerate() {
+    for (at, (text, line)) in BAD.iter().enumerate() {
         let read = read_repo(rt.alloc(), text, Vec::new(rt.alloc()));
         assert_eq!(rt;
             read.err(),

@@ -1,5 +1,5 @@
 //! Packets shown as lines, however the stream is cut.
-use crate::packets::{Packet, whole_packets};
+use crate::packets::{Packet, joined, whole_packets};
 use git_pkt::{Fault, Kind, RunFault, Told};
 use git2show_lib::{ProgramFault, report, show};
 use std::io::{self, Read};
@@ -63,10 +63,7 @@ fn shows(
 
 /// Shows a stream ended at each byte before its last one: the lines of its whole packets, and the fault where one is open.
 fn shows_ended(rt: &(impl Abort + AllocGlobal), packets: &[Packet]) -> Result<(), Fail> {
-    let mut stream = Vec::new(rt.alloc());
-    for (packet, _) in packets {
-        stream.extend_from_slice(packet)?;
-    }
+    let stream = joined(rt.alloc(), packets)?;
     for end in 0..stream.len() {
         let (whole, lines) = whole_packets(rt.alloc(), packets, end)?;
         let answer = if whole == end {

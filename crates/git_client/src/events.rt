@@ -26,6 +26,7 @@ pub enum Event<'a> {
 pub struct Heard<'a> {
     /// How many bytes of the piece were used.
     pub used: usize,
+    /// What they came to.
     pub got: HeardGot<'a>,
 }
 

@@ -16,8 +16,8 @@ use std::io::Write;
 /// How many bytes are escaped at a time.
 const BLOCK: usize = 64;
 
-/// Writes the transcript's line of an event; of no event it writes more. The numbers are those of the pack and
-/// progress bytes of the response: the line of a response's end shows them.
+/// Writes the transcript's line of an event, and nothing else. The numbers are those of the pack and progress bytes of
+/// the response: the line of a response's end shows them.
 ///
 /// The fault is `WriteFault`, exactly where the writing fails; a front of the line was written then.
 pub fn write_event<W: Write>(

@@ -210,21 +210,25 @@ fn formats_are_looked_at_where_the_advertisement_ends(rt: HostRuntime) -> Result
     Ok(())
 }
 
+/// Where the last whole packet ends of the advertisement's first `at` bytes.
+fn last_whole_packet(at: usize) -> u64 {
+    let mut last = 0;
+    for end in [14, 31, 43, 61, 84, 96] {
+        if end <= at as u64 {
+            last = end;
+        }
+    }
+    last
+}
+
 #[test]
 fn an_early_end_is_told_at_the_last_whole_packet(rt: HostRuntime) -> Result<(), Fail> {
-    let ends: [u64; 7] = [0, 14, 31, 43, 61, 84, 96];
     for at in 0..ADVERTISEMENT.len() {
         let bytes = &ADVERTISEMENT[..at];
         let run = run_pieces(&rt, rt.alloc(), Format::Sha1, &[bytes])?;
-        let mut offset = 0;
-        for end in ends {
-            if end <= at as u64 {
-                offset = end;
-            }
-        }
         let fault = Fault {
             kind: Kind::Truncated,
-            offset,
+            offset: last_whole_packet(at),
         };
         assert_eq!(rt; run.fault, Some(fault), "ended at {at}");
         assert_eq!(rt; run.position, at as u64, "ended at {at}");

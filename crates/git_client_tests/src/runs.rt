@@ -4,7 +4,7 @@ use git_client::{Client, Ending, HeardGot, Sent, write_event};
 use git_msg::Caps;
 use git_names::Format;
 use git_pkt::{Fault, Kind, RunFault, Told};
-use std::alloc::Global;
+use std::alloc::{AllocError, Global};
 use std::process::Abort;
 use std::test::Fail;
 use test_streams::Sink;
@@ -132,14 +132,20 @@ pub fn check(
         let run = run_pieces(rt, alloc, format, &[&bytes[..at], &bytes[at..]])?;
         compare(rt, &run, wanted, at);
     }
-    let mut pieces: Vec<&[u8]> = Vec::new(alloc);
-    for byte in bytes.chunks(1) {
-        pieces.push(byte)?;
-        pieces.push(&[])?;
-    }
+    let pieces = bytes_apart(alloc, bytes)?;
     let run = run_pieces(rt, alloc, format, pieces.as_slice())?;
     compare(rt, &run, wanted, usize::MAX);
     let whole = run_pieces(rt, alloc, format, &[bytes])?;
     compare(rt, &whole, wanted, usize::MAX);
     Ok(())
+}
+
+/// Pieces of one byte, with an empty piece behind each.
+fn bytes_apart(alloc: Global, bytes: &[u8]) -> Result<Vec<&[u8]>, AllocError> {
+    let mut pieces: Vec<&[u8]> = Vec::new(alloc);
+    for byte in bytes.chunks(1) {
+        pieces.push(byte)?;
+        pieces.push(&[])?;
+    }
+    Ok(pieces)
 }

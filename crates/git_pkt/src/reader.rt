@@ -23,6 +23,7 @@ const LAST_POSITION: u64 = 9_223_372_036_854_775_807;
 pub struct Fed<'a> {
     /// How many bytes of the piece were used.
     pub used: usize,
+    /// What they came to.
     pub got: Got<'a>,
 }
 
