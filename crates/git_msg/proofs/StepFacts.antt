@@ -54,6 +54,14 @@ no_argument ServerOptionKey value arg long h = h
 no_argument ObjectFormatKey value arg long h = h
 no_argument OtherKey value arg long h = h
 
+no_argument_in : (key : Key) (value : Option (List ℕ)) (line : Line) → IsLineOf key value line → argument_in line ≡ None
+no_argument_in key value (command c) h = refl
+no_argument_in key value agent h = refl
+no_argument_in key value server_option h = refl
+no_argument_in key value object_format h = refl
+no_argument_in key value boundary h = refl
+no_argument_in key value (argument arg long) h = absurd (no_argument key value arg long h)
+
 -- a command line is the first
 first_command : (offer : Offer) (first : Bool) (key : Key) (value : Option (List ℕ)) (c : Command) → Passes (key_checks offer first key value) → IsLineOf key value (command c) → first ≡ true
 first_command offer first CommandKey value c h is = h.0
@@ -160,6 +168,7 @@ module _ {A : Type 0} where
       record {
         line = line;
         is_line = capability_is_line r.offer (limit_in r) lines bytes line h.before there;
+        no_argument = no_argument_in is.key is.value line is.line_is;
         in_lines = subst (λ (x : Part). InLines x (lines ++ line ∷ []) (with_line line r)) (sym (with_line_part line r ∙ part)) (noted_in (text_of bytes) line lines r is h);
       }
 
@@ -209,6 +218,7 @@ module _ {A : Type 0} where
         record {
           line = boundary;
           is_line = subst (λ (b : Bool). IsLineIn b r.offer (limit_in r) lines delim boundary) (sym h.before) line;
+          no_argument = refl;
           in_lines = record {
             behind = boundary_snoc lines boundary;
             command = commands_snoc lines boundary ∙ rw append-nil (commands_due lines r c h due) ∙ ap (λ x. x ∷ []) (sym empty.command_is);

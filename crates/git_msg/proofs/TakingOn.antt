@@ -15,7 +15,7 @@ use Rattle.git_msg.specs.Arguments.{Arg, shown}
 use Rattle.git_msg.specs.Holding.{asked_of, command_of, kept_of, format_of}
 use Rattle.git_msg.specs.Checks.{Passes}
 use Rattle.git_msg.specs.Lines.{Line, IsLine, HasFault, IsArgumentText, flush_checks}
-use Rattle.git_msg.specs.Requests.{AreLines, Asks, FirstFault, IsStop}
+use Rattle.git_msg.specs.Requests.{AreLines, IsPlainLine, Asks, FirstFault, IsStop}
 use Rattle.git_msg.specs.Taking.{Takes, TakesIn, WaitsFor, WaitsIn, WaitsBehind, InCapabilities, TakesOn, Brings, LeavesTaken, fault_of, fault_in, is_waiting, waits_in, limit_in}
 use Rattle.git_msg.specs.TakingSteps.{InLines, Advances, Offers, Completes, Leaves, Goes, LeavesStep, StepsOn}
 use Rattle.git_msg.proofs.LineLists.{lines_snoc}
@@ -54,11 +54,19 @@ module _ {A : Type 0} (old new : RequestReader A) (packets : List Given) (p : Pk
   front_lines : AreLines new.offer (limit_in new) [] packets s.lines
   front_lines = moved old.offer new.offer (limit_in old) (limit_in new) packets s.lines offer limit s.taken
 
-  brings_more : Advances s.lines old p new → Takes (packets ++ record { packet = p; offset = offset } ∷ []) new
+  brings_more : Advances s.lines old p new → Takes (packets ++ record { packet = p; offset = offset } ∷ []) new × IsPlainLine new.offer (limit_in new) packets p
   brings_more h =
       let line : IsLine old.offer (limit_in old) s.lines p h.line = h.is_line in
-      let all : AreLines old.offer (limit_in old) [] (packets ++ record { packet = p; offset = offset } ∷ []) (s.lines ++ h.line ∷ []) = lines_snoc old.offer (limit_in old) [] packets s.lines (record { packet = p; offset = offset }) h.line s.taken line in
-      record { stands = takes_lines new.part _ (s.lines ++ h.line ∷ []) new (moved old.offer new.offer (limit_in old) (limit_in new) _ _ offer limit all) h.in_lines }
+      let all : AreLines old.offer (limit_in old) [] (packets ++ record { packet = p; offset = offset } ∷ []) (s.lines ++ h.line ∷ []) = lines_snoc old.offer (limit_in old) [] packets s.lines (record { packet = p; offset = offset }) h.line s.taken line in (
+        record { stands = takes_lines new.part _ (s.lines ++ h.line ∷ []) new (moved old.offer new.offer (limit_in old) (limit_in new) _ _ offer limit all) h.in_lines },
+        record {
+          lines = s.lines;
+          line = h.line;
+          taken = front_lines;
+          is_line = subst (λ (o : Offer). IsLine o (limit_in new) s.lines p h.line) (sym offer) (subst (λ (n : ℕ). IsLine old.offer n s.lines p h.line) (sym limit) line);
+          no_argument = h.no_argument;
+        },
+      )
 
   waits_behind : (arg : Arg) → (h : Offers s.lines old p offset arg new) → WaitsBehind (packets ++ record { packet = p; offset = offset } ∷ []) offset (length (text_of h.bytes)) arg new
   waits_behind arg h = record {

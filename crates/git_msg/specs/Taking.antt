@@ -13,7 +13,7 @@ use Rattle.git_msg.specs.Arguments.{Arg, shown}
 use Rattle.git_msg.specs.Asked.{asked_by}
 use Rattle.git_msg.specs.Holding.{asked_of, command_of, format_of, kept_of, limit_of}
 use Rattle.git_msg.specs.Lines.{Line, commands_of, arguments_of, kept_in, has_format, has_boundary, IsArgumentText}
-use Rattle.git_msg.specs.Requests.{AreLines, Asks, FirstFault, WantsMemory, IsStop}
+use Rattle.git_msg.specs.Requests.{AreLines, IsPlainLine, Asks, FirstFault, WantsMemory, IsStop}
 
 -- no line yet
 abbrev pub is_nil : List Line → Bool
@@ -110,9 +110,10 @@ module _ {A : Type 0} where
   pub record WaitsFor (packets : List Given) (arg : Arg) (r : RequestReader A) : Type 0 where
     pub waits : WaitsIn r.part packets arg r
 
-  -- what a packet brought, where the reader stood behind these packets
+  -- what a packet brought, where the reader stood behind these packets: an argument is never passed over
   abbrev pub Brings : List Given → Given → Result (Taken A) Fault → RequestReader A → Type 0
-  Brings packets g (Ok More) new = Takes (packets ++ g ∷ []) new
+  Brings packets g (Ok More) new =
+      Takes (packets ++ g ∷ []) new × IsPlainLine (offer_of new) (limit_in new) packets g.packet
   Brings packets g (Ok (TakenArgument argument)) new =
       Takes (packets ++ g ∷ []) new × WaitsFor (packets ++ g ∷ []) (shown argument) new
   Brings packets g (Ok (TakenRequest q)) new =

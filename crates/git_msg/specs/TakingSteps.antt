@@ -13,7 +13,7 @@ use Rattle.git_msg.specs.Arguments.{Arg, shown}
 use Rattle.git_msg.specs.Asked.{asked_by}
 use Rattle.git_msg.specs.Holding.{asked_of, command_of, format_of, kept_of}
 use Rattle.git_msg.specs.Checks.{Passes, Refuses}
-use Rattle.git_msg.specs.Lines.{Line, command, object_format, commands_of, arguments_of, kept_in, IsCapabilityLine, IsArgumentText, IsLine, HasFault, part_checks, flush_checks, is_none}
+use Rattle.git_msg.specs.Lines.{Line, command, object_format, argument_in, commands_of, arguments_of, kept_in, IsCapabilityLine, IsArgumentText, IsLine, HasFault, part_checks, flush_checks, is_none}
 use Rattle.git_msg.specs.Taking.{InCapabilities, InArguments, fault_of, is_waiting, limit_in, kept_so_far, KeepsWithin}
 
 module _ {A : Type 0} where
@@ -51,10 +51,11 @@ module _ {A : Type 0} where
   InLines Arguments lines r = InArguments lines r
   InLines _ lines r = ⊥
 
-  -- a line came
+  -- a line came, which is no argument
   pub record Advances (lines : List Line) (old : RequestReader A) (p : Pkt) (new : RequestReader A) : Type 0 where
     pub line : Line
     pub is_line : IsLine old.offer (limit_in old) lines p line
+    pub no_argument : argument_in line ≡ None
     pub in_lines : InLines new.part (lines ++ line ∷ []) new
 
   -- an argument came

@@ -26,26 +26,31 @@ fn check_refused(rt: &impl Abort, heard: Heard<Global>, kept: u32, kind: Kind, o
     }
 }
 
-/// The packets are a request for this.
-fn check_request(
-    rt: &impl Abort,
-    heard: Heard<Global>,
-    kept: u32,
+/// What packets are to be a request for.
+#[derive(Clone, Copy)]
+struct Wanted<'a> {
     symrefs: bool,
     peel: bool,
-    prefixes: &[&[u8]],
-) {
+    prefixes: &'a [&'a [u8]],
+    // How many argument lines there are, and how many bytes their texts have.
+    arguments: u32,
+    bytes: u32,
+}
+
+/// The packets are a request for this, and each argument of it was kept.
+fn check_request(rt: &impl Abort, heard: Heard<Global>, wanted: &Wanted<'_>) {
+    assert_eq!(rt; heard.kept, wanted.arguments);
     match heard.ending {
         Ending::Whole(request) => {
             assert_eq!(rt; request.command(), Command::LsRefs);
             assert_eq!(rt; request.format(), Format::Sha1);
-            assert_eq!(rt; request.kept(), kept);
-            assert_eq!(rt; request.symrefs(), symrefs);
-            assert_eq!(rt; request.peel(), peel);
-            for i in 0..prefixes.len() {
-                assert_eq!(rt; request.ref_prefix(i), Some(prefixes[i]));
+            assert_eq!(rt; request.kept(), wanted.bytes);
+            assert_eq!(rt; request.symrefs(), wanted.symrefs);
+            assert_eq!(rt; request.peel(), wanted.peel);
+            for i in 0..wanted.prefixes.len() {
+                assert_eq!(rt; request.ref_prefix(i), Some(wanted.prefixes[i]));
             }
-            assert_eq!(rt; request.ref_prefix(prefixes.len()), None);
+            assert_eq!(rt; request.ref_prefix(wanted.prefixes.len()), None);
         }
         _ => panic!(rt; "no request"),
     }
@@ -62,14 +67,27 @@ fn request_with_flags_and_a_prefix(rt: HostRuntime) {
         Packet::Payload(b"ref-prefix refs/heads/\n"),
         Packet::Flush,
     ];
-    let heard = heard(rt.alloc(), &packets);
-    check_request(&rt, heard, 33, true, true, &[b"refs/heads/"]);
+    let wanted = Wanted {
+        symrefs: true,
+        peel: true,
+        prefixes: &[b"refs/heads/"],
+        arguments: 3,
+        bytes: 33,
+    };
+    check_request(&rt, heard(rt.alloc(), &packets), &wanted);
 }
 
 #[test]
 fn request_without_delimiter(rt: HostRuntime) {
     let packets = [Packet::Payload(b"command=ls-refs\n"), Packet::Flush];
-    check_request(&rt, heard(rt.alloc(), &packets), 0, false, false, &[]);
+    let wanted = Wanted {
+        symrefs: false,
+        peel: false,
+        prefixes: &[],
+        arguments: 0,
+        bytes: 0,
+    };
+    check_request(&rt, heard(rt.alloc(), &packets), &wanted);
 }
 
 #[test]
@@ -85,14 +103,14 @@ fn capability_lines_in_any_order_and_with_any_agent(rt: HostRuntime) {
         Packet::Payload(b"ref-prefix a\n\n"),
         Packet::Flush,
     ];
-    check_request(
-        &rt,
-        heard(rt.alloc(), &packets),
-        24,
-        false,
-        false,
-        &[b"", b"a\n"],
-    );
+    let wanted = Wanted {
+        symrefs: false,
+        peel: false,
+        prefixes: &[b"", b"a\n"],
+        arguments: 2,
+        bytes: 24,
+    };
+    check_request(&rt, heard(rt.alloc(), &packets), &wanted);
 }
 
 #[test]
