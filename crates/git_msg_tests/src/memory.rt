@@ -33,12 +33,15 @@ fn kept_within(rt: &impl Abort, alloc: Global, size: usize) -> Result<u32, Alloc
 #[test]
 fn each_growth_of_a_request_is_refused_in_turn(rt: HostRuntime) -> Result<(), AllocError> {
     let mut most = 0;
+    let mut kept_one = false;
     for size in 64..1024 {
         let kept = kept_within(&rt, rt.alloc(), size)?;
         assert!(&rt; most <= kept);
         most = kept;
+        kept_one = kept_one | (kept == 1);
     }
     assert_eq!(&rt; kept_within(&rt, rt.alloc(), 64)?, 0);
+    assert!(&rt; kept_one, "the second growth is never refused alone");
     assert_eq!(&rt; most, 2);
     Ok(())
 }
