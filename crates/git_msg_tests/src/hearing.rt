@@ -7,12 +7,12 @@ use git_names::Format;
 use git_pkt::{Fault, Packet};
 use std::alloc::Allocator;
 
+/// What a packet brought to a reader that keeps each argument.
 #[derive(Drop)]
-pub enum Step<A: Allocator + Copy> {
+enum Step<A: Allocator + Copy> {
     More,
     Kept,
-    Whole(Request<A>),
-    Stop,
+    Ended(Ending<A>),
 }
 
 /// What a list of packets was heard as: how many arguments were kept, and how it ended.
@@ -22,15 +22,20 @@ pub struct Heard<A: Allocator + Copy> {
     pub ending: Ending<A>,
 }
 
+/// How a list of packets ended.
 #[derive(Drop)]
 pub enum Ending<A: Allocator + Copy> {
+    /// In the midst of a request.
     Open,
+    /// With this request, which is whole.
     Whole(Request<A>),
+    /// With a flush alone.
     Stop,
-    // The fault, and what the reader answers to the next packet.
+    /// With this fault, and what the reader answers to the next packet.
     Refused(Fault, Option<Fault>),
 }
 
+/// An offer of all but `object-info`, in SHA-1.
 pub const OFFER: Offer = Offer {
     format: Format::Sha1,
     shallow: true,
@@ -53,14 +58,32 @@ fn give<A: Allocator + Copy>(
             Ok(()) => Ok(Step::Kept),
             Err(fault) => Err(fault),
         },
-        Ok(Taken::Request(request)) => Ok(Step::Whole(request)),
-        Ok(Taken::Stop) => Ok(Step::Stop),
+        Ok(Taken::Request(request)) => Ok(Step::Ended(Ending::Whole(request))),
+        Ok(Taken::Stop) => Ok(Step::Ended(Ending::Stop)),
         Err(fault) => Err(fault),
     }
 }
 
+/// Gives the reader a packet and, where that is refused, a flush behind it.
+fn hear_packet<A: Allocator + Copy>(
+    reader: &mut RequestReader<A>,
+    packet: Packet<'_>,
+    offset: u64,
+) -> Step<A>
+    requires { is_waiting reader.old ≡ false }
+    ensures { is_waiting reader.new ≡ false }
+{
+    match give(reader, packet, offset) {
+        Ok(step) => step,
+        Err(fault) => match give(reader, Packet::Flush, 7) {
+            Ok(_) => Step::Ended(Ending::Refused(fault, None)),
+            Err(again) => Step::Ended(Ending::Refused(fault, Some(again))),
+        },
+    }
+}
+
 /// How many bytes the packet has on the wire.
-fn long(packet: Packet<'_>) -> u64 {
+fn length(packet: Packet<'_>) -> u64 {
     match packet {
         Packet::Payload(payload) => (payload.len() as u64).saturating_add(4),
         _ => 4,
@@ -78,33 +101,12 @@ pub fn hear<A: Allocator + Copy>(
     let mut offset = 0u64;
     let mut kept = 0u32;
     'packets: for packet in packets {
-        match give(&mut reader, *packet, offset) {
-            Ok(Step::More) => {}
-            Ok(Step::Kept) => kept = kept.saturating_add(1),
-            Ok(Step::Whole(request)) => {
-                return Heard {
-                    kept,
-                    ending: Ending::Whole(request),
-                };
-            }
-            Ok(Step::Stop) => {
-                return Heard {
-                    kept,
-                    ending: Ending::Stop,
-                };
-            }
-            Err(fault) => {
-                let again = match give(&mut reader, Packet::Flush, 7) {
-                    Ok(_) => None,
-                    Err(again) => Some(again),
-                };
-                return Heard {
-                    kept,
-                    ending: Ending::Refused(fault, again),
-                };
-            }
+        match hear_packet(&mut reader, *packet, offset) {
+            Step::More => {}
+            Step::Kept => kept = kept.saturating_add(1),
+            Step::Ended(ending) => return Heard { kept, ending },
         }
-        offset = offset.saturating_add(long(*packet));
+        offset = offset.saturating_add(length(*packet));
     }
     Heard {
         kept,

@@ -1,4 +1,9 @@
 //! Reference lines and argument lines.
+ghost use Rattle.std.specs.Prelude.{◌≡◌};
+ghost use Rattle.std.specs.Option.{option_copied};
+ghost use Rattle.git_names.specs.RefName.{IsRefName};
+ghost use Rattle.git_msg.specs.References.{IsWritable, reference_of};
+
 use crate::hearing::OFFER;
 use git_msg::{Argument, Command, Reference, put_reference, read_argument, read_reference};
 use git_names::{Format, Oid, RefName};
@@ -31,92 +36,89 @@ fn reference_line_with_both_attributes(rt: HostRuntime) {
     }
 }
 
-/// Writes a reference of these names, and compares the packet.
+/// The object name in SHA-1 of this text.
+fn object(rt: &impl Abort, text: &[u8]) -> Oid
+    ensures { result.format ≡ Format.Sha1 }
+{
+    match Oid::read(Format::Sha1, text) {
+        Ok(id) => id,
+        Err(_) => panic!(rt; "no object name"),
+    }
+}
+
+/// The text, which is a reference name.
+fn name<'a>(rt: &impl Abort, text: &'a [u8]) -> &'a [u8]
+    ensures { IsRefName result.now }
+{
+    match RefName::read(text) {
+        Ok(name) => name.as_bytes(),
+        Err(_) => panic!(rt; "no reference name"),
+    }
+}
+
+/// Writes the reference, and compares the packet.
 fn check_written(
     rt: &impl Abort,
-    id: &[u8],
+    id: Oid,
     name: &[u8],
     target: Option<&[u8]>,
-    peeled: Option<&[u8]>,
+    peeled: Option<Oid>,
     packet: &[u8],
-) {
-    let Ok(id) = Oid::read(Format::Sha1, id) else {
-        panic!(rt; "no object name")
-    };
-    let Ok(name) = RefName::read(name) else {
-        panic!(rt; "no reference name")
-    };
+)
+    requires { IsWritable (reference_of id name.now (option_copied target) peeled) }
+{
     let mut hold = Hold::new();
-    match (target, peeled) {
-        (Some(target), None) => match RefName::read(target) {
-            Ok(target) => put_reference(
-                &mut hold,
-                Reference {
-                    id,
-                    name: name.as_bytes(),
-                    target: Some(target.as_bytes()),
-                    peeled: None,
-                },
-            ),
-            Err(_) => panic!(rt; "no target"),
+    put_reference(
+        &mut hold,
+        Reference {
+            id,
+            name,
+            target,
+            peeled,
         },
-        (None, Some(peeled)) => match Oid::read(Format::Sha1, peeled) {
-            Ok(peeled) => put_reference(
-                &mut hold,
-                Reference {
-                    id,
-                    name: name.as_bytes(),
-                    target: None,
-                    peeled: Some(peeled),
-                },
-            ),
-            Err(_) => panic!(rt; "no peeled object"),
-        },
-        _ => put_reference(
-            &mut hold,
-            Reference {
-                id,
-                name: name.as_bytes(),
-                target: None,
-                peeled: None,
-            },
-        ),
-    }
+    );
     assert_eq!(rt; hold.as_slice(), packet);
 }
 
 #[test]
 fn written_reference_lines(rt: HostRuntime) {
+    let id = object(&rt, b"AAAAAAAAAAAAAAAAAAAAAAAAAAAAAAAAAAAAAAAA");
     check_written(
         &rt,
-        A,
-        b"HEAD",
+        id,
+        name(&rt, b"HEAD"),
         None,
         None,
         b"0032aaaaaaaaaaaaaaaaaaaaaaaaaaaaaaaaaaaaaaaa HEAD\n",
     );
     check_written(
         &rt,
-        b"AAAAAAAAAAAAAAAAAAAAAAAAAAAAAAAAAAAAAAAA",
-        b"refs/heads/main",
+        id,
+        name(&rt, b"refs/heads/main"),
         None,
         None,
         b"003daaaaaaaaaaaaaaaaaaaaaaaaaaaaaaaaaaaaaaaa refs/heads/main\n",
     );
+}
+
+#[test]
+fn written_attributes(rt: HostRuntime) {
+    let main = name(&rt, b"refs/heads/main");
     check_written(
         &rt,
-        A,
-        b"HEAD",
-        Some(b"refs/heads/main"),
+        object(&rt, A),
+        name(&rt, b"HEAD"),
+        Some(main),
         None,
         b"0050aaaaaaaaaaaaaaaaaaaaaaaaaaaaaaaaaaaaaaaa HEAD symref-target:refs/heads/main\n",
     );
+    let peeled = object(&rt, A);
     check_written(
         &rt,
-        B,
-        b"refs/tags/v1",
+        object(&rt, B),
+        name(&rt, b"refs/tags/v1"),
         None,
-        Some(A),
+        Some(peeled),
         b"006abbbbbbbbbbbbbbbbbbbbbbbbbbbbbbbbbbbbbbbb refs/tags/v1 peeled:aaaaaaaaaaaaaaaaaaaaaaaaaaaaaaaaaaaaaaaa\n",
     );
 }
