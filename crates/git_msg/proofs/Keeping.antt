@@ -17,8 +17,8 @@ use Rattle.git_msg.specs.Asked.{asked_by, with_argument}
 use Rattle.git_msg.specs.Checks.{Passes}
 use Rattle.git_msg.specs.Holding.{command_of, format_of, kept_of, limit_of, Keeps, keep_checks, IsRefused, IsValueFault}
 use Rattle.git_msg.specs.Lines.{Line, argument, commands_of, arguments_of, IsLine, IsArgumentLine, HasFault, HasFaultIn}
-use Rattle.git_msg.specs.Requests.{AreLines, FirstFault, WantsMemory}
-use Rattle.git_msg.specs.Taking.{WaitsIn, WaitsBehind, InArguments, IsTold, KeepsOn, limit_in}
+use Rattle.git_msg.specs.Requests.{AreLines, FirstFault, WantsMemory, IsTold}
+use Rattle.git_msg.specs.Taking.{WaitsIn, WaitsBehind, InArguments, KeepsOn, limit_in}
 use Rattle.git_msg.proofs.LineLists.{commands_snoc, arguments_snoc, boundary_snoc, kept_snoc, asked_snoc, lines_snoc, argument_is_line}
 
 -- the line of an argument that waited

@@ -1,7 +1,8 @@
 -- Whole requests, and the first fault of a list of packets.
-use Rattle.std.specs.Prelude.{◌≡◌, ℕ, None, List, [], ◌∷◌, ◌++◌}
+use Rattle.std.specs.Prelude.{◌≡◌, ◌⊎◌, ℕ, None, List, [], ◌∷◌, ◌++◌}
 use Rattle.git_pkt.specs.Packets.{Pkt, flush}
 use Rattle.git_pkt.specs.Splits.{Given}
+use Rattle.git_pkt.specs.declared.fault.Fault.{Fault}
 use Rattle.git_pkt.specs.declared.fault.Kind.{Kind}
 use Rattle.git_pkt.specs.declared.fault.Kind.TheVariants.{OutOfMemory}
 use Rattle.git_msg.specs.declared.offers.Offer.{Offer}
@@ -64,6 +65,11 @@ pub record WantsMemory (offer : Offer) (limit : ℕ) (packets : List Given) (kin
   pub takes_memory : TakesMemory arg
   pub name : kind ≡ OutOfMemory
   pub at : offset ≡ last.offset
+
+-- a fault of these packets: the first that one of them has, or want of memory at the last
+abbrev pub IsTold : Offer → ℕ → List Given → Fault → Type 0
+IsTold offer limit packets fault =
+    FirstFault offer limit packets fault.kind fault.offset ⊎ WantsMemory offer limit packets fault.kind fault.offset
 
 -- the packets are a flush alone, by which a session ends
 pub record IsStop (packets : List Given) : Type 0 where

@@ -1,5 +1,5 @@
 -- What a reader of requests stands for: the packets since the request began, as lines.
-use Rattle.std.specs.Prelude.{◌≡◌, ◌⊎◌, ℕ, ◌≤◌, Bool, true, false, not, Option, Some, None, option_to_list, Result, Ok, Err, List, [], ◌∷◌, ◌++◌, length}
+use Rattle.std.specs.Prelude.{◌≡◌, ℕ, ◌≤◌, Bool, true, false, not, Option, Some, None, option_to_list, Result, Ok, Err, List, [], ◌∷◌, ◌++◌, length}
 use Rattle.git_pkt.specs.Packets.{payload, text_of}
 use Rattle.git_pkt.specs.Splits.{Given}
 use Rattle.git_pkt.specs.declared.fault.Fault.{Fault}
@@ -13,17 +13,12 @@ use Rattle.git_msg.specs.Arguments.{Arg, shown}
 use Rattle.git_msg.specs.Asked.{asked_by}
 use Rattle.git_msg.specs.Holding.{asked_of, command_of, format_of, kept_of, limit_of}
 use Rattle.git_msg.specs.Lines.{Line, commands_of, arguments_of, kept_in, has_format, has_boundary, IsArgumentText}
-use Rattle.git_msg.specs.Requests.{AreLines, IsPlainLine, Asks, FirstFault, WantsMemory, IsStop}
+use Rattle.git_msg.specs.Requests.{AreLines, IsPlainLine, Asks, FirstFault, IsTold, IsStop}
 
 -- no line yet
 abbrev pub is_nil : List Line → Bool
 is_nil [] = true
 is_nil (line ∷ lines) = false
-
--- a fault of these packets: the first that one of them has, or want of memory at the last
-abbrev pub IsTold : Offer → ℕ → List Given → Fault → Type 0
-IsTold offer limit packets fault =
-    FirstFault offer limit packets fault.kind fault.offset ⊎ WantsMemory offer limit packets fault.kind fault.offset
 
 abbrev pub fault_in : Part → Option Fault
 fault_in (Failed f) = Some f

@@ -1,10 +1,79 @@
 //! What follows from the definitions alone: each law is the contract of a function without parameters.
 
-ghost use Rattle.std.specs.Prelude.{◌≡◌, ℕ, List, Option};
+ghost use Rattle.std.specs.Prelude.{◌≡◌, ◌≤◌, ℕ, List, Option, map};
+ghost use Rattle.git_names.specs.declared.object_format.Format.{Format};
+ghost use Rattle.git_pkt.specs.Packets.{Pkt};
+ghost use Rattle.git_pkt.specs.Splits.{Given};
+ghost use Rattle.git_pkt.specs.declared.fault.Kind.{Kind};
+ghost use Rattle.git_msg.specs.declared.arguments.Command.{Command};
+ghost use Rattle.git_msg.specs.declared.offers.Caps.{Caps};
+ghost use Rattle.git_msg.specs.declared.offers.Offer.{Offer};
+ghost use Rattle.git_msg.specs.Asked.{Asked, HasShortTexts, written_bytes};
 ghost use Rattle.git_msg.specs.Capability.{IsCapability};
+ghost use Rattle.git_msg.specs.Lines.{Line, IsFormatMeant, IsLine, HasFault};
+ghost use Rattle.git_msg.specs.References.{Ref, IsReferenceLine};
+ghost use Rattle.git_msg.specs.Requests.{Asks, FirstFault};
+ghost use Rattle.git_msg.specs.Writing.{lines_written};
+
+// Texts of single lines.
 
 /// A text is one capability at most.
 pub fn one_capability()
     ensures { (text key other : List ℕ) (value other_value : Option (List ℕ)) → IsCapability text key value
         → IsCapability text other other_value → (key ≡ other) × (value ≡ other_value) }
+{}
+
+/// A reference line is one reference at most.
+pub fn one_reference()
+    ensures { (format : Format) (text : List ℕ) (a b : Ref) → IsReferenceLine format text a → IsReferenceLine format text b → a ≡ b }
+{}
+
+// Packets of requests.
+
+/// A packet of a request is no line where something refuses it.
+pub fn line_or_fault()
+    ensures { (offer : Offer) (limit : ℕ) (before : List Line) (packet : Pkt) (line : Line) (kind : Kind)
+        → IsLine offer limit before packet line → HasFault offer limit before packet kind → ⊥ }
+{}
+
+/// A packet of a request is one line at most.
+pub fn one_line()
+    ensures { (offer : Offer) (limit : ℕ) (before : List Line) (packet : Pkt) (line other : Line)
+        → IsLine offer limit before packet line → IsLine offer limit before packet other → line ≡ other }
+{}
+
+/// A packet of a request is refused by one name at most.
+pub fn one_fault()
+    ensures { (offer : Offer) (limit : ℕ) (before : List Line) (packet : Pkt) (kind other : Kind)
+        → HasFault offer limit before packet kind → HasFault offer limit before packet other → kind ≡ other }
+{}
+
+/// Packets are one request at most.
+pub fn one_request()
+    ensures { (offer : Offer) (limit : ℕ) (packets : List Given) (asked other : Asked) (kept other_kept : ℕ)
+        → Asks offer limit packets asked kept → Asks offer limit packets other other_kept
+        → (asked ≡ other) × (kept ≡ other_kept) }
+{}
+
+/// Nothing refuses a packet of a whole request.
+pub fn no_fault_in_request()
+    ensures { (offer : Offer) (limit : ℕ) (packets : List Given) (asked : Asked) (kept : ℕ) (kind : Kind) (offset : ℕ)
+        → Asks offer limit packets asked kept → FirstFault offer limit packets kind offset → ⊥ }
+{}
+
+/// Packets have one first fault at most.
+pub fn one_first_fault()
+    ensures { (offer : Offer) (limit : ℕ) (packets : List Given) (kind other : Kind) (offset place : ℕ)
+        → FirstFault offer limit packets kind offset → FirstFault offer limit packets other place
+        → (kind ≡ other) × (offset ≡ place) }
+{}
+
+/// The packets that are written of a request are a request for the same, whatever their offsets: where the format is
+/// that of the reader, its texts are not too long, and the texts of its lines are within the limit. For SHA-256 the
+/// format has to be among what was advertised.
+pub fn written_request_reads_back()
+    ensures { (offer : Offer) (limit : ℕ) (caps : Caps) (command : Command) (asked : Asked) (packets : List Given)
+        → IsFormatMeant offer.format caps.object_format → HasShortTexts asked → written_bytes asked ≤ limit
+        → map (λ g. g.packet) packets ≡ lines_written caps.agent caps.object_format command offer.format asked
+        → Asks offer limit packets asked (written_bytes asked) }
 {}

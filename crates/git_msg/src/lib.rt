@@ -11,7 +11,6 @@ mod offers;
 mod reader;
 mod reference_lines;
 mod references;
-pub mod request_laws;
 mod requests;
 pub mod texts;
 mod writer;

@@ -8,8 +8,8 @@ use Rattle.git_pkt.specs.declared.fault.Kind.{Kind}
 use Rattle.git_pkt.specs.declared.fault.Kind.TheVariants.{RemoteError, Truncated}
 use Rattle.git_msg.specs.Asked.{Asked, ls_refs}
 use Rattle.git_msg.specs.Holding.{asked_of, kept_of}
-use Rattle.git_msg.specs.Requests.{Asks}
-use Rattle.git_msg.specs.Taking.{Takes, IsTold, offer_of, limit_in, kept_so_far, is_waiting, fault_of as requests_fault}
+use Rattle.git_msg.specs.Requests.{Asks, IsTold}
+use Rattle.git_msg.specs.Taking.{Takes, offer_of, limit_in, kept_so_far, is_waiting, fault_of as requests_fault}
 use Rattle.git_msg.specs.declared.offers.Offer.{Offer}
 use Rattle.git_msg.specs.declared.reader.RequestReader.{RequestReader}
 use Rattle.git_server.specs.Repository.{Entry, Repository}

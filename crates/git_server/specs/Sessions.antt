@@ -8,8 +8,7 @@ use Rattle.git_pkt.specs.declared.fault.Kind.TheVariants.{Truncated}
 use Rattle.git_msg.specs.declared.offers.Offer.{Offer}
 use Rattle.git_msg.specs.Asked.{Asked}
 use Rattle.git_msg.specs.Lines.{Line}
-use Rattle.git_msg.specs.Requests.{AreLines, Asks, IsStop}
-use Rattle.git_msg.specs.Taking.{IsTold}
+use Rattle.git_msg.specs.Requests.{AreLines, Asks, IsTold, IsStop}
 use Rattle.git_server.specs.Repository.{Repository}
 use Rattle.git_server.specs.Answers.{spelled, advertisement_of, IsAnswer, tail_of}
 use Rattle.git_server.specs.declared.outcome.Outcome.{Outcome}

@@ -1,5 +1,5 @@
 use Rattle.git_msg.proofs.FaultLaws.{one_first_fault}
-use Rattle.git_msg.proofs.request_laws.one_first_fault.Goals as goal
+use Rattle.git_msg.proofs.laws.one_first_fault.Goals as goal
 
 pub returns : goal.returns
 returns c = one_first_fault
