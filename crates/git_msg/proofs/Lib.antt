@@ -12,3 +12,4 @@ pub mod WritingSteps
 pub mod RoundTrip
 pub mod FaultLaws
 pub mod KeptBytes
+pub mod Adding

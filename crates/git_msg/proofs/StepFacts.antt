@@ -73,7 +73,7 @@ first_command offer first OtherKey value c h is = absurd is
 stands_ready : (part : Part) → part ≡ Capabilities → (fault_in part ≡ None) × (waits_in part ≡ false)
 stands_ready part h = rw h (refl, refl)
 
-nothing_asked_by : (c : Command) → nothing_asked c ≡ asked_by c []
+pub nothing_asked_by : (c : Command) → nothing_asked c ≡ asked_by c []
 nothing_asked_by LsRefs = refl
 
 end_passes : (c : Command) (args : List Arg) → Passes (end_checks c args)

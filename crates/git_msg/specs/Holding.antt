@@ -48,6 +48,11 @@ module _ {A : Type 0} where
     pub format : format_of new ≡ format_of old
     pub limit : limit_of new ≡ limit_of old
 
+  -- the new request is the old one with these arguments more, one behind the other, each counted as it is written
+  abbrev pub AddsAll : Request A → List Arg → Request A → Type 0
+  AddsAll old [] new = new ≡ old
+  AddsAll old (arg ∷ args) new = (next : Request A) × Keeps old arg (length (written_text arg)) next × AddsAll next args new
+
 -- the argument may stand in a request of the command and the format
 abbrev pub IsValue : Command → Format → Arg → Type 0
 IsValue LsRefs format symrefs = Unit {0}

@@ -1,6 +1,6 @@
 //! What follows from the definitions alone: each law is the contract of a function without parameters.
 
-ghost use Rattle.std.specs.Prelude.{◌≡◌, ◌≤◌, ℕ, List, Option, map};
+ghost use Rattle.std.specs.Prelude.{◌≡◌, ◌≤◌, ℕ, List, Option, length, map, sum_by};
 ghost use Rattle.git_names.specs.declared.object_format.Format.{Format};
 ghost use Rattle.git_pkt.specs.Packets.{Pkt};
 ghost use Rattle.git_pkt.specs.Splits.{Given};
@@ -8,12 +8,17 @@ ghost use Rattle.git_pkt.specs.declared.fault.Kind.{Kind};
 ghost use Rattle.git_msg.specs.declared.arguments.Command.{Command};
 ghost use Rattle.git_msg.specs.declared.offers.Caps.{Caps};
 ghost use Rattle.git_msg.specs.declared.offers.Offer.{Offer};
-ghost use Rattle.git_msg.specs.Asked.{Asked, HasShortTexts, written_bytes};
+ghost use Rattle.git_msg.specs.declared.requests.Request.{Request};
+ghost use Rattle.git_msg.specs.Arguments.{Arg, written_text};
+ghost use Rattle.git_msg.specs.Asked.{Asked, HasShortTexts, asked_by, written_bytes};
 ghost use Rattle.git_msg.specs.Capability.{IsCapability};
+ghost use Rattle.git_msg.specs.Holding.{IsEmpty, AddsAll, asked_of, kept_of};
 ghost use Rattle.git_msg.specs.Lines.{Line, IsFormatMeant, IsLine, HasFault};
 ghost use Rattle.git_msg.specs.References.{Ref, IsReferenceLine};
 ghost use Rattle.git_msg.specs.Requests.{Asks, FirstFault};
 ghost use Rattle.git_msg.specs.Writing.{lines_written};
+
+use std::alloc::Allocator;
 
 // Texts of single lines.
 
@@ -76,4 +81,15 @@ pub fn written_request_reads_back()
         → IsFormatMeant offer.format caps.object_format → HasShortTexts asked → written_bytes asked ≤ limit
         → map (λ g. g.packet) packets ≡ lines_written caps.agent caps.object_format command offer.format asked
         → Asks offer limit packets asked (written_bytes asked) }
+{}
+
+// Requests that a program makes.
+
+/// A request that was empty, and to which these arguments were added one behind the other, asks for what the list of
+/// them says, and has kept as many bytes as the texts of their lines have.
+pub fn added_arguments_are_asked_for<A: Allocator + Copy>()
+    ensures asked { (command : Command) (format : Format) (limit : ℕ) (args : List Arg) (empty request : Request A)
+        → IsEmpty command format limit empty → AddsAll empty args request → asked_of request ≡ asked_by command args }
+    ensures kept { (command : Command) (format : Format) (limit : ℕ) (args : List Arg) (empty request : Request A)
+        → IsEmpty command format limit empty → AddsAll empty args request → kept_of request ≡ sum_by (λ arg. length (written_text arg)) args }
 {}
