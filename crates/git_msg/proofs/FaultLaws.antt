@@ -7,12 +7,12 @@ use Rattle.git_pkt.specs.declared.fault.Kind.{Kind}
 use Rattle.git_msg.specs.declared.offers.Offer.{Offer}
 use Rattle.git_msg.specs.Asked.{Asked}
 use Rattle.git_msg.specs.Checks.{Passes}
-use Rattle.git_msg.specs.Lines.{Line, has_boundary, flush_checks, IsLine, HasFault}
+use Rattle.git_msg.specs.Lines.{Line, has_delimiter, flush_checks, IsLine, HasFault}
 use Rattle.git_msg.specs.Requests.{AreLines, Asks, FirstFault}
 use Rattle.git_msg.proofs.LineLaws.{line_or_fault, one_line, one_fault, flush_or_fault_in}
 
 flush_or_fault : (offer : Offer) (limit : ℕ) (before : List Line) (kind : Kind) → Passes (flush_checks offer before) → HasFault offer limit before flush kind → ⊥
-flush_or_fault offer limit before kind p r = flush_or_fault_in (has_boundary before) offer limit before kind p r
+flush_or_fault offer limit before kind p r = flush_or_fault_in (has_delimiter before) offer limit before kind p r
 
 heads_same : (a b : Given) (more others : List Given) → a ∷ more ≡ b ∷ others → (a ≡ b) × (more ≡ others)
 heads_same a b more others e = (cc, cc)

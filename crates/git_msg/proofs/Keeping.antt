@@ -19,7 +19,7 @@ use Rattle.git_msg.specs.Holding.{command_of, format_of, kept_of, limit_of, Keep
 use Rattle.git_msg.specs.Lines.{Line, argument, commands_of, arguments_of, IsLine, IsArgumentLine, HasFault, HasFaultIn}
 use Rattle.git_msg.specs.Requests.{AreLines, FirstFault, WantsMemory, IsTold}
 use Rattle.git_msg.specs.Taking.{WaitsIn, WaitsBehind, InArguments, KeepsOn, limit_in}
-use Rattle.git_msg.proofs.LineLists.{commands_snoc, arguments_snoc, boundary_snoc, kept_snoc, asked_snoc, lines_snoc, argument_is_line}
+use Rattle.git_msg.proofs.LineLists.{commands_snoc, arguments_snoc, delimiter_snoc, kept_snoc, asked_snoc, lines_snoc, argument_is_line}
 
 -- the line of an argument that waited
 waited_line : {A : Type 0} (packets : List Given) (offset long : ℕ) (arg : Arg) (r : RequestReader A) → (w : WaitsBehind packets offset long arg r) → kept_of r.request + long ≤ limit_of r.request → IsLine r.offer (limit_in r) w.lines w.last.packet (argument arg long)
@@ -34,7 +34,7 @@ waited_line packets offset long arg r w fits =
 -- the argument part with one argument more
 one_more : {A : Type 0} (lines : List Line) (arg : Arg) (long : ℕ) (r : RequestReader A) (q : Request A) → InArguments lines r → Keeps r.request arg long q → InArguments (lines ++ argument arg long ∷ []) (record r { part = Arguments; request = q })
 one_more lines arg long r q h k = record {
-  behind = boundary_snoc lines (argument arg long) ∙ h.behind;
+  behind = delimiter_snoc lines (argument arg long) ∙ h.behind;
   command = commands_snoc lines (argument arg long) ∙ append-nil (commands_of lines) ∙ h.command ∙ ap (λ c. c ∷ []) (sym k.command);
   asked = k.asked ∙ ap (λ a. with_argument a arg) h.asked ∙ sym (asked_snoc (command_of r.request) (arguments_of lines) arg) ∙ ap (λ args. asked_by (command_of r.request) args) (sym (arguments_snoc lines (argument arg long))) ∙ ap (λ c. asked_by c (arguments_of (lines ++ argument arg long ∷ []))) (sym k.command);
   kept = k.kept ∙ ap (λ n. n + long) h.kept ∙ sym (kept_snoc lines (argument arg long));

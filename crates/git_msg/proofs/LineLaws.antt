@@ -17,7 +17,7 @@ use Rattle.git_msg.specs.Capability.{IsNoCapability}
 use Rattle.git_msg.specs.Arguments.{Arg, symrefs, peel, ref_prefix, IsArgument, IsArgumentFault}
 use Rattle.git_msg.specs.Asked.{Asked, asked_by}
 use Rattle.git_msg.specs.Checks.{Check, check, Refuses, Passes}
-use Rattle.git_msg.specs.Lines.{Line, command, agent, server_option, object_format, boundary, argument, is_none, commands_of, arguments_of, kept_in, has_format, has_boundary, IsWordOf, HasKey, IsAnyCapability, NamesCommand, key_checks, by_key, capability_checks, IsLineOf, IsCapabilityLine, IsFormatMeant, IsOtherFormatMeant, part_checks, argument_checks, IsArgumentLine, IsArgumentRefused, end_checks, at_end, flush_checks_in, IsLine, IsLineIn, HasFault, HasFaultIn}
+use Rattle.git_msg.specs.Lines.{Line, command, agent, server_option, object_format, delimiter, argument, is_none, commands_of, arguments_of, kept_in, has_format, has_delimiter, IsWordOf, HasKey, IsAnyCapability, NamesCommand, key_checks, by_key, capability_checks, IsLineOf, IsCapabilityLine, IsFormatMeant, IsOtherFormatMeant, part_checks, argument_checks, IsArgumentLine, IsArgumentRefused, end_checks, at_end, flush_checks_in, IsLine, IsLineIn, HasFault, HasFaultIn}
 use Rattle.git_msg.specs.Requests.{AreLines, Asks}
 use Rattle.git_msg.proofs.Keys.{one_capability}
 
@@ -224,12 +224,12 @@ capability_line_or_fault offer first text line kind h r = passes_or_refuses (cap
 -- in either part
 line_or_fault_in : (part : Bool) (offer : Offer) (limit : ℕ) (before : List Line) (packet : Pkt) (line : Line) (kind : Kind) → IsLineIn part offer limit before packet line → HasFaultIn part offer limit before packet kind → ⊥
 line_or_fault_in false offer limit before (payload bytes) line kind h r = capability_line_or_fault offer (is_none (commands_of before)) (text_of bytes) line kind h r
-line_or_fault_in false offer limit before delim boundary kind h r = passes_or_refuses (part_checks offer (commands_of before) (has_format before)) (fair_part offer (commands_of before) (has_format before)) kind h r
+line_or_fault_in false offer limit before delim delimiter kind h r = passes_or_refuses (part_checks offer (commands_of before) (has_format before)) (fair_part offer (commands_of before) (has_format before)) kind h r
 line_or_fault_in true offer limit before (payload bytes) (argument arg long) kind h r = argument_line_or_fault offer limit before (text_of bytes) arg long kind h r
 line_or_fault_in part offer limit before packet line kind h r = absurd h
 
 pub line_or_fault : (offer : Offer) (limit : ℕ) (before : List Line) (packet : Pkt) (line : Line) (kind : Kind) → IsLine offer limit before packet line → HasFault offer limit before packet kind → ⊥
-line_or_fault offer limit before packet line kind h r = line_or_fault_in (has_boundary before) offer limit before packet line kind h r
+line_or_fault offer limit before packet line kind h r = line_or_fault_in (has_delimiter before) offer limit before packet line kind h r
 
 -- a capability is one line
 one_line_of : (key : Key) (value : Option (List ℕ)) (line other : Line) → IsLineOf key value line → IsLineOf key value other → line ≡ other
@@ -258,14 +258,14 @@ one_argument_line offer limit before text a b m n h k =
 
 one_line_in : (part : Bool) (offer : Offer) (limit : ℕ) (before : List Line) (packet : Pkt) (line other : Line) → IsLineIn part offer limit before packet line → IsLineIn part offer limit before packet other → line ≡ other
 one_line_in false offer limit before (payload bytes) line other h k = one_capability_line offer (is_none (commands_of before)) (text_of bytes) line other h k
-one_line_in false offer limit before delim boundary boundary h k = refl
+one_line_in false offer limit before delim delimiter delimiter h k = refl
 one_line_in true offer limit before (payload bytes) (argument a m) (argument b n) h k = one_argument_line offer limit before (text_of bytes) a b m n h k
-one_line_in false offer limit before delim boundary other h k = absurd k
+one_line_in false offer limit before delim delimiter other h k = absurd k
 one_line_in true offer limit before (payload bytes) (argument a m) other h k = absurd k
 one_line_in part offer limit before packet line other h k = absurd h
 
 pub one_line : (offer : Offer) (limit : ℕ) (before : List Line) (packet : Pkt) (line other : Line) → IsLine offer limit before packet line → IsLine offer limit before packet other → line ≡ other
-one_line offer limit before packet line other h k = one_line_in (has_boundary before) offer limit before packet line other h k
+one_line offer limit before packet line other h k = one_line_in (has_delimiter before) offer limit before packet line other h k
 
 -- a packet has one fault
 one_fault_in : (part : Bool) (offer : Offer) (limit : ℕ) (before : List Line) (packet : Pkt) (kind other : Kind) → HasFaultIn part offer limit before packet kind → HasFaultIn part offer limit before packet other → kind ≡ other
@@ -281,7 +281,7 @@ one_fault_in true offer limit before delim kind other h k = h ∙ sym k
 one_fault_in true offer limit before resp_end kind other h k = h ∙ sym k
 
 pub one_fault : (offer : Offer) (limit : ℕ) (before : List Line) (packet : Pkt) (kind other : Kind) → HasFault offer limit before packet kind → HasFault offer limit before packet other → kind ≡ other
-one_fault offer limit before packet kind other h k = one_fault_in (has_boundary before) offer limit before packet kind other h k
+one_fault offer limit before packet kind other h k = one_fault_in (has_delimiter before) offer limit before packet kind other h k
 
 -- packets are lines in one way
 pub one_list_of_lines : (offer : Offer) (limit : ℕ) (before : List Line) (gs : List Given) (lines others : List Line) → AreLines offer limit before gs lines → AreLines offer limit before gs others → lines ≡ others

@@ -14,7 +14,7 @@ use Rattle.git_msg.specs.declared.arguments.Command.TheVariants.{LsRefs}
 use Rattle.git_msg.specs.Arguments.{Arg}
 use Rattle.git_msg.specs.Asked.{asked_by, with_argument, is_symrefs, is_peel, prefix_in}
 use Rattle.git_msg.specs.Checks.{Check, Refuses}
-use Rattle.git_msg.specs.Lines.{Line, argument, command_in, argument_in, long_of, is_object_format, is_boundary, commands_of, arguments_of, kept_in, has_format, has_boundary, is_none, IsLine, IsLineIn, IsArgumentLine, IsCapabilityLine}
+use Rattle.git_msg.specs.Lines.{Line, argument, command_in, argument_in, long_of, is_object_format, is_delimiter, commands_of, arguments_of, kept_in, has_format, has_delimiter, is_none, IsLine, IsLineIn, IsArgumentLine, IsCapabilityLine}
 use Rattle.git_msg.specs.Requests.{AreLines}
 
 or_false : (a b : Bool) → (a || (b || false)) ≡ (b || a)
@@ -42,8 +42,8 @@ arguments_snoc lines line = filter_map_snoc argument_in lines line
 pub format_snoc : (lines : List Line) (line : Line) → has_format (lines ++ line ∷ []) ≡ (is_object_format line || has_format lines)
 format_snoc lines line = list_any_snoc is_object_format lines line
 
-pub boundary_snoc : (lines : List Line) (line : Line) → has_boundary (lines ++ line ∷ []) ≡ (is_boundary line || has_boundary lines)
-boundary_snoc lines line = list_any_snoc is_boundary lines line
+pub delimiter_snoc : (lines : List Line) (line : Line) → has_delimiter (lines ++ line ∷ []) ≡ (is_delimiter line || has_delimiter lines)
+delimiter_snoc lines line = list_any_snoc is_delimiter lines line
 
 pub kept_snoc : (lines : List Line) (line : Line) → kept_in (lines ++ line ∷ []) ≡ kept_in lines + long_of line
 kept_snoc lines line = omega (arith, sum_by-append long_of lines (line ∷ []))
@@ -62,12 +62,12 @@ lines_snoc offer limit before (h ∷ hs) (l ∷ ls) g line are is =
     (are.0, lines_snoc offer limit (before ++ l ∷ []) hs ls g line are.1 behind)
 
 -- the argument part's lines are argument lines
-pub argument_is_line : (offer : Offer) (limit : ℕ) (lines : List Line) (bytes : List ℕ) (arg : Arg) (long : ℕ) → has_boundary lines ≡ true → IsArgumentLine offer limit lines (text_of bytes) arg long → IsLine offer limit lines (payload bytes) (argument arg long)
+pub argument_is_line : (offer : Offer) (limit : ℕ) (lines : List Line) (bytes : List ℕ) (arg : Arg) (long : ℕ) → has_delimiter lines ≡ true → IsArgumentLine offer limit lines (text_of bytes) arg long → IsLine offer limit lines (payload bytes) (argument arg long)
 argument_is_line offer limit lines bytes arg long behind h =
     subst (λ (b : Bool). IsLineIn b offer limit lines (payload bytes) (argument arg long)) (sym behind) h
 
 -- a capability line is a line of the capability part
-pub capability_is_line : (offer : Offer) (limit : ℕ) (lines : List Line) (bytes : List ℕ) (line : Line) → has_boundary lines ≡ false → IsCapabilityLine offer (is_none (commands_of lines)) (text_of bytes) line → IsLine offer limit lines (payload bytes) line
+pub capability_is_line : (offer : Offer) (limit : ℕ) (lines : List Line) (bytes : List ℕ) (line : Line) → has_delimiter lines ≡ false → IsCapabilityLine offer (is_none (commands_of lines)) (text_of bytes) line → IsLine offer limit lines (payload bytes) line
 capability_is_line offer limit lines bytes line before h =
     subst (λ (b : Bool). IsLineIn b offer limit lines (payload bytes) line) (sym before) h
 

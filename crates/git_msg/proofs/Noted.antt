@@ -3,7 +3,8 @@ use Rattle.std.proofs.Common.{◌≡◌, ℕ, List, ◌∷◌, ◌&&◌, ◌||�
 use Rattle.std.specs.List.{list_any}
 use Rattle.std.specs.Str.{bytes_eq}
 use Rattle.git_pkt.specs.Packets.{Pkt, payload, text_of}
-use Rattle.git_msg.specs.Advertisement.{key_of, value_of, words_of, noted_of}
+use Rattle.git_msg.specs.Advertisement.{key_of, value_of, noted_of}
+use Rattle.git_msg.specs.Texts.{spaced_words}
 use Rattle.git_msg.specs.declared.offers.Caps.{Caps}
 
 -- what is noted when a line with this key and value comes too
@@ -12,8 +13,8 @@ noted_with caps key value = record {
   agent = bytes_eq key (codes "agent") || caps.agent;
   ls_refs = bytes_eq key (codes "ls-refs") || caps.ls_refs;
   fetch = bytes_eq key (codes "fetch") || caps.fetch;
-  shallow = bytes_eq key (codes "fetch") && list_any (λ w. bytes_eq w (codes "shallow")) (words_of value) || caps.shallow;
-  ref_in_want = bytes_eq key (codes "fetch") && list_any (λ w. bytes_eq w (codes "ref-in-want")) (words_of value) || caps.ref_in_want;
+  shallow = bytes_eq key (codes "fetch") && list_any (λ w. bytes_eq w (codes "shallow")) (spaced_words value) || caps.shallow;
+  ref_in_want = bytes_eq key (codes "fetch") && list_any (λ w. bytes_eq w (codes "ref-in-want")) (spaced_words value) || caps.ref_in_want;
   server_option = bytes_eq key (codes "server-option") || caps.server_option;
   object_info = bytes_eq key (codes "object-info") || caps.object_info;
   object_format = bytes_eq key (codes "object-format") || caps.object_format;

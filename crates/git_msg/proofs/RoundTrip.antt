@@ -18,11 +18,11 @@ use Rattle.git_msg.specs.declared.capability_key.Key.TheVariants.{CommandKey, Ag
 use Rattle.git_msg.specs.Texts.{IsErrorText}
 use Rattle.git_msg.specs.Arguments.{Arg, symrefs, peel, ref_prefix, IsArgument, IsOffered, most_text}
 use Rattle.git_msg.specs.Asked.{Asked, ls_refs, LsRefsAsked, asked_by, is_symrefs, is_peel, prefix_in, prefix_bytes, flag_bytes, written_bytes, HasShortTexts}
-use Rattle.git_msg.specs.Lines.{Line, command, agent, object_format, boundary, argument, is_none, commands_of, arguments_of, kept_in, has_format, has_boundary, long_of, flush_checks_in, IsCapabilityLine, IsArgumentLine, IsFormatMeant, IsLine, IsLineIn}
+use Rattle.git_msg.specs.Lines.{Line, command, agent, object_format, delimiter, argument, is_none, commands_of, arguments_of, kept_in, has_format, has_delimiter, long_of, flush_checks_in, IsCapabilityLine, IsArgumentLine, IsFormatMeant, IsLine, IsLineIn}
 use Rattle.git_msg.specs.Checks.{Passes}
 use Rattle.git_msg.specs.Requests.{AreLines, Asks}
 use Rattle.git_msg.specs.Writing.{text_line, where_set, prefix_lines, argument_lines, format_lines, agent_lines, lines_written}
-use Rattle.git_msg.proofs.LineLists.{commands_snoc, boundary_snoc, kept_snoc, argument_is_line, capability_is_line}
+use Rattle.git_msg.proofs.LineLists.{commands_snoc, delimiter_snoc, kept_snoc, argument_is_line, capability_is_line}
 
 chosen : (a b : Bool) (x y : List ℕ) → a ≡ true → b ≡ true → (if a && b then x else y) ≡ x
 chosen true true x y h k = refl
@@ -108,11 +108,11 @@ offered_to offer (ref_prefix p) = tt
 
 -- the state of the lines in the argument part
 record Ready (before : List Line) : Type 0 where
-  behind : has_boundary before ≡ true
+  behind : has_delimiter before ≡ true
   once : commands_of before ≡ LsRefs ∷ []
 
 ready_more : (before : List Line) (arg : Arg) (long : ℕ) → Ready before → Ready (before ++ argument arg long ∷ [])
-ready_more before arg long h = record { behind = boundary_snoc before (argument arg long) ∙ h.behind; once = commands_snoc before (argument arg long) ∙ ap (λ cs. cs ++ []) h.once }
+ready_more before arg long h = record { behind = delimiter_snoc before (argument arg long) ∙ h.behind; once = commands_snoc before (argument arg long) ∙ ap (λ cs. cs ++ []) h.once }
 
 -- a line of an argument that fits
 argument_line_is : (offer : Offer) (limit : ℕ) (before : List Line) (text : List ℕ) (arg : Arg) → Ready before → IsArgument LsRefs offer.format text arg → slice_index text 0 ≢ 69 → kept_in before + length text ≤ limit → IsLine offer limit before (text_line text) (argument arg (length text))
@@ -172,17 +172,17 @@ arguments_finish offer limit before true second ps gs ready short fits h =
 arguments_finish offer limit before false second ps gs ready short fits h = symrefs_finish offer limit before second ps gs ready short (omega (arith, fits)) h
 
 -- the delimiter and what follows
-delimiter_finish : (offer : Offer) (limit : ℕ) (before : List Line) (q : LsRefsAsked) (gs : List Given) → has_boundary before ≡ false → commands_of before ≡ LsRefs ∷ [] → IsFormatMeant offer.format (has_format before) → kept_in before ≡ 0 → AreShort q.ref_prefixes → written_bytes (ls_refs q) ≤ limit → packets_of gs ≡ delim ∷ argument_lines (ls_refs q) → Finishes offer limit before gs (boundary ∷ all_arguments q.peel q.symrefs q.ref_prefixes)
+delimiter_finish : (offer : Offer) (limit : ℕ) (before : List Line) (q : LsRefsAsked) (gs : List Given) → has_delimiter before ≡ false → commands_of before ≡ LsRefs ∷ [] → IsFormatMeant offer.format (has_format before) → kept_in before ≡ 0 → AreShort q.ref_prefixes → written_bytes (ls_refs q) ≤ limit → packets_of gs ≡ delim ∷ argument_lines (ls_refs q) → Finishes offer limit before gs (delimiter ∷ all_arguments q.peel q.symrefs q.ref_prefixes)
 delimiter_finish offer limit before q gs in_front once meant none short fits h =
-    let line : IsLineIn false offer limit before delim boundary = (ap is_none once, (meant, tt)) in
-    let more : kept_in (before ++ boundary ∷ []) ≡ kept_in before + 0 = kept_snoc before boundary in
-    cons_line offer limit before gs delim (argument_lines (ls_refs q)) boundary (all_arguments q.peel q.symrefs q.ref_prefixes) h
-    (subst (λ (b : Bool). IsLineIn b offer limit before delim boundary) (sym in_front) line)
-    (λ others e. arguments_finish offer limit (before ++ boundary ∷ []) q.peel q.symrefs q.ref_prefixes others
-    (record { behind = boundary_snoc before boundary; once = commands_snoc before boundary ∙ ap (λ cs. cs ++ []) once }) short (omega (arith, more, none, fits)) e)
+    let line : IsLineIn false offer limit before delim delimiter = (ap is_none once, (meant, tt)) in
+    let more : kept_in (before ++ delimiter ∷ []) ≡ kept_in before + 0 = kept_snoc before delimiter in
+    cons_line offer limit before gs delim (argument_lines (ls_refs q)) delimiter (all_arguments q.peel q.symrefs q.ref_prefixes) h
+    (subst (λ (b : Bool). IsLineIn b offer limit before delim delimiter) (sym in_front) line)
+    (λ others e. arguments_finish offer limit (before ++ delimiter ∷ []) q.peel q.symrefs q.ref_prefixes others
+    (record { behind = delimiter_snoc before delimiter; once = commands_snoc before delimiter ∙ ap (λ cs. cs ++ []) once }) short (omega (arith, more, none, fits)) e)
 
 -- a capability line that was written
-capability_written : (offer : Offer) (limit : ℕ) (before : List Line) (text : List ℕ) (line : Line) → has_boundary before ≡ false → IsCapabilityLine offer (is_none (commands_of before)) text line → IsLine offer limit before (text_line text) line
+capability_written : (offer : Offer) (limit : ℕ) (before : List Line) (text : List ℕ) (line : Line) → has_delimiter before ≡ false → IsCapabilityLine offer (is_none (commands_of before)) text line → IsLine offer limit before (text_line text) line
 capability_written offer limit before text line in_front is =
     capability_is_line offer limit before (text ++ 10 ∷ []) line in_front (subst (λ (t : List ℕ). IsCapabilityLine offer (is_none (commands_of before)) t line) (sym (text_of_line text)) is)
 
@@ -238,7 +238,7 @@ meant_when_said : (format : Format) → IsFormatMeant format true
 meant_when_said Sha1 = tt
 meant_when_said Sha256 = refl
 
-heads_finish : (offer : Offer) (limit : ℕ) (says_agent says_format : Bool) (q : LsRefsAsked) (gs : List Given) → IsFormatMeant offer.format says_format → AreShort q.ref_prefixes → written_bytes (ls_refs q) ≤ limit → packets_of gs ≡ lines_written says_agent says_format LsRefs offer.format (ls_refs q) → Finishes offer limit [] gs (head_lines says_agent says_format ++ boundary ∷ all_arguments q.peel q.symrefs q.ref_prefixes)
+heads_finish : (offer : Offer) (limit : ℕ) (says_agent says_format : Bool) (q : LsRefsAsked) (gs : List Given) → IsFormatMeant offer.format says_format → AreShort q.ref_prefixes → written_bytes (ls_refs q) ≤ limit → packets_of gs ≡ lines_written says_agent says_format LsRefs offer.format (ls_refs q) → Finishes offer limit [] gs (head_lines says_agent says_format ++ delimiter ∷ all_arguments q.peel q.symrefs q.ref_prefixes)
 unfolding head_lines
 heads_finish offer limit true true q gs meant short fits h =
     cons_line offer limit [] gs (text_line (codes "command=ls-refs")) (agent_lines true true offer.format (ls_refs q)) (command LsRefs) _ h
@@ -319,7 +319,7 @@ record IsHead (head : List Line) : Type 0 where
   commands : (lines : List Line) → commands_of (head ++ lines) ≡ LsRefs ∷ commands_of lines
   arguments : (lines : List Line) → arguments_of (head ++ lines) ≡ arguments_of lines
   kept : (lines : List Line) → kept_in (head ++ lines) ≡ kept_in lines
-  bounded : (lines : List Line) → has_boundary (head ++ boundary ∷ lines) ≡ true
+  bounded : (lines : List Line) → has_delimiter (head ++ delimiter ∷ lines) ≡ true
 
 is_head : (says_agent says_format : Bool) → IsHead (head_lines says_agent says_format)
 unfolding head_lines
@@ -345,7 +345,7 @@ plain n = omega arith
 -- what is written of a request is a request for the same
 pub reads_back : (offer : Offer) (limit : ℕ) (says_agent says_format : Bool) (c : Command) (asked : Asked) (gs : List Given) → IsFormatMeant offer.format says_format → HasShortTexts asked → written_bytes asked ≤ limit → packets_of gs ≡ lines_written says_agent says_format c offer.format asked → Asks offer limit gs asked (written_bytes asked)
 reads_back offer limit says_agent says_format LsRefs (ls_refs q) gs meant short fits h =
-    let rest = boundary ∷ all_arguments q.peel q.symrefs q.ref_prefixes in
+    let rest = delimiter ∷ all_arguments q.peel q.symrefs q.ref_prefixes in
     let head = is_head says_agent says_format in
     let says = all_say q.peel q.symrefs q.ref_prefixes in
     let f = heads_finish offer limit says_agent says_format q gs meant (short_by_one q.ref_prefixes short) fits h in
@@ -364,5 +364,5 @@ reads_back offer limit says_agent says_format LsRefs (ls_refs q) gs meant short 
       once = once;
       checks = subst (λ (b : Bool). Passes (flush_checks_in b offer (head_lines says_agent says_format ++ rest))) (sym (head.bounded (all_arguments q.peel q.symrefs q.ref_prefixes))) checks;
       asked_is = same_asked q (record { symrefs = list_any is_symrefs (arguments_of (all_arguments q.peel q.symrefs q.ref_prefixes)); peel = list_any is_peel (arguments_of (all_arguments q.peel q.symrefs q.ref_prefixes)); ref_prefixes = filter_map prefix_in (arguments_of (all_arguments q.peel q.symrefs q.ref_prefixes)) }) says.asks_symrefs says.asks_peel says.asks_prefixes ∙ ap (λ xs. asked_by LsRefs xs) (sym args);
-      kept_is = sym bytes ∙ sym (head.kept rest ∙ kept_cons boundary (all_arguments q.peel q.symrefs q.ref_prefixes) ∙ plain (kept_in (all_arguments q.peel q.symrefs q.ref_prefixes)));
+      kept_is = sym bytes ∙ sym (head.kept rest ∙ kept_cons delimiter (all_arguments q.peel q.symrefs q.ref_prefixes) ∙ plain (kept_in (all_arguments q.peel q.symrefs q.ref_prefixes)));
     }

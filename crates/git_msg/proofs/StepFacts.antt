@@ -18,11 +18,10 @@ use Rattle.git_msg.specs.Arguments.{Arg}
 use Rattle.git_msg.specs.Asked.{nothing_asked, asked_by}
 use Rattle.git_msg.specs.Checks.{Refuses, Passes}
 use Rattle.git_msg.specs.Holding.{IsEmpty, command_of, limit_of}
-use Rattle.git_msg.specs.Judging.{text_checks}
-use Rattle.git_msg.specs.Lines.{Line, command, agent, server_option, object_format, boundary, argument, is_none, commands_of, arguments_of, kept_in, has_format, is_object_format, command_in, argument_in, long_of, is_boundary, IsLineOf, key_checks, IsCapabilityLine, argument_checks, capability_checks, part_checks, end_checks, flush_checks_in, IsLineIn, HasFaultIn}
+use Rattle.git_msg.specs.Lines.{Line, command, agent, server_option, object_format, delimiter, argument, is_none, commands_of, arguments_of, kept_in, has_format, is_object_format, command_in, argument_in, long_of, is_delimiter, IsLineOf, key_checks, IsCapabilityLine, argument_checks, text_checks, capability_checks, part_checks, end_checks, flush_checks_in, IsLineIn, HasFaultIn}
 use Rattle.git_msg.specs.Taking.{InCapabilities, InArguments, is_nil, fault_in, waits_in, limit_in, kept_so_far}
 use Rattle.git_msg.specs.TakingSteps.{InLines, Advances, StepsOn, Notes, IsDue, is_first, with_line, restarted}
-use Rattle.git_msg.proofs.LineLists.{commands_snoc, arguments_snoc, format_snoc, boundary_snoc, kept_snoc, capability_is_line}
+use Rattle.git_msg.proofs.LineLists.{commands_snoc, arguments_snoc, format_snoc, delimiter_snoc, kept_snoc, capability_is_line}
 
 -- no command came, by both words
 pub first_by : (o : Option Command) (b : Bool) → is_some o ≡ not b → b ≡ is_none (option_to_list o)
@@ -40,12 +39,12 @@ snoc_is_some [] line = refl
 snoc_is_some (l ∷ ls) line = refl
 
 -- a line of the capability part is neither a delimiter nor an argument
-no_boundary : (key : Key) (value : Option (List ℕ)) → IsLineOf key value boundary → ⊥
-no_boundary CommandKey value h = h
-no_boundary AgentKey value h = h
-no_boundary ServerOptionKey value h = h
-no_boundary ObjectFormatKey value h = h
-no_boundary OtherKey value h = h
+no_delimiter : (key : Key) (value : Option (List ℕ)) → IsLineOf key value delimiter → ⊥
+no_delimiter CommandKey value h = h
+no_delimiter AgentKey value h = h
+no_delimiter ServerOptionKey value h = h
+no_delimiter ObjectFormatKey value h = h
+no_delimiter OtherKey value h = h
 
 no_argument : (key : Key) (value : Option (List ℕ)) (arg : Arg) (long : ℕ) → IsLineOf key value (argument arg long) → ⊥
 no_argument CommandKey value arg long h = h
@@ -59,7 +58,7 @@ no_argument_in key value (command c) h = refl
 no_argument_in key value agent h = refl
 no_argument_in key value server_option h = refl
 no_argument_in key value object_format h = refl
-no_argument_in key value boundary h = refl
+no_argument_in key value delimiter h = refl
 no_argument_in key value (argument arg long) h = absurd (no_argument key value arg long h)
 
 -- a command line is the first
@@ -87,9 +86,9 @@ text_refused c offer limit kept text kind (inr (no_error, inr h)) = absurd h.1
 
 module _ {A : Type 0} where
   -- a line that is neither a command nor a format
-  other_line : (lines : List Line) (line : Line) (r : RequestReader A) → command_in line ≡ None → argument_in line ≡ None → long_of line ≡ 0 → is_object_format line ≡ false → is_boundary line ≡ false → InCapabilities lines r → InCapabilities (lines ++ line ∷ []) (record r { begun = true })
+  other_line : (lines : List Line) (line : Line) (r : RequestReader A) → command_in line ≡ None → argument_in line ≡ None → long_of line ≡ 0 → is_object_format line ≡ false → is_delimiter line ≡ false → InCapabilities lines r → InCapabilities (lines ++ line ∷ []) (record r { begun = true })
   other_line lines line r no_cmd no_arg no_long no_format no_bound h = record {
-    before = boundary_snoc lines line ∙ rw no_bound h.before;
+    before = delimiter_snoc lines line ∙ rw no_bound h.before;
     begun = snoc_is_some lines line;
     command = commands_snoc lines line ∙ rw (no_cmd, append-nil) h.command;
     format = format_snoc lines line ∙ rw no_format h.format;
@@ -102,7 +101,7 @@ module _ {A : Type 0} where
       let first = first_command r.offer (is_first r) is.key is.value c is.allowed is.line_is in
       let none : commands_of lines ≡ [] = no_command_list (commands_of lines) (ap is_none h.command ∙ first) in
       record {
-        before = boundary_snoc lines (command c) ∙ h.before;
+        before = delimiter_snoc lines (command c) ∙ h.before;
         begun = snoc_is_some lines (command c);
         command = commands_snoc lines (command c) ∙ ap (λ cs. cs ++ c ∷ []) none;
         format = format_snoc lines (command c) ∙ h.format;
@@ -112,14 +111,14 @@ module _ {A : Type 0} where
   noted_in text agent lines r is h = other_line lines agent r refl refl refl refl refl h
   noted_in text server_option lines r is h = other_line lines server_option r refl refl refl refl refl h
   noted_in text object_format lines r is h = record {
-    before = boundary_snoc lines object_format ∙ h.before;
+    before = delimiter_snoc lines object_format ∙ h.before;
     begun = snoc_is_some lines object_format;
     command = commands_snoc lines object_format ∙ rw append-nil h.command;
     format = format_snoc lines object_format;
     no_argument = arguments_snoc lines object_format ∙ rw append-nil h.no_argument;
     nothing_kept = omega (arith, kept_snoc lines object_format, h.nothing_kept);
   }
-  noted_in text boundary lines r is h = absurd (no_boundary is.key is.value is.line_is)
+  noted_in text delimiter lines r is h = absurd (no_delimiter is.key is.value is.line_is)
   noted_in text (argument arg long) lines r is h = absurd (no_argument is.key is.value arg long is.line_is)
 
   with_line_part : (line : Line) (r : RequestReader A) → (with_line line r).part ≡ r.part
@@ -127,7 +126,7 @@ module _ {A : Type 0} where
   with_line_part agent r = refl
   with_line_part server_option r = refl
   with_line_part object_format r = refl
-  with_line_part boundary r = refl
+  with_line_part delimiter r = refl
   with_line_part (argument arg long) r = refl
 
   with_line_offer : (line : Line) (r : RequestReader A) → (with_line line r).offer ≡ r.offer
@@ -135,7 +134,7 @@ module _ {A : Type 0} where
   with_line_offer agent r = refl
   with_line_offer server_option r = refl
   with_line_offer object_format r = refl
-  with_line_offer boundary r = refl
+  with_line_offer delimiter r = refl
   with_line_offer (argument arg long) r = refl
 
   with_line_kept : (line : Line) (r : RequestReader A) → kept_so_far (with_line line r) ≡ kept_so_far r
@@ -143,7 +142,7 @@ module _ {A : Type 0} where
   with_line_kept agent r = refl
   with_line_kept server_option r = refl
   with_line_kept object_format r = refl
-  with_line_kept boundary r = refl
+  with_line_kept delimiter r = refl
   with_line_kept (argument arg long) r = refl
 
   with_line_limit : (line : Line) (r : RequestReader A) → limit_in (with_line line r) ≡ limit_in r
@@ -151,7 +150,7 @@ module _ {A : Type 0} where
   with_line_limit agent r = refl
   with_line_limit server_option r = refl
   with_line_limit object_format r = refl
-  with_line_limit boundary r = refl
+  with_line_limit delimiter r = refl
   with_line_limit (argument arg long) r = refl
 
   in_capabilities : (lines : List Line) (r : RequestReader A) → r.part ≡ Capabilities → InLines r.part lines r → InCapabilities lines r
@@ -214,16 +213,16 @@ module _ {A : Type 0} where
   delimited r offset c q part due empty = record {
     goes = λ lines there.
         let h = in_capabilities lines r part there in
-        let line : IsLineIn false r.offer (limit_in r) lines delim boundary = judged lines r c h due in
+        let line : IsLineIn false r.offer (limit_in r) lines delim delimiter = judged lines r c h due in
         record {
-          line = boundary;
-          is_line = subst (λ (b : Bool). IsLineIn b r.offer (limit_in r) lines delim boundary) (sym h.before) line;
+          line = delimiter;
+          is_line = subst (λ (b : Bool). IsLineIn b r.offer (limit_in r) lines delim delimiter) (sym h.before) line;
           no_argument = refl;
           in_lines = record {
-            behind = boundary_snoc lines boundary;
-            command = commands_snoc lines boundary ∙ rw append-nil (commands_due lines r c h due) ∙ ap (λ x. x ∷ []) (sym empty.command_is);
-            asked = empty.asked ∙ nothing_asked_by c ∙ ap (λ args. asked_by c args) (sym (arguments_snoc lines boundary ∙ rw append-nil h.no_argument)) ∙ ap (λ x. asked_by x (arguments_of (lines ++ boundary ∷ []))) (sym empty.command_is);
-            kept = omega (arith, empty.kept, kept_snoc lines boundary, h.nothing_kept);
+            behind = delimiter_snoc lines delimiter;
+            command = commands_snoc lines delimiter ∙ rw append-nil (commands_due lines r c h due) ∙ ap (λ x. x ∷ []) (sym empty.command_is);
+            asked = empty.asked ∙ nothing_asked_by c ∙ ap (λ args. asked_by c args) (sym (arguments_snoc lines delimiter ∙ rw append-nil h.no_argument)) ∙ ap (λ x. asked_by x (arguments_of (lines ++ delimiter ∷ []))) (sym empty.command_is);
+            kept = omega (arith, empty.kept, kept_snoc lines delimiter, h.nothing_kept);
             format = empty.format_is;
           };
         };

@@ -1,17 +1,18 @@
 -- What the lines of a capability advertisement say, all of them together.
 use Rattle.std.specs.Prelude.{ℕ, ◌==◌, Bool, not, ◌&&◌, ◌||◌, List, [], codes}
-use Rattle.std.specs.List.{list_any, before_first, after_first, slice_split}
+use Rattle.std.specs.List.{list_any, before_first, after_first}
 use Rattle.std.specs.Str.{bytes_eq}
 use Rattle.git_names.specs.declared.object_format.Format.{Format}
 use Rattle.git_names.specs.declared.object_format.Format.TheVariants.{Sha1, Sha256}
 use Rattle.git_pkt.specs.Packets.{Pkt, payload, text_of}
+use Rattle.git_msg.specs.Texts.{spaced_words}
 use Rattle.git_msg.specs.declared.offers.Caps.{Caps}
 use Rattle.git_msg.specs.declared.offers.Offer.{Offer}
 
 -- the text of a packet, where it has one
-abbrev pub line_of : Pkt → List ℕ
-line_of (payload bytes) = text_of bytes
-line_of _ = []
+abbrev pub text_in : Pkt → List ℕ
+text_in (payload bytes) = text_of bytes
+text_in _ = []
 
 -- what a line has before its first `=`, or all of it
 abbrev pub key_of : List ℕ → List ℕ
@@ -21,21 +22,17 @@ key_of line = before_first (λ c. c == 61) line
 abbrev pub value_of : List ℕ → List ℕ
 value_of line = after_first (λ c. c == 61) line
 
--- the words of a value, which single spaces part
-abbrev pub words_of : List ℕ → List (List ℕ)
-words_of value = slice_split (λ c. c == 32) value
-
 -- the packet's line has this key
 abbrev pub has_key : List ℕ → Pkt → Bool
-has_key key p = bytes_eq (key_of (line_of p)) key
+has_key key p = bytes_eq (key_of (text_in p)) key
 
 -- the packet's line has this key and this value
 abbrev pub has_value : List ℕ → List ℕ → Pkt → Bool
-has_value key value p = has_key key p && bytes_eq (value_of (line_of p)) value
+has_value key value p = has_key key p && bytes_eq (value_of (text_in p)) value
 
 -- the packet's line has this key, and this word in its value
 abbrev pub has_word : List ℕ → List ℕ → Pkt → Bool
-has_word key word p = has_key key p && list_any (λ w. bytes_eq w word) (words_of (value_of (line_of p)))
+has_word key word p = has_key key p && list_any (λ w. bytes_eq w word) (spaced_words (value_of (text_in p)))
 
 -- what an advertisement of these packets notes: each thing that some line of it names
 abbrev pub noted_of : List Pkt → Caps
@@ -58,8 +55,8 @@ is_spoken caps Sha1 = caps.sha1 || not caps.object_format
 is_spoken caps Sha256 = caps.sha256
 
 -- what is offered to a side that speaks this format
-abbrev pub offer_of : Caps → Format → Offer
-offer_of caps format = record {
+abbrev pub noted_offer : Caps → Format → Offer
+noted_offer caps format = record {
   format = format;
   shallow = caps.shallow;
   ref_in_want = caps.ref_in_want;

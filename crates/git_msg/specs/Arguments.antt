@@ -30,6 +30,10 @@ name_of LsRefs = codes "ls-refs"
 abbrev pub most_text : ℕ
 most_text = 32000
 
+-- the most that a limit on the bytes of kept texts may be
+abbrev pub most_limit : ℕ
+most_limit = 1073741824
+
 -- the text is this argument of the command, and its value is one that may stand there
 abbrev pub IsArgument : Command → Format → List ℕ → Arg → Type 0
 IsArgument LsRefs format text symrefs = text ≡ codes "symrefs"
@@ -67,7 +71,7 @@ written_text symrefs = codes "symrefs"
 written_text peel = codes "peel"
 written_text (ref_prefix prefix) = codes "ref-prefix " ++ prefix
 
--- an argument that is neither a flag nor a number: memory is needed to keep it
+-- the argument has a text, for which memory is taken
 abbrev pub TakesMemory : Arg → Type 0
 TakesMemory symrefs = ⊥
 TakesMemory peel = ⊥

@@ -1,13 +1,11 @@
 -- What the code makes of one line.
-use Rattle.std.specs.Prelude.{ℕ, List, [], ◌∷◌}
-use Rattle.git_pkt.specs.declared.fault.Kind.TheVariants.{RemoteError}
+use Rattle.std.specs.Prelude.{ℕ, List}
 use Rattle.git_msg.specs.declared.offers.Offer.{Offer}
 use Rattle.git_msg.specs.declared.arguments.Command.{Command}
 use Rattle.git_msg.specs.declared.judge.Noted.{Noted}
 use Rattle.git_msg.specs.declared.judge.Noted.TheVariants.{Command as NotedCommand, Agent, ServerOption, ObjectFormat}
 use Rattle.git_msg.specs.Texts.{IsErrorText}
-use Rattle.git_msg.specs.Arguments.{Arg, ReadsAs, IsArgumentFault}
-use Rattle.git_msg.specs.Checks.{Check, unless}
+use Rattle.git_msg.specs.Arguments.{Arg, ReadsAs}
 use Rattle.git_msg.specs.Lines.{Line, command, agent, server_option, object_format}
 
 abbrev pub line_of : Noted → Line
@@ -20,9 +18,3 @@ line_of ObjectFormat = object_format
 pub record IsText (c : Command) (offer : Offer) (text : List ℕ) (arg : Arg) : Type 0 where
   pub no_error : ¬ IsErrorText text
   pub reads : ReadsAs c offer text arg
-
--- what refuses the text of an argument, whatever is kept
-abbrev pub text_checks : Command → Offer → List ℕ → List Check
-text_checks c offer text =
-    unless (IsErrorText text) RemoteError
-    ∷ record { refuses = IsArgumentFault c offer text; passes = (arg : Arg) × ReadsAs c offer text arg } ∷ []

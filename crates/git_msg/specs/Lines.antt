@@ -24,7 +24,7 @@ pub data Line : Type 0 where
   agent : Line
   server_option : Line
   object_format : Line
-  boundary : Line
+  delimiter : Line
   argument : Arg → ℕ → Line
 
 abbrev pub command_in : Line → Option Command
@@ -43,9 +43,9 @@ abbrev pub is_object_format : Line → Bool
 is_object_format object_format = true
 is_object_format _ = false
 
-abbrev pub is_boundary : Line → Bool
-is_boundary boundary = true
-is_boundary _ = false
+abbrev pub is_delimiter : Line → Bool
+is_delimiter delimiter = true
+is_delimiter _ = false
 
 abbrev pub is_none : List Command → Bool
 is_none [] = true
@@ -68,8 +68,8 @@ abbrev pub has_format : List Line → Bool
 has_format = list_any is_object_format
 
 -- the delimiter is among the lines, so what follows are arguments
-abbrev pub has_boundary : List Line → Bool
-has_boundary = list_any is_boundary
+abbrev pub has_delimiter : List Line → Bool
+has_delimiter = list_any is_delimiter
 
 -- the key of a capability line
 abbrev pub IsWordOf : List ℕ → Key → Type 0
@@ -149,12 +149,16 @@ part_checks offer commands said =
     check (is_none commands ≡ false) (is_none commands ≡ true) NoCommand
     ∷ check (IsFormatMeant offer.format said) (IsOtherFormatMeant offer.format said) WrongFormat ∷ []
 
--- what refuses a text of the argument part, which is then read, found to be within the limit, and kept
+-- what refuses a text of the argument part, however much is kept
+abbrev pub text_checks : Command → Offer → List ℕ → List Check
+text_checks c offer text =
+    unless (IsErrorText text) RemoteError
+    ∷ record { refuses = IsArgumentFault c offer text; passes = (arg : Arg) × ReadsAs c offer text arg } ∷ []
+
+-- what refuses an argument line: its text, and then the limit
 abbrev pub argument_checks : Offer → ℕ → Command → ℕ → List ℕ → List Check
 argument_checks offer limit c kept text =
-    unless (IsErrorText text) RemoteError
-    ∷ record { refuses = IsArgumentFault c offer text; passes = (arg : Arg) × ReadsAs c offer text arg }
-    ∷ check (kept + length text ≤ limit) (limit < kept + length text) TooMuchKept ∷ []
+    text_checks c offer text ++ check (kept + length text ≤ limit) (limit < kept + length text) TooMuchKept ∷ []
 
 -- the text is this argument; whether it can be kept is another question
 pub record IsArgumentText (offer : Offer) (before : List Line) (text : List ℕ) (arg : Arg) : Type 0 where
@@ -192,17 +196,17 @@ flush_checks_in true offer lines = at_end lines ∷ []
 flush_checks_in false offer lines = part_checks offer (commands_of lines) (has_format lines) ++ at_end lines ∷ []
 
 abbrev pub flush_checks : Offer → List Line → List Check
-flush_checks offer lines = flush_checks_in (has_boundary lines) offer lines
+flush_checks offer lines = flush_checks_in (has_delimiter lines) offer lines
 
 abbrev pub IsLineIn : Bool → Offer → ℕ → List Line → Pkt → Line → Type 0
 IsLineIn false offer limit before (payload bytes) line = IsCapabilityLine offer (is_none (commands_of before)) (text_of bytes) line
-IsLineIn false offer limit before delim boundary = Passes (part_checks offer (commands_of before) (has_format before))
+IsLineIn false offer limit before delim delimiter = Passes (part_checks offer (commands_of before) (has_format before))
 IsLineIn true offer limit before (payload bytes) (argument arg long) = IsArgumentLine offer limit before (text_of bytes) arg long
 IsLineIn _ offer limit before _ _ = ⊥
 
 -- the packet is this line of a request, behind the lines before it
 abbrev pub IsLine : Offer → ℕ → List Line → Pkt → Line → Type 0
-IsLine offer limit before packet line = IsLineIn (has_boundary before) offer limit before packet line
+IsLine offer limit before packet line = IsLineIn (has_delimiter before) offer limit before packet line
 
 abbrev pub HasFaultIn : Bool → Offer → ℕ → List Line → Pkt → Kind → Type 0
 HasFaultIn false offer limit before (payload bytes) kind =
@@ -215,4 +219,4 @@ HasFaultIn _ offer limit before _ kind = kind ≡ UnexpectedPacket
 
 -- the packet is refused by this name, behind the lines before it
 abbrev pub HasFault : Offer → ℕ → List Line → Pkt → Kind → Type 0
-HasFault offer limit before packet kind = HasFaultIn (has_boundary before) offer limit before packet kind
+HasFault offer limit before packet kind = HasFaultIn (has_delimiter before) offer limit before packet kind

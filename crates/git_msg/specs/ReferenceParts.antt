@@ -3,8 +3,9 @@ use Rattle.std.specs.Prelude.{◌≡◌, ℕ, Option, Some, None, List, [], ◌+
 use Rattle.git_names.specs.declared.object_format.Format.{Format}
 use Rattle.git_msg.specs.declared.reference_lines.Attribute.{Attribute}
 use Rattle.git_msg.specs.declared.reference_lines.Attribute.TheVariants.{Target, Peeled, Other}
+use Rattle.git_msg.specs.Texts.{spaced_words}
 use Rattle.git_msg.specs.Checks.{Passes}
-use Rattle.git_msg.specs.References.{spaced_words, value_behind, values_of, last_of, IsAttribute, attribute_checks}
+use Rattle.git_msg.specs.References.{value_behind, values_of, last_of, IsAttribute, attribute_checks}
 
 -- the words of what is left of a line, if there are more
 abbrev pub words_left : Option (List ℕ) → List (List ℕ)

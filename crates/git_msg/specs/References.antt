@@ -1,6 +1,6 @@
 -- Reference lines, as answers to ls-refs have them.
-use Rattle.std.specs.Prelude.{◌≡◌, ℕ, ◌+◌, ◌==◌, Option, Some, None, List, [], ◌∷◌, ◌++◌, length, take, drop, codes, if◌then◌else◌}
-use Rattle.std.specs.List.{filter_map, slice_split}
+use Rattle.std.specs.Prelude.{◌≡◌, ℕ, ◌+◌, Option, Some, None, List, [], ◌∷◌, ◌++◌, length, take, drop, codes, if◌then◌else◌}
+use Rattle.std.specs.List.{filter_map}
 use Rattle.std.specs.Str.{bytes_eq}
 use Rattle.std.specs.Option.{option_copied}
 use Rattle.git_names.specs.ObjectFormat.{digits_of}
@@ -10,7 +10,7 @@ use Rattle.git_names.specs.declared.object_format.Format.{Format}
 use Rattle.git_pkt.specs.declared.fault.Kind.{Kind}
 use Rattle.git_pkt.specs.declared.fault.Kind.TheVariants.{BadLine, BadObjectName, BadRefName}
 use Rattle.git_msg.specs.declared.references.Reference.{Reference}
-use Rattle.git_msg.specs.Texts.{Follows}
+use Rattle.git_msg.specs.Texts.{Follows, spaced_words}
 use Rattle.git_msg.specs.Checks.{Check, check, Refuses, Passes}
 
 -- a reference, wherever its texts lie
@@ -26,10 +26,6 @@ reference_of id name target peeled = record { id = id; name = name; target = tar
 -- the reference that a borrowed one shows
 abbrev pub shown_reference : Reference → Ref
 shown_reference r = record { id = r.id; name = r.name.now; target = option_copied r.target; peeled = r.peeled }
-
--- the parts of a line between single spaces
-abbrev pub spaced_words : List ℕ → List (List ℕ)
-spaced_words text = slice_split (λ c. c == 32) text
 
 -- what stands behind the word, where the text begins with it
 abbrev pub value_behind : List ℕ → List ℕ → Option (List ℕ)
@@ -110,7 +106,8 @@ peeled_count (Some id) = 8 + digits_of id.format
 abbrev pub reference_text : Ref → List ℕ
 reference_text ref = hex_of ref.id ++ 32 ∷ (ref.name ++ target_text ref.target ++ peeled_text ref.peeled)
 
--- a reference that may be written: its names are reference names, and its object names are of one format
+-- a reference whose line reads back as it is: its texts are reference names, and what it peels to has the format of
+-- its own object
 pub record IsWritable (ref : Ref) : Type 0 where
   pub name : IsRefName ref.name
   pub target : (name : List ℕ) → ref.target ≡ Some name → IsRefName name

@@ -12,7 +12,7 @@ use Rattle.git_msg.specs.declared.reader.Taken.TheVariants.{More, Argument as Ta
 use Rattle.git_msg.specs.Arguments.{Arg, shown}
 use Rattle.git_msg.specs.Asked.{asked_by}
 use Rattle.git_msg.specs.Holding.{asked_of, command_of, format_of, kept_of, limit_of}
-use Rattle.git_msg.specs.Lines.{Line, commands_of, arguments_of, kept_in, has_format, has_boundary, IsArgumentText}
+use Rattle.git_msg.specs.Lines.{Line, commands_of, arguments_of, kept_in, has_format, has_delimiter, IsArgumentText}
 use Rattle.git_msg.specs.Requests.{AreLines, IsPlainLine, Asks, FirstFault, IsTold, IsStop}
 
 -- no line yet
@@ -51,7 +51,7 @@ module _ {A : Type 0} where
 
   -- no delimiter came yet
   pub record InCapabilities (lines : List Line) (r : RequestReader A) : Type 0 where
-    pub before : has_boundary lines ≡ false
+    pub before : has_delimiter lines ≡ false
     pub begun : is_nil lines ≡ not r.begun
     pub command : commands_of lines ≡ option_to_list r.command
     pub format : has_format lines ≡ r.has_format
@@ -60,7 +60,7 @@ module _ {A : Type 0} where
 
   -- the delimiter came, and the arguments so far are kept
   pub record InArguments (lines : List Line) (r : RequestReader A) : Type 0 where
-    pub behind : has_boundary lines ≡ true
+    pub behind : has_delimiter lines ≡ true
     pub command : commands_of lines ≡ command_of r.request ∷ []
     pub asked : asked_of r.request ≡ asked_by (command_of r.request) (arguments_of lines)
     pub kept : kept_of r.request ≡ kept_in lines

@@ -1,5 +1,10 @@
--- Words at the beginning of a text.
-use Rattle.std.specs.Prelude.{◌≡◌, ◌≢◌, ℕ, List, [], ◌∷◌, ◌++◌, codes}
+-- Words of a text, and at its beginning.
+use Rattle.std.specs.Prelude.{◌≡◌, ◌≢◌, ℕ, ◌==◌, List, [], ◌∷◌, ◌++◌, codes}
+use Rattle.std.specs.List.{slice_split}
+
+-- the parts of a text between single spaces
+abbrev pub spaced_words : List ℕ → List (List ℕ)
+spaced_words text = slice_split (λ c. c == 32) text
 
 -- the text is the word and then a value that meets P
 pub record Follows (word : List ℕ) (P : List ℕ → Type 0) (text : List ℕ) : Type 0 where

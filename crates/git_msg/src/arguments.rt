@@ -3,7 +3,7 @@ ghost use Rattle.std.specs.Prelude.{◌≡◌, MatchResult};
 ghost use Rattle.git_msg.specs.Arguments.{IsArgumentFault, ReadsAs, name_of, shown};
 
 use crate::offers::Offer;
-use crate::texts::{after, is};
+use crate::texts::{after, is_word};
 use git_pkt::Kind;
 
 /// A command of a request, gitprotocol-v2(5).
@@ -57,10 +57,10 @@ fn read_ls_refs<'a>(offer: &Offer, text: &'a [u8]) -> Result<Argument<'a>, Kind>
     ensures { MatchResult result (λ argument. ReadsAs Command.LsRefs offer.now text.now (shown argument))
         (IsArgumentFault Command.LsRefs offer.now text.now) }
 {
-    if is(text, b"symrefs") {
+    if is_word(text, b"symrefs") {
         return Ok(Argument::Symrefs);
     }
-    if is(text, b"peel") {
+    if is_word(text, b"peel") {
         return Ok(Argument::Peel);
     }
     let Some(prefix) = after(text, b"ref-prefix ") else {

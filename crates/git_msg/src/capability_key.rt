@@ -2,7 +2,7 @@
 ghost use Rattle.std.specs.Prelude.{◌≡◌};
 ghost use Rattle.git_msg.specs.Lines.{IsWordOf};
 
-use crate::texts::is;
+use crate::texts::is_word;
 
 /// A key that a request may have, or another.
 #[derive(Clone, Copy, Debug)]
@@ -18,16 +18,16 @@ pub(crate) enum Key {
 pub(crate) fn read_key(word: &[u8]) -> Key
     ensures { IsWordOf word.now result }
 {
-    if is(word, b"command") {
+    if is_word(word, b"command") {
         return Key::CommandKey;
     }
-    if is(word, b"agent") {
+    if is_word(word, b"agent") {
         return Key::AgentKey;
     }
-    if is(word, b"server-option") {
+    if is_word(word, b"server-option") {
         return Key::ServerOptionKey;
     }
-    if is(word, b"object-format") {
+    if is_word(word, b"object-format") {
         return Key::ObjectFormatKey;
     }
     Key::OtherKey

@@ -4,14 +4,14 @@ ghost use Rattle.std.specs.Option.{option_copied};
 ghost use Rattle.git_msg.specs.Arguments.{name_of, shown, ReadsAs};
 ghost use Rattle.git_msg.specs.Capability.{IsCapability};
 ghost use Rattle.git_msg.specs.Checks.{Passes, Refuses};
-ghost use Rattle.git_msg.specs.Lines.{IsLineOf, IsCapabilityLine, NamesCommand, capability_checks, key_checks};
-ghost use Rattle.git_msg.specs.Judging.{line_of, IsText, text_checks};
+ghost use Rattle.git_msg.specs.Lines.{IsLineOf, IsCapabilityLine, NamesCommand, capability_checks, key_checks, text_checks};
+ghost use Rattle.git_msg.specs.Judging.{line_of, IsText};
 
 use crate::arguments::{Argument, Command, read_argument};
 use crate::capabilities::read_capability;
 use crate::capability_key::{Key, read_key};
 use crate::offers::Offer;
-use crate::texts::{is, is_error};
+use crate::texts::{is_error, is_word};
 use git_pkt::Kind;
 
 /// What a line of the capability part says.
@@ -84,7 +84,7 @@ fn is_value(value: Option<&[u8]>, word: &[u8]) -> bool
     ensures { IsTrue result ↔ (option_copied value.entry ≡ Some word.now) }
 {
     match value {
-        Some(value) => is(value, word),
+        Some(value) => is_word(value, word),
         None => false,
     }
 }

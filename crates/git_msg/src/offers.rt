@@ -6,13 +6,15 @@ ghost use Rattle.std.specs.List.{list_any};
 ghost use Rattle.std.specs.Str.{bytes_eq};
 ghost use Rattle.git_pkt.specs.Packets.{Pkt, payload, text_of};
 ghost use Rattle.git_msg.specs.Capability.{IsCapability};
-ghost use Rattle.git_msg.specs.Advertisement.{noted_of, offer_of, words_of, is_spoken};
+ghost use Rattle.git_msg.specs.Advertisement.{noted_of, noted_offer, is_spoken};
+ghost use Rattle.git_msg.specs.Texts.{spaced_words};
 
 use crate::capabilities::Capability;
-use crate::texts::is;
+use crate::texts::is_word;
 use git_names::Format;
 
-/// What a server offers to a client. The capabilities `agent`, `ls-refs` and `fetch` are always offered.
+/// What a server offers to a client, beside the capabilities `agent`, `ls-refs` and `fetch`, which it names in every
+/// advertisement. Requests for `fetch` are not read yet.
 #[derive(Clone, Copy, Debug, PartialEq, Eq)]
 pub struct Offer {
     /// The format of the object names that are spoken of.
@@ -80,19 +82,19 @@ impl Caps {
     {
         let key = capability.key;
         let value = capability.value.unwrap_or(b"");
-        let is_fetch = is(key, b"fetch");
-        let is_format = is(key, b"object-format");
+        let is_fetch = is_word(key, b"fetch");
+        let is_format = is_word(key, b"object-format");
         Caps {
-            agent: is(key, b"agent") | self.agent,
-            ls_refs: is(key, b"ls-refs") | self.ls_refs,
+            agent: is_word(key, b"agent") | self.agent,
+            ls_refs: is_word(key, b"ls-refs") | self.ls_refs,
             fetch: is_fetch | self.fetch,
             shallow: is_fetch & has_word(value, b"shallow") | self.shallow,
             ref_in_want: is_fetch & has_word(value, b"ref-in-want") | self.ref_in_want,
-            server_option: is(key, b"server-option") | self.server_option,
-            object_info: is(key, b"object-info") | self.object_info,
+            server_option: is_word(key, b"server-option") | self.server_option,
+            object_info: is_word(key, b"object-info") | self.object_info,
             object_format: is_format | self.object_format,
-            sha1: is_format & is(value, b"sha1") | self.sha1,
-            sha256: is_format & is(value, b"sha256") | self.sha256,
+            sha1: is_format & is_word(value, b"sha1") | self.sha1,
+            sha256: is_format & is_word(value, b"sha256") | self.sha256,
         }
     }
 
@@ -108,7 +110,7 @@ impl Caps {
 
     /// What is offered to a client that speaks this format.
     pub fn offer(&self, format: Format) -> Offer
-        ensures { result ≡ offer_of self.now format }
+        ensures { result ≡ noted_offer self.now format }
     {
         Offer {
             format,
@@ -122,7 +124,7 @@ impl Caps {
 
 /// Whether single spaces part the value so that one part is the word.
 fn has_word(value: &[u8], word: &[u8]) -> bool
-    ensures { result ≡ list_any (λ w. bytes_eq w word.now) (words_of value.now) }
+    ensures { result ≡ list_any (λ w. bytes_eq w word.now) (spaced_words value.now) }
 {
     value.split(|byte| *byte == b' ').any(|part| part == word)
 }

@@ -92,18 +92,20 @@ impl<A: Allocator + Copy> RequestReader<A> {
         }
     }
 
-    /// Keeps the argument that the last [`RequestReader::take`] gave, counted by the length of its text as it came.
-    /// Refused with `TooMuchKept` where the request's lines pass the limit, then with `OutOfMemory`, at its packet.
+    /// Makes the argument that [`RequestReader::take`] gave last a part of the request, whose lines then count the bytes
+    /// that its text had on the wire. The fault names its packet: `TooMuchKept` where the limit has no room for so many
+    /// bytes, or else `OutOfMemory` where no memory is left for its text.
     pub fn keep(&mut self, argument: Argument<'_>) -> Result<(), Fault>
         requires { is_waiting self.old ≡ true }
         ensures { KeepsOn self.old (shown argument.entry) result self.new }
     {
-        let Part::Waiting(offset, long) = self.part else {
+        let Part::Waiting(offset, length) = self.part else {
             unreachable!()
         };
-        // A line never has fewer bytes than the argument's written form.
-        let long = long.max(written_length(&argument));
-        match self.request.keep(argument, long) {
+        // Nothing here says that the argument is the one that waits, and a request counts no text by less than it is
+        // written. For the one that waits this is the length of its text as it came, which is never less.
+        let length = length.max(written_length(&argument));
+        match self.request.keep(argument, length) {
             Ok(()) => {
                 self.part = Part::Arguments;
                 Ok(())

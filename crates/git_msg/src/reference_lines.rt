@@ -3,7 +3,8 @@ ghost use Rattle.std.specs.Prelude.{◌≡◌, ◌<◌, ◌==◌, ◌∷◌, Lis
 ghost use Rattle.std.specs.Option.{ForSome, option_copied};
 ghost use Rattle.git_names.specs.ObjectName.{ObjectName, IsObjectName};
 ghost use Rattle.git_msg.specs.Checks.{Refuses};
-ghost use Rattle.git_msg.specs.References.{IsAttributeFault, IsMaybeObjectName, IsReferenceFault, IsReferenceLine, attribute_checks, shown_reference, spaced_words};
+ghost use Rattle.git_msg.specs.References.{IsAttributeFault, IsMaybeObjectName, IsReferenceFault, IsReferenceLine, attribute_checks, shown_reference};
+ghost use Rattle.git_msg.specs.Texts.{spaced_words};
 ghost use Rattle.git_msg.specs.ReferenceParts.{IsFound, LastValues, words_left};
 
 use crate::references::Reference;

@@ -32,8 +32,8 @@ pub enum Boundary {
     Unshallow(Oid),
 }
 
-/// Makes the hold the packet of the reference's line, with an LF at its end. Its names have to be reference names, and
-/// its object names of one format.
+/// Makes the hold the packet of the reference's line, with an LF at its end. The name and the target have to be such as
+/// [`git_names::RefName::read`] takes, and a peeled object of the same format as the object itself.
 pub fn put_reference(hold: &mut Hold, reference: Reference<'_>)
     requires { IsWritable (shown_reference reference) }
     ensures written { hold.new.items ≡ spelling_of (payload (reference_text (shown_reference reference.entry) ++ 10 ∷ [])) }
@@ -45,18 +45,18 @@ pub fn put_reference(hold: &mut Hold, reference: Reference<'_>)
         target,
         peeled,
     } = reference;
-    put_line(hold, &id, name, target, &peeled);
+    put_parts(hold, &id, name, target, &peeled);
 }
 
-fn put_line(hold: &mut Hold, id: &Oid, name: &[u8], target: Option<&[u8]>, peeled: &Option<Oid>)
+fn put_parts(hold: &mut Hold, id: &Oid, name: &[u8], target: Option<&[u8]>, peeled: &Option<Oid>)
     requires { IsWritable (reference_of id.now name.now (option_copied target) peeled.now) }
     ensures written { hold.new.items ≡ spelling_of (payload (reference_text (reference_of id.now name.now (option_copied target.entry) peeled.now) ++ 10 ∷ [])) }
     ensures reads_back { IsReferenceLine id.now.format (reference_text (reference_of id.now name.now (option_copied target.entry) peeled.now)) (reference_of id.now name.now (option_copied target.entry) peeled.now) }
 {
-    let long = id.format().digits() + 1 + name.len();
+    let length = id.format().digits() + 1 + name.len();
     begin(
         hold,
-        long + target_length(target) + peeled_length(peeled) + 1,
+        length + target_length(target) + peeled_length(peeled) + 1,
     );
     append_id(hold, id);
     append(hold, b" ");

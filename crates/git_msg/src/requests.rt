@@ -1,7 +1,7 @@
 //! Requests as they are kept.
 ghost use Rattle.std.specs.Prelude.{◌≡◌, ◌+◌, ◌^◌, ◌≤◌, ◌<◌, [], ◌∷◌, ◌++◌, length, OnOk, OnSome, OnErr, IfErr, IfSome, slice_get};
 ghost use Rattle.std.specs.Option.{option_copied};
-ghost use Rattle.git_msg.specs.Arguments.{shown, written_text};
+ghost use Rattle.git_msg.specs.Arguments.{most_limit, shown, written_text};
 
 use crate::arguments::{Argument, Command, MOST_TEXT};
 use git_names::Format;
@@ -14,7 +14,7 @@ use std::marker::Model;
 pub struct Limits {
     /// The most bytes that the texts of its argument lines may have, all of them together: 1,073,741,824 at most.
     pub args: u32,
-    ghost in_range: { args ≤ 1073741824 },
+    ghost in_range: { args ≤ most_limit },
 }
 
 impl Limits {
@@ -84,6 +84,7 @@ pub struct LsRefs<A: Allocator + Copy> {
 
 impl<A: Allocator + Copy> Model for LsRefs<A> {
     ghost use Rattle.std.specs.Prelude.{◌≤◌, All, length};
+    ghost use Rattle.git_msg.specs.Arguments.{most_text, most_limit};
     ghost use Rattle.git_msg.specs.Asked.{ls_refs, written_bytes};
     ghost use Rattle.git_msg.specs.LsRefs.{LsRefsKept};
 
@@ -96,7 +97,7 @@ impl<A: Allocator + Copy> Model for LsRefs<A> {
       limit = q.limit;
     } };
 
-    ghost invariant = { λ q. (q.kept ≤ q.limit) × (q.limit ≤ 1073741824) × All (λ text. length text ≤ 32000) q.ref_prefixes
+    ghost invariant = { λ q. (q.kept ≤ q.limit) × (q.limit ≤ most_limit) × All (λ text. length text ≤ most_text) q.ref_prefixes
         × (written_bytes (ls_refs (record { symrefs = q.symrefs; peel = q.peel; ref_prefixes = q.ref_prefixes })) ≤ q.kept) };
 }
 
@@ -147,15 +148,15 @@ impl<A: Allocator + Copy> LsRefs<A> {
         }
     }
 
-    // Keeps an argument whose line has a text of `long` bytes.
-    fn keep(&mut self, argument: Argument<'_>, long: usize) -> Result<(), Kind>
+    // Keeps an argument whose line has a text of so many bytes.
+    fn keep(&mut self, argument: Argument<'_>, text_length: usize) -> Result<(), Kind>
         requires short { IsShort (shown argument) }
-        requires counted { length (written_text (shown argument)) ≤ long }
-        ensures kept { OnOk result (KeepsArgument self.old (shown argument.entry) long self.new) }
+        requires counted { length (written_text (shown argument)) ≤ text_length }
+        ensures kept { OnOk result (KeepsArgument self.old (shown argument.entry) text_length self.new) }
         ensures unchanged { OnErr result (self.new ≡ self.old) }
-        ensures refused { IfErr result (IsUnkept self.old (shown argument.entry) long) }
+        ensures refused { IfErr result (IsUnkept self.old (shown argument.entry) text_length) }
     {
-        if long > (self.limit - self.kept) as usize {
+        if text_length > (self.limit - self.kept) as usize {
             return Err(Kind::TooMuchKept);
         }
         match argument {
@@ -167,7 +168,7 @@ impl<A: Allocator + Copy> LsRefs<A> {
                 }
             }
         }
-        self.kept += long as u32;
+        self.kept += text_length as u32;
         Ok(())
     }
 }
@@ -197,8 +198,8 @@ impl<A: Allocator + Copy> Request<A> {
         ensures unchanged { OnErr result (self.new ≡ self.old) }
         ensures refused { IfErr result (IsRefused (add_checks self.old (shown argument.entry)) (shown argument.entry)) }
     {
-        let long = written_length(&argument);
-        self.keep(argument, long)
+        let length = written_length(&argument);
+        self.keep(argument, length)
     }
 
     /// The request's command.
@@ -234,7 +235,7 @@ impl<A: Allocator + Copy> Request<A> {
         }
     }
 
-    // How many bytes those texts may have.
+    /// How many bytes those texts may have.
     pub(crate) fn limits(&self) -> Limits
         ensures { result.args ≡ limit_of self.now }
     {
@@ -274,7 +275,7 @@ impl<A: Allocator + Copy> Request<A> {
         }
     }
 
-    // How many prefixes there are.
+    /// How many prefixes there are.
     pub(crate) fn ref_prefix_count(&self) -> usize
         ensures { result ≡ length (ref_prefixes_of (asked_of self.now)) }
     {
@@ -283,17 +284,17 @@ impl<A: Allocator + Copy> Request<A> {
         }
     }
 
-    // Keeps an argument whose line has a text of `long` bytes.
-    pub(crate) fn keep(&mut self, argument: Argument<'_>, long: usize) -> Result<(), Kind>
-        requires { length (written_text (shown argument)) ≤ long }
-        ensures kept { OnOk result (Keeps self.old (shown argument.entry) long self.new) }
-        ensures passes { OnOk result (Passes (keep_checks self.old (shown argument.entry) long)) }
+    /// Keeps an argument whose line has a text of so many bytes.
+    pub(crate) fn keep(&mut self, argument: Argument<'_>, text_length: usize) -> Result<(), Kind>
+        requires { length (written_text (shown argument)) ≤ text_length }
+        ensures kept { OnOk result (Keeps self.old (shown argument.entry) text_length self.new) }
+        ensures passes { OnOk result (Passes (keep_checks self.old (shown argument.entry) text_length)) }
         ensures unchanged { OnErr result (self.new ≡ self.old) }
-        ensures refused { IfErr result (IsRefused (keep_checks self.old (shown argument.entry) long) (shown argument.entry)) }
+        ensures refused { IfErr result (IsRefused (keep_checks self.old (shown argument.entry) text_length) (shown argument.entry)) }
     {
         self.check_value(&argument)?;
         match self {
-            Request::LsRefs(request) => request.keep(argument, long),
+            Request::LsRefs(request) => request.keep(argument, text_length),
         }
     }
 
@@ -311,7 +312,7 @@ impl<A: Allocator + Copy> Request<A> {
     }
 }
 
-// How many bytes the argument's text has, as it is written.
+/// How many bytes the argument's text has, as it is written.
 pub(crate) fn written_length(argument: &Argument<'_>) -> usize
     requires { length (written_text (shown argument.now)) < 2 ^ 64 }
     ensures { result ≡ length (written_text (shown argument.now)) }

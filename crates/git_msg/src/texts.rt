@@ -4,7 +4,7 @@ ghost use Rattle.std.specs.Str.{bytes_eq};
 ghost use Rattle.git_msg.specs.Texts.{BeginsOtherThan, IsErrorText};
 
 /// Whether the text is the word.
-pub fn is(text: &[u8], word: &[u8]) -> bool
+pub fn is_word(text: &[u8], word: &[u8]) -> bool
     ensures value { result ≡ bytes_eq text.now word.now }
     ensures same { IsTrue result ↔ (text.now ≡ word.now) }
 {
@@ -15,14 +15,7 @@ pub fn is(text: &[u8], word: &[u8]) -> bool
 pub fn after<'a>(text: &'a [u8], word: &[u8]) -> Option<&'a [u8]>
     ensures { MatchOption result (BeginsOtherThan word.now text.now) (λ rest. text.now ≡ word.now ++ rest.now) }
 {
-    if word.len() > text.len() {
-        return None;
-    }
-    let (front, rest) = text.split_at(word.len());
-    if !is(front, word) {
-        return None;
-    }
-    Some(rest)
+    text.strip_prefix(word)
 }
 
 /// Whether the text is that of an error packet, gitprotocol-pack(5).

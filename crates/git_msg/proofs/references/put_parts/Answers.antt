@@ -1,7 +1,7 @@
 use Rattle.std.proofs.Common.{refl}
 use Rattle.std.specs.Option.{option_copied}
 use Rattle.git_msg.proofs.ReferenceLines.{reads_back, room}
-use Rattle.git_msg.proofs.references.put_line.Goals as goal
+use Rattle.git_msg.proofs.references.put_parts.Goals as goal
 
 pub append-requires-3 : goal.append-requires-3
 append-requires-3 c =
