@@ -24,7 +24,7 @@ pub enum Argument<'a> {
     RefPrefix(&'a [u8]),
 }
 
-// The most bytes that a text which is kept may have.
+/// The most bytes that a text which is kept may have.
 pub(crate) const MOST_TEXT: usize = 32_000;
 
 impl Command {

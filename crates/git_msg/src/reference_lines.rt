@@ -15,6 +15,8 @@ use git_pkt::Kind;
 #[derive(Clone, Copy, Debug)]
 struct Found<'a> {
     target: Option<&'a [u8]>,
+    // A text that was read as an object name, and is read once more at the end: the check has no rule yet for a result
+    // that has both a lent text and an object name.
     peeled: Option<&'a [u8]>,
 }
 
@@ -42,18 +44,14 @@ pub fn read_reference(format: Format, text: &[u8]) -> Result<Reference<'_>, Kind
     if RefName::read(name).is_err() {
         return Err(Kind::BadRefName);
     }
-    match read_attributes(format, rest) {
-        Ok(found) => {
-            let peeled = read_peeled(format, found.peeled);
-            Ok(Reference {
-                id,
-                name,
-                target: found.target,
-                peeled,
-            })
-        }
-        Err(kind) => Err(kind),
-    }
+    let found = read_attributes(format, rest)?;
+    let peeled = read_peeled(format, found.peeled);
+    Ok(Reference {
+        id,
+        name,
+        target: found.target,
+        peeled,
+    })
 }
 
 /// The last values of the attributes of a line.

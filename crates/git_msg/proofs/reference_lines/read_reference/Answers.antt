@@ -8,4 +8,4 @@ returns-in_default-read c =
     id_refused c.args.format c.args.text.now c.split_word.result.0.now c.in_default-Some.rest.now (rw c.in_default-Some.is-1 at c.split_word.ensures.words) c.in_default-read.ensures.1
 
 pub read_peeled-peeled-requires : goal.read_peeled-peeled-requires
-read_peeled-peeled-requires c = peeled_named c.args.format (words_left (option_copied c.split_word-2.result.1)) (option_copied c.in-Ok-read_attributes.found.target) (option_copied c.in-Ok-read_attributes.found.peeled) c.in-Ok-read_attributes.ensures
+read_peeled-peeled-requires c = peeled_named c.args.format (words_left (option_copied c.split_word-2.result.1)) (option_copied c.in_ok-found.found.target) (option_copied c.in_ok-found.found.peeled) c.in_ok-found.ensures
