@@ -1,6 +1,6 @@
 //! A server run over a reader and a writer.
 
-ghost use Rattle.std.specs.Prelude.{◌≡◌, ◌<◌, ◌≤◌, ◌||◌, [], false, true, length, Some, IsTrue, IsSome, IfOk, IfErr, OnOk, is_err};
+ghost use Rattle.std.specs.Prelude.{◌≡◌, ◌≢◌, ◌<◌, ◌≤◌, ◌||◌, [], false, true, length, Some, IsTrue, IsSome, IfOk, IfErr, OnOk, is_err};
 ghost use Rattle.git_pkt.specs.Told.{inner_of, reads_of, has_failed, has_ended, IsNew};
 ghost use Rattle.git_pkt.specs.Engine.{FailsAs, IsShownBy, IsSpent};
 ghost use Rattle.git_server.specs.Runs.{IsRun, RunsUntil, WritesFor, WritesItsEnd};
@@ -59,8 +59,8 @@ fn serve_piece<W: Write, R: Repo, A: Allocator + Copy>(
 /// bytes that are read go; it may not be empty. The writer is flushed before each read and at the end.
 ///
 /// `ReadFault` where a read fails, `WriteFault` where a write or a flush does, and `ReadLimit` where a further read
-/// than the `turns` that are allowed would be needed. A session that a fault of the input ended is no such fault:
-/// it is the outcome `Refused`.
+/// than the `turns` that are allowed would be needed. After `ReadFault` and `ReadLimit` the session goes on, and the
+/// server waits for input. A session that a fault of the input ended is no such fault: it is the outcome `Refused`.
 pub fn serve<In: Read, W: Write, R: Repo, A: Allocator + Copy>(
     reader: &mut Told<In>,
     writer: &mut Told<W>,
@@ -80,6 +80,7 @@ pub fn serve<In: Read, W: Write, R: Repo, A: Allocator + Copy>(
     ensures fault { IfErr result (IsShownBy (IsTrue (has_failed reader.new)) (IsTrue (has_failed writer.new)) (IsSpent reader.new turns)) }
     ensures told { FailsAs result (has_failed reader.new) (has_failed writer.new) }
     ensures ends { IfOk result (λ outcome. outcome_of server.new ≡ Some outcome) }
+    ensures goes_on { IfErr result (λ fault. fault ≢ RunFault.WriteFault → wants_input server.new ≡ true) }
 {
     if let Some(outcome) = drain(writer, server)? {
         flush(writer)?;
@@ -98,6 +99,7 @@ pub fn serve<In: Read, W: Write, R: Repo, A: Allocator + Copy>(
             return Ok(outcome);
         }
     }
+    flush(writer)?;
     Err(RunFault::ReadLimit)
 }
 

@@ -62,4 +62,4 @@ loop-preserved g c =
     }
 
 pub returns-clause-until : goal.returns-clause-until
-returns-clause-until g c = λ s r. (answered g.R.Repo.answers s c.loop.server _ _ _ _ c.loop.invariant.wants (c.loop.invariant.run s r), search rules)
+returns-clause-until g c = λ s r. (answered g.R.Repo.answers s c.loop.server _ _ _ _ c.loop.invariant.wants (Exchanges-flush (c.loop.invariant.run s r) c.in_ok-flush-4.ensures.bytes), search rules)
