@@ -133,13 +133,15 @@ impl<R: Repo, A: Allocator + Copy> Server<R, A> {
     }
 
     /// Takes bytes of the input, and says how many were used: all of them, or those up to the end of a request, a flush
-    /// in the place of one, or a fault. None is used while a packet waits to be pulled, nor after the end.
+    /// in the place of one, or a fault. None is used while a packet waits to be pulled, nor after the end. An empty
+    /// piece changes nothing.
     pub fn feed(&mut self, piece: &[u8]) -> usize
         ensures used { result ≤ length piece.now }
         ensures goes { Goes R.answers (take result piece.now) [] self.old self.new }
         ensures whole { IsTrue (wants_input self.new) → result ≡ length piece.now }
         ensures moves { wants_input self.old ≡ true → 0 < length piece.now → 0 < result ⊎ IsSome (outcome_of self.new) }
         ensures stays { wants_input self.old ≡ false → (result ≡ 0) × (self.new ≡ self.old) }
+        ensures nothing { length piece.now ≡ 0 → (result ≡ 0) × (self.new ≡ self.old) }
     {
         let mut used = 0;
         while used < piece.len() && self.wants_input() {

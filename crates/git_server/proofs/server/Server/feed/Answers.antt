@@ -35,4 +35,5 @@ loop-used-preserved g c =
           let same = ap wants_input (c.loop-used.invariant.stays quiet).1 in
           let loud : wants_input c.loop-used.self ≡ true = sym c.wants_input.ensures.value ∙ c.if-wants_input.true in
           absurd (true_not_false (sym loud ∙ same ∙ quiet));
+      nothing = λ empty. absurd (omega (arith, empty, c.loop-used-test));
     }

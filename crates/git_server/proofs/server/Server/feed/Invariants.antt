@@ -3,13 +3,14 @@ use Rattle.git_server.specs.Moves.{Goes}
 use Rattle.git_server.specs.Serving.{wants_input, outcome_of}
 use Rattle.git_server.proofs.server.Server.feed.Given as goal
 
--- what was used so far was used well, and a server that does not wait for bytes is as it was
+-- what was used so far was used well, and a server that does not wait for bytes, or got none, is as it was
 abbrev pub invariant-loop-used : goal.invariant-loop-used
 invariant-loop-used g l = record {
   within : l.used ≤ length l.piece;
   goes : Goes g.R.Repo.answers (take l.used l.piece) [] l.fn.self l.self;
   moves : wants_input l.fn.self ≡ true → (wants_input l.self ≡ true) ⊎ (0 < l.used ⊎ IsSome (outcome_of l.self));
   stays : wants_input l.fn.self ≡ false → (l.used ≡ 0) × (l.self ≡ l.fn.self);
+  nothing : length l.piece ≡ 0 → (l.used ≡ 0) × (l.self ≡ l.fn.self);
 }
 
 -- a step uses bytes, or stops
