@@ -1,8 +1,8 @@
 //! What a server's contract says of the bytes alone: each function does nothing, and its contract is the law.
 
-ghost use Rattle.std.specs.Prelude.{◌≡◌, ◌≤◌, ℕ, Bool, List};
-ghost use Rattle.git_server.specs.Sessions.{IsRunning, Setting};
-ghost use Rattle.git_server.specs.Serving.{Running, kept_by};
+ghost use Rattle.std.specs.Prelude.{◌≡◌, ◌≤◌, ℕ, Bool, true, List};
+ghost use Rattle.git_server.specs.Sessions.{IsAnswered, IsRunning, Setting};
+ghost use Rattle.git_server.specs.Serving.{Running, kept_by, wants_input};
 
 use crate::repo::Repo;
 use crate::server::Server;
@@ -13,4 +13,11 @@ use std::alloc::Allocator;
 pub fn server_keeps_to_its_session<R: Repo, A: Allocator + Copy>(server: &Server<R, A>)
     ensures within { (s : Setting) (used : List ℕ) (over : Bool) (given : List ℕ) → Running R.answers s used over given server.now → kept_by server.now ≤ s.limit }
     ensures session { (s : Setting) (used : List ℕ) (over : Bool) (given : List ℕ) → Running R.answers s used over given server.now → IsRunning s used over given }
+{}
+
+/// Where a server waits for input, the session goes on, and the advertisement and the answer to each whole request were
+/// given whole.
+pub fn server_that_waits_has_answered<R: Repo, A: Allocator + Copy>(server: &Server<R, A>)
+    ensures { (s : Setting) (used : List ℕ) (over : Bool) (given : List ℕ) → Running R.answers s used over given server.now
+        → wants_input server.now ≡ true → IsAnswered s used given }
 {}
