@@ -29,21 +29,23 @@ module _ {R A : Type 0} (answers : R → Repository) (old new : Server R A) (pac
   given_on before sent is = ap (λ (l : List ℕ). l ++ held_of new.reader) is ∙ ap (λ (l : List ℕ). spelled sent ++ l) writes.held ∙ sym (spelled_one sent packet)
 
   gives_in : (o : Option Outcome) (s : Setting) (used : List ℕ) (over : Bool) (before : List ℕ) → answers old.repo ≡ s.repo → StandsBy o s used over before old → StandsBy o s used over (before ++ held_of new.reader) new
-  gives_in None s used over before repo h =
-      record {
-        asked = h.asked;
-        packets = h.packets;
-        left = h.left;
-        rest = h.rest;
-        sent = h.sent ++ packet ∷ [];
-        reads = writes.reads 0 used h.packets h.rest h.reads;
-        no_fault = writes.fault ∙ h.no_fault;
-        cuts = h.cuts;
-        takes = subst (Takes h.left) (sym keeps.requests) h.takes;
-        left_is = left_stays h.left h.left_is;
-        is_sent = sent_one s h.asked h.sent (owed_in new.offer s.repo.refs new.phase) packet (subst (λ (l : List Pkt). IsSent s h.asked h.sent l) (owed_here s repo) h.is_sent);
-        given_is = given_on before h.sent h.given_is;
-      }
+  gives_in None s used over before repo (not_over, h) = (
+    not_over,
+    record {
+      asked = h.asked;
+      packets = h.packets;
+      left = h.left;
+      rest = h.rest;
+      sent = h.sent ++ packet ∷ [];
+      reads = writes.reads 0 used h.packets h.rest h.reads;
+      no_fault = writes.fault ∙ h.no_fault;
+      cuts = h.cuts;
+      takes = subst (Takes h.left) (sym keeps.requests) h.takes;
+      left_is = left_stays h.left h.left_is;
+      is_sent = sent_one s h.asked h.sent (owed_in new.offer s.repo.refs new.phase) packet (subst (λ (l : List Pkt). IsSent s h.asked h.sent l) (owed_here s repo) h.is_sent);
+      given_is = given_on before h.sent h.given_is;
+    },
+  )
   gives_in (Some outcome) s used over before repo h =
       record {
         asked = h.asked;

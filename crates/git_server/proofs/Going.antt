@@ -91,9 +91,12 @@ one_more (y ∷ ys) x e = cc
 
 module _ {R A : Type 0} (answers : R → Repository) (old new : Server R A) (u : List ℕ) where
   -- what a server that waits for bytes stands for
-  pub serves_of : (s : Setting) (so_far : List ℕ) (over : Bool) (before : List ℕ) → wants_input old ≡ true → Running answers s so_far over before old → Serves s so_far before old
-  serves_of s so_far over before wants r =
+  stands_of : (s : Setting) (so_far : List ℕ) (over : Bool) (before : List ℕ) → wants_input old ≡ true → Running answers s so_far over before old → (over ≡ false) × Serves s so_far before old
+  stands_of s so_far over before wants r =
       subst (λ (o : Option Outcome). StandsBy o s so_far over before old) (no_outcome old.phase wants) r.stands
+
+  pub serves_of : (s : Setting) (so_far : List ℕ) (over : Bool) (before : List ℕ) → wants_input old ≡ true → Running answers s so_far over before old → Serves s so_far before old
+  serves_of s so_far over before wants r = (stands_of s so_far over before wants r).1
 
   pub all_sent_of : (s : Setting) (so_far before : List ℕ) → wants_input old ≡ true → (h : Serves s so_far before old) → IsSent s h.asked h.sent []
   all_sent_of s so_far before wants h =
@@ -102,7 +105,7 @@ module _ {R A : Type 0} (answers : R → Repository) (old new : Server R A) (u :
   -- no packet came of the bytes
   pub goes_open : wants_input old ≡ true → ReadsFor old u [] new → new.requests ≡ old.requests → new.phase ≡ old.phase → fault_of new.reader ≡ None → Goes answers u [] old new
   goes_open wants reads same_requests same_phase sound s so_far over before r =
-      let h = serves_of s so_far over before wants r in
+      let (not_over, h) = stands_of s so_far over before wants r in
       let (rest, stream) = reads.reads 0 so_far h.packets h.rest h.reads in
       record {
         offer = reads.offer ∙ r.offer;
@@ -110,21 +113,24 @@ module _ {R A : Type 0} (answers : R → Repository) (old new : Server R A) (u :
         limit = ap limit_in same_requests ∙ r.limit;
         repo = ap answers reads.repo ∙ r.repo;
         within = omega (arith, r.within, ap kept_so_far same_requests, ap kept_in same_phase);
-        stands = subst (λ (o : Option Outcome). StandsBy o s (so_far ++ u) over (before ++ []) new) (sym (ap outcome_in same_phase ∙ no_outcome old.phase wants)) (record {
-          asked = h.asked;
-          packets = h.packets;
-          left = h.left;
-          rest = rest;
-          sent = h.sent;
-          reads = subst (λ (l : List Given). Reads new.reader 0 (so_far ++ u) l rest) (append-nil h.packets) stream;
-          no_fault = sound;
-          cuts = h.cuts;
-          takes = subst (Takes h.left) (sym same_requests) h.takes;
-          left_is = subst (λ (p : Phase A). LeftIn p h.left) (sym same_phase) h.left_is;
-          is_sent = subst (λ (owed : List Pkt). IsSent s h.asked h.sent owed)
-              (sym (nothing_owed new.offer s.repo.refs new.phase (ap reads_in same_phase ∙ wants))) (all_sent_of s so_far before wants h);
-          given_is = append-nil before ∙ h.given_is;
-        });
+        stands = subst (λ (o : Option Outcome). StandsBy o s (so_far ++ u) over (before ++ []) new) (sym (ap outcome_in same_phase ∙ no_outcome old.phase wants)) (
+          not_over,
+          record {
+            asked = h.asked;
+            packets = h.packets;
+            left = h.left;
+            rest = rest;
+            sent = h.sent;
+            reads = subst (λ (l : List Given). Reads new.reader 0 (so_far ++ u) l rest) (append-nil h.packets) stream;
+            no_fault = sound;
+            cuts = h.cuts;
+            takes = subst (Takes h.left) (sym same_requests) h.takes;
+            left_is = subst (λ (p : Phase A). LeftIn p h.left) (sym same_phase) h.left_is;
+            is_sent = subst (λ (owed : List Pkt). IsSent s h.asked h.sent owed)
+                (sym (nothing_owed new.offer s.repo.refs new.phase (ap reads_in same_phase ∙ wants))) (all_sent_of s so_far before wants h);
+            given_is = append-nil before ∙ h.given_is;
+          },
+        );
       }
 
   -- with this packet the session ends, and nothing of its end was given yet
@@ -174,25 +180,29 @@ module _ {R A : Type 0} (answers : R → Repository) (old new : Server R A) (u :
 
   -- how a server stands behind a packet, by what the packet brought
   packet_stands : (s : Setting) (so_far : List ℕ) (over : Bool) (before : List ℕ) (g : Given) (brought : Brought A)
-      → wants_input old ≡ true → (h : Serves s so_far before old) → (rest : List ℕ) → Reads new.reader 0 (so_far ++ u) (h.packets ++ g ∷ []) rest
+      → wants_input old ≡ true → over ≡ false → (h : Serves s so_far before old) → (rest : List ℕ) → Reads new.reader 0 (so_far ++ u) (h.packets ++ g ∷ []) rest
       → fault_of new.reader ≡ None → is_open new.reader ≡ false → offer_of new.requests ≡ s.offer → limit_in new.requests ≡ s.limit → Begins s h.left
       → IsBrought (h.left ++ g ∷ []) brought new.requests → new.phase ≡ phase_after brought
       → StandsBy (outcome_in (phase_after brought)) s (so_far ++ u) over (before ++ []) new
-  packet_stands s so_far over before g Part wants h rest stream sound shut offer limit begun takes phase_is =
-      packet_serves s so_far before h.asked (h.packets ++ g ∷ []) (h.left ++ g ∷ []) rest h.sent [] Within stream sound
-      (cuts_more s h.packets (g ∷ []) h.asked h.left h.cuts) takes phase_is (one_more h.left g) refl (all_sent_of s so_far before wants h) h.given_is
-  packet_stands s so_far over before g (Whole request) wants h rest stream sound shut offer limit begun (takes, asks) phase_is =
+  packet_stands s so_far over before g Part wants not_over h rest stream sound shut offer limit begun takes phase_is = (
+    not_over,
+    packet_serves s so_far before h.asked (h.packets ++ g ∷ []) (h.left ++ g ∷ []) rest h.sent [] Within stream sound
+        (cuts_more s h.packets (g ∷ []) h.asked h.left h.cuts) takes phase_is (one_more h.left g) refl (all_sent_of s so_far before wants h) h.given_is,
+  )
+  packet_stands s so_far over before g (Whole request) wants not_over h rest stream sound shut offer limit begun (takes, asks) phase_is =
       let cuts = cuts_more s h.packets (g ∷ []) h.asked h.left h.cuts in
       let asks_here : Asks s.offer s.limit (h.left ++ g ∷ []) (asked_of request) (kept_of request) =
       subst (λ (n : ℕ). Asks s.offer n (h.left ++ g ∷ []) (asked_of request) (kept_of request)) limit
-      (subst (λ (o : Offer). Asks o (limit_in new.requests) (h.left ++ g ∷ []) (asked_of request) (kept_of request)) offer asks) in
-      packet_serves s so_far before (h.asked ++ asked_of request ∷ []) (h.packets ++ g ∷ []) [] rest h.sent (answer_from (asked_of request) s.repo.refs 0) (Answering request 0) stream sound
-      (cuts_whole s (h.packets ++ g ∷ []) h.asked (h.left ++ g ∷ []) (asked_of request) (kept_of request) cuts asks_here) takes phase_is refl refl
-      (one_more_asked s h.asked h.sent (answer_from (asked_of request) s.repo.refs 0) (asked_of request) (all_sent_of s so_far before wants h) (whole_answer s.repo (asked_of request))) h.given_is
-  packet_stands s so_far over before g Stop wants h rest stream sound shut offer limit begun stop phase_is =
+      (subst (λ (o : Offer). Asks o (limit_in new.requests) (h.left ++ g ∷ []) (asked_of request) (kept_of request)) offer asks) in (
+        not_over,
+        packet_serves s so_far before (h.asked ++ asked_of request ∷ []) (h.packets ++ g ∷ []) [] rest h.sent (answer_from (asked_of request) s.repo.refs 0) (Answering request 0) stream sound
+            (cuts_whole s (h.packets ++ g ∷ []) h.asked (h.left ++ g ∷ []) (asked_of request) (kept_of request) cuts asks_here) takes phase_is refl refl
+            (one_more_asked s h.asked h.sent (answer_from (asked_of request) s.repo.refs 0) (asked_of request) (all_sent_of s so_far before wants h) (whole_answer s.repo (asked_of request))) h.given_is,
+      )
+  packet_stands s so_far over before g Stop wants not_over h rest stream sound shut offer limit begun stop phase_is =
       ended_at s so_far over before (h.left ++ g ∷ []) (h.packets ++ g ∷ []) rest Flush wants h stream (cuts_more s h.packets (g ∷ []) h.asked h.left h.cuts)
       (stop, no_rest _ _ rest sound shut stream) (owed_in new.offer s.repo.refs new.phase) (sym (ap (owed_in new.offer s.repo.refs) phase_is))
-  packet_stands s so_far over before g (RefusedPacket fault) wants h rest stream sound shut offer limit begun told phase_is =
+  packet_stands s so_far over before g (RefusedPacket fault) wants not_over h rest stream sound shut offer limit begun told phase_is =
       let told_here : IsTold s.offer s.limit (h.left ++ g ∷ []) fault =
       subst (λ (n : ℕ). IsTold s.offer n (h.left ++ g ∷ []) fault) limit (subst (λ (o : Offer). IsTold o (limit_in new.requests) (h.left ++ g ∷ []) fault) offer told) in
       subst (λ (o : Option Outcome). StandsBy o s (so_far ++ u) over (before ++ []) new) (sym (refused_outcome_by A fault.kind fault))
@@ -204,7 +214,7 @@ module _ {R A : Type 0} (answers : R → Repository) (old new : Server R A) (u :
   pub goes_packet : (g : Given) (brought : Brought A) → wants_input old ≡ true → ReadsFor old u (g ∷ []) new → Brings old.requests g brought new.requests
       → new.phase ≡ phase_after brought → fault_of new.reader ≡ None → is_open new.reader ≡ false → Goes answers u [] old new
   goes_packet g brought wants reads brings phase_is sound shut s so_far over before r =
-      let h = serves_of s so_far over before wants r in
+      let (not_over, h) = stands_of s so_far over before wants r in
       let (rest, stream) = reads.reads 0 so_far h.packets h.rest h.reads in
       let offer = brings.offer ∙ r.reads_for in
       let limit = brings.limit ∙ r.limit in
@@ -218,7 +228,7 @@ module _ {R A : Type 0} (answers : R → Repository) (old new : Server R A) (u :
         repo = ap answers reads.repo ∙ r.repo;
         within = omega (arith, kept_behind brought new.requests (brings.within kept), limit, ap kept_in phase_is);
         stands = subst (λ (o : Option Outcome). StandsBy o s (so_far ++ u) over (before ++ []) new) (sym (ap outcome_in phase_is))
-            (packet_stands s so_far over before g brought wants h rest stream sound shut offer limit begun (brings.brings h.left h.takes) phase_is);
+            (packet_stands s so_far over before g brought wants not_over h rest stream sound shut offer limit begun (brings.brings h.left h.takes) phase_is);
       }
 
   -- the session ends with this fault, of which nothing was given yet

@@ -21,18 +21,21 @@ module _ {R A : Type 0} (answers : R → Repository) (s : Setting) (repo : R) (p
         limit = begins.limit_is;
         repo = ap answers begins.repo_is ∙ same;
         within = omega (arith, begins.kept, kept, ap kept_in begins.phase_is);
-        stands = subst (λ (o : Option Outcome). StandsBy o s [] false [] server) (sym (ap outcome_in begins.phase_is ∙ none)) (record {
-          asked = [];
-          packets = [];
-          left = [];
-          rest = [];
-          sent = [];
-          reads = begins.reads;
-          no_fault = fresh_has_no_fault server.reader begins.reads;
-          cuts = refl;
-          takes = begins.takes;
-          left_is = subst (λ (p : Phase A). LeftIn p []) (sym begins.phase_is) left;
-          is_sent = inl (record { none = refl; parts = owed_now });
-          given_is = refl;
-        });
+        stands = subst (λ (o : Option Outcome). StandsBy o s [] false [] server) (sym (ap outcome_in begins.phase_is ∙ none)) (
+          refl,
+          record {
+            asked = [];
+            packets = [];
+            left = [];
+            rest = [];
+            sent = [];
+            reads = begins.reads;
+            no_fault = fresh_has_no_fault server.reader begins.reads;
+            cuts = refl;
+            takes = begins.takes;
+            left_is = subst (λ (p : Phase A). LeftIn p []) (sym begins.phase_is) left;
+            is_sent = inl (record { none = refl; parts = owed_now });
+            given_is = refl;
+          },
+        );
       }

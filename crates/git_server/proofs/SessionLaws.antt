@@ -16,19 +16,22 @@ use Rattle.git_server.proofs.Going.{no_outcome, nothing_owed}
 
 module _ {R A : Type 0} (answers : R → Repository) (server : Server R A) (s : Setting) (used : List ℕ) (over : Bool) (given : List ℕ) (r : Running answers s used over given server) where
   moment : (o : Option Outcome) → outcome_of server ≡ o → StandsBy o s used over given server → IsRunning s used over given
-  moment None none h =
-      inl (record {
-        asked = h.asked;
-        left = h.left;
-        rest = h.rest;
-        sent = h.sent;
-        owed = owed_in server.offer s.repo.refs server.phase;
-        stream = record { packets = h.packets; splits = h.reads.splits; cuts = h.cuts };
-        begins = begins s h.left server.requests r.reads_for r.limit (server.sound none) (server.ready none) h.takes;
-        unrefused = (sound_rest server.reader 0 used h.packets h.rest h.no_fault h.reads).1;
-        is_sent = h.is_sent;
-        given_is = h.given_is;
-      })
+  moment None none (not_over, h) =
+      inl (
+        not_over,
+        record {
+          asked = h.asked;
+          left = h.left;
+          rest = h.rest;
+          sent = h.sent;
+          owed = owed_in server.offer s.repo.refs server.phase;
+          stream = record { packets = h.packets; splits = h.reads.splits; cuts = h.cuts };
+          begins = begins s h.left server.requests r.reads_for r.limit (server.sound none) (server.ready none) h.takes;
+          unrefused = (sound_rest server.reader 0 used h.packets h.rest h.no_fault h.reads).1;
+          is_sent = h.is_sent;
+          given_is = h.given_is;
+        },
+      )
   moment (Some outcome) some h = inr (outcome, owed_in server.offer s.repo.refs server.phase, h)
 
   pub every_moment : IsRunning s used over given
@@ -55,7 +58,7 @@ module _ {R A : Type 0} (answers : R → Repository) (server : Server R A) (s : 
   pub all_answered : IsAnswered s used given
   all_answered =
       let none = no_outcome server.phase wants in
-      let h : Serves s used given server = subst (λ (o : Option Outcome). StandsBy o s used over given server) none r.stands in
+      let h : Serves s used given server = (subst (λ (o : Option Outcome). StandsBy o s used over given server) none r.stands).1 in
       let all = all_sent s h.asked h.sent (subst (λ (owed : List Pkt). IsSent s h.asked h.sent owed) (nothing_owed server.offer s.repo.refs server.phase wants) h.is_sent) in
       record {
         asked = h.asked;

@@ -1,5 +1,5 @@
 -- What a server stands for: the bytes that it used, and those that it gave.
-use Rattle.std.specs.Prelude.{◌≡◌, ◌≤◌, ◌+◌, ℕ, Bool, Option, Some, None, List, []}
+use Rattle.std.specs.Prelude.{◌≡◌, ◌≤◌, ◌+◌, ℕ, Bool, false, Option, Some, None, List, []}
 use Rattle.git_pkt.specs.Packets.{Pkt}
 use Rattle.git_pkt.specs.Splits.{Given}
 use Rattle.git_pkt.specs.Reading.{Reads, fault_of}
@@ -47,7 +47,7 @@ module _ {R A : Type 0} where
     pub given_is : given ≡ spelled sent
 
   abbrev pub StandsBy : Option Outcome → Setting → List ℕ → Bool → List ℕ → Server R A → Type 0
-  StandsBy None s used over given server = Serves s used given server
+  StandsBy None s used over given server = (over ≡ false) × Serves s used given server
   StandsBy (Some outcome) s used over given server = IsEnding s used over given outcome (owed_in server.offer s.repo.refs server.phase)
 
   -- the server has used these bytes, and `over` if the input ended with them, and has given those

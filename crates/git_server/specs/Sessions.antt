@@ -1,5 +1,5 @@
 -- Sessions: what a server gives for the bytes that it used. No machine is spoken of.
-use Rattle.std.specs.Prelude.{◌≡◌, ◌≢◌, ◌⊎◌, ℕ, ◌+◌, ◌-◌, Bool, true, if◌then◌else◌, List, [], ◌∷◌, ◌++◌, length}
+use Rattle.std.specs.Prelude.{◌≡◌, ◌≢◌, ◌⊎◌, ℕ, ◌+◌, ◌-◌, Bool, true, false, if◌then◌else◌, List, [], ◌∷◌, ◌++◌, length}
 use Rattle.git_pkt.specs.Packets.{Pkt}
 use Rattle.git_pkt.specs.Splits.{Given, Splits}
 use Rattle.git_pkt.specs.Faults.{IsOpen, StopsBy}
@@ -141,10 +141,10 @@ pub record IsEnding (s : Setting) (used : List ℕ) (over : Bool) (given : List 
   pub parts : tail_of outcome ≡ sent ++ owed
   pub given_is : given ≡ spelled (advertised s ++ answers ++ sent)
 
--- what stands at every moment between the bytes used and those given
+-- what stands at every moment between the bytes used and those given. A session goes on only while its input does.
 abbrev pub IsRunning : Setting → List ℕ → Bool → List ℕ → Type 0
 IsRunning s used over given =
-    GoesOn s used given ⊎ ((outcome : Outcome) × (owed : List Pkt) × IsEnding s used over given outcome owed)
+    ((over ≡ false) × GoesOn s used given) ⊎ ((outcome : Outcome) × (owed : List Pkt) × IsEnding s used over given outcome owed)
 
 -- the session goes on, and the advertisement and each answer were given whole
 pub record IsAnswered (s : Setting) (used given : List ℕ) : Type 0 where
