@@ -1,13 +1,13 @@
 -- What is owed, by the phase that a server is in.
 use Rattle.std.proofs.Common.{◌≡◌, ℕ, Bool, true, false, if◌then◌else◌, List, [], ◌∷◌, ◌++◌, Option, Some, None, codes, refl, sym, ap, ◌∙◌, subst}
-use Rattle.git_pkt.specs.Packets.{Pkt, flush}
+use Rattle.git_pkt.specs.Packets.{Pkt}
 use Rattle.git_pkt.specs.Splits.{Given}
 use Rattle.git_pkt.specs.declared.fault.Fault.{Fault}
 use Rattle.git_msg.specs.declared.offers.Offer.{Offer}
 use Rattle.git_msg.specs.declared.requests.Request.{Request}
 use Rattle.git_server.specs.Repository.{Entry}
 use Rattle.git_server.specs.Answers.{offered_line, error_packet}
-use Rattle.git_server.specs.Greetings.{greeting_packet, greeting_after, greetings_from, greetings_after}
+use Rattle.git_server.specs.Greetings.{format_on, greeting_packet, greeting_after, greetings_from, greetings_after}
 use Rattle.git_server.specs.Phases.{LeftIn, greeting_phase, kept_in, outcome_in, owed_in}
 use Rattle.git_server.specs.declared.greeting.Greeting.{Greeting as Line}
 use Rattle.git_server.specs.declared.greeting.Greeting.TheVariants.{Version, Agent, LsRefs, ServerOption, ObjectFormat, End}
@@ -15,7 +15,7 @@ use Rattle.git_server.specs.declared.outcome.Outcome.TheVariants.{Refused}
 use Rattle.git_server.specs.declared.server.Phase.{Phase}
 use Rattle.git_server.specs.declared.server.Phase.TheVariants.{Greeting, Between, Answering, Refusing}
 
-option_lines : (offer : Offer) (b : Bool) → offered_line b (codes "server-option") ++ greeting_packet offer.format ObjectFormat ∷ flush ∷ [] ≡ greetings_from offer (if b then ServerOption else ObjectFormat)
+option_lines : (offer : Offer) (b : Bool) → offered_line b (codes "server-option") ++ format_on offer ≡ greetings_from offer (if b then ServerOption else ObjectFormat)
 option_lines offer true = refl
 option_lines offer false = refl
 

@@ -26,13 +26,22 @@ greeting_after offer ServerOption = Some ObjectFormat
 greeting_after offer ObjectFormat = Some End
 greeting_after offer End = None
 
+-- the packets from the line of the format on
+abbrev pub format_on : Offer → List Pkt
+format_on offer = greeting_packet offer.format ObjectFormat ∷ flush ∷ []
+
+-- the packets from the line of ls-refs on
+abbrev pub ls_refs_on : Offer → List Pkt
+ls_refs_on offer =
+    greeting_packet offer.format LsRefs ∷ (offered_line offer.server_option (codes "server-option") ++ format_on offer)
+
 -- the packets from a line on
 abbrev pub greetings_from : Offer → Greeting → List Pkt
 greetings_from offer Version = advertisement_of offer
-greetings_from offer Agent = greeting_packet offer.format Agent ∷ greeting_packet offer.format LsRefs ∷ (offered_line offer.server_option (codes "server-option") ++ greeting_packet offer.format ObjectFormat ∷ flush ∷ [])
-greetings_from offer LsRefs = greeting_packet offer.format LsRefs ∷ (offered_line offer.server_option (codes "server-option") ++ greeting_packet offer.format ObjectFormat ∷ flush ∷ [])
-greetings_from offer ServerOption = greeting_packet offer.format ServerOption ∷ greeting_packet offer.format ObjectFormat ∷ flush ∷ []
-greetings_from offer ObjectFormat = greeting_packet offer.format ObjectFormat ∷ flush ∷ []
+greetings_from offer Agent = greeting_packet offer.format Agent ∷ ls_refs_on offer
+greetings_from offer LsRefs = ls_refs_on offer
+greetings_from offer ServerOption = greeting_packet offer.format ServerOption ∷ format_on offer
+greetings_from offer ObjectFormat = format_on offer
 greetings_from offer End = flush ∷ []
 
 -- the packets behind a line

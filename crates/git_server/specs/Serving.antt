@@ -60,7 +60,7 @@ module _ {R A : Type 0} where
     pub stands : StandsBy (outcome_of server) s used over given server
 
   -- nothing was used or given yet
-  pub record Begins (repo : R) (offer : Offer) (limit : ℕ) (phase : Phase A) (server : Server R A) : Type 0 where
+  pub record IsFresh (repo : R) (offer : Offer) (limit : ℕ) (phase : Phase A) (server : Server R A) : Type 0 where
     pub repo_is : server.repo ≡ repo
     pub offer_is : server.offer ≡ offer
     pub phase_is : server.phase ≡ phase

@@ -31,7 +31,7 @@ impl RefEntry {
     /// The reference with this name, for the object of this name. A symbolic reference has a target;
     /// a tag object peels to another object.
     ///
-    /// `BadRefName` where the name or the target is no reference name.
+    /// Name and target have to be names that a reference may have: else the fault is `BadRefName`.
     pub fn new(
         name: Vec<u8>,
         id: Oid,

@@ -20,6 +20,7 @@ pub(crate) enum Greeting {
 }
 
 impl Greeting {
+    /// The packet of the line, in a repository of this format.
     pub(crate) fn packet(self, format: Format) -> Packet<'static>
         ensures value { seen result ≡ greeting_packet format self }
         ensures fits { length (body_of (seen result)) ≤ 65516 }
@@ -37,7 +38,7 @@ impl Greeting {
         }
     }
 
-    // The line behind it. What is not offered is passed over.
+    /// The line behind it. What is not offered is passed over.
     pub(crate) fn next(self, offer: &Offer) -> Option<Greeting>
         ensures { result ≡ greeting_after offer.now self }
     {

@@ -70,7 +70,7 @@ impl<R: Repo, A: Allocator + Copy> Server<R, A> {
     ghost use Rattle.std.specs.Io.BufRead.{Rests};
     ghost use Rattle.git_server.specs.contracts.server.Server.{the_row};
     ghost use Rattle.git_server.specs.Sessions.{Setting};
-    ghost use Rattle.git_server.specs.Serving.{Begins, Running, repo_of, wants_input, outcome_of};
+    ghost use Rattle.git_server.specs.Serving.{IsFresh, Running, repo_of, wants_input, outcome_of};
     ghost use Rattle.git_server.specs.Moves.{Closes, Gives, Goes, Pulls, owed_by};
     ghost use Rattle.git_pkt.specs.Reading.{held_of};
 
@@ -90,7 +90,7 @@ impl<R: Repo, A: Allocator + Copy> Server<R, A> {
 
     fn begin(alloc: A, repo: R, offer: Offer, limits: Limits, phase: Phase<A>) -> Server<R, A>
         requires open_ended { outcome_in phase ≡ None }
-        ensures { Begins repo offer limits.args phase result }
+        ensures { IsFresh repo offer limits.args phase result }
     {
         Server {
             reader: PacketReader::new(),
