@@ -12,4 +12,5 @@ pub mod Formats
 pub mod Giving
 pub mod Owing
 pub mod SessionLaws
+pub mod OneSession
 pub mod RunLemmas

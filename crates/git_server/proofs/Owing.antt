@@ -19,7 +19,7 @@ option_lines : (offer : Offer) (b : Bool) → offered_line b (codes "server-opti
 option_lines offer true = refl
 option_lines offer false = refl
 
-one_line : (offer : Offer) (line : Line) → greetings_from offer line ≡ greeting_packet offer.format line ∷ greetings_after offer (greeting_after offer line)
+pub one_line : (offer : Offer) (line : Line) → greetings_from offer line ≡ greeting_packet offer.format line ∷ greetings_after offer (greeting_after offer line)
 one_line offer Version = refl
 one_line offer Agent = refl
 one_line offer LsRefs = ap (λ (l : List Pkt). greeting_packet offer.format LsRefs ∷ l) (option_lines offer offer.server_option)

@@ -1,8 +1,8 @@
 //! What a server's contract says of the bytes alone: each function does nothing, and its contract is the law.
 
-ghost use Rattle.std.specs.Prelude.{◌≡◌, ◌≤◌, ℕ, Bool, true, List};
+ghost use Rattle.std.specs.Prelude.{◌≡◌, ◌≤◌, ◌↔◌, ℕ, Bool, true, None, List};
 ghost use Rattle.git_server.specs.Sessions.{IsAnswered, IsRunning, Setting};
-ghost use Rattle.git_server.specs.Serving.{Running, kept_by, wants_input};
+ghost use Rattle.git_server.specs.Serving.{Running, kept_by, outcome_of, wants_input};
 
 use crate::repo::Repo;
 use crate::server::Server;
@@ -15,9 +15,9 @@ pub fn server_keeps_to_its_session<R: Repo, A: Allocator + Copy>(server: &Server
     ensures session { (s : Setting) (used : List ℕ) (over : Bool) (given : List ℕ) → Running R.answers s used over given server.now → IsRunning s used over given }
 {}
 
-/// Where a server waits for input, the session goes on, and the advertisement and the answer to each whole request were
-/// given whole.
-pub fn server_that_waits_has_answered<R: Repo, A: Allocator + Copy>(server: &Server<R, A>)
+/// A server waits for input exactly where no outcome stands, and the advertisement and the answer to each whole request
+/// were given whole.
+pub fn server_waits_where_all_is_given<R: Repo, A: Allocator + Copy>(server: &Server<R, A>)
     ensures { (s : Setting) (used : List ℕ) (over : Bool) (given : List ℕ) → Running R.answers s used over given server.now
-        → wants_input server.now ≡ true → IsAnswered s used given }
+        → (wants_input server.now ≡ true) ↔ ((outcome_of server.now ≡ None) × IsAnswered s used given) }
 {}

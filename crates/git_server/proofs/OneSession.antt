@@ -1,0 +1,157 @@
+-- What was asked by the bytes that a server used, and how it is answered, is one thing: so a server that has given all
+-- of it owes nothing.
+use Rattle.std.proofs.Common.{◌≡◌, ◌≢◌, ℕ, Bool, true, false, List, [], ◌∷◌, ◌++◌, length, length-append, Option, None, refl, sym, ap, ◌∙◌, append_assoc, append-nil, subst, inl, inr, arith}
+use Rattle.git_pkt.specs.Digits.{digits_of}
+use Rattle.git_pkt.specs.Packets.{Pkt, flush, body_of, length_field, spelling_of}
+use Rattle.git_pkt.specs.Splits.{Given}
+use Rattle.git_pkt.proofs.Streams.{one_split}
+use Rattle.git_msg.specs.declared.offers.Offer.{Offer}
+use Rattle.git_msg.specs.Asked.{Asked, ls_refs}
+use Rattle.git_msg.specs.Holding.{asked_of}
+use Rattle.git_msg.specs.Lines.{Line, IsLine, IsLineIn, has_boundary}
+use Rattle.git_msg.specs.Requests.{AreLines, Asks}
+use Rattle.git_msg.proofs.LineLaws.{one_request}
+use Rattle.git_server.specs.Repository.{Entry, Repository}
+use Rattle.git_server.specs.Answers.{spelled, IsAnswer}
+use Rattle.git_server.specs.Greetings.{greetings_from}
+use Rattle.git_server.specs.Sessions.{Setting, Cuts, AreAnswers, Begins, IsAnswered, IsSent, advertised}
+use Rattle.git_server.specs.Phases.{answer_from, outcome_in, owed_in, reads_in}
+use Rattle.git_server.specs.Serving.{Running, Serves, StandsBy, outcome_of, wants_input}
+use Rattle.git_server.specs.declared.greeting.Greeting.{Greeting as GreetingLine}
+use Rattle.git_server.specs.declared.outcome.Outcome.{Outcome}
+use Rattle.git_server.specs.declared.server.Phase.{Phase}
+use Rattle.git_server.specs.declared.server.Phase.TheVariants.{Greeting, Between, Within, Answering, Refusing, Ended}
+use Rattle.git_server.specs.declared.server.Server.{Server}
+use Rattle.git_server.proofs.WholeRequests.{answers_more, begins}
+use Rattle.git_server.proofs.Sent.{spelled_both}
+use Rattle.git_server.proofs.Owing.{one_line}
+
+-- no packet of the list is a flush
+abbrev NoFlush : List Given → Type 0
+NoFlush [] = Unit {0}
+NoFlush (g ∷ gs) = (g.packet ≢ flush) × NoFlush gs
+
+flush_is_no_line_in : (part : Bool) (offer : Offer) (limit : ℕ) (before : List Line) (line : Line) → IsLineIn part offer limit before flush line → ⊥
+flush_is_no_line_in true offer limit before line h = h
+flush_is_no_line_in false offer limit before line h = h
+
+flush_is_no_line : (offer : Offer) (limit : ℕ) (before : List Line) (packet : Pkt) (line : Line) → IsLine offer limit before packet line → packet ≢ flush
+flush_is_no_line offer limit before packet line h is = flush_is_no_line_in (has_boundary before) offer limit before line (subst (λ (p : Pkt). IsLine offer limit before p line) is h)
+
+lines_have_no_flush : (offer : Offer) (limit : ℕ) (before : List Line) (gs : List Given) (lines : List Line) → AreLines offer limit before gs lines → NoFlush gs
+lines_have_no_flush offer limit before [] lines h = tt
+lines_have_no_flush offer limit before (g ∷ gs) [] h = absurd h
+lines_have_no_flush offer limit before (g ∷ gs) (l ∷ ls) h =
+    (flush_is_no_line offer limit before g.packet l h.0, lines_have_no_flush offer limit (before ++ l ∷ []) gs ls h.1)
+
+flush_inside : (xs more left : List Given) (last : Given) → NoFlush left → last.packet ≡ flush → left ≡ xs ++ last ∷ more → ⊥
+flush_inside [] more [] last none ends e = cc
+flush_inside (x ∷ xs) more [] last none ends e = cc
+flush_inside [] more (g ∷ gs) last none ends e = let same : g ≡ last = cc in none.0 (ap (λ (p : Given). p.packet) same ∙ ends)
+flush_inside (x ∷ xs) more (g ∷ gs) last none ends e = let same : gs ≡ xs ++ last ∷ more = cc in flush_inside xs more gs last none.1 ends same
+
+-- what comes up to the first flush
+record SameFront (xs ys more others : List Given) (l m : Given) : Type 0 where
+  pub front : xs ++ l ∷ [] ≡ ys ++ m ∷ []
+  pub back : more ≡ others
+
+same_front : (xs ys more others : List Given) (l m : Given) → NoFlush xs → NoFlush ys → l.packet ≡ flush → m.packet ≡ flush → xs ++ l ∷ more ≡ ys ++ m ∷ others → SameFront xs ys more others l m
+same_front [] [] more others l m none clear l_ends m_ends e = let same : l ≡ m = cc in record { front = ap (λ (g : Given). g ∷ []) same; back = cc }
+same_front [] (y ∷ ys) more others l m none clear l_ends m_ends e = let same : l ≡ y = cc in absurd (clear.0 (ap (λ (g : Given). g.packet) (sym same) ∙ l_ends))
+same_front (x ∷ xs) [] more others l m none clear l_ends m_ends e = let same : x ≡ m = cc in absurd (none.0 (ap (λ (g : Given). g.packet) same ∙ m_ends))
+same_front (x ∷ xs) (y ∷ ys) more others l m none clear l_ends m_ends e =
+    let tails : xs ++ l ∷ more ≡ ys ++ m ∷ others = cc in
+    let same : x ≡ y = cc in
+    let later = same_front xs ys more others l m none.1 clear.1 l_ends m_ends tails in
+    record { front = ap (λ (g : Given). g ∷ (xs ++ l ∷ [])) same ∙ ap (λ (gs : List Given). y ∷ gs) later.front; back = later.back }
+
+module _ (s : Setting) where
+  whole_then : (front more packets : List Given) (q : Asked) (kept : ℕ) → (a : Asks s.offer s.limit front q kept) → packets ≡ front ++ more → packets ≡ a.front ++ a.last ∷ more
+  whole_then front more packets q kept a e = e ∙ ap (λ (gs : List Given). gs ++ more) a.whole ∙ append_assoc a.front (a.last ∷ []) more
+
+  -- packets ask for one list of requests
+  pub one_cut : (packets : List Given) (asked others : List Asked) (left rest : List Given) → NoFlush left → NoFlush rest → Cuts s packets asked left → Cuts s packets others rest → asked ≡ others
+  one_cut packets [] [] left rest none clear h k = refl
+  one_cut packets [] (q ∷ qs) left rest none clear h (front, more, kept, whole, asks, cuts) =
+      absurd (flush_inside asks.front more left asks.last none asks.ends (sym h ∙ whole_then front more packets q kept asks whole))
+  one_cut packets (q ∷ qs) [] left rest none clear (front, more, kept, whole, asks, cuts) k =
+      absurd (flush_inside asks.front more rest asks.last clear asks.ends (sym k ∙ whole_then front more packets q kept asks whole))
+  one_cut packets (q ∷ qs) (r ∷ rs) left rest none clear (front, more, kept, whole, asks, cuts) (other, others, long, all, is, later) =
+      let none_before = lines_have_no_flush s.offer s.limit [] asks.front asks.lines asks.taken in
+      let clear_before = lines_have_no_flush s.offer s.limit [] is.front is.lines is.taken in
+      let same = same_front asks.front is.front more others asks.last is.last none_before clear_before asks.ends is.ends
+      (sym (whole_then front more packets q kept asks whole) ∙ whole_then other others packets r long is all) in
+      let fronts : front ≡ other = asks.whole ∙ same.front ∙ sym is.whole in
+      let first = (one_request s.offer s.limit other q r kept long (subst (λ (gs : List Given). Asks s.offer s.limit gs q kept) fronts asks) is).0 in
+      let tail = one_cut more qs rs left rest none clear cuts (subst (λ (gs : List Given). Cuts s gs rs rest) (sym same.back) later) in
+      ap (λ (a : Asked). a ∷ qs) first ∙ ap (λ (l : List Asked). r ∷ l) tail
+
+  begun_has_no_flush : (left : List Given) → Begins s left → NoFlush left
+  begun_has_no_flush left h = lines_have_no_flush s.offer s.limit [] left h.lines h.taken
+
+one_answer : (repo : Repository) (q : Asked) (answer other : List Pkt) → IsAnswer repo q answer → IsAnswer repo q other → answer ≡ other
+one_answer repo (ls_refs q) answer other h k = h ∙ sym k
+
+-- requests have one list of answers
+pub same_answers : (repo : Repository) (asked : List Asked) (packets others : List Pkt) → AreAnswers repo asked packets → AreAnswers repo asked others → packets ≡ others
+same_answers repo [] packets others h k = h ∙ sym k
+same_answers repo (q ∷ qs) packets others (answer, more, e, is, later) (other, rest, f, is_other, back) =
+    e ∙ ap (λ (l : List Pkt). l ++ more) (one_answer repo q answer other is is_other) ∙ ap (λ (l : List Pkt). other ++ l) (same_answers repo qs more rest later back) ∙ sym f
+
+-- what was sent and what is owed are the advertisement and an answer to each request
+record IsWhole (s : Setting) (asked : List Asked) (sent owed : List Pkt) : Type 0 where
+  pub answers : List Pkt
+  pub answered : AreAnswers s.repo asked answers
+  pub parts : sent ++ owed ≡ advertised s ++ answers
+
+is_whole : (s : Setting) (asked : List Asked) (sent owed : List Pkt) → IsSent s asked sent owed → IsWhole s asked sent owed
+is_whole s asked sent owed (inl h) =
+    record { answers = []; answered = subst (λ (qs : List Asked). AreAnswers s.repo qs []) (sym h.none) refl; parts = h.parts ∙ sym (append-nil (advertised s)) }
+is_whole s asked sent owed (inr h) =
+    record {
+      answers = h.answers ++ (h.front ++ owed);
+      answered = subst (λ (qs : List Asked). AreAnswers s.repo qs (h.answers ++ (h.front ++ owed))) (sym h.whole) (answers_more s.repo h.earlier h.answers h.last (h.front ++ owed) h.answered h.answer);
+      parts = ap (λ (l : List Pkt). l ++ owed) h.sent_is ∙ append_assoc (advertised s ++ h.answers) h.front owed ∙ append_assoc (advertised s) h.answers (h.front ++ owed);
+    }
+
+-- each packet has some bytes
+spelled_nothing : (packets : List Pkt) → length (spelled packets) ≡ 0 → packets ≡ []
+spelled_nothing [] none = refl
+spelled_nothing (p ∷ ps) none = absurd (omega (arith, none, length-append (spelling_of p) (spelled ps), length-append (digits_of (length_field p)) (body_of p)))
+
+all_given : (sent owed : List Pkt) → spelled (sent ++ owed) ≡ spelled sent → owed ≡ []
+all_given sent owed e = spelled_nothing owed (omega (arith, ap length e, ap length (spelled_both sent owed), length-append (spelled sent) (spelled owed)))
+
+not_nil : (xs : List Pkt) (x : Pkt) → xs ++ x ∷ [] ≢ []
+not_nil [] x e = cc
+not_nil (y ∷ ys) x e = cc
+
+owes_answer : (q : Asked) (refs : List Entry) (next : ℕ) → answer_from q refs next ≢ []
+owes_answer (ls_refs q) refs next e = not_nil _ flush e
+
+owes_line : (offer : Offer) (line : GreetingLine) → greetings_from offer line ≢ []
+owes_line offer line e = let some = sym (one_line offer line) ∙ e in cc
+
+waits_where_nothing_is_owed : {A : Type 0} (offer : Offer) (refs : List Entry) (phase : Phase A) → outcome_in phase ≡ None → owed_in offer refs phase ≡ [] → reads_in phase ≡ true
+waits_where_nothing_is_owed offer refs Between none nothing = refl
+waits_where_nothing_is_owed offer refs Within none nothing = refl
+waits_where_nothing_is_owed offer refs (Greeting line) none nothing = absurd (owes_line offer line nothing)
+waits_where_nothing_is_owed offer refs (Answering request next) none nothing = absurd (owes_answer (asked_of request) refs next nothing)
+waits_where_nothing_is_owed offer refs (Refusing fault) none nothing = absurd (cc)
+waits_where_nothing_is_owed offer refs (Ended outcome) none nothing = absurd (cc)
+
+module _ {R A : Type 0} (answers : R → Repository) (server : Server R A) (s : Setting) (used : List ℕ) (over : Bool) (given : List ℕ) (r : Running answers s used over given server) where
+  -- a server without an outcome that has given all waits for bytes
+  pub waits_behind_all : outcome_of server ≡ None → IsAnswered s used given → wants_input server ≡ true
+  waits_behind_all none all =
+      let h : Serves s used given server = (subst (λ (o : Option Outcome). StandsBy o s used over given server) none r.stands).1 in
+      let begun = begins s h.left server.requests r.reads_for r.limit (server.sound none) (server.ready none) h.takes in
+      let split = one_split 0 used h.packets all.stream.packets h.rest all.rest h.reads.splits.spelled all.stream.splits.spelled h.reads.splits.ends all.stream.splits.ends in
+      let asked : h.asked ≡ all.asked =
+      one_cut s all.stream.packets h.asked all.asked h.left all.left (begun_has_no_flush s h.left begun) (begun_has_no_flush s all.left all.begins)
+      (subst (λ (gs : List Given). Cuts s gs h.asked h.left) split.packets h.cuts) all.stream.cuts in
+      let owed = owed_in server.offer s.repo.refs server.phase in
+      let whole = is_whole s h.asked h.sent owed h.is_sent in
+      let same : whole.answers ≡ all.answers = same_answers s.repo all.asked whole.answers all.answers (subst (λ (qs : List Asked). AreAnswers s.repo qs whole.answers) asked whole.answered) all.answered in
+      let given_whole : spelled (h.sent ++ owed) ≡ spelled h.sent = ap spelled (whole.parts ∙ ap (λ (l : List Pkt). advertised s ++ l) same) ∙ sym all.given_is ∙ h.given_is in
+      waits_where_nothing_is_owed server.offer s.repo.refs server.phase none (all_given h.sent owed given_whole)
