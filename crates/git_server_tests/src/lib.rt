@@ -1,5 +1,5 @@
-//! Tests of `git_server`: sessions on the wire, however their input is cut and wherever it ends, runs over readers and
-//! writers, memory that runs out, and repositories.
+//! Tests of `git_server`: sessions on the wire, however their input is cut and wherever it ends, requests with long
+//! texts and with many, runs over readers and writers, memory that runs out, and repositories.
 #![tactic(auto)]
 
 #[cfg(test)]
@@ -14,3 +14,5 @@ mod sessions;
 mod steps;
 #[cfg(test)]
 mod streams;
+#[cfg(test)]
+mod texts;

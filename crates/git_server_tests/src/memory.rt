@@ -1,14 +1,34 @@
 //! Memory that runs out at each growth in turn.
 use crate::runs::{converse, new_server, usual};
 use crate::steps::refusal;
-use git_pkt::{Kind, Told};
+use git_pkt::{Kind, RunFault, Told};
 use git_server::{Outcome, serve};
 use linked_list_allocator::LocalHeap;
+use std::process::Abort;
 use std::test::Fail;
 
 /// A request that keeps two texts.
 const REQUEST: &[u8] =
     b"0014command=ls-refs\n00010009peel\n001bref-prefix refs/heads/\n001aref-prefix refs/tags/\n0000";
+
+// What is written for the request by a server that has so much memory and reads it from a stream, and how its run ends.
+fn serve_with(
+    rt: &(impl Abort + AllocGlobal),
+    size: usize,
+) -> Result<(Vec<u8>, Result<Outcome, RunFault>), Fail> {
+    let heap = LocalHeap::new(rt.alloc(), size)?;
+    let mut server = new_server(rt, &heap, usual())?;
+    let mut written = Vec::new(rt.alloc());
+    let mut piece = [0; 7];
+    let run = serve(
+        &mut Told::new(REQUEST),
+        &mut Told::new(&mut written),
+        &mut piece,
+        &mut server,
+        100,
+    );
+    Ok((written, run))
+}
 
 #[test]
 fn each_growth_is_refused_in_turn(rt: HostRuntime) -> Result<(), Fail> {
@@ -16,8 +36,11 @@ fn each_growth_is_refused_in_turn(rt: HostRuntime) -> Result<(), Fail> {
     let mut refusals = [0; 2];
     for size in (32..1024).step_by(8) {
         let heap = LocalHeap::new(rt.alloc(), size)?;
-        let mut server = new_server(&rt, &heap, usual(), false)?;
+        let mut server = new_server(&rt, &heap, usual())?;
         let (given, ended) = converse(&mut server, rt.alloc(), &[REQUEST])?;
+        let (written, run) = serve_with(&rt, size)?;
+        assert_eq!(rt; written.as_slice(), given.as_slice(), "with {size} bytes");
+        assert_eq!(rt; run.ok(), ended, "with {size} bytes");
         if ended == Some(Outcome::Closed) {
             answered = size;
             continue;
@@ -44,11 +67,11 @@ fn without_memory_the_first_text_is_refused(rt: HostRuntime) -> Result<(), Fail>
         0009peel\n000csymrefs\n001bref-prefix refs/heads/\n0000";
     let told = b"001aERR OutOfMemory at 67\n";
     let heap = LocalHeap::new(rt.alloc(), 32)?;
-    let mut server = new_server(&rt, &heap, usual(), false)?;
+    let mut server = new_server(&rt, &heap, usual())?;
     let (given, ended) = converse(&mut server, rt.alloc(), &[input])?;
     assert_eq!(rt; given.as_slice(), told.as_slice());
     assert_eq!(rt; ended, Some(refusal(Kind::OutOfMemory, 67)));
-    let mut server = new_server(&rt, &heap, usual(), false)?;
+    let mut server = new_server(&rt, &heap, usual())?;
     let mut given = Vec::new(rt.alloc());
     let mut piece = [0; 7];
     let run = serve(

@@ -3,6 +3,7 @@ use crate::runs::{A, B};
 use git_msg::Boundary;
 use git_names::{Format, NameFault, Oid};
 use git_server::{ListRepo, RefEntry, Repo, RepoFault};
+use std::alloc::AllocError;
 use std::process::Abort;
 use std::test::Fail;
 
@@ -20,13 +21,7 @@ fn object(rt: &impl Abort, text: &[u8]) -> Oid {
 /// A reference's name, its object and the object that it peels to.
 type Line = (&'static [u8], &'static [u8], Option<&'static [u8]>);
 
-// What these references, objects and shallow commits make, for SHA-1.
-fn made(
-    rt: &(impl Abort + AllocGlobal),
-    lines: &[Line],
-    objects: &[&[u8]],
-    shallow: &[&[u8]],
-) -> Result<Result<ListRepo, RepoFault>, Fail> {
+fn refs_of(rt: &(impl Abort + AllocGlobal), lines: &[Line]) -> Result<Vec<RefEntry>, Fail> {
     let mut refs = Vec::new(rt.alloc());
     for (name, id, peeled) in lines {
         let name = Vec::from_slice(rt.alloc(), name)?;
@@ -34,22 +29,43 @@ fn made(
         let entry = RefEntry::new(name, object(rt, id), None, peeled);
         refs.push(entry.expect(rt, "a reference"))?;
     }
+    Ok(refs)
+}
+
+fn sizes_of(
+    rt: &(impl Abort + AllocGlobal),
+    objects: &[&[u8]],
+) -> Result<Vec<(Oid, u64)>, AllocError> {
     let mut sizes = Vec::new(rt.alloc());
     for id in objects {
         sizes.push((object(rt, id), 12))?;
     }
+    Ok(sizes)
+}
+
+fn boundaries_of(
+    rt: &(impl Abort + AllocGlobal),
+    shallow: &[&[u8]],
+) -> Result<Vec<Boundary>, AllocError> {
     let mut boundaries = Vec::new(rt.alloc());
     for id in shallow {
         boundaries.push(Boundary::Shallow(object(rt, id)))?;
     }
-    Ok(ListRepo::new(
-        Format::Sha1,
-        refs,
-        sizes,
-        None,
-        boundaries,
-        Vec::new(rt.alloc()),
-    ))
+    Ok(boundaries)
+}
+
+// What these references, objects and shallow commits make, for SHA-1.
+fn made(
+    rt: &(impl Abort + AllocGlobal),
+    lines: &[Line],
+    objects: &[&[u8]],
+    shallow: &[&[u8]],
+) -> Result<Result<ListRepo, RepoFault>, Fail> {
+    let refs = refs_of(rt, lines)?;
+    let sizes = sizes_of(rt, objects)?;
+    let boundaries = boundaries_of(rt, shallow)?;
+    let pack = Vec::new(rt.alloc());
+    Ok(ListRepo::new(Format::Sha1, refs, sizes, None, boundaries, pack))
 }
 
 fn check_fault(

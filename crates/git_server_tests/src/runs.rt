@@ -6,38 +6,83 @@ use std::alloc::{AllocError, Allocator, Global};
 use std::process::Abort;
 use std::test::Fail;
 
+/// An object name of SHA-1.
 pub const A: &[u8] = b"aaaaaaaaaaaaaaaaaaaaaaaaaaaaaaaaaaaaaaaa";
 
+/// Another one.
 pub const B: &[u8] = b"bbbbbbbbbbbbbbbbbbbbbbbbbbbbbbbbbbbbbbbb";
+
+/// What a server is made with.
+#[derive(Clone, Copy, Debug)]
+pub struct Setup {
+    /// Of the repository's object names.
+    pub format: Format,
+    /// How many bytes of a request's arguments are kept.
+    pub limits: Limits,
+    /// Whether the advertisement comes first.
+    pub advertise: bool,
+}
+
+/// SHA-1, the usual limit, and no advertisement.
+pub fn usual() -> Setup {
+    Setup {
+        format: Format::Sha1,
+        limits: Limits {
+            args: Limits::USUAL,
+        },
+        advertise: false,
+    }
+}
+
+/// The usual, but for this limit.
+pub fn limited(args: u16) -> Setup {
+    Setup {
+        limits: Limits {
+            args: u32::from(args),
+        },
+        ..usual()
+    }
+}
+
+/// The usual, with the advertisement first.
+pub fn advertising(format: Format) -> Setup {
+    Setup {
+        format,
+        advertise: true,
+        ..usual()
+    }
+}
+
+// The object name that has this digit throughout.
+fn object(rt: &impl Abort, format: Format, digit: u8) -> Oid {
+    Oid::read(format, &[digit; 64][..format.digits()]).expect(rt, "an object name")
+}
 
 fn entry(
     rt: &(impl Abort + AllocGlobal),
     name: &[u8],
-    id: &[u8],
+    id: Oid,
     target: Option<&[u8]>,
-    peeled: Option<&[u8]>,
+    peeled: Option<Oid>,
 ) -> Result<RefEntry, Fail> {
     let name = Vec::from_slice(rt.alloc(), name)?;
-    let id = Oid::read(Format::Sha1, id).expect(rt, "an object name");
     let target = match target {
         Some(target) => Some(Vec::from_slice(rt.alloc(), target)?),
-        None => None,
-    };
-    let peeled = match peeled {
-        Some(peeled) => Some(Oid::read(Format::Sha1, peeled).expect(rt, "an object name")),
         None => None,
     };
     Ok(RefEntry::new(name, id, target, peeled).expect(rt, "a reference"))
 }
 
 /// A symbolic reference, a branch, and a tag of another object.
-pub fn repository(rt: &(impl Abort + AllocGlobal)) -> Result<ListRepo, Fail> {
+pub fn repository(rt: &(impl Abort + AllocGlobal), format: Format) -> Result<ListRepo, Fail> {
+    let a = object(rt, format, b'a');
+    let b = object(rt, format, b'b');
     let mut refs = Vec::new(rt.alloc());
-    refs.push(entry(rt, b"HEAD", A, Some(b"refs/heads/main"), None)?)?;
-    refs.push(entry(rt, b"refs/heads/main", A, None, None)?)?;
-    refs.push(entry(rt, b"refs/tags/v1", B, None, Some(A))?)?;
+    refs.push(entry(rt, b"HEAD", a, Some(b"refs/heads/main"), None)?)?;
+    refs.push(entry(rt, b"refs/heads/main", a, None, None)?)?;
+    refs.push(entry(rt, b"refs/tags/v1", b, None, Some(a))?)?;
     let repo = ListRepo::new(
-        Format::Sha1,
+        format,
         refs,
         Vec::new(rt.alloc()),
         None,
@@ -47,21 +92,13 @@ pub fn repository(rt: &(impl Abort + AllocGlobal)) -> Result<ListRepo, Fail> {
     Ok(repo.expect(rt, "a repository"))
 }
 
-/// The usual limit of what is kept.
-pub fn usual() -> Limits {
-    Limits {
-        args: Limits::USUAL,
-    }
-}
-
 /// A server of the repository that keeps arguments in memory from `alloc`.
 pub fn new_server<A: Allocator + Copy>(
     rt: &(impl Abort + AllocGlobal),
     alloc: A,
-    limits: Limits,
-    advertise: bool,
+    setup: Setup,
 ) -> Result<Server<ListRepo, A>, Fail> {
-    let repo = repository(rt)?;
+    let repo = repository(rt, setup.format)?;
     let offer = Offer {
         format: repo.format(),
         shallow: true,
@@ -69,7 +106,7 @@ pub fn new_server<A: Allocator + Copy>(
         object_info: false,
         server_option: true,
     };
-    Ok(Server::new(alloc, repo, offer, limits, advertise))
+    Ok(Server::new(alloc, repo, offer, setup.limits, setup.advertise))
 }
 
 // Appends all that the server owes. The outcome, if there is one.
@@ -87,6 +124,24 @@ fn drain<A: Allocator + Copy>(
     Ok(None)
 }
 
+// Feeds the piece, and appends all that the server gives for it. The outcome, if there is one.
+fn feed_piece<A: Allocator + Copy>(
+    server: &mut Server<ListRepo, A>,
+    piece: &[u8],
+    output: &mut Vec<u8>,
+) -> Result<Option<Outcome>, AllocError> {
+    let mut rest = piece;
+    for _ in 0..100_000 {
+        let used = server.feed(rest);
+        rest = &rest[used..];
+        let outcome = drain(server, output)?;
+        if rest.is_empty() || outcome.is_some() {
+            return Ok(outcome);
+        }
+    }
+    Ok(None)
+}
+
 /// What a server gives for these pieces, and how its session ended where the input ends with them.
 pub fn converse<A: Allocator + Copy>(
     server: &mut Server<ListRepo, A>,
@@ -96,22 +151,10 @@ pub fn converse<A: Allocator + Copy>(
     let mut output = Vec::new(alloc);
     let mut outcome = drain(server, &mut output)?;
     for piece in pieces {
-        let mut rest: &[u8] = piece;
-        for _ in 0..100_000 {
-            let used = server.feed(rest);
-            rest = &rest[used..];
-            if outcome.is_none() {
-                outcome = drain(server, &mut output)?;
-            }
-            if rest.is_empty() || outcome.is_some() {
-                break;
-            }
-        }
+        outcome = feed_piece(server, piece, &mut output)?;
     }
     if server.wants_input() {
         server.close();
-    }
-    if outcome.is_none() {
         outcome = drain(server, &mut output)?;
     }
     Ok((output, outcome))

@@ -1,7 +1,7 @@
 //! What sessions look like on the wire.
-use crate::runs::{converse, new_server, usual};
-use crate::steps::{answered, goes, part, refusal, refused, stop};
-use git_msg::Limits;
+use crate::runs::{advertising, converse, limited, new_server, usual};
+use crate::steps::{advertisement, answered, goes, part, refusal, refused, stop};
+use git_names::Format;
 use git_pkt::Kind;
 use git_server::{Outcome, Repo};
 use std::test::Fail;
@@ -54,7 +54,7 @@ fn references_below_one_of_two_prefixes(rt: HostRuntime) -> Result<(), Fail> {
 fn all_references(rt: HostRuntime) -> Result<(), Fail> {
     let request = [part(b"0014command=ls-refs\n"), answered(b"0000", ALL)];
     goes(&rt, usual(), &request)?;
-    goes(&rt, Limits { args: 0 }, &request)
+    goes(&rt, limited(0), &request)
 }
 
 #[test]
@@ -134,7 +134,7 @@ fn input_that_ends_inside_a_request(rt: HostRuntime) -> Result<(), Fail> {
         ),
     ];
     for (input, output, offset) in rows {
-        let mut server = new_server(&rt, rt.alloc(), usual(), false)?;
+        let mut server = new_server(&rt, rt.alloc(), usual())?;
         let (given, outcome) = converse(&mut server, rt.alloc(), &[input])?;
         assert_eq!(rt; given.as_slice(), output, "for {input:?}");
         assert_eq!(rt;
@@ -208,7 +208,7 @@ fn error_packet_is_not_answered(rt: HostRuntime) -> Result<(), Fail> {
 fn prefixes_are_kept_within_the_limit(rt: HostRuntime) -> Result<(), Fail> {
     goes(
         &rt,
-        Limits { args: 26 },
+        limited(26),
         &[
             part(b"0014command=ls-refs\n"),
             part(b"0001"),
@@ -225,7 +225,7 @@ fn prefixes_are_kept_within_the_limit(rt: HostRuntime) -> Result<(), Fail> {
     )?;
     goes(
         &rt,
-        Limits { args: 0 },
+        limited(0),
         &[
             part(b"0014command=ls-refs\n"),
             part(b"0001"),
@@ -306,14 +306,65 @@ fn lines_that_no_request_has_behind_its_command(rt: HostRuntime) -> Result<(), F
 
 #[test]
 fn advertisement_comes_first(rt: HostRuntime) -> Result<(), Fail> {
-    let mut server = new_server(&rt, rt.alloc(), usual(), true)?;
+    let setup = advertising(Format::Sha1);
+    let mut server = new_server(&rt, rt.alloc(), setup)?;
     let (output, outcome) = converse(&mut server, rt.alloc(), &[])?;
-    let advertisement =
-        b"000eversion 2\n0011agent=git2/1\n000cls-refs\n0012server-option\n0017object-format=sha1\n0000";
-    assert_eq!(rt; output.as_slice(), advertisement.as_slice());
+    assert_eq!(rt; output.as_slice(), advertisement(setup));
     assert_eq!(rt; outcome, Some(Outcome::Closed));
     let repo = server.into_repo();
     assert!(rt; repo.find(b"refs/tags/v1").is_some());
     assert!(rt; repo.find(b"refs/tags/v2").is_none());
     Ok(())
+}
+
+#[test]
+fn answers_stand_behind_the_advertisement(rt: HostRuntime) -> Result<(), Fail> {
+    let setup = advertising(Format::Sha1);
+    goes(&rt, setup, &[stop(), part(b"left")])?;
+    goes(
+        &rt,
+        setup,
+        &[
+            part(b"0014command=ls-refs\n"),
+            part(b"0001"),
+            part(b"001bref-prefix refs/heads/\n"),
+            answered(b"0000", BRANCH),
+            refused(
+                b"0017command=bundle-uri\n",
+                Kind::UnknownCommand,
+                55,
+                b"001dERR UnknownCommand at 55\n",
+            ),
+            part(b"0000"),
+        ],
+    )
+}
+
+#[test]
+fn references_of_the_other_format(rt: HostRuntime) -> Result<(), Fail> {
+    goes(
+        &rt,
+        advertising(Format::Sha256),
+        &[
+            part(b"0014command=ls-refs\n"),
+            part(b"0019object-format=sha256\n"),
+            part(b"0001"),
+            part(b"0009peel\n"),
+            part(b"0014ref-prefix HEAD\n"),
+            part(b"0015ref-prefix refs/t"),
+            answered(
+                b"0000",
+                b"004aaaaaaaaaaaaaaaaaaaaaaaaaaaaaaaaaaaaaaaaaaaaaaaaaaaaaaaaaaaaaaaaa HEAD\n\
+                009abbbbbbbbbbbbbbbbbbbbbbbbbbbbbbbbbbbbbbbbbbbbbbbbbbbbbbbbbbbbbbbb refs/tags/v1 \
+                peeled:aaaaaaaaaaaaaaaaaaaaaaaaaaaaaaaaaaaaaaaaaaaaaaaaaaaaaaaaaaaaaaaa\n0000",
+            ),
+            part(b"0014command=ls-refs\n"),
+            refused(
+                b"0001",
+                Kind::WrongFormat,
+                123,
+                b"001bERR WrongFormat at 123\n",
+            ),
+        ],
+    )
 }

@@ -1,5 +1,6 @@
 //! Servers over readers and writers: what is flushed when, what is told of streams that fail, and reads that are spent.
-use crate::runs::{new_server, usual};
+use crate::runs::{Setup, advertising, new_server, usual};
+use git_names::Format;
 use git_pkt::{RunFault, Told};
 use git_server::{Outcome, serve};
 use std::cell::Cell;
@@ -29,6 +30,26 @@ impl Write for Held {
     }
 }
 
+// How a run of so many turns over the input ends, and what its writer has passed on by then: all that it was given.
+fn run_held(
+    rt: &(impl Abort + AllocGlobal),
+    input: &[u8],
+    setup: Setup,
+    turns: u64,
+) -> Result<(Result<Outcome, RunFault>, Vec<u8>), Fail> {
+    let mut server = new_server(rt, rt.alloc(), setup)?;
+    let mut reader = Told::new(input);
+    let mut held = Held {
+        waiting: Vec::new(rt.alloc()),
+        passed: Vec::new(rt.alloc()),
+    };
+    let mut writer = Told::new(&mut held);
+    let mut piece = [0; 5];
+    let run = serve(&mut reader, &mut writer, &mut piece, &mut server, turns);
+    assert!(rt; held.waiting.is_empty());
+    Ok((run, held.passed))
+}
+
 #[test]
 fn all_is_flushed_at_the_end(rt: HostRuntime) -> Result<(), Fail> {
     let endings: [&[u8]; 4] = [
@@ -38,19 +59,21 @@ fn all_is_flushed_at_the_end(rt: HostRuntime) -> Result<(), Fail> {
         b"0014command=ls-refs\n0000g",
     ];
     for input in endings {
-        let mut server = new_server(&rt, rt.alloc(), usual(), true)?;
-        let mut reader = Told::new(input);
-        let mut held = Held {
-            waiting: Vec::new(rt.alloc()),
-            passed: Vec::new(rt.alloc()),
-        };
-        let mut writer = Told::new(&mut held);
-        let mut piece = [0; 5];
-        let run = serve(&mut reader, &mut writer, &mut piece, &mut server, 100);
+        let (run, passed) = run_held(&rt, input, advertising(Format::Sha1), 100)?;
         assert!(rt; run.is_ok());
-        assert!(rt; held.waiting.is_empty());
-        assert!(rt; held.passed.len() > 150);
+        assert!(rt; passed.len() > 150);
     }
+    Ok(())
+}
+
+#[test]
+fn all_is_flushed_where_the_reads_are_spent(rt: HostRuntime) -> Result<(), Fail> {
+    let (run, passed) = run_held(&rt, b"0014command=ls-refs\n0000", usual(), 5)?;
+    assert_eq!(rt; run, Err(RunFault::ReadLimit));
+    assert_eq!(rt; passed.len(), 173);
+    let (run, passed) = run_held(&rt, b"", advertising(Format::Sha1), 0)?;
+    assert_eq!(rt; run, Err(RunFault::ReadLimit));
+    assert_eq!(rt; passed.len(), 88);
     Ok(())
 }
 
@@ -114,7 +137,7 @@ fn each_answer_is_flushed_before_the_next_read(rt: HostRuntime) -> Result<(), Fa
         flushed: &flushed,
     });
     let mut piece = [0; 64];
-    let mut server = new_server(&rt, rt.alloc(), usual(), false)?;
+    let mut server = new_server(&rt, rt.alloc(), usual())?;
     let run = serve(&mut reader, &mut writer, &mut piece, &mut server, 100);
     assert_eq!(rt; run, Ok(Outcome::Flush));
     assert_eq!(rt; asking.seen.as_slice(), [0, 173, 346].as_slice());
@@ -129,7 +152,7 @@ fn run_failing(
     last_flush: u32,
     turns: u64,
 ) -> Result<Result<Outcome, RunFault>, Fail> {
-    let mut server = new_server(rt, rt.alloc(), usual(), false)?;
+    let mut server = new_server(rt, rt.alloc(), usual())?;
     let mut stream = Stream::new(b"0014command=ls-refs\n00000000", 12, read);
     let mut sink = Sink::new(Vec::new(rt.alloc()), usize::MAX, write);
     sink.last_flush = last_flush;
@@ -150,12 +173,16 @@ fn failing_streams_are_told(rt: HostRuntime) -> Result<(), Fail> {
     assert_eq!(rt; run, Err(RunFault::WriteFault));
     let run = run_failing(&rt, never, never, 1, 2)?;
     assert_eq!(rt; run, Err(RunFault::WriteFault));
+    let run = run_failing(&rt, never, never, never, 0)?;
+    assert_eq!(rt; run, Err(RunFault::ReadLimit));
+    let run = run_failing(&rt, never, never, 0, 0)?;
+    assert_eq!(rt; run, Err(RunFault::WriteFault));
     Ok(())
 }
 
 #[test]
 fn reads_that_are_spent(rt: HostRuntime) -> Result<(), Fail> {
-    let mut server = new_server(&rt, rt.alloc(), usual(), false)?;
+    let mut server = new_server(&rt, rt.alloc(), usual())?;
     let mut reader = Told::new(b"0014command=ls-refs\n0000".as_slice());
     let mut given = Vec::new(rt.alloc());
     let mut writer = Told::new(&mut given);
