@@ -1,6 +1,6 @@
 -- How long the text of a fault is.
-use Rattle.std.proofs.Common.{◌≡◌, ℕ, ◌+◌, ◌/◌, ◌%◌, ◌^◌, ◌<◌, ◌≤◌, List, [], ◌∷◌, ◌++◌, length, decimal, lit≤, arith, ap, sym, ◌∙◌, append_assoc, length-append}
-use Rattle.std.proofs.lemmas.Fmt.{decimal_step, length-decimal-le}
+use Rattle.std.proofs.Common.{ℕ, ◌^◌, ◌<◌, ◌≤◌, length, decimal, lit≤, arith}
+use Rattle.std.proofs.lemmas.Fmt.{length-decimal-le}
 use Rattle.git_pkt.specs.FaultNames.{kind_name}
 use Rattle.git_pkt.specs.declared.fault.Kind.{Kind}
 use Rattle.git_pkt.specs.declared.fault.Kind.TheVariants.{BadDigit, BadLength, TooLong, Truncated, StreamTooLong, NoBand, BadBand, BadCapability, UnknownCommand, TwoCommands, NoCommand, NotAdvertised, BadObjectName, BadRefName, BadNumber, DeepenConflict, NoWants, NoSize, WrongFormat, UnknownArgument, TooMuchKept, UnexpectedPacket, RemoteError, UnknownRef, NotOurs, PackSource, NotVersion2, UnexpectedSection, BadLine, OutOfMemory, RemoteFatal, ReadFault, WriteFault, ReadLimit}
@@ -45,12 +45,3 @@ kind_name_fits ReadLimit = lit≤ tt
 -- a number of 64 bits has at most twenty digits
 pub decimal_fits : (n : ℕ) → n < 2 ^ 64 → length (decimal n) ≤ 20
 decimal_fits n h = length-decimal-le 20 n (omega arith) (omega arith) h
-
--- one digit less without the last
-pub decimal_longer : (n : ℕ) → 10 ≤ n → n < 2 ^ 64 → length (decimal n) ≡ length (decimal (n / 10)) + 1
-decimal_longer n more h = ap length (decimal_step n more h) ∙ length-append (decimal (n / 10)) ((48 + n % 10) ∷ [])
-
--- what is appended in two goes
-pub appended_twice : (a b c ds x n : List ℕ) → n ≡ ds ++ x → b ≡ a ++ ds → c ≡ b ++ x → c ≡ a ++ n
-appended_twice a b c ds x n whole first second =
-    second ∙ ap (λ (l : List ℕ). l ++ x) first ∙ append_assoc a ds x ∙ ap (λ (l : List ℕ). a ++ l) (sym whole)

@@ -1,10 +1,11 @@
 //! The packet that tells a fault to the other end.
 
-ghost use Rattle.std.specs.Prelude.{◌≡◌, ◌+◌, ◌≤◌, ◌<◌, ◌++◌, ◌∷◌, [], codes, decimal, length, false};
+ghost use Rattle.std.specs.Prelude.{◌≡◌, ◌+◌, ◌≤◌, ◌++◌, ◌∷◌, [], codes, length};
 ghost use Rattle.git_pkt.specs.FaultNames.{fault_text};
 
 use arrayvec::ArrayVec;
 use git_pkt::Fault;
+use itoa::Buffer;
 
 /// The payload of an error packet, gitprotocol-pack(5), that tells this fault by its name and offset.
 pub(crate) fn error_line(fault: Fault) -> ArrayVec<u8, 64>
@@ -14,7 +15,7 @@ pub(crate) fn error_line(fault: Fault) -> ArrayVec<u8, 64>
     append(&mut line, b"ERR ");
     append(&mut line, fault.kind.name().as_bytes());
     append(&mut line, b" at ");
-    append_decimal(&mut line, fault.offset);
+    append(&mut line, Buffer::new().format(fault.offset).as_bytes());
     append(&mut line, b"\n");
     line
 }
@@ -25,17 +26,4 @@ fn append(line: &mut ArrayVec<u8, 64>, bytes: &[u8])
     ensures len { length line.new.items ≡ length line.old.items + length bytes.now }
 {
     let _ = line.try_extend_from_slice(bytes);
-}
-
-fn append_decimal(line: &mut ArrayVec<u8, 64>, number: u64)
-    requires { length line.old.items + length (decimal number) ≤ 64 }
-    ensures items { line.new.items ≡ line.old.items ++ decimal number }
-    ensures len { length line.new.items ≡ length line.old.items + length (decimal number) }
-{
-    if number < 10 {
-        append(line, &[b'0' + number as u8]);
-        return;
-    }
-    append_decimal(line, number / 10);
-    append(line, &[b'0' + (number % 10) as u8]);
 }
