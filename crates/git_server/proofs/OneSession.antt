@@ -8,7 +8,7 @@ use Rattle.git_pkt.proofs.Streams.{one_split}
 use Rattle.git_msg.specs.declared.offers.Offer.{Offer}
 use Rattle.git_msg.specs.Asked.{Asked, ls_refs}
 use Rattle.git_msg.specs.Holding.{asked_of}
-use Rattle.git_msg.specs.Lines.{Line, IsLine, IsLineIn, has_boundary}
+use Rattle.git_msg.specs.Lines.{Line, IsLine, IsLineIn, has_delimiter}
 use Rattle.git_msg.specs.Requests.{AreLines, Asks}
 use Rattle.git_msg.proofs.LineLaws.{one_request}
 use Rattle.git_server.specs.Repository.{Entry, Repository}
@@ -36,7 +36,7 @@ flush_is_no_line_in true offer limit before line h = h
 flush_is_no_line_in false offer limit before line h = h
 
 flush_is_no_line : (offer : Offer) (limit : ℕ) (before : List Line) (packet : Pkt) (line : Line) → IsLine offer limit before packet line → packet ≢ flush
-flush_is_no_line offer limit before packet line h is = flush_is_no_line_in (has_boundary before) offer limit before line (subst (λ (p : Pkt). IsLine offer limit before p line) is h)
+flush_is_no_line offer limit before packet line h is = flush_is_no_line_in (has_delimiter before) offer limit before line (subst (λ (p : Pkt). IsLine offer limit before p line) is h)
 
 lines_have_no_flush : (offer : Offer) (limit : ℕ) (before : List Line) (gs : List Given) (lines : List Line) → AreLines offer limit before gs lines → NoFlush gs
 lines_have_no_flush offer limit before [] lines h = tt
