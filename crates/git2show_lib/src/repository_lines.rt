@@ -31,10 +31,7 @@ pub(crate) enum Item<'a> {
 pub(crate) fn read_format(line: &[u8]) -> Option<Format>
     ensures { MatchOption result ((format : Format) → line.now ≢ format_line format) (λ format. line.now ≡ format_line format) }
 {
-    match after(line, b"format ") {
-        Some(name) => Format::read(name),
-        None => None,
-    }
+    Format::read(after(line, b"format ")?)
 }
 
 /// What a further line says.
@@ -48,28 +45,20 @@ pub(crate) fn read_item(format: Format, line: &[u8]) -> Option<Item<'_>>
         };
     }
     if let Some(text) = after(line, b"object ") {
-        return match read_object(format, text) {
-            Some((id, size)) => Some(Item::Object(id, size)),
-            None => None,
-        };
+        let (id, size) = read_object(format, text)?;
+        return Some(Item::Object(id, size));
     }
     if let Some(text) = after(line, b"ready ") {
-        return match read_count(text) {
-            Some(count) => Some(Item::ReadyAfter(count)),
-            None => None,
-        };
+        let count = read_count(text)?;
+        return Some(Item::ReadyAfter(count));
     }
     if let Some(text) = after(line, b"shallow ") {
-        return match Oid::read(format, text) {
-            Ok(id) => Some(Item::BoundaryLine(Boundary::Shallow(id))),
-            Err(_) => None,
-        };
+        let id = Oid::read(format, text).ok()?;
+        return Some(Item::BoundaryLine(Boundary::Shallow(id)));
     }
     if let Some(text) = after(line, b"unshallow ") {
-        return match Oid::read(format, text) {
-            Ok(id) => Some(Item::BoundaryLine(Boundary::Unshallow(id))),
-            Err(_) => None,
-        };
+        let id = Oid::read(format, text).ok()?;
+        return Some(Item::BoundaryLine(Boundary::Unshallow(id)));
     }
     None
 }
@@ -83,31 +72,20 @@ fn read_object(format: Format, text: &[u8]) -> Option<(Oid, u64)>
         return None;
     }
     let (name, rest) = text.split_at(format.digits());
-    let Ok(id) = Oid::read(format, name) else {
-        return None;
-    };
-    let Some(number) = after(rest, b" ") else {
-        return None;
-    };
-    match read_number(number) {
-        Some(size) => Some((id, size)),
-        None => None,
-    }
+    let id = Oid::read(format, name).ok()?;
+    let size = read_number(after(rest, b" ")?)?;
+    Some((id, size))
 }
 
 /// A number of objects, from 1 on.
 fn read_count(text: &[u8]) -> Option<u32>
     ensures { MatchOption result ((count : ℕ) → ¬ IsCount count text.now) (λ count. IsCount count text.now) }
 {
-    match read_number(text) {
-        Some(count) => {
-            if count == 0 || count > MOST_COMMON {
-                return None;
-            }
-            Some(count as u32)
-        }
-        None => None,
+    let count = read_number(text)?;
+    if count == 0 || count > MOST_COMMON {
+        return None;
     }
+    Some(count as u32)
 }
 
 /// The text without one LF at its end.
