@@ -1,13 +1,13 @@
 //! The lines of a repository's text.
 
-ghost use Rattle.std.specs.Prelude.{◌≡◌, ◌≢◌, ◌==◌, ◌<◌, ◌∷◌, ◌++◌, ◌↔◌, ℕ, List, length, position, IsTrue, MatchOption};
+ghost use Rattle.std.specs.Prelude.{◌≡◌, ◌≢◌, ◌<◌, ◌∷◌, ◌++◌, ◌↔◌, ℕ, List, length, IsTrue, MatchOption};
 ghost use Rattle.std.specs.Option.{option_copied};
 ghost use Rattle.git_names.specs.declared.object_format.Format.{Format};
 ghost use Rattle.git_names.specs.ObjectName.{ObjectName};
 ghost use Rattle.git2show_lib.specs.RepositoryLines.{IsCount, IsSizedObject, Says, SaysNothing, ended_lines, format_line, lines_left, shown, without_last_end};
 
 use crate::numbers::read_number;
-use git_msg::texts::after;
+use git_msg::texts::{after, find_byte};
 use git_msg::{Boundary, Reference, read_reference};
 use git_names::{Format, Oid};
 
@@ -103,14 +103,8 @@ pub(crate) fn split_line(text: &[u8]) -> (&[u8], Option<&[u8]>)
     ensures lines { ended_lines text.now ≡ result.0.now ∷ lines_left (option_copied result.1) }
     ensures shorter { MatchOption result.1 (Unit {0}) (λ rest. length rest.now < length text.now) }
 {
-    match find_line_end(text) {
+    match find_byte(text, b'\n') {
         Some(at) => (&text[..at], Some(&text[at + 1..])),
         None => (text, None),
     }
-}
-
-fn find_line_end(text: &[u8]) -> Option<usize>
-    ensures { result ≡ position (λ c. c == 10) text.now }
-{
-    text.iter().position(|byte| *byte == b'\n')
 }

@@ -1,5 +1,6 @@
 pub mod Keys
 pub mod Noted
+pub mod Places
 pub mod LineLists
 pub mod Keeping
 pub mod TakingOn

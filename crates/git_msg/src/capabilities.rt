@@ -5,6 +5,7 @@ ghost use Rattle.std.specs.List.{position_or_len};
 ghost use Rattle.std.specs.Option.{option_copied};
 ghost use Rattle.git_msg.specs.Capability.{IsCapability, IsNoCapability, is_key as is_key_text, is_value as is_value_text, is_key_byte as is_key_code};
 
+use crate::texts::find_byte;
 use git_pkt::Kind;
 
 /// A capability, as a line of an advertisement or of a request has it.
@@ -44,9 +45,7 @@ fn key_length(text: &[u8]) -> usize
     ensures first { result ≡ position_or_len (λ c. c == 61) text.now }
     ensures within { result ≤ length text.now }
 {
-    text.iter()
-        .position(|byte| *byte == b'=')
-        .unwrap_or(text.len())
+    find_byte(text, b'=').unwrap_or(text.len())
 }
 
 fn is_key(text: &[u8]) -> bool

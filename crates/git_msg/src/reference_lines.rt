@@ -1,5 +1,5 @@
 //! Reference lines, read.
-ghost use Rattle.std.specs.Prelude.{◌≡◌, ◌<◌, ◌==◌, ◌∷◌, List, ℕ, length, position, MatchOption, MatchResult};
+ghost use Rattle.std.specs.Prelude.{◌≡◌, ◌<◌, ◌∷◌, List, ℕ, length, MatchOption, MatchResult};
 ghost use Rattle.std.specs.Option.{ForSome, option_copied};
 ghost use Rattle.git_names.specs.ObjectName.{ObjectName, IsObjectName};
 ghost use Rattle.git_msg.specs.Checks.{Refuses};
@@ -8,7 +8,7 @@ ghost use Rattle.git_msg.specs.Texts.{spaced_words};
 ghost use Rattle.git_msg.specs.ReferenceParts.{IsFound, LastValues, words_left};
 
 use crate::references::Reference;
-use crate::texts::after;
+use crate::texts::{after, find_byte};
 use git_names::{Format, Oid, RefName};
 use git_pkt::Kind;
 
@@ -110,14 +110,8 @@ fn split_word(text: &[u8]) -> (&[u8], Option<&[u8]>)
     ensures words { spaced_words text.now ≡ result.0.now ∷ words_left (option_copied result.1) }
     ensures shorter { MatchOption result.1 (Unit {0}) (λ rest. length rest.now < length text.now) }
 {
-    match find_space(text) {
+    match find_byte(text, b' ') {
         Some(at) => (&text[..at], Some(&text[at + 1..])),
         None => (text, None),
     }
-}
-
-fn find_space(text: &[u8]) -> Option<usize>
-    ensures { result ≡ position (λ c. c == 32) text.now }
-{
-    text.iter().position(|byte| *byte == b' ')
 }

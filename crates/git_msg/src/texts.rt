@@ -1,7 +1,9 @@
-//! What lines begin with.
-ghost use Rattle.std.specs.Prelude.{◌≡◌, ◌↔◌, ◌++◌, IsTrue, MatchOption, codes};
+//! Words of lines, and where they end.
+ghost use Rattle.std.specs.Prelude.{◌≡◌, ◌↔◌, ◌++◌, ◌==◌, IsTrue, MatchOption, codes, position};
 ghost use Rattle.std.specs.Str.{bytes_eq};
 ghost use Rattle.git_msg.specs.Texts.{BeginsOtherThan, IsErrorText};
+
+use bstr::ByteSlice;
 
 /// Whether the text is the word.
 pub fn is_word(text: &[u8], word: &[u8]) -> bool
@@ -16,6 +18,13 @@ pub fn after<'a>(text: &'a [u8], word: &[u8]) -> Option<&'a [u8]>
     ensures { MatchOption result (BeginsOtherThan word.now text.now) (λ rest. text.now ≡ word.now ++ rest.now) }
 {
     text.strip_prefix(word)
+}
+
+/// The first place of the text where this byte stands.
+pub fn find_byte(text: &[u8], byte: u8) -> Option<usize>
+    ensures { result ≡ position (λ c. c == byte) text.now }
+{
+    text.find_byte(byte)
 }
 
 /// Whether the text is that of an error packet, gitprotocol-pack(5).
