@@ -1,7 +1,7 @@
 # RT is the command of the Rattle kit.
 RT ?= rt
 
-.PHONY: run test test-program bench
+.PHONY: run test test-program cases bench
 
 # Proves and builds the program, and shows a recorded conversation of Git.
 run:
@@ -16,6 +16,12 @@ test:
 # built first where they left none.
 test-program:
 	@RT="$(RT)" tests/run.sh
+
+# The worked cases: prints those that do not go as they say, and what differs from the gate's list of them.
+cases:
+	@cd crates/worked_conversations && $(RT) run -- data/packets.txt > /dev/null
+	@cd crates/worked_conversations/data && ../out/worked_conversations $$(cat ../args) | diff ../stdout - \
+		&& tail -n 1 ../stdout
 
 # Builds the Rattle programs, and measures them beside C and the real Git.
 bench:

@@ -1,10 +1,8 @@
-//! Tests of what `git2show` does, over streams in memory.
+//! Tests of what `git2show` does that need code: streams that fail or have no end, and fault lines.
 #![tactic(auto)]
 
 #[cfg(test)]
 mod check;
-#[cfg(test)]
-mod packets;
 #[cfg(test)]
 mod repository_text;
 #[cfg(test)]

@@ -1,14 +1,5 @@
-//! Tests of `git_msg` and `git_client`: capability lines, advertisements cut in every way, those of Git itself, and
-//! the transcript.
+//! Tests of `git_client` that need code: the lines of events, and writers that fail under them.
 #![tactic(auto)]
 
-#[cfg(test)]
-mod advertisements;
-#[cfg(test)]
-mod capability_lines;
-#[cfg(test)]
-mod recorded;
-#[cfg(test)]
-mod runs;
 #[cfg(test)]
 mod transcripts;

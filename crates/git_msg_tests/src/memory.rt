@@ -1,11 +1,22 @@
 //! Memory that runs out at each growth in turn.
-use crate::hearing::{Ending, OFFER, hear};
-use git_msg::{Argument, Command, Limits, Request};
+ghost use Rattle.std.specs.Prelude.{◌≡◌, false};
+ghost use Rattle.git_msg.specs.Taking.{is_waiting};
+
+use git_msg::{Argument, Command, Limits, Offer, Request, RequestReader, Taken};
 use git_names::Format;
-use git_pkt::{Kind, Packet};
+use git_pkt::{Fault, Kind, Packet};
 use linked_list_allocator::LocalHeap;
-use std::alloc::{AllocError, Global};
+use std::alloc::{AllocError, Allocator, Global};
 use std::process::Abort;
+
+/// An offer of all but `object-info`, in SHA-1.
+const OFFER: Offer = Offer {
+    format: Format::Sha1,
+    shallow: true,
+    ref_in_want: true,
+    object_info: false,
+    server_option: true,
+};
 
 /// Adds two prefixes to a request that may use this much memory, and says how many were kept.
 fn kept_within(rt: &impl Abort, alloc: Global, size: usize) -> Result<u32, AllocError> {
@@ -46,25 +57,40 @@ fn each_growth_of_a_request_is_refused_in_turn(rt: HostRuntime) -> Result<(), Al
     Ok(())
 }
 
+/// Gives the reader a packet, and keeps the argument that it is.
+fn hear<A: Allocator + Copy>(
+    reader: &mut RequestReader<A>,
+    packet: Packet<'_>,
+    offset: u64,
+) -> Result<(), Fault>
+    requires { is_waiting reader.old ≡ false }
+    ensures { is_waiting reader.new ≡ false }
+{
+    match reader.take(packet, offset) {
+        Ok(Taken::Argument(argument)) => reader.keep(argument),
+        Ok(_) => Ok(()),
+        Err(fault) => Err(fault),
+    }
+}
+
 #[test]
 fn a_reader_without_memory_refuses_the_first_prefix(rt: HostRuntime) -> Result<(), AllocError> {
     let heap = LocalHeap::new(rt.alloc(), 32)?;
-    let packets = [
-        Packet::Payload(b"command=ls-refs\n"),
-        Packet::Delim,
-        Packet::Payload(b"peel\n"),
-        Packet::Payload(b"ref-prefix a\n"),
-        Packet::Flush,
-    ];
-    let heard = hear(&heap, OFFER, Limits { args: 1000 }, &packets);
-    assert_eq!(&rt; heard.kept, 1);
-    match heard.ending {
-        Ending::Refused(fault, again) => {
-            assert_eq!(&rt; fault.kind, Kind::OutOfMemory);
-            assert_eq!(&rt; fault.offset, 33);
-            assert_eq!(&rt; again, Some(fault));
-        }
-        _ => panic!(&rt; "not refused"),
-    }
+    let mut reader = RequestReader::new(&heap, OFFER, Limits { args: 1000 });
+    let refused = Err(Fault {
+        kind: Kind::OutOfMemory,
+        offset: 33,
+    });
+    assert_eq!(&rt;
+        hear(&mut reader, Packet::Payload(b"command=ls-refs\n"), 0),
+        Ok(())
+    );
+    assert_eq!(&rt; hear(&mut reader, Packet::Delim, 20), Ok(()));
+    assert_eq!(&rt; hear(&mut reader, Packet::Payload(b"peel\n"), 24), Ok(()));
+    assert_eq!(&rt;
+        hear(&mut reader, Packet::Payload(b"ref-prefix a\n"), 33),
+        refused
+    );
+    assert_eq!(&rt; hear(&mut reader, Packet::Flush, 50), refused);
     Ok(())
 }

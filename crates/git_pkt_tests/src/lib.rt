@@ -1,4 +1,5 @@
-//! Tests of `git_pkt`: worked streams, cut in every way; what is written; readers and writers that fail in mid-stream.
+//! Tests of `git_pkt` that need code: bytes as they are shown, the table of refusals, and readers and writers that fail in
+//! mid-stream.
 #![tactic(auto)]
 
 #[cfg(test)]
@@ -6,10 +7,4 @@ mod escapes;
 #[cfg(test)]
 mod fault;
 #[cfg(test)]
-mod reading;
-#[cfg(test)]
-mod runs;
-#[cfg(test)]
 mod told;
-#[cfg(test)]
-mod writing;

@@ -1,5 +1,5 @@
-//! Tests of `git_server`: sessions on the wire, however their input is cut and wherever it ends, requests with long
-//! texts and with many, runs over readers and writers, memory that runs out, and repositories.
+//! Tests of `git_server` that need code: runs over readers and writers that fail or are asked when they were flushed,
+//! memory that runs out, and lists that make a repository.
 #![tactic(auto)]
 
 #[cfg(test)]
@@ -9,10 +9,4 @@ mod repositories;
 #[cfg(test)]
 mod runs;
 #[cfg(test)]
-mod sessions;
-#[cfg(test)]
-mod steps;
-#[cfg(test)]
 mod streams;
-#[cfg(test)]
-mod texts;

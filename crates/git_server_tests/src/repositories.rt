@@ -1,5 +1,5 @@
 //! Lists that make a repository, and lists that make none.
-use crate::runs::{A, B};
+use crate::runs::{A, B, new_server, usual};
 use git_msg::Boundary;
 use git_names::{Format, NameFault, Oid};
 use git_server::{ListRepo, RefEntry, Repo, RepoFault};
@@ -155,5 +155,14 @@ fn references_have_reference_names(rt: HostRuntime) -> Result<(), Fail> {
         };
         assert_eq!(rt; entry.err(), fault);
     }
+    Ok(())
+}
+
+#[test]
+fn a_server_gives_its_repository_back(rt: HostRuntime) -> Result<(), Fail> {
+    let repo = new_server(&rt, rt.alloc(), usual())?.into_repo();
+    assert_eq!(rt; repo.refs().len(), 3);
+    assert_eq!(rt; repo.find(b"refs/tags/v1"), Some(object(&rt, B)));
+    assert_eq!(rt; repo.find(b"refs/tags/v2"), None);
     Ok(())
 }

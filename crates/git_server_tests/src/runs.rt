@@ -1,6 +1,7 @@
 //! A repository of three references, and a server of it over a list of pieces.
 use git_msg::{Limits, Offer};
 use git_names::{Format, Oid};
+use git_pkt::{Fault, Kind};
 use git_server::{ListRepo, Outcome, Pulled, RefEntry, Repo, Server};
 use std::alloc::{AllocError, Allocator, Global};
 use std::process::Abort;
@@ -31,16 +32,6 @@ pub fn usual() -> Setup {
             args: Limits::USUAL,
         },
         advertise: false,
-    }
-}
-
-/// The usual, but for this limit.
-pub fn limited(args: u16) -> Setup {
-    Setup {
-        limits: Limits {
-            args: u32::from(args),
-        },
-        ..usual()
     }
 }
 
@@ -158,4 +149,9 @@ pub fn converse<A: Allocator + Copy>(
         outcome = drain(server, &mut output)?;
     }
     Ok((output, outcome))
+}
+
+/// How a session ends that this fault ends.
+pub fn refusal(kind: Kind, offset: u64) -> Outcome {
+    Outcome::Refused(Fault { kind, offset })
 }

@@ -86,3 +86,42 @@ impl Write for Sink {
         Ok(())
     }
 }
+
+/// Gives its pieces one at a read, and of a long one what the buffer holds. Empty ones are passed over.
+#[derive(Drop)]
+pub struct Pieces<'a> {
+    pieces: &'a [&'a [u8]],
+    // The piece that is read, and how many of its bytes were given.
+    number: usize,
+    given: usize,
+}
+
+impl<'a> Pieces<'a> {
+    pub fn new(pieces: &'a [&'a [u8]]) -> Pieces<'a> {
+        Pieces {
+            pieces,
+            number: 0,
+            given: 0,
+        }
+    }
+}
+
+impl<'a> Read for Pieces<'a> {
+    fn read(&mut self, buf: &mut [u8]) -> io::Result<usize> {
+        for _ in 0..self.pieces.len() {
+            let Some(piece) = self.pieces.get(self.number) else {
+                return Ok(0);
+            };
+            let rest = piece.get(self.given..).unwrap_or(&[]);
+            if !rest.is_empty() {
+                let count = rest.len().min(buf.len());
+                buf[..count].copy_from_slice(&rest[..count]);
+                self.given = self.given.saturating_add(count);
+                return Ok(count);
+            }
+            self.number = self.number.saturating_add(1);
+            self.given = 0;
+        }
+        Ok(0)
+    }
+}

@@ -1,0 +1,98 @@
+//! Requests that a program makes argument by argument, and how they are written.
+
+use crate::escapes::escaped;
+use crate::script::{Script, Step};
+use crate::trouble::Trouble;
+use git_msg::{Caps, Command, Limits, Offer, Request, RequestWriter, read_argument};
+use git_names::Format;
+use git_pkt::Hold;
+use std::alloc::Global;
+
+/// More packets than any request has.
+const MANY: usize = 100_000;
+
+/// The most bytes that the texts of a request's arguments may have.
+const MOST_KEPT: u32 = 1_073_741_824;
+
+/// A request that is to be made, and what the other end advertised.
+#[derive(Clone, Copy)]
+pub struct Asking {
+    pub format: Format,
+    pub limit: u32,
+    pub agent: bool,
+    pub object_format: bool,
+}
+
+impl Asking {
+    // Adds an argument, and says how that went.
+    fn told(
+        self,
+        alloc: Global,
+        request: &mut Request<Global>,
+        text: &[u8],
+    ) -> Result<String, Trouble> {
+        let offer = Offer {
+            format: self.format,
+            shallow: true,
+            ref_in_want: true,
+            object_info: false,
+            server_option: true,
+        };
+        let Ok(argument) = read_argument(Command::LsRefs, &offer, text) else {
+            return Err(Trouble::BadCase("no argument"));
+        };
+        match request.add(argument) {
+            Ok(()) => {
+                let kept = request.kept();
+                Ok(format!(in alloc; "kept {kept}\n")?)
+            }
+            Err(kind) => Ok(format!(in alloc; "{kind}\n")?),
+        }
+    }
+
+    // The packets that are written of a request, a line each.
+    fn written(self, alloc: Global, request: &Request<Global>) -> Result<Vec<u8>, Trouble> {
+        let caps = Caps {
+            agent: self.agent,
+            object_format: self.object_format,
+            ..Caps::new()
+        };
+        let mut writer = RequestWriter::new(request, &caps);
+        let mut hold = Hold::new();
+        let mut lines = Vec::new(alloc);
+        for _ in 0..MANY {
+            if !writer.pull(request, &mut hold) {
+                return Ok(lines);
+            }
+            lines.extend_from_slice(escaped(alloc, hold.as_slice())?.as_slice())?;
+            lines.push(b'\n')?;
+        }
+        Err(Trouble::Breaks("a request has no end"))
+    }
+
+    /// Each argument is kept or refused as the line after it says, and the request is written as the ending does.
+    pub fn goes(self, alloc: Global, script: &Script) -> Result<usize, Trouble> {
+        let limits = Limits {
+            args: self.limit.min(MOST_KEPT),
+        };
+        let mut request = Request::new(alloc, Command::LsRefs, self.format, limits);
+        let mut told = Vec::new(alloc);
+        let mut last = Step { input: 0, given: 0 };
+        for step in script.steps.as_slice() {
+            let text = script.input.as_slice().get(last.input..step.input);
+            let line = self.told(alloc, &mut request, text.unwrap_or(&[]))?;
+            told.extend_from_slice(line.as_bytes())?;
+            last = *step;
+        }
+        if told.as_slice() != script.given.as_slice() {
+            let told = String::from_utf8_lossy(alloc, told.as_slice())?;
+            return Err(Trouble::Differs(told));
+        }
+        let written = self.written(alloc, &request)?;
+        if written.as_slice() != script.ending.as_bytes() {
+            let written = String::from_utf8_lossy(alloc, written.as_slice())?;
+            return Err(Trouble::Differs(written));
+        }
+        Ok(script.steps.len())
+    }
+}

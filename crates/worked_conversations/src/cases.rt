@@ -1,0 +1,190 @@
+//! Cases, as a text has them: a name, what is run and how it is set up, and the lines of what comes and is given.
+
+use crate::asking::Asking;
+use crate::ends::End;
+use crate::runs;
+use crate::script::{Given, Script};
+use crate::sessions::Setup;
+use crate::tables::Table;
+use crate::trouble::Trouble;
+use git_names::Format;
+use std::alloc::{AllocError, Global};
+use std::fs;
+
+/// The usual limit of a request's arguments.
+const USUAL: u32 = 16_777_216;
+
+/// What a case runs.
+#[derive(Drop)]
+enum Subject<'a> {
+    End(End<'a>),
+    Table(Table),
+    Asking(Asking),
+}
+
+/// A case's words on what is run.
+#[derive(Clone, Copy)]
+struct Words<'a> {
+    text: &'a str,
+}
+
+impl<'a> Words<'a> {
+    fn has(self, word: &str) -> bool {
+        self.text.split_whitespace().any(|one| one == word)
+    }
+
+    // The word after this one.
+    fn after(self, word: &str) -> Option<&'a str> {
+        let mut words = self.text.split_whitespace();
+        while let Some(one) = words.next() {
+            if one == word {
+                return words.next();
+            }
+        }
+        None
+    }
+
+    fn format(self) -> Format {
+        match self.has("sha256") {
+            true => Format::Sha256,
+            false => Format::Sha1,
+        }
+    }
+
+    fn limit(self) -> Result<u32, Trouble> {
+        match self.after("limit") {
+            Some(limit) => limit
+                .parse::<u32>()
+                .map_err(|_| Trouble::BadCase("no limit")),
+            None => Ok(USUAL),
+        }
+    }
+
+    fn start(self) -> Result<u64, Trouble> {
+        match self.after("at") {
+            Some(start) => start
+                .parse::<u64>()
+                .map_err(|_| Trouble::BadCase("no offset")),
+            None => Ok(0),
+        }
+    }
+}
+
+// The table that these words name.
+fn table_of(words: Words<'_>) -> Option<Table> {
+    let format = words.format();
+    match words.text.split_whitespace().next()? {
+        "payloads" => Some(Table::Payloads),
+        "object-names" => Some(Table::ObjectNames(format)),
+        "reference-names" => Some(Table::ReferenceNames),
+        "capability-lines" => Some(Table::CapabilityLines),
+        "notes" => Some(Table::Notes),
+        "arguments" => Some(Table::Arguments(format)),
+        "reference-lines" => Some(Table::ReferenceLines(format)),
+        "repository-texts" => Some(Table::RepositoryTexts),
+        _ => None,
+    }
+}
+
+// What these words name. A server has this repository.
+fn subject_of<'a>(words: Words<'_>, repository: &'a [u8]) -> Result<Subject<'a>, Trouble> {
+    if let Some(table) = table_of(words) {
+        return Ok(Subject::Table(table));
+    }
+    let format = words.format();
+    let limit = words.limit()?;
+    Ok(match words.text.split_whitespace().next() {
+        Some("packets") => Subject::End(End::Packets(words.start()?)),
+        Some("requests") => Subject::End(End::Requests(format, limit)),
+        Some("client") => Subject::End(End::Client(format)),
+        Some("check") => Subject::End(End::Check(format)),
+        Some("server") => Subject::End(End::Server(Setup {
+            repository,
+            limit,
+            advertises: words.has("advertises"),
+        })),
+        Some("asking") => Subject::Asking(Asking {
+            format,
+            limit,
+            agent: words.has("agent"),
+            object_format: words.has("object-format"),
+        }),
+        _ => return Err(Trouble::BadCase("nothing to run")),
+    })
+}
+
+// Runs a case of which these are the lines after its name. Answers how many runs were made.
+fn goes(rt: &HostRuntime, alloc: Global, setup: &str, lines: &[&str]) -> Result<usize, Trouble> {
+    let words = Words { text: setup };
+    let repository = match words.after("server") {
+        Some(path) => fs::read(rt, path)?,
+        None => Vec::new(alloc),
+    };
+    match subject_of(words, repository.as_slice())? {
+        Subject::End(end) => {
+            let script = Script::read(alloc, lines, end.form())?;
+            runs::goes(alloc, &end, &script)
+        }
+        Subject::Table(table) => {
+            let script = Script::read(alloc, lines, Given::Lines)?;
+            table.goes(alloc, &script)
+        }
+        Subject::Asking(asking) => {
+            let script = Script::read(alloc, lines, Given::Lines)?;
+            asking.goes(alloc, &script)
+        }
+    }
+}
+
+// The line that tells how a case went.
+fn line_of(alloc: Global, name: &str, went: &Result<usize, Trouble>) -> Result<String, AllocError> {
+    match went {
+        Ok(runs) => format!(in alloc; "ok: {name} ({runs})"),
+        Err(Trouble::Differs(how)) => format!(in alloc; "DIFFERS: {name}: {how}"),
+        Err(Trouble::Breaks(what)) => format!(in alloc; "BROKEN: {name}: {what}"),
+        Err(Trouble::BadCase(why)) => format!(in alloc; "NO CASE: {name}: {why}"),
+        Err(Trouble::OutOfMemory) => format!(in alloc; "OUT OF MEMORY: {name}"),
+        Err(Trouble::NoFile) => format!(in alloc; "NO FILE: {name}"),
+    }
+}
+
+/// How many cases went as they say, and how many did not.
+#[derive(Clone, Copy, Default)]
+pub struct Count {
+    pub passed: u32,
+    pub failed: u32,
+}
+
+impl Count {
+    // Runs a case, and prints its line.
+    fn run(&mut self, rt: &HostRuntime, lines: &[&str]) -> Result<(), Trouble> {
+        let alloc = rt.alloc();
+        let Some((name, lines)) = lines.split_first() else {
+            return Ok(());
+        };
+        let went = match lines.split_first() {
+            Some((setup, lines)) => goes(rt, alloc, setup, lines),
+            None => Err(Trouble::BadCase("a name alone")),
+        };
+        match went {
+            Ok(_) => self.passed = self.passed.saturating_add(1),
+            Err(_) => self.failed = self.failed.saturating_add(1),
+        }
+        rt.println(line_of(alloc, name, &went)?)?;
+        Ok(())
+    }
+
+    /// Runs the cases of a text, which empty lines part. A line that begins with `#` is a comment.
+    pub fn run_all(&mut self, rt: &HostRuntime, text: &str) -> Result<(), Trouble> {
+        let mut lines: Vec<&str> = Vec::new(rt.alloc());
+        for line in text.lines() {
+            if line.is_empty() {
+                self.run(rt, lines.as_slice())?;
+                lines.clear();
+            } else if !line.starts_with('#') {
+                lines.push(line).map_err(|_| Trouble::OutOfMemory)?;
+            }
+        }
+        self.run(rt, lines.as_slice())
+    }
+}

@@ -1,0 +1,125 @@
+//! The ends and readers that a case can run.
+
+use crate::runs::{Due, compare};
+use crate::script::{Given, Script};
+use crate::trouble::Trouble;
+use crate::{checks, clients, packets, requests, sessions};
+use git_names::Format;
+use std::alloc::{AllocError, Global};
+
+/// The last position of a stream.
+const LAST_POSITION: u64 = 9_223_372_036_854_775_807;
+
+/// An end or a reader, and how it is set up.
+#[derive(Drop)]
+pub enum End<'a> {
+    /// The packet reader from this offset on, and `show`.
+    Packets(u64),
+    /// A request reader that keeps each argument.
+    Requests(Format, u32),
+    /// A server of a repository's text.
+    Server(sessions::Setup<'a>),
+    /// A client.
+    Client(Format),
+    /// `check`, of which the second stream has the requests.
+    Check(Format),
+}
+
+impl<'a> End<'a> {
+    /// How what it gives is written.
+    pub fn form(&self) -> Given {
+        match self {
+            End::Server(_) => Given::Bytes,
+            _ => Given::Lines,
+        }
+    }
+
+    /// The offset of its first byte.
+    pub fn start(&self) -> u64 {
+        match self {
+            End::Packets(start) => *start,
+            _ => 0,
+        }
+    }
+
+    /// Whether its input may end after a whole step: all that was given so far, and whether the step gave something.
+    pub fn may_end_after(&self, given: &[u8], is_answered: bool) -> bool {
+        match self {
+            End::Packets(_) | End::Requests(..) => true,
+            End::Server(_) => is_answered,
+            End::Client(_) => false,
+            End::Check(_) => given.ends_with(b"offered\n"),
+        }
+    }
+
+    /// How many bytes of all its steps it does not use: the one past the last position.
+    pub fn unread(&self, script: &Script) -> usize {
+        let last = self.start().saturating_add(script.told() as u64);
+        usize::from(last > LAST_POSITION)
+    }
+
+    /// How it ends where the input ends inside a packet or a request, of which the last whole packet ends here.
+    pub fn truncated(&self, alloc: Global, offset: u64) -> Result<String, AllocError> {
+        match self {
+            End::Check(_) => format!(in alloc; "responses: Truncated at {offset}\n"),
+            _ => format!(in alloc; "refused Truncated at {offset}\n"),
+        }
+    }
+
+    /// Appends what it gives there.
+    pub fn append_truncated(
+        &self,
+        alloc: Global,
+        given: &mut Vec<u8>,
+        offset: u64,
+    ) -> Result<(), AllocError> {
+        match self {
+            End::Server(_) => {
+                let line = format!(in alloc; "ERR Truncated at {offset}\n")?;
+                let packet = format!(in alloc; "{:04x}{line}", line.len().saturating_add(4))?;
+                given.extend_from_slice(packet.as_bytes())
+            }
+            _ => Ok(()),
+        }
+    }
+
+    /// Runs it over the pieces, in each way in which it can be run, and compares.
+    pub fn goes(
+        &self,
+        alloc: Global,
+        script: &Script,
+        pieces: &[&[u8]],
+        due: &Due,
+        place: usize,
+    ) -> Result<(), Trouble> {
+        match self {
+            End::Packets(start) => {
+                let run = packets::read(alloc, *start, script, pieces)?;
+                compare(alloc, &run, due, place)?;
+                if *start == 0 {
+                    compare(alloc, &packets::shown(alloc, pieces)?, due, place)?;
+                }
+                Ok(())
+            }
+            End::Requests(format, limit) => {
+                let run = requests::heard(alloc, *format, *limit, pieces)?;
+                compare(alloc, &run, due, place)
+            }
+            End::Server(setup) => {
+                compare(alloc, &sessions::fed(alloc, setup, pieces)?, due, place)?;
+                compare(alloc, &sessions::served(alloc, setup, pieces)?, due, place)
+            }
+            End::Client(format) => {
+                compare(alloc, &clients::fed(alloc, *format, pieces)?, due, place)
+            }
+            End::Check(format) => checks::goes(alloc, *format, script, pieces, due, place),
+        }
+    }
+    /// The runs of its own, in which another stream than the input is cut short. Answers how many they were.
+    pub fn goes_elsewhere(&self, alloc: Global, script: &Script) -> Result<usize, Trouble> {
+        match self {
+            End::Check(format) => checks::goes_with_requests_cut_short(alloc, *format, script),
+            _ => Ok(0),
+        }
+    }
+}

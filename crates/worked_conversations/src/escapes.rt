@@ -1,0 +1,73 @@
+//! Bytes as a case writes them: in the escaped form that `git2show show` prints.
+
+use crate::trouble::Trouble;
+use git_pkt::escape_into;
+use std::alloc::{AllocError, Global};
+
+/// Where a text stands between two bytes.
+#[derive(Clone, Copy)]
+enum Place {
+    Plain,
+    // After a backslash.
+    Escape,
+    // After a backslash and an `x`.
+    HighDigit,
+    // After that and one digit.
+    LowDigit(u8),
+}
+
+// The value of a lower-case hexadecimal digit.
+fn digit(byte: u8) -> Option<u8> {
+    match byte {
+        b'0'..=b'9' => Some(byte - b'0'),
+        b'a'..=b'f' => Some(byte - b'a' + 10),
+        _ => None,
+    }
+}
+
+/// Appends the bytes that an escaped text stands for: `\n` is LF, `\\` a backslash, `\x` and two digits that byte.
+pub fn append_unescaped(bytes: &mut Vec<u8>, text: &str) -> Result<(), Trouble> {
+    let mut place = Place::Plain;
+    for byte in text.as_bytes() {
+        place = match (place, *byte) {
+            (Place::Plain, b'\\') => Place::Escape,
+            (Place::Plain, plain) => {
+                bytes.push(plain)?;
+                Place::Plain
+            }
+            (Place::Escape, b'n') => {
+                bytes.push(b'\n')?;
+                Place::Plain
+            }
+            (Place::Escape, b'\\') => {
+                bytes.push(b'\\')?;
+                Place::Plain
+            }
+            (Place::Escape, b'x') => Place::HighDigit,
+            (Place::Escape, _) => return Err(Trouble::BadCase("an unknown escape")),
+            (Place::HighDigit, byte) => {
+                Place::LowDigit(digit(byte).ok_or(Trouble::BadCase("no digit after \\x"))?)
+            }
+            (Place::LowDigit(high), byte) => {
+                let low = digit(byte).ok_or(Trouble::BadCase("no second digit after \\x"))?;
+                bytes.push(high.wrapping_mul(16) | low)?;
+                Place::Plain
+            }
+        };
+    }
+    match place {
+        Place::Plain => Ok(()),
+        _ => Err(Trouble::BadCase("an escape that does not end")),
+    }
+}
+
+/// The escaped form of bytes.
+pub fn escaped(alloc: Global, bytes: &[u8]) -> Result<Vec<u8>, AllocError> {
+    let mut text = Vec::new(alloc);
+    for byte in bytes {
+        let mut shown = [0; 4];
+        let end = escape_into(&[*byte], &mut shown, 0).min(4);
+        text.extend_from_slice(&shown[..end])?;
+    }
+    Ok(text)
+}

@@ -1,0 +1,157 @@
+//! The packet reader and `show`: a line for each packet.
+
+ghost use Rattle.std.specs.Prelude.{◌≤◌};
+ghost use Rattle.git_pkt.specs.Faults.{last_position};
+
+use crate::escapes::escaped;
+use crate::runs::Run;
+use crate::script::Script;
+use crate::trouble::Trouble;
+use git_pkt::{Fault, Got, Packet, PacketReader, RunFault, Told, put};
+use git2show_lib::show;
+use std::alloc::{AllocError, Global};
+use test_streams::{Pieces, Sink};
+
+/// More reads than any run makes.
+const TURNS: u64 = 1_073_741_824;
+
+/// The last position of a stream.
+const LAST_POSITION: u64 = 9_223_372_036_854_775_807;
+
+// Appends the line of a packet.
+fn append_line(
+    alloc: Global,
+    lines: &mut Vec<u8>,
+    packet: Packet<'_>,
+    offset: u64,
+) -> Result<(), AllocError> {
+    let line = match packet {
+        Packet::Flush => format!(in alloc; "{offset} flush")?,
+        Packet::Delim => format!(in alloc; "{offset} delim")?,
+        Packet::RespEnd => format!(in alloc; "{offset} end")?,
+        Packet::Payload(payload) => format!(in alloc; "{offset} data {}", payload.len())?,
+    };
+    lines.extend_from_slice(line.as_bytes())?;
+    if let Packet::Payload(payload) = packet {
+        if !payload.is_empty() {
+            lines.extend_from_slice(b" ")?;
+            lines.extend_from_slice(escaped(alloc, payload)?.as_slice())?;
+        }
+    }
+    lines.extend_from_slice(b"\n")
+}
+
+// After a packet the hold has its bytes as they came, and an empty piece leaves them. Then it may be written over.
+fn check_hold(reader: &mut PacketReader, came: &[u8]) -> Result<(), Trouble> {
+    if !came.ends_with(reader.hold().as_slice()) {
+        return Err(Trouble::Breaks("the hold has not the packet as it came"));
+    }
+    let used = reader.feed(b"").used;
+    if used != 0 || !came.ends_with(reader.hold().as_slice()) {
+        return Err(Trouble::Breaks("an empty piece changes the hold"));
+    }
+    if reader.is_open() {
+        return Err(Trouble::Breaks("a packet is open after a whole one"));
+    }
+    put(reader.lend(), Packet::Payload(b"written between packets\n"));
+    Ok(())
+}
+
+// Feeds a piece whole, also an empty one. Answers whether it met a fault.
+fn feed(
+    alloc: Global,
+    reader: &mut PacketReader,
+    start: u64,
+    input: &[u8],
+    piece: &[u8],
+    lines: &mut Vec<u8>,
+) -> Result<bool, Trouble> {
+    let mut rest = piece;
+    for _ in 0..=piece.len() {
+        let fed = reader.feed(rest);
+        rest = &rest[fed.used..];
+        match fed.got {
+            Got::More => return Ok(false),
+            Got::Failed(_) => return Ok(true),
+            Got::Packet(packet, offset) => append_line(alloc, lines, packet, offset)?,
+        }
+        let used = reader.position().saturating_sub(start) as usize;
+        check_hold(reader, input.get(..used).unwrap_or(&[]))?;
+    }
+    Err(Trouble::Breaks("a piece is never used up"))
+}
+
+// A reader that failed uses nothing more, has no packet open, and tells the same fault for good.
+fn check_failed(reader: &mut PacketReader, fault: Fault) -> Result<(), Trouble> {
+    let position = reader.position();
+    for piece in [b"0000".as_slice(), b"".as_slice()] {
+        let fed = reader.feed(piece);
+        let told = match fed.got {
+            Got::Failed(told) => Some(told),
+            _ => None,
+        };
+        if fed.used != 0 || told != Some(fault) {
+            return Err(Trouble::Breaks("a reader goes on after its fault"));
+        }
+    }
+    if reader.is_open() || reader.position() != position || reader.close() != Err(fault) {
+        return Err(Trouble::Breaks("a failed reader changes"));
+    }
+    Ok(())
+}
+
+/// Reads the pieces, and then the input ends.
+pub fn read(alloc: Global, start: u64, script: &Script, pieces: &[&[u8]]) -> Result<Run, Trouble> {
+    if start > LAST_POSITION {
+        return Err(Trouble::BadCase("an offset past the last position"));
+    }
+    let mut reader = PacketReader::at(start);
+    let mut lines = Vec::new(alloc);
+    for piece in pieces {
+        if feed(
+            alloc,
+            &mut reader,
+            start,
+            script.input.as_slice(),
+            piece,
+            &mut lines,
+        )? {
+            break;
+        }
+    }
+    let used = reader.position().saturating_sub(start) as usize;
+    let ending = match reader.close() {
+        Ok(()) => String::from_str(alloc, "closed\n")?,
+        Err(fault) => {
+            check_failed(&mut reader, fault)?;
+            format!(in alloc; "refused {fault}\n")?
+        }
+    };
+    Ok(Run {
+        given: lines,
+        ending,
+        used: Some(used),
+    })
+}
+
+/// Shows the pieces.
+pub fn shown(alloc: Global, pieces: &[&[u8]]) -> Result<Run, Trouble> {
+    let mut sink = Sink::new(Vec::new(alloc), usize::MAX, u32::MAX);
+    let mut piece = [0; 4_096];
+    let answer = show(
+        &mut Told::new(Pieces::new(pieces)),
+        &mut Told::new(&mut sink),
+        &mut piece,
+        TURNS,
+    );
+    let ending = match answer {
+        Ok(()) => String::from_str(alloc, "closed\n")?,
+        Err(RunFault::Refused(fault)) => format!(in alloc; "refused {fault}\n")?,
+        Err(fault) => format!(in alloc; "{fault}\n")?,
+    };
+    Ok(Run {
+        given: sink.taken,
+        ending,
+        used: None,
+    })
+}

@@ -1,0 +1,162 @@
+//! A server that is fed, and one that is run over a reader and a writer.
+
+use crate::runs::Run;
+use crate::trouble::Trouble;
+use git_msg::{Limits, Offer};
+use git_pkt::{Fault, Told};
+use git_server::{ListRepo, Outcome, Pulled, Repo, Server, serve};
+use git2show_lib::{TextFault, read_repo};
+use std::alloc::{AllocError, Global};
+use test_streams::Pieces;
+
+/// More reads than any run makes.
+const TURNS: u64 = 1_073_741_824;
+
+/// More packets than any answer has.
+const MANY: usize = 100_000;
+
+/// The most bytes that the texts of a request's arguments may have.
+const MOST_KEPT: u32 = 1_073_741_824;
+
+/// How a server is set up.
+#[derive(Drop)]
+pub struct Setup<'a> {
+    /// The text of its repository.
+    pub repository: &'a [u8],
+    /// How many bytes of a request's arguments it keeps at the most.
+    pub limit: u32,
+    /// Whether its advertisement comes first.
+    pub advertises: bool,
+}
+
+fn new_server(alloc: Global, setup: &Setup<'_>) -> Result<Server<ListRepo, Global>, Trouble> {
+    let repo = match read_repo(alloc, setup.repository, Vec::new(alloc)) {
+        Ok(repo) => repo,
+        Err(TextFault::OutOfMemory) => return Err(Trouble::OutOfMemory),
+        Err(TextFault::Bad { .. }) => return Err(Trouble::BadCase("no repository text")),
+    };
+    let offer = Offer {
+        format: repo.format(),
+        shallow: true,
+        ref_in_want: true,
+        object_info: false,
+        server_option: true,
+    };
+    let limits = Limits {
+        args: setup.limit.min(MOST_KEPT),
+    };
+    Ok(Server::new(alloc, repo, offer, limits, setup.advertises))
+}
+
+fn fault_in(outcome: Outcome) -> Option<Fault> {
+    match outcome {
+        Outcome::Refused(fault) => Some(fault),
+        _ => None,
+    }
+}
+
+fn ending_of(alloc: Global, outcome: Outcome) -> Result<String, AllocError> {
+    match outcome {
+        Outcome::Flush => String::from_str(alloc, "flush\n"),
+        Outcome::Closed => String::from_str(alloc, "closed\n"),
+        Outcome::Refused(fault) => format!(in alloc; "refused {fault}\n"),
+    }
+}
+
+// Appends all that the server owes. Its outcome, if there is one.
+fn drain(
+    server: &mut Server<ListRepo, Global>,
+    output: &mut Vec<u8>,
+) -> Result<Option<Outcome>, Trouble> {
+    for _ in 0..MANY {
+        match server.pull() {
+            Pulled::Packet(bytes) => output.extend_from_slice(bytes)?,
+            Pulled::NeedInput => return Ok(None),
+            Pulled::Finished(outcome) => return Ok(Some(outcome)),
+        }
+    }
+    Err(Trouble::Breaks("an answer has no end"))
+}
+
+// Feeds a piece whole, and appends what the server gives for it. Its outcome, and how many bytes it used.
+fn feed(
+    server: &mut Server<ListRepo, Global>,
+    piece: &[u8],
+    output: &mut Vec<u8>,
+) -> Result<(Option<Outcome>, usize), Trouble> {
+    let mut rest = piece;
+    for _ in 0..=piece.len() {
+        let used = server.feed(rest);
+        rest = &rest[used..];
+        let outcome = drain(server, output)?;
+        if rest.is_empty() || outcome.is_some() {
+            return Ok((outcome, piece.len().saturating_sub(rest.len())));
+        }
+    }
+    Err(Trouble::Breaks("a piece is never used up"))
+}
+
+// A server whose session is over uses nothing more, gives nothing more, and has its outcome's fault.
+fn check_over(server: &mut Server<ListRepo, Global>, outcome: Outcome) -> Result<(), Trouble> {
+    let used = server.feed(b"0000");
+    let again = match server.pull() {
+        Pulled::Finished(again) => Some(again),
+        _ => None,
+    };
+    if used != 0 || again != Some(outcome) || server.wants_input() {
+        return Err(Trouble::Breaks("a server goes on after its session"));
+    }
+    if server.fault() != fault_in(outcome) {
+        return Err(Trouble::Breaks("a server has another fault than its outcome"));
+    }
+    Ok(())
+}
+
+/// Feeds the pieces to a server, after which the input ends.
+pub fn fed(alloc: Global, setup: &Setup<'_>, pieces: &[&[u8]]) -> Result<Run, Trouble> {
+    let mut server = new_server(alloc, setup)?;
+    let mut given = Vec::new(alloc);
+    let mut outcome = drain(&mut server, &mut given)?;
+    let mut used = 0usize;
+    for piece in pieces {
+        let (came, count) = feed(&mut server, piece, &mut given)?;
+        outcome = came;
+        used = used.saturating_add(count);
+    }
+    if server.wants_input() {
+        server.close();
+        outcome = drain(&mut server, &mut given)?;
+    }
+    let Some(outcome) = outcome else {
+        return Err(Trouble::Breaks("a closed server has no outcome"));
+    };
+    check_over(&mut server, outcome)?;
+    Ok(Run {
+        given,
+        ending: ending_of(alloc, outcome)?,
+        used: Some(used),
+    })
+}
+
+/// Serves the pieces.
+pub fn served(alloc: Global, setup: &Setup<'_>, pieces: &[&[u8]]) -> Result<Run, Trouble> {
+    let mut server = new_server(alloc, setup)?;
+    let mut given = Vec::new(alloc);
+    let mut piece = [0; 256];
+    let run = serve(
+        &mut Told::new(Pieces::new(pieces)),
+        &mut Told::new(&mut given),
+        &mut piece,
+        &mut server,
+        TURNS,
+    );
+    let ending = match run {
+        Ok(outcome) => ending_of(alloc, outcome)?,
+        Err(fault) => format!(in alloc; "{fault}\n")?,
+    };
+    Ok(Run {
+        given,
+        ending,
+        used: None,
+    })
+}

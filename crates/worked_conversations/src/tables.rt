@@ -1,0 +1,248 @@
+//! Tables: each text that comes is read or written by itself, and what is told of it are lines.
+
+use crate::clients::append_noted;
+use crate::escapes::escaped;
+use crate::script::{Script, Step};
+use crate::trouble::Trouble;
+use git_msg::{Argument, Caps, Command, Offer, read_argument, read_capability, read_reference};
+use git_names::{Format, Oid, RefName};
+use git_pkt::{Hold, Packet, put, text};
+use git_server::Repo;
+use git2show_lib::{TextFault, read_repo};
+use std::alloc::{AllocError, Global};
+
+/// What is done with each text.
+#[derive(Clone, Copy)]
+pub enum Table {
+    /// It is a payload: its text, and its packet.
+    Payloads,
+    ObjectNames(Format),
+    ReferenceNames,
+    CapabilityLines,
+    /// It is the capability lines of an advertisement, parted by LF.
+    Notes,
+    /// It is an argument of ls-refs.
+    Arguments(Format),
+    ReferenceLines(Format),
+    RepositoryTexts,
+}
+
+/// What stands on a line after a word.
+#[derive(Clone, Copy)]
+enum Said<'a> {
+    Nothing,
+    Bytes(&'a [u8]),
+}
+
+// Appends a line of a word and bytes in their escaped form.
+fn say(alloc: Global, lines: &mut Vec<u8>, word: &str, said: Said<'_>) -> Result<(), AllocError> {
+    lines.extend_from_slice(word.as_bytes())?;
+    match said {
+        Said::Nothing | Said::Bytes([]) => {}
+        Said::Bytes(bytes) => {
+            lines.extend_from_slice(b" ")?;
+            lines.extend_from_slice(escaped(alloc, bytes)?.as_slice())?;
+        }
+    }
+    lines.extend_from_slice(b"\n")
+}
+
+fn say_payload(alloc: Global, lines: &mut Vec<u8>, payload: &[u8]) -> Result<(), AllocError> {
+    say(alloc, lines, "text", Said::Bytes(text(payload)))?;
+    if payload.len() > 65_516 {
+        return Ok(());
+    }
+    let mut hold = Hold::new();
+    put(&mut hold, Packet::Payload(payload));
+    say(alloc, lines, "packet", Said::Bytes(hold.as_slice()))
+}
+
+// Appends the line of an object name, as it is written.
+fn say_object(alloc: Global, lines: &mut Vec<u8>, word: &str, id: Oid) -> Result<(), AllocError> {
+    let mut digits = [0; 64];
+    let end = id.write(&mut digits).min(64);
+    say(alloc, lines, word, Said::Bytes(&digits[..end]))
+}
+
+fn say_object_name(
+    alloc: Global,
+    lines: &mut Vec<u8>,
+    format: Format,
+    text: &[u8],
+) -> Result<(), AllocError> {
+    match Oid::read(format, text) {
+        Ok(id) => say_object(alloc, lines, "object", id),
+        Err(fault) => say(
+            alloc,
+            lines,
+            format!(in alloc; "{fault}")?.as_str(),
+            Said::Nothing,
+        ),
+    }
+}
+
+fn say_reference_name(alloc: Global, lines: &mut Vec<u8>, text: &[u8]) -> Result<(), AllocError> {
+    match RefName::read(text) {
+        Ok(name) if name.as_bytes() == text => say(alloc, lines, "reference", Said::Nothing),
+        Ok(name) => say(alloc, lines, "another name", Said::Bytes(name.as_bytes())),
+        Err(fault) => say(
+            alloc,
+            lines,
+            format!(in alloc; "{fault}")?.as_str(),
+            Said::Nothing,
+        ),
+    }
+}
+
+fn say_capability(alloc: Global, lines: &mut Vec<u8>, text: &[u8]) -> Result<(), AllocError> {
+    match read_capability(text) {
+        Ok(capability) => {
+            say(alloc, lines, "key", Said::Bytes(capability.key))?;
+            match capability.value {
+                Some(value) => say(alloc, lines, "value", Said::Bytes(value)),
+                None => Ok(()),
+            }
+        }
+        Err(kind) => say(alloc, lines, kind.name(), Said::Nothing),
+    }
+}
+
+fn say_notes(alloc: Global, lines: &mut Vec<u8>, text: &[u8]) -> Result<(), AllocError> {
+    let mut caps = Caps::new();
+    for line in text.split(|byte| *byte == b'\n') {
+        if let Ok(capability) = read_capability(line) {
+            caps = caps.with(&capability);
+        }
+    }
+    let mut said = String::new(alloc);
+    append_noted(&mut said, &caps)?;
+    said.push_str("speaks")?;
+    for format in [Format::Sha1, Format::Sha256] {
+        if caps.speaks(format) {
+            said.push_str(" ")?;
+            said.push_str(format.name())?;
+        }
+    }
+    said.push_str("\noffers")?;
+    let offer = caps.offer(Format::Sha256);
+    for (is_set, word) in [
+        (offer.shallow, " shallow"),
+        (offer.ref_in_want, " ref-in-want"),
+        (offer.object_info, " object-info"),
+        (offer.server_option, " server-option"),
+    ] {
+        if is_set {
+            said.push_str(word)?;
+        }
+    }
+    said.push_str("\n")?;
+    lines.extend_from_slice(said.as_bytes())
+}
+
+fn say_argument(
+    alloc: Global,
+    lines: &mut Vec<u8>,
+    format: Format,
+    text: &[u8],
+) -> Result<(), AllocError> {
+    let offer = Offer {
+        format,
+        shallow: true,
+        ref_in_want: true,
+        object_info: false,
+        server_option: true,
+    };
+    match read_argument(Command::LsRefs, &offer, text) {
+        Ok(Argument::Symrefs) => say(alloc, lines, "symrefs", Said::Nothing),
+        Ok(Argument::Peel) => say(alloc, lines, "peel", Said::Nothing),
+        Ok(Argument::RefPrefix(prefix)) => say(alloc, lines, "prefix", Said::Bytes(prefix)),
+        Err(kind) => say(alloc, lines, kind.name(), Said::Nothing),
+    }
+}
+
+fn say_reference(
+    alloc: Global,
+    lines: &mut Vec<u8>,
+    format: Format,
+    text: &[u8],
+) -> Result<(), AllocError> {
+    let reference = match read_reference(format, text) {
+        Ok(reference) => reference,
+        Err(kind) => return say(alloc, lines, kind.name(), Said::Nothing),
+    };
+    say_object(alloc, lines, "object", reference.id)?;
+    say(alloc, lines, "name", Said::Bytes(reference.name))?;
+    if let Some(target) = reference.target {
+        say(alloc, lines, "target", Said::Bytes(target))?;
+    }
+    match reference.peeled {
+        Some(peeled) => say_object(alloc, lines, "peeled", peeled),
+        None => Ok(()),
+    }
+}
+
+// Appends the format of a repository text, and its references.
+fn say_repository(alloc: Global, lines: &mut Vec<u8>, text: &[u8]) -> Result<(), Trouble> {
+    let repo = match read_repo(alloc, text, Vec::new(alloc)) {
+        Ok(repo) => repo,
+        Err(TextFault::OutOfMemory) => return Err(Trouble::OutOfMemory),
+        Err(fault) => {
+            let fault = format!(in alloc; "{fault}")?;
+            say(alloc, lines, fault.as_str(), Said::Nothing)?;
+            return Ok(());
+        }
+    };
+    say(alloc, lines, repo.format().name(), Said::Nothing)?;
+    for entry in repo.refs() {
+        say_object(alloc, lines, "object", entry.id())?;
+        say(alloc, lines, "name", Said::Bytes(entry.name()))?;
+        if let Some(target) = entry.target() {
+            say(alloc, lines, "target", Said::Bytes(target))?;
+        }
+        if let Some(peeled) = entry.peeled() {
+            say_object(alloc, lines, "peeled", peeled)?;
+        }
+        if repo.find(entry.name()) != Some(entry.id()) {
+            return Err(Trouble::Breaks("a reference is not found"));
+        }
+    }
+    Ok(())
+}
+
+impl Table {
+    // The lines that tell of a text.
+    fn told(self, alloc: Global, text: &[u8]) -> Result<Vec<u8>, Trouble> {
+        let mut lines = Vec::new(alloc);
+        match self {
+            Table::Payloads => say_payload(alloc, &mut lines, text)?,
+            Table::ObjectNames(format) => say_object_name(alloc, &mut lines, format, text)?,
+            Table::ReferenceNames => say_reference_name(alloc, &mut lines, text)?,
+            Table::CapabilityLines => say_capability(alloc, &mut lines, text)?,
+            Table::Notes => say_notes(alloc, &mut lines, text)?,
+            Table::Arguments(format) => say_argument(alloc, &mut lines, format, text)?,
+            Table::ReferenceLines(format) => say_reference(alloc, &mut lines, format, text)?,
+            Table::RepositoryTexts => say_repository(alloc, &mut lines, text)?,
+        }
+        Ok(lines)
+    }
+
+    /// Each text gives the lines that stand after it. Answers how many texts there are.
+    pub fn goes(self, alloc: Global, script: &Script) -> Result<usize, Trouble> {
+        let mut last = Step { input: 0, given: 0 };
+        for step in script.steps.as_slice() {
+            let text = script.input.as_slice().get(last.input..step.input);
+            let lines = script.given.as_slice().get(last.given..step.given);
+            let told = self.told(alloc, text.unwrap_or(&[]))?;
+            if Some(told.as_slice()) != lines {
+                let text = escaped(alloc, text.unwrap_or(&[]))?;
+                let told = escaped(alloc, told.as_slice())?;
+                let text = String::from_utf8_lossy(alloc, text.as_slice())?;
+                let told = String::from_utf8_lossy(alloc, told.as_slice())?;
+                let (text, told) = (text.as_str(), told.as_str());
+                return Err(Trouble::Differs(format!(in alloc; "of {text}: {told}")?));
+            }
+            last = *step;
+        }
+        Ok(script.steps.len())
+    }
+}

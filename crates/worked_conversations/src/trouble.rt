@@ -1,0 +1,40 @@
+//! What keeps a case from going as it says.
+
+use std::alloc::{AllocError, AllocFailed};
+use std::io;
+
+/// Why a case did not go as it says.
+#[derive(Debug, Drop)]
+pub enum Trouble {
+    /// Its text is no case.
+    BadCase(&'static str),
+    /// What came is not what it says: at which place the input was cut or ended, and what came.
+    Differs(String),
+    /// An end broke a rule that holds in every case.
+    Breaks(&'static str),
+    /// Memory ran out.
+    OutOfMemory,
+    /// A file that it names cannot be read.
+    NoFile,
+}
+
+impl From<AllocError> for Trouble {
+    fn from(_error: AllocError) -> Trouble {
+        Trouble::OutOfMemory
+    }
+}
+
+impl From<AllocFailed<u8>> for Trouble {
+    fn from(_error: AllocFailed<u8>) -> Trouble {
+        Trouble::OutOfMemory
+    }
+}
+
+impl From<io::Error> for Trouble {
+    fn from(error: io::Error) -> Trouble {
+        match error.kind() {
+            io::ErrorKind::OutOfMemory => Trouble::OutOfMemory,
+            _ => Trouble::NoFile,
+        }
+    }
+}
