@@ -1,9 +1,28 @@
-//! Tests of what `git2show` does that need code: streams that fail or have no end, and fault lines.
+//! Tests that need code: memory that is refused, readers and writers that fail or are asked when they were flushed, and
+//! the names and texts of faults. What a text can tell is a case of `worked_conversations`.
 #![tactic(auto)]
 
 #[cfg(test)]
-mod check;
+mod checking;
+#[cfg(test)]
+mod escapes;
+#[cfg(test)]
+mod faults;
+#[cfg(test)]
+mod names;
 #[cfg(test)]
 mod repository_text;
 #[cfg(test)]
-mod show;
+mod request_memory;
+#[cfg(test)]
+mod server_memory;
+#[cfg(test)]
+mod servers;
+#[cfg(test)]
+mod serving;
+#[cfg(test)]
+mod showing;
+#[cfg(test)]
+mod told;
+#[cfg(test)]
+mod transcripts;

@@ -9,8 +9,6 @@ pub mod laws;
 mod object_format;
 mod object_name;
 mod reference;
-#[cfg(test)]
-mod tests;
 
 pub use crate::counter::Steps;
 pub use crate::fault::NameFault;

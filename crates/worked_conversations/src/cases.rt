@@ -82,6 +82,7 @@ fn table_of(words: Words<'_>) -> Option<Table> {
         "arguments" => Some(Table::Arguments(format)),
         "reference-lines" => Some(Table::ReferenceLines(format)),
         "repository-texts" => Some(Table::RepositoryTexts),
+        "lists" => Some(Table::Lists(format)),
         _ => None,
     }
 }

@@ -8,6 +8,7 @@ mod checks;
 mod clients;
 mod ends;
 mod escapes;
+mod lists;
 mod packets;
 mod requests;
 mod runs;

@@ -2,6 +2,7 @@
 
 use crate::clients::append_noted;
 use crate::escapes::escaped;
+use crate::lists::made;
 use crate::script::{Script, Step};
 use crate::trouble::Trouble;
 use git_msg::{Argument, Caps, Command, Offer, read_argument, read_capability, read_reference};
@@ -25,6 +26,8 @@ pub enum Table {
     Arguments(Format),
     ReferenceLines(Format),
     RepositoryTexts,
+    /// It is lists that may make a repository.
+    Lists(Format),
 }
 
 /// What stands on a line after a word.
@@ -222,6 +225,11 @@ impl Table {
             Table::Arguments(format) => say_argument(alloc, &mut lines, format, text)?,
             Table::ReferenceLines(format) => say_reference(alloc, &mut lines, format, text)?,
             Table::RepositoryTexts => say_repository(alloc, &mut lines, text)?,
+            Table::Lists(format) => {
+                let text = str::from_utf8(text).map_err(|_| Trouble::BadCase("no text"))?;
+                let made = made(alloc, format, text)?;
+                say(alloc, &mut lines, made.as_str(), Said::Nothing)?;
+            }
         }
         Ok(lines)
     }

@@ -1,8 +1,8 @@
 //! Servers over readers and writers: what is flushed when, what is told of streams that fail, and reads that are spent.
-use crate::runs::{Setup, advertising, new_server, usual};
+use crate::servers::{Setup, advertising, new_server, usual};
 use git_names::Format;
 use git_pkt::{RunFault, Told};
-use git_server::{Outcome, serve};
+use git_server::{Outcome, Repo, serve};
 use std::cell::Cell;
 use std::io;
 use std::io::{Read, Write};
@@ -190,5 +190,14 @@ fn reads_that_are_spent(rt: HostRuntime) -> Result<(), Fail> {
     let run = serve(&mut reader, &mut writer, &mut piece, &mut server, 24);
     assert_eq!(rt; run, Err(RunFault::ReadLimit));
     assert_eq!(rt; given.len(), 173);
+    Ok(())
+}
+
+#[test]
+fn a_server_gives_its_repository_back(rt: HostRuntime) -> Result<(), Fail> {
+    let repo = new_server(&rt, rt.alloc(), usual())?.into_repo();
+    assert_eq!(rt; repo.refs().len(), 3);
+    assert!(rt; repo.find(b"refs/tags/v1").is_some());
+    assert!(rt; repo.find(b"refs/tags/v2").is_none());
     Ok(())
 }

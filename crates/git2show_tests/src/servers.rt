@@ -7,12 +7,6 @@ use std::alloc::{AllocError, Allocator, Global};
 use std::process::Abort;
 use std::test::Fail;
 
-/// An object name of SHA-1.
-pub const A: &[u8] = b"aaaaaaaaaaaaaaaaaaaaaaaaaaaaaaaaaaaaaaaa";
-
-/// Another one.
-pub const B: &[u8] = b"bbbbbbbbbbbbbbbbbbbbbbbbbbbbbbbbbbbbbbbb";
-
 /// What a server is made with.
 #[derive(Clone, Copy, Debug)]
 pub struct Setup {

@@ -1,6 +1,6 @@
 -- What is written is a text of the name, and a text is one object name at most.
 use Rattle.git_names.proofs.ObjectNames.{one_object_name}
-use Rattle.git_names.proofs.tests.reads_back.Goals as goal
+use Rattle.git2show_tests.proofs.names.reads_back.Goals as goal
 
 pub returns-in-Ok : goal.returns-in-Ok
 returns-in-Ok c =

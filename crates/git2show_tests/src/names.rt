@@ -1,8 +1,9 @@
+//! Formats and object names: what is derived on them, and texts.
 ghost use Rattle.std.specs.Prelude.{◌≡◌, ◌+◌, ◌↔◌, IsTrue};
 ghost use Rattle.std.specs.Ordering.{nat_cmp};
 ghost use Rattle.std.specs.Cmp.Lexicographic.{slice_cmp};
 
-use crate::{Format, NameFault, Oid, Steps};
+use git_names::{Format, NameFault, Oid, Steps};
 use std::cmp::Ordering;
 use std::test::Fail;
 

@@ -1,5 +1,5 @@
 //! Memory that runs out at each growth in turn.
-use crate::runs::{converse, new_server, refusal, usual};
+use crate::servers::{converse, new_server, refusal, usual};
 use git_pkt::{Kind, RunFault, Told};
 use git_server::{Outcome, serve};
 use linked_list_allocator::LocalHeap;

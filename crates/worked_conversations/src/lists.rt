@@ -1,0 +1,100 @@
+//! Lists that make a repository or do not, told as lines.
+
+use crate::trouble::Trouble;
+use git_msg::Boundary;
+use git_names::{Format, Oid};
+use git_server::{ListRepo, RefEntry};
+use std::alloc::Global;
+
+/// The lists so far.
+#[derive(Drop)]
+struct Lists {
+    refs: Vec<RefEntry>,
+    objects: Vec<(Oid, u64)>,
+    boundaries: Vec<Boundary>,
+}
+
+// The object name that a text is, of the format that its length says.
+fn object(text: &str) -> Result<Oid, Trouble> {
+    let format = match text.len() {
+        40 => Format::Sha1,
+        _ => Format::Sha256,
+    };
+    Oid::read(format, text.as_bytes()).map_err(|_| Trouble::BadCase("no object name"))
+}
+
+// The reference that the words after `ref` tell, or how its names are refused.
+fn entry(
+    alloc: Global,
+    name: &str,
+    id: &str,
+    rest: &str,
+) -> Result<Result<RefEntry, String>, Trouble> {
+    let mut target = None;
+    let mut peeled = None;
+    for word in rest.split(' ') {
+        if let Some(name) = word.strip_prefix("symref-target:") {
+            target = Some(Vec::from_slice(alloc, name.as_bytes())?);
+        }
+        if let Some(id) = word.strip_prefix("peeled:") {
+            peeled = Some(object(id)?);
+        }
+    }
+    let name = Vec::from_slice(alloc, name.as_bytes())?;
+    match RefEntry::new(name, object(id)?, target, peeled) {
+        Ok(entry) => Ok(Ok(entry)),
+        Err(fault) => Ok(Err(format!(in alloc; "{fault}")?)),
+    }
+}
+
+impl Lists {
+    // Adds what a line tells. Answers how it is refused, if it is.
+    fn add(&mut self, alloc: Global, line: &str) -> Result<Option<String>, Trouble> {
+        let (kind, words) = line.split_once(' ').unwrap_or((line, ""));
+        let (first, rest) = words.split_once(' ').unwrap_or((words, ""));
+        let (second, others) = rest.split_once(' ').unwrap_or((rest, ""));
+        let added = match kind {
+            "ref" => match entry(alloc, first, second, others)? {
+                Ok(entry) => self.refs.push(entry).is_ok(),
+                Err(fault) => return Ok(Some(fault)),
+            },
+            "object" => self.objects.push((object(first)?, 12)).is_ok(),
+            "shallow" => self
+                .boundaries
+                .push(Boundary::Shallow(object(first)?))
+                .is_ok(),
+            "unshallow" => self
+                .boundaries
+                .push(Boundary::Unshallow(object(first)?))
+                .is_ok(),
+            _ => return Err(Trouble::BadCase("a line of no list")),
+        };
+        match added {
+            true => Ok(None),
+            false => Err(Trouble::OutOfMemory),
+        }
+    }
+}
+
+/// What is made of the lists that a text tells, a line an entry: `taken`, or how they are refused.
+pub fn made(alloc: Global, format: Format, text: &str) -> Result<String, Trouble> {
+    let mut lists = Lists {
+        refs: Vec::new(alloc),
+        objects: Vec::new(alloc),
+        boundaries: Vec::new(alloc),
+    };
+    for line in text.lines() {
+        if let Some(fault) = lists.add(alloc, line)? {
+            return Ok(fault);
+        }
+    }
+    let Lists {
+        refs,
+        objects,
+        boundaries,
+    } = lists;
+    match ListRepo::new(format, refs, objects, None, boundaries, Vec::new(alloc)) {
+        Ok(_) => Ok(String::from_str(alloc, "taken")?),
+        Err(fault) => Ok(format!(in alloc; "{fault}")?),
+    }
+}
