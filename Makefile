@@ -1,7 +1,7 @@
 # RT is the command of the Rattle kit.
 RT ?= rt
 
-.PHONY: run test test-program bench
+.PHONY: run test test-program audit bench
 
 # Proves and builds the program, and shows a recorded conversation of Git.
 run:
@@ -16,6 +16,11 @@ test:
 # built first where they left none.
 test-program:
 	@RT="$(RT)" tests/run.sh
+
+# By what each wrong body is refused, those of the gate and those in wrong-bodies/: hours of work, which no merge waits for.
+# CRATES names those to be tried, where not all are; LANES is how many at a time.
+audit:
+	@RT="$(RT)" wrong-bodies/audit.sh $(CRATES)
 
 # Builds the Rattle programs, and measures them beside C and the real Git.
 bench:
