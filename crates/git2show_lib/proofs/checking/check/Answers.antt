@@ -8,6 +8,12 @@ use Rattle.git2show_lib.proofs.Asking.{unread_yet}
 use Rattle.git2show_lib.proofs.Transcribing.{ends_at, ends_at_write, flush_failed, responses_stopped, requests_stopped, limit_met, read_failed, all_was_used, some_was_left, read_more, read_kept, some_left, no_more_left, taken_some}
 use Rattle.git2show_lib.proofs.checking.check.Goals as goal
 
+pub returns-in_err-read_requests-clause-fault : goal.returns-in_err-read_requests-clause-fault
+returns-in_err-read_requests-clause-fault g c = search rules
+
+pub returns-in-Ok-clause-ok : goal.returns-in-Ok-clause-ok
+returns-in-Ok-clause-ok g c = search rules
+
 pub returns-in_err-map_err-clause-checked : goal.returns-in_err-map_err-clause-checked
 returns-in_err-map_err-clause-checked g c =
     let named : c.in_err-map_err.field-0.0 ≡ WriteFault = search rules in
