@@ -11,6 +11,15 @@ use Rattle.git2show_lib.proofs.checking.check.Goals as goal
 pub returns-in_err-read_requests-clause-fault : goal.returns-in_err-read_requests-clause-fault
 returns-in_err-read_requests-clause-fault g c = search rules
 
+pub returns-in-Ok-eq0-clause-reads : goal.returns-in-Ok-eq0-clause-reads
+returns-in-Ok-eq0-clause-reads g c = search rules
+
+pub returns-in-Ok-clause-reads : goal.returns-in-Ok-clause-reads
+returns-in-Ok-clause-reads g c = search rules
+
+pub returns-in-Err-clause-reads : goal.returns-in-Err-clause-reads
+returns-in-Err-clause-reads g c = search rules
+
 pub returns-in-Ok-clause-ok : goal.returns-in-Ok-clause-ok
 returns-in-Ok-clause-ok g c = search rules
 
