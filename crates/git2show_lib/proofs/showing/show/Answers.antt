@@ -10,6 +10,12 @@ returns-then-count-eq0-clause-ok g c = search rules
 pub returns-then-count-eq0-clause-end : goal.returns-then-count-eq0-clause-end
 returns-then-count-eq0-clause-end g c = search rules
 
+pub returns-clause-ok : goal.returns-clause-ok
+returns-clause-ok g c = search rules
+
+pub returns-clause-end : goal.returns-clause-end
+returns-clause-end g c = search rules
+
 pub loop-preserved : goal.loop-preserved
 loop-preserved g c = record {
   reads = search rules;

@@ -1,4 +1,4 @@
-use Rattle.std.proofs.Common.{◌≡◌, ◌+◌, ◌-◌, take, length, arith, subst, refl, ◌∙◌}
+use Rattle.std.proofs.Common.{rules, ◌≡◌, ◌+◌, ◌-◌, take, length, arith, subst, refl, ◌∙◌}
 use Rattle.std.proofs.lemmas.List.{length-take-le}
 use Rattle.git_pkt.specs.Reading.{position_of, held_of}
 use Rattle.git_pkt.specs.Reading.{ShownByFeed}
@@ -9,6 +9,9 @@ use Rattle.git_pkt.specs.declared.reader.Progress.TheVariants.{Open, Whole, Fail
 use Rattle.git_pkt.proofs.ReaderMoves.{whole_uses, whole_behind}
 use Rattle.git_pkt.proofs.Carries.{carry_open, carry_whole, carry_failed}
 use Rattle.git_pkt.proofs.reader.PacketReader.feed.Goals as goal
+
+pub returns-in-Some : goal.returns-in-Some
+returns-in-Some c = search rules
 
 pub returns-in-Open : goal.returns-in-Open
 returns-in-Open c =
