@@ -1,7 +1,7 @@
 # RT is the command of the Rattle kit.
 RT ?= rt
 
-.PHONY: run test test-program cases bench
+.PHONY: run test test-program audit cases bench
 
 # Proves and builds the program, and shows a recorded conversation of Git.
 run:
@@ -22,6 +22,10 @@ cases:
 	@cd crates/worked_conversations && $(RT) run -- data/packets.txt > /dev/null
 	@cd crates/worked_conversations/data && ../out/worked_conversations $$(cat ../args) | diff ../stdout - \
 		&& tail -n 1 ../stdout
+# By what each wrong body is refused, those of the gate and those in wrong-bodies/: hours of work, which no merge waits for.
+# CRATES names those to be tried, where not all are; LANES is how many at a time.
+audit:
+	@RT="$(RT)" wrong-bodies/audit.sh $(CRATES)
 
 # Builds the Rattle programs, and measures them beside C and the real Git.
 bench:

@@ -1,4 +1,4 @@
-use Rattle.std.proofs.Common.{rules, ◌≡◌, ◌-◌, ◌≤◌, ◌<◌, true, take, drop, length, [], refl}
+use Rattle.std.proofs.Common.{rules, arith, ◌≡◌, ◌-◌, ◌≤◌, ◌<◌, true, take, drop, length, [], refl}
 use Rattle.std.specs.Io.KnownBytes.{Consumes, Keeps}
 use Rattle.git_pkt.specs.Told.{inner_of, has_ended}
 use Rattle.git2show_lib.specs.Checking.{Judges, nothing_asked}
@@ -7,6 +7,21 @@ use Rattle.git2show_lib.specs.declared.checking.CheckFault.TheVariants.{WriteFau
 use Rattle.git2show_lib.proofs.Asking.{unread_yet}
 use Rattle.git2show_lib.proofs.Transcribing.{ends_at, ends_at_write, flush_failed, responses_stopped, requests_stopped, limit_met, read_failed, all_was_used, some_was_left, read_more, read_kept, some_left, no_more_left, taken_some}
 use Rattle.git2show_lib.proofs.checking.check.Goals as goal
+
+pub returns-in_err-read_requests-clause-fault : goal.returns-in_err-read_requests-clause-fault
+returns-in_err-read_requests-clause-fault g c = search rules
+
+pub returns-in-Ok-eq0-clause-reads : goal.returns-in-Ok-eq0-clause-reads
+returns-in-Ok-eq0-clause-reads g c = search rules
+
+pub returns-in-Ok-clause-reads : goal.returns-in-Ok-clause-reads
+returns-in-Ok-clause-reads g c = search rules
+
+pub returns-in-Err-clause-reads : goal.returns-in-Err-clause-reads
+returns-in-Err-clause-reads g c = search rules
+
+pub returns-in-Ok-clause-ok : goal.returns-in-Ok-clause-ok
+returns-in-Ok-clause-ok g c = search rules
 
 pub returns-in_err-map_err-clause-checked : goal.returns-in_err-map_err-clause-checked
 returns-in_err-map_err-clause-checked g c =
@@ -30,7 +45,7 @@ pub returns-then-left-clause-checked : goal.returns-then-left-clause-checked
 returns-then-left-clause-checked g c =
     let so : Judges (has_ended c.read_requests.new.requests) (g.Q.Read.remaining (inner_of c.args.requests.now)) (g.Q.Read.remaining (inner_of c.read_requests.new.requests)) nothing_asked = search rules in
     some_was_left c.args.format c.args.ending c.new-client.result c.hear_advertisement-heard.new.client c.new-client.ensures.hears _ (has_ended c.hear_advertisement-heard.new.responses) (g.A.Read.remaining (inner_of c.args.responses.now)) (g.A.Read.remaining (inner_of c.hear_advertisement-heard.new.responses)) (g.W.Write.contents (inner_of c.args.out.now)) (g.W.Write.contents (inner_of c.hear_advertisement-heard.new.out)) (g.W.Write.contents (inner_of c.flush.new.writer)) c.flush.ensures.bytes c.in_ok-left.ensures.whole (take (c.in_ok-left.left.end - c.in_ok-left.left.start) (drop c.in_ok-left.left.start c.hear_advertisement-heard.new.piece)) c.in_ok-left.ensures.heard so c.left_over.result c.left_over.ensures
-    (some_left c.hear_advertisement-heard.new.piece c.in_ok-left.left.start c.in_ok-left.left.end c.if-left.true c.in_ok-left.ensures.left)
+    (some_left c.hear_advertisement-heard.new.piece c.in_ok-left.left.start c.in_ok-left.left.end (omega arith) c.in_ok-left.ensures.left)
 
 pub returns-then-reads-turns-clause-checked : goal.returns-then-reads-turns-clause-checked
 returns-then-reads-turns-clause-checked g c =

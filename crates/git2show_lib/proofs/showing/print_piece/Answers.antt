@@ -11,7 +11,7 @@ returns-in-Failed-clause-ok g c =
 pub returns-in_err-put-in-Packet-clause-err : goal.returns-in_err-put-in-Packet-clause-err
 returns-in_err-put-in-Packet-clause-err g c =
     let front : PrintsInto c.args.packets.now c.args.piece.now (g.W.Write.contents (inner_of c.args.writer.now)) (g.W.Write.contents (inner_of c.put.new.writer)) c.feed-fed.follows.lender-at-none =
-    fed_packet_front _ _ _ _ _ _ _ _ _ c.loop-done.invariant.within c.loop-done.invariant.prints c.feed-fed.follows.holds-at-none _ _ _ c.in-Packet.is c.in_err-put-in-Packet.ensures.err in
+    fed_packet_front _ _ _ _ _ _ _ _ _ c.loop-done.invariant.within c.loop-done.invariant.prints c.feed-fed.follows.holds-at-none _ _ _ c.in-Packet.is (search rules) in
     search rules
 
 pub loop-done-preserved : goal.loop-done-preserved
@@ -22,5 +22,5 @@ loop-done-preserved g c =
       within = omega (arith, c.feed-fed.ensures.used, rest, c.loop-done.invariant.within);
       sound = tells.1;
       writer_sound = search rules;
-      prints = fed_packet _ _ _ _ _ _ _ _ _ c.loop-done.invariant.within c.loop-done.invariant.prints c.feed-fed.follows.holds-at-none _ _ _ _ c.in-Packet.is c.in_ok-put-in-Packet.ensures.ok;
+      prints = fed_packet _ _ _ _ _ _ _ _ _ c.loop-done.invariant.within c.loop-done.invariant.prints c.feed-fed.follows.holds-at-none _ _ _ _ c.in-Packet.is (search rules);
     }

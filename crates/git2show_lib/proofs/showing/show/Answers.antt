@@ -4,6 +4,18 @@ use Rattle.git_pkt.proofs.EngineLemmas.{Exchanges-more, ExchangesUntil-more, Exc
 use Rattle.git2show_lib.proofs.Printing.{ends_at_fault, until_read_fault}
 use Rattle.git2show_lib.proofs.showing.show.Goals as goal
 
+pub returns-then-count-eq0-clause-ok : goal.returns-then-count-eq0-clause-ok
+returns-then-count-eq0-clause-ok g c = search rules
+
+pub returns-then-count-eq0-clause-end : goal.returns-then-count-eq0-clause-end
+returns-then-count-eq0-clause-end g c = search rules
+
+pub returns-clause-ok : goal.returns-clause-ok
+returns-clause-ok g c = search rules
+
+pub returns-clause-end : goal.returns-clause-end
+returns-clause-end g c = search rules
+
 pub loop-preserved : goal.loop-preserved
 loop-preserved g c = record {
   reads = search rules;

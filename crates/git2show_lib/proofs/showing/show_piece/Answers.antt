@@ -1,4 +1,4 @@
-use Rattle.std.proofs.Common.{Option, Bool, Err, subst}
+use Rattle.std.proofs.Common.{rules, Option, Bool, Err, subst}
 use Rattle.git_pkt.specs.Told.{inner_of}
 use Rattle.git_pkt.specs.Engine.{GivesFront, GivesUntil}
 use Rattle.git_pkt.specs.declared.fault.Fault.{Fault}
@@ -8,10 +8,16 @@ use Rattle.git2show_lib.specs.Showing.{Shows, ShowsSoFar, PrintsPiece, PrintsUpT
 use Rattle.git2show_lib.proofs.Printing.{gives_shown, gives_refused, gives_front, drained_into, until_write_fault}
 use Rattle.git2show_lib.proofs.showing.show_piece.Goals as goal
 
+pub returns-in-Some-clause-ok : goal.returns-in-Some-clause-ok
+returns-in-Some-clause-ok g c = search rules
+
+pub returns-in-Some-clause-goes_on : goal.returns-in-Some-clause-goes_on
+returns-in-Some-clause-goes_on g c = search rules
+
 pub returns-in_err-stopped-clause-err : goal.returns-in_err-stopped-clause-err
 returns-in_err-stopped-clause-err g c =
     let front : (ended : Bool) → GivesFront (ShowsSoFar c.args.packets.now) (Shows (Err WriteFault) ended) c.args.piece.now (g.W.Write.contents (inner_of c.args.writer.now)) (g.W.Write.contents (inner_of c.print_piece.new.writer)) =
-    λ ended. gives_front ended c.args.packets.now c.print_piece.new.packets c.args.piece.now _ _ c.in_err-stopped.ensures.err in
+    λ ended. gives_front ended c.args.packets.now c.print_piece.new.packets c.args.piece.now _ _ (search rules) in
     until_write_fault c.from_residual.result _ (λ (fault : RunFault). (ended : Bool) → GivesUntil (ShowsSoFar c.args.packets.now) (Shows (Err fault) ended) c.args.piece.now (g.W.Write.contents (inner_of c.args.writer.now)) (g.W.Write.contents (inner_of c.print_piece.new.writer)) fault)
     c.in_err-stopped.ensures.fault c.from_residual.ensures.1 front
 

@@ -1,6 +1,6 @@
-use Rattle.std.proofs.Common.{◌==◌, ℕ}
+use Rattle.std.proofs.Common.{rules, ◌==◌, ℕ}
 use Rattle.git_msg.proofs.Places.{first_place}
 use Rattle.git_msg.proofs.texts.find_byte.Goals as goal
 
 pub returns : goal.returns
-returns c = first_place (λ (x : ℕ). x == c.args.byte) c.args.text.now c.find_byte.result c.find_byte.ensures
+returns c = first_place (λ (x : ℕ). x == c.args.byte) c.args.text.now c.find_byte.result (search rules)

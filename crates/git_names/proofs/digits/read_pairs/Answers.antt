@@ -3,7 +3,7 @@ use Rattle.git_names.proofs.Pairs.{pairs_from, spells_none-digit, spells_none-le
 use Rattle.git_names.proofs.digits.read_pairs.Goals as goal
 
 pub returns-then-text-out : goal.returns-then-text-out
-returns-then-text-out c = spells_none-length c.args.text.now (length c.args.out.now) c.if-text-out.true
+returns-then-text-out c = spells_none-length c.args.text.now (length c.args.out.now) (omega arith)
 
 pub returns-then-high-gt15 : goal.returns-then-high-gt15
 returns-then-high-gt15 c =

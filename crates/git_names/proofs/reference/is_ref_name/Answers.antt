@@ -1,4 +1,4 @@
-use Rattle.std.proofs.Common.{refl}
+use Rattle.std.proofs.Common.{arith, refl}
 use Rattle.git_names.proofs.RefNames.{follows_in_name, ref_name_from, slash_follows_name}
 use Rattle.git_names.proofs.reference.is_ref_name.Goals as goal
 
@@ -10,7 +10,7 @@ returns-then-not-follows_well c = (
 
 pub returns : goal.returns
 returns c = (
-  λ good. ref_name_from c.args.text.now (c.if-not-begins_well.ensures.0 refl) c.if-text-gt-MOST_BYTES.false
+  λ good. ref_name_from c.args.text.now (c.if-not-begins_well.ensures.0 refl) (omega arith)
       (c.if-not-follows_well.ensures.0 refl) (λ dot. absurd (cc (c.if-ends_with_str.ensures.1 dot))) (c.may_follow.ensures.0 good),
   λ h. c.may_follow.ensures.1 (slash_follows_name c.args.text.now h),
 )

@@ -1,5 +1,9 @@
+use Rattle.std.proofs.Common.{rules}
 use Rattle.git_server.proofs.Formats.{of_one_format}
 use Rattle.git_server.proofs.answer.answer_one.Goals as goal
+
+pub returns-in-Some : goal.returns-in-Some
+returns-in-Some g c = search rules
 
 pub write_entry-requires-clause-format : goal.write_entry-requires-clause-format
 write_entry-requires-clause-format g c =

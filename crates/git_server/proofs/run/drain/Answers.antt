@@ -7,7 +7,7 @@ loop-bytes-preserved g c =
     record {
       sound = search rules;
       outcome = search rules;
-      writes = writes_packet g.R.Repo.answers _ _ _ _ _ _ _ c.in-Packet.bytes c.loop-bytes.invariant.writes c.pull.follows.holds-at-none c.in-Packet.is c.in_ok-send-in-Packet.ensures.ok;
+      writes = writes_packet g.R.Repo.answers _ _ _ _ _ _ _ c.in-Packet.bytes c.loop-bytes.invariant.writes c.pull.follows.holds-at-none c.in-Packet.is (search rules);
     }
 
 pub returns-in-Finished-clause-ok : goal.returns-in-Finished-clause-ok

@@ -8,6 +8,15 @@ use Rattle.git_server.specs.declared.outcome.Outcome.{Outcome}
 use Rattle.git_server.proofs.RunLemmas.{turns_on, answered, ends_with, ends_closed, keeps_same, if_err_at}
 use Rattle.git_server.proofs.run.serve.Goals as goal
 
+pub returns-clause-goes_on : goal.returns-clause-goes_on
+returns-clause-goes_on g c = search rules
+
+pub returns-in_err-flush-3-clause-told : goal.returns-in_err-flush-3-clause-told
+returns-in_err-flush-3-clause-told g c = search rules
+
+pub returns-in-Some-2-clause-told : goal.returns-in-Some-2-clause-told
+returns-in-Some-2-clause-told g c = search rules
+
 pub returns-in-Some-clause-run : goal.returns-in-Some-clause-run
 returns-in-Some-clause-run g c =
     λ s r.

@@ -1,4 +1,4 @@
-use Rattle.std.proofs.Common.{◌≡◌, false, refl, sym, ◌∙◌, ap}
+use Rattle.std.proofs.Common.{rules, ◌≡◌, false, refl, sym, ◌∙◌, ap}
 use Rattle.git_client.specs.Hearing.{can_ask, is_ready, phase_of}
 use Rattle.git_client.specs.declared.phase.Phase.{Phase}
 use Rattle.git_client.specs.declared.phase.Phase.TheVariants.{Opening, Advertisement, Ready, Failed}
@@ -15,7 +15,7 @@ pub returns-in-Ready-clause-turn : goal.returns-in-Ready-clause-turn
 returns-in-Ready-clause-turn c =
     λ format ending bytes events h.
     let turn = turn_is (phase_of c.args.self.now) _ _ _ _ _ _ _ h.stands h.gives in
-    (λ _. turn.0 (ap is_ready c.in-Ready.is), λ _. refl)
+    (λ _. turn.0 (ap is_ready c.in-Ready.is), λ _. search rules)
 
 pub returns-in_default : goal.returns-in_default
 returns-in_default c =

@@ -1,4 +1,4 @@
-use Rattle.std.proofs.Common.{◌≡◌, ◌∙◌, ap, sym, refl, List, [], ◌∷◌, subst, take, true, Option, Some, ℕ}
+use Rattle.std.proofs.Common.{rules, ◌≡◌, ◌∙◌, ap, sym, refl, List, [], ◌∷◌, subst, take, true, Option, Some, ℕ}
 use Rattle.git_pkt.specs.declared.fault.Fault.{Fault}
 use Rattle.git_client.specs.Turns.{takes_packets}
 use Rattle.git_client.specs.declared.phase.Phase.{Phase}
@@ -19,6 +19,9 @@ is_not_ready Opening wants ready = cc
 is_not_ready Advertisement wants ready = cc
 is_not_ready Ready wants ready = cc
 is_not_ready (Failed fault) wants ready = cc
+
+pub returns-then-not-wants_input : goal.returns-then-not-wants_input
+returns-then-not-wants_input c = search rules
 
 pub returns-in-Capability : goal.returns-in-Capability
 returns-in-Capability c =

@@ -1,4 +1,4 @@
-use Rattle.std.proofs.Common.{◌≡◌, ◌+◌, ◌-◌, take, length, arith, subst, refl, ◌∙◌}
+use Rattle.std.proofs.Common.{rules, ◌≡◌, ◌+◌, ◌-◌, take, length, arith, subst, refl, ◌∙◌}
 use Rattle.std.proofs.lemmas.List.{length-take-le}
 use Rattle.git_pkt.specs.Reading.{position_of, held_of}
 use Rattle.git_pkt.specs.Reading.{ShownByFeed}
@@ -9,6 +9,9 @@ use Rattle.git_pkt.specs.declared.reader.Progress.TheVariants.{Open, Whole, Fail
 use Rattle.git_pkt.proofs.ReaderMoves.{whole_uses, whole_behind}
 use Rattle.git_pkt.proofs.Carries.{carry_open, carry_whole, carry_failed}
 use Rattle.git_pkt.proofs.reader.PacketReader.feed.Goals as goal
+
+pub returns-in-Some : goal.returns-in-Some
+returns-in-Some c = search rules
 
 pub returns-in-Open : goal.returns-in-Open
 returns-in-Open c =
@@ -56,15 +59,13 @@ returns-in-Whole c =
     let moves : Moves c.args.self.now (take c.step-step.result.used c.args.piece.now) Whole c.step-step.new.self =
     subst (λ (p : Progress). Moves c.args.self.now (take c.step-step.result.used c.args.piece.now) p c.step-step.new.self) c.in-Whole.is c.step-step.ensures.moves in
     let behind = whole_behind c.args.self.now c.step-step.new.self _ moves in
-    let at : (c.step-step.new.self.position - c.len.result) + length (held_of c.step-step.new.self) ≡ position_of c.step-step.new.self =
-    omega (arith, behind, c.len.ensures.value) in
     let uses = whole_uses c.args.self.now c.step-step.new.self _ _ moves c.packet.ensures in (
       (
         refl,
         (λ _. tt),
         record {
-          reads = carry_whole _ _ _ _ c.in_default.is moves c.packet.ensures at;
-          tells = (omega (arith, uses, length-take-le c.step-step.result.used c.args.piece.now c.step-step.ensures.used), moves.arrives.no_fault, moves.arrives.closed, c.packet.ensures, at);
+          reads = carry_whole _ _ _ _ c.in_default.is moves c.packet.ensures (omega (arith, behind, c.len.ensures.value));
+          tells = (omega (arith, uses, length-take-le c.step-step.result.used c.args.piece.now c.step-step.ensures.used), moves.arrives.no_fault, moves.arrives.closed, c.packet.ensures, omega (arith, behind, c.len.ensures.value));
           news = λ f sound is. absurd (cc);
           stays = λ f is. absurd (c.in_default.not-Some f is);
           keeps = c.step-step.ensures.keeps;

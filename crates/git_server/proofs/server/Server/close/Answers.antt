@@ -1,4 +1,4 @@
-use Rattle.std.proofs.Common.{refl, ap, ◌∙◌}
+use Rattle.std.proofs.Common.{rules, refl, ap, ◌∙◌}
 use Rattle.git_pkt.specs.Reading.{position_of}
 use Rattle.git_pkt.specs.declared.fault.Kind.TheVariants.{Truncated}
 use Rattle.git_server.proofs.Closing.{closes_between, closes_open, closes_within}
@@ -23,5 +23,5 @@ returns-clause-closes g c =
     let open_ended = no_outcome old.phase c.requires in
     let between = c.in_default.ensures.between in
     closes_within g.R.Repo.answers old _ (record { kind = Truncated; offset = c.position.result }) c.requires (record { offer = refl; repo = refl; requests = refl })
-    (is_within old.phase c.requires c.in_default-phase.not-Between) c.refusal-2.ensures (old.sound open_ended) (old.ready open_ended) between.1 between.2 refl
+    (is_within old.phase c.requires c.in_default-phase.not-Between) (search rules) (old.sound open_ended) (old.ready open_ended) between.1 between.2 refl
     (c.position.ensures ∙ ap position_of between.0)
