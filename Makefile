@@ -22,6 +22,7 @@ cases:
 	@cd crates/worked_conversations && $(RT) run -- data/packets.txt > /dev/null
 	@cd crates/worked_conversations/data && ../out/worked_conversations $$(cat ../args) | diff ../stdout - \
 		&& tail -n 1 ../stdout
+
 # By what each wrong body is refused, those of the gate and those in wrong-bodies/: hours of work, which no merge waits for.
 # CRATES names those to be tried, where not all are; LANES is how many at a time.
 audit:
