@@ -1,4 +1,5 @@
 pub mod Following
+pub mod NameBytes
 pub mod ObjectFormat
 pub mod ObjectName
 pub mod RefName
