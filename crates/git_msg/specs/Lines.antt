@@ -1,6 +1,7 @@
 -- The packets of a request as lines, each behind the lines before it, and what refuses a packet.
-use Rattle.std.specs.Prelude.{◌≡◌, ◌≢◌, ℕ, ◌+◌, ◌<◌, ◌≤◌, Bool, true, false, Option, Some, None, List, [], ◌∷◌, ◌++◌, length, codes, sum_by}
+use Rattle.std.specs.Prelude.{◌≡◌, ◌≢◌, ℕ, ◌+◌, ◌<◌, ◌≤◌, Bool, true, false, Option, Some, None, List, [], ◌∷◌, ◌++◌, length, codes, sum_by, if◌then◌else◌}
 use Rattle.std.specs.List.{list_any, filter_map}
+use Rattle.std.specs.Str.{bytes_eq}
 use Rattle.git_names.specs.ObjectFormat.{name_of as format_name}
 use Rattle.git_names.specs.declared.object_format.Format.{Format}
 use Rattle.git_names.specs.declared.object_format.Format.TheVariants.{Sha1, Sha256}
@@ -78,6 +79,15 @@ IsWordOf text AgentKey = text ≡ codes "agent"
 IsWordOf text ServerOptionKey = text ≡ codes "server-option"
 IsWordOf text ObjectFormatKey = text ≡ codes "object-format"
 IsWordOf text OtherKey = IsNoneOf (codes "command" ∷ codes "agent" ∷ codes "server-option" ∷ codes "object-format" ∷ []) text
+
+-- the key that a word stands for
+abbrev pub key_by : List ℕ → Key
+key_by word =
+    if bytes_eq word (codes "command") then CommandKey
+    else if bytes_eq word (codes "agent") then AgentKey
+    else if bytes_eq word (codes "server-option") then ServerOptionKey
+    else if bytes_eq word (codes "object-format") then ObjectFormatKey
+    else OtherKey
 
 -- the text is a capability line with this key and value
 pub record HasKey (text : List ℕ) (key : Key) (value : Option (List ℕ)) : Type 0 where
