@@ -10,7 +10,7 @@ use Rattle.git_msg.specs.Asked.{Asked}
 use Rattle.git_msg.specs.Lines.{Line}
 use Rattle.git_msg.specs.Requests.{AreLines, Asks, IsTold, IsStop}
 use Rattle.git_server.specs.Repository.{Repository}
-use Rattle.git_server.specs.Answers.{spelled, advertisement_of, IsAnswer, tail_of}
+use Rattle.git_server.specs.Answers.{AllFit, spelled, advertisement_of, IsAnswer, tail_of}
 use Rattle.git_server.specs.declared.outcome.Outcome.{Outcome}
 use Rattle.git_server.specs.declared.outcome.Outcome.TheVariants.{Flush, Closed, Refused}
 
@@ -84,6 +84,10 @@ EndsBy s over left rest end Flush = IsStop left × (rest ≡ [])
 EndsBy s over left rest end Closed = (over ≡ true) × (left ≡ []) × (rest ≡ [])
 EndsBy s over left rest end (Refused fault) = IsRefused s over left rest end fault
 
+-- what is written at the end of a session, after the answers to the whole requests before what is left
+abbrev pub IsTail : Setting → List Given → Outcome → List Pkt → Type 0
+IsTail s left outcome tail = tail_of outcome ≡ tail
+
 -- the session ended so: for the bytes used, and `over` where the input ended with them, just these were given
 pub record IsSession (s : Setting) (used : List ℕ) (over : Bool) (given : List ℕ) (outcome : Outcome) : Type 0 where
   pub asked : List Asked
@@ -93,7 +97,9 @@ pub record IsSession (s : Setting) (used : List ℕ) (over : Bool) (given : List
   pub stream : Stream s used asked left rest
   pub ends : EndsBy s over left rest (length used) outcome
   pub answered : AreAnswers s.repo asked answers
-  pub given_is : given ≡ spelled (advertised s ++ answers ++ tail_of outcome)
+  pub tail : List Pkt
+  pub is_tail : IsTail s left outcome tail
+  pub given_is : given ≡ spelled (advertised s ++ answers ++ tail)
 
 -- no request has come, and of the advertisement this was sent, and that is owed
 pub record IsOpening (s : Setting) (asked : List Asked) (sent owed : List Pkt) : Type 0 where
@@ -138,7 +144,7 @@ pub record IsEnding (s : Setting) (used : List ℕ) (over : Bool) (given : List 
   pub stream : Stream s used asked left rest
   pub ends : EndsBy s over left rest (length used) outcome
   pub answered : AreAnswers s.repo asked answers
-  pub parts : tail_of outcome ≡ sent ++ owed
+  pub parts : IsTail s left outcome (sent ++ owed)
   pub given_is : given ≡ spelled (advertised s ++ answers ++ sent)
 
 -- what stands at every moment between the bytes used and those given. A session goes on only while its input does.
@@ -157,3 +163,4 @@ pub record IsAnswered (s : Setting) (used given : List ℕ) : Type 0 where
   pub unrefused : IsOpen rest
   pub answered : AreAnswers s.repo asked answers
   pub given_is : given ≡ spelled (advertised s ++ answers)
+  pub fit : AllFit (advertised s ++ answers)

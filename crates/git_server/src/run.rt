@@ -2,7 +2,7 @@
 
 ghost use Rattle.std.specs.Prelude.{◌≡◌, ◌≢◌, ◌<◌, ◌≤◌, ◌||◌, [], false, true, length, Some, IsTrue, IsSome, IfOk, IfErr, OnOk, is_err};
 ghost use Rattle.git_pkt.specs.Told.{inner_of, reads_of, has_failed, has_ended, IsNew};
-ghost use Rattle.git_pkt.specs.Engine.{FailsAs, IsShownBy, IsSpent};
+ghost use Rattle.git_pkt.specs.Engine.{Exchanges, FailsAs, IsShownBy, IsSpent};
 ghost use Rattle.git_server.specs.Runs.{IsRun, RunsUntil, WritesFor, WritesItsEnd};
 ghost use Rattle.git_server.specs.Serving.{Running, outcome_of, wants_input};
 ghost use Rattle.git_server.specs.Sessions.{Setting};
@@ -80,6 +80,8 @@ pub fn serve<In: Read, W: Write, R: Repo, A: Allocator + Copy>(
     ensures fault { IfErr result (IsShownBy (IsTrue (has_failed reader.new)) (IsTrue (has_failed writer.new)) (IsSpent reader.new turns)) }
     ensures told { FailsAs result (has_failed reader.new) (has_failed writer.new) }
     ensures ends { IfOk result (λ outcome. outcome_of server.new ≡ Some outcome) }
+    ensures behind { IfErr result (λ fault. fault ≢ RunFault.WriteFault → (s : Setting) → Running R.answers s [] false [] server.old
+        → Exchanges (λ used given. Running R.answers s used false given server.new) (In.remaining (inner_of reader.old)) (In.remaining (inner_of reader.new)) (W.contents (inner_of writer.old)) (W.contents (inner_of writer.new))) }
     ensures goes_on { IfErr result (λ fault. fault ≢ RunFault.WriteFault → wants_input server.new ≡ true) }
 {
     if let Some(outcome) = drain(writer, server)? {

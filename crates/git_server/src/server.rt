@@ -71,7 +71,7 @@ impl<R: Repo, A: Allocator + Copy> Server<R, A> {
     ghost use Rattle.git_server.specs.contracts.server.Server.{the_row};
     ghost use Rattle.git_server.specs.Sessions.{Setting};
     ghost use Rattle.git_server.specs.Serving.{IsFresh, Running, repo_of, wants_input, outcome_of};
-    ghost use Rattle.git_server.specs.Moves.{Closes, Gives, Goes, Pulls, owed_by};
+    ghost use Rattle.git_server.specs.Moves.{Closes, Gives, Goes, OwesNow, Pulls};
     ghost use Rattle.git_pkt.specs.Reading.{held_of};
 
     /// A server at the beginning of a session over this repository. It keeps at most `limits` of a request's
@@ -112,7 +112,7 @@ impl<R: Repo, A: Allocator + Copy> Server<R, A> {
     /// Whether bytes are wanted: there is no outcome yet, and all that is owed was pulled.
     pub fn wants_input(&self) -> bool
         ensures value { result ≡ wants_input self.now }
-        ensures waits { IsTrue result ↔ ((outcome_of self.now ≡ None) × (owed_by R.answers self.now ≡ [])) }
+        ensures waits { IsTrue result ↔ ((outcome_of self.now ≡ None) × OwesNow R.answers self.now []) }
     {
         match self.phase {
             Phase::Between => true,

@@ -63,3 +63,11 @@ loop-preserved g c =
 
 pub returns-clause-until : goal.returns-clause-until
 returns-clause-until g c = λ s r. (answered g.R.Repo.answers s c.loop.server _ _ _ _ c.loop.invariant.wants (Exchanges-flush (c.loop.invariant.run s r) c.in_ok-flush-4.ensures.bytes), search rules)
+
+pub returns-in_err-count-clause-behind : goal.returns-in_err-count-clause-behind
+returns-in_err-count-clause-behind g c =
+    if_err_at _ _ _ c.from_residual-in_err-count.ensures.1
+    (λ other s r. Exchanges-read_fault (Exchanges-flush (c.loop.invariant.run s r) c.in_ok-flush-2.ensures.bytes) c.in_err-count.ensures.bytes)
+
+pub returns-clause-behind : goal.returns-clause-behind
+returns-clause-behind g c = λ other s r. Exchanges-flush (c.loop.invariant.run s r) c.in_ok-flush-4.ensures.bytes
