@@ -19,3 +19,4 @@ pub mod ReferenceFaults
 pub mod CheckLaws
 pub mod Rows
 pub mod Values
+pub mod PacketFaults
