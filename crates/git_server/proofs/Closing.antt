@@ -8,7 +8,7 @@ use Rattle.git_pkt.specs.declared.fault.Kind.TheVariants.{Truncated}
 use Rattle.git_pkt.proofs.ReaderMoves.{rest_of_shut}
 use Rattle.git_msg.specs.Taking.{offer_of, limit_in, kept_so_far, is_waiting, fault_of as requests_fault}
 use Rattle.git_server.specs.Repository.{Repository}
-use Rattle.git_server.specs.Answers.{tail_of, spelled}
+use Rattle.git_server.specs.Answers.{AllFit, spelled}
 use Rattle.git_server.specs.Sessions.{Setting, EndsBy, IsTail}
 use Rattle.git_server.specs.Phases.{LeftIn, outcome_in, Owes, refused_by}
 use Rattle.git_server.specs.Serving.{Running, Serves, StandsBy, outcome_of, wants_input}
@@ -57,6 +57,7 @@ module _ {R A : Type 0} (answers : R → Repository) (old new : Server R A) wher
           answered = all.answered;
           parts = tail owed owes;
           given_is = h.given_is ∙ ap spelled (all.sent_is ∙ sym (append-nil _));
+          fit = subst AllFit (all.sent_is ∙ sym (append-nil _)) h.fit;
         });
       }
 

@@ -4,8 +4,8 @@ use Rattle.git_pkt.specs.Packets.{Pkt}
 use Rattle.git_pkt.specs.Splits.{Given}
 use Rattle.git_pkt.specs.Reading.{held_of}
 use Rattle.git_server.specs.Repository.{Repository}
-use Rattle.git_server.specs.Answers.{spelled}
-use Rattle.git_server.specs.Sessions.{Setting, IsSent, IsTail, advertised}
+use Rattle.git_server.specs.Answers.{AllFit, spelled}
+use Rattle.git_server.specs.Sessions.{Setting, IsTail, advertised}
 use Rattle.git_server.specs.Phases.{LeftIn, kept_in, Owes}
 use Rattle.git_server.specs.Writing.{Writes}
 use Rattle.git_server.specs.Serving.{StandsBy, outcome_of}
@@ -62,6 +62,8 @@ module _ {R A : Type 0} (answers : R → Repository) (old new : Server R A) (pac
         answered = h.answered;
         parts = subst (IsTail s h.left outcome) (sym (append_assoc h.sent (packet ∷ []) later)) h.parts;
         given_is = given_on before (advertised s ++ h.answers ++ h.sent) h.given_is ∙ ap spelled (append_assoc (advertised s ++ h.answers) h.sent (packet ∷ []));
+        fit = subst AllFit (append_assoc (advertised s ++ h.answers) h.sent (packet ∷ []))
+            (fit_more (advertised s ++ h.answers ++ h.sent) packet h.fit writes.fits);
       }
 
   pub gives : Gives answers old new

@@ -2,24 +2,25 @@
 use Rattle.std.proofs.Common.{arith, ◌≡◌, ◌≢◌, ℕ, ◌+◌, ◌≤◌, Bool, true, false, List, [], ◌∷◌, ◌++◌, length, Option, Some, None, refl, sym, ap, ◌∙◌, append_assoc, append-nil, subst, inl, inr}
 use Rattle.git_pkt.specs.Packets.{Pkt}
 use Rattle.git_pkt.specs.Splits.{Given}
-use Rattle.git_pkt.specs.Reading.{Reads, is_open, fault_of}
+use Rattle.git_pkt.specs.Reading.{Reads, is_open, fault_of, ShownByFeed}
 use Rattle.git_pkt.specs.declared.fault.Fault.{Fault}
 use Rattle.git_pkt.specs.declared.fault.Kind.{Kind}
-use Rattle.git_pkt.specs.declared.fault.Kind.TheVariants.{RemoteError, Truncated}
+use Rattle.git_pkt.specs.declared.fault.Kind.TheVariants.{RemoteError, Truncated, StreamTooLong}
 use Rattle.git_msg.specs.Asked.{Asked, ls_refs}
 use Rattle.git_msg.specs.Holding.{asked_of, kept_of}
 use Rattle.git_msg.specs.Requests.{Asks, IsTold}
+use Rattle.git_msg.proofs.PacketFaults.{told_of_packets}
 use Rattle.git_msg.specs.Taking.{Takes, offer_of, limit_in, kept_so_far, is_waiting, fault_of as requests_fault}
 use Rattle.git_msg.specs.declared.offers.Offer.{Offer}
 use Rattle.git_msg.specs.declared.reader.RequestReader.{RequestReader}
-use Rattle.git_server.specs.Repository.{Entry, Repository}
+use Rattle.git_server.specs.Repository.{Repository}
 use Rattle.git_server.specs.Answers.{AllFit, IsAnswer, error_packet, tail_of, spelled}
 use Rattle.git_server.specs.Greetings.{greetings_from}
 use Rattle.git_server.specs.Sessions.{Begins, IsTail, Setting, Cuts, IsSent, IsEnding, IsRefused, EndsBy}
 use Rattle.git_server.specs.Phases.{LeftIn, answer_from, IsAnswerFrom, Owes, kept_in, outcome_in, reads_in, phase_after, refused_by}
 use Rattle.git_server.specs.Taking.{Brings, IsBrought, IsWithin}
 use Rattle.git_server.specs.Serving.{Running, Serves, StandsBy, outcome_of, wants_input}
-use Rattle.git_server.specs.Moves.{Goes, ReadsFor}
+use Rattle.git_server.specs.Moves.{Goes, ReadsFor, StopsInTime}
 use Rattle.git_server.specs.declared.outcome.Outcome.{Outcome}
 use Rattle.git_server.specs.declared.outcome.Outcome.TheVariants.{Flush, Refused}
 use Rattle.git_server.specs.declared.requests.Brought.{Brought}
@@ -111,6 +112,17 @@ one_more : {X : Type 0} (xs : List X) (x : X) → xs ++ x ∷ [] ≢ []
 one_more [] x e = cc
 one_more (y ∷ ys) x e = cc
 
+-- a packet of a request is not told as a stream that is too long
+not_too_long : {A : Type 0} (packets : List Given) (brought : Brought A) (requests : RequestReader A) → IsBrought packets brought requests
+    → (fault : Fault) → outcome_in (phase_after brought) ≡ Some (Refused fault) → fault.kind ≡ StreamTooLong → ⊥
+not_too_long packets Part requests h fault ended too_long = cc
+not_too_long packets (Whole request) requests h fault ended too_long = cc
+not_too_long packets Stop requests h fault ended too_long = cc
+not_too_long {A = A} packets (RefusedPacket f) requests h fault ended too_long =
+    let same : Some (Refused f) ≡ Some (Refused fault) = sym (refused_outcome_by A f.kind f) ∙ ended in
+    let one : f ≡ fault = cc in
+    told_of_packets (offer_of requests) (limit_in requests) packets f h (ap (λ (x : Fault). x.kind) one ∙ too_long)
+
 module _ {R A : Type 0} (answers : R → Repository) (old new : Server R A) (u : List ℕ) where
   -- what a server that waits for bytes stands for
   stands_of : (s : Setting) (so_far : List ℕ) (over : Bool) (before : List ℕ) → wants_input old ≡ true → Running answers s so_far over before old → (over ≡ false) × Serves s so_far before old
@@ -174,6 +186,7 @@ module _ {R A : Type 0} (answers : R → Repository) (old new : Server R A) (u :
         answered = all.answered;
         parts = tail;
         given_is = append-nil before ∙ h.given_is ∙ ap spelled (all.sent_is ∙ sym (append-nil _));
+        fit = subst AllFit (all.sent_is ∙ sym (append-nil _)) h.fit;
       }
 
   -- behind a whole packet there is no rest
@@ -279,7 +292,7 @@ module _ {R A : Type 0} (answers : R → Repository) (old new : Server R A) (u :
   pub goes_refused : (fault : Fault) → wants_input old ≡ true → ReadsFor old u [] new → new.requests ≡ old.requests → requests_fault old.requests ≡ None → is_waiting old.requests ≡ false
       → fault_of new.reader ≡ Some fault → (fault_of old.reader ≡ None → fault.kind ≢ Truncated) → new.phase ≡ refused_by fault.kind fault → Goes answers u [] old new
   goes_refused fault wants reads same_requests sound ready told not_the_end phase_is s so_far over before r =
-      let h = serves_of s so_far over before wants r in
+      let (not_over, h) = stands_of s so_far over before wants r in
       let (rest, later) = reads.reads 0 so_far h.packets h.rest h.reads in
       let stream = subst (λ (l : List Given). Reads new.reader 0 (so_far ++ u) l rest) (append-nil h.packets) later in
       record {
@@ -290,11 +303,36 @@ module _ {R A : Type 0} (answers : R → Repository) (old new : Server R A) (u :
         within = omega (arith, r.within, ap kept_so_far same_requests, none_kept_at_end new.phase (Refused fault) (ap outcome_in phase_is ∙ refused_outcome_by A fault.kind fault));
         stands = ends_refused s so_far over before h.left h.packets rest fault wants h stream h.cuts
             (inr (inl (record {
+              goes_on = not_over;
               begins = begins s h.left old.requests r.reads_for r.limit sound ready h.takes;
               stops = stopped_by new.reader (so_far ++ u) h.packets rest fault told stream;
               not_the_end = not_the_end h.no_fault;
             }))) phase_is;
       }
+
+module _ {R A : Type 0} (answers : R → Repository) (old : Server R A) (used : ℕ) (piece : List ℕ) where
+  -- the session went on
+  pub open_in_time : StopsInTime answers old used piece (outcome_in old.phase)
+  open_in_time s so_far over before r wants fault ended too_long =
+      let none : outcome_in old.phase ≡ None = no_outcome old.phase wants in
+      absurd (cc)
+
+  -- a packet was judged
+  pub packet_in_time : (g : Given) (brought : Brought A) (requests : RequestReader A) (phase : Phase A) → Brings old.requests g brought requests
+      → phase ≡ phase_after brought
+      → StopsInTime answers old used piece (outcome_in phase)
+  packet_in_time g brought requests phase brings phase_is s so_far over before r wants fault ended too_long =
+      let h = serves_of answers old old [] s so_far over before wants r in
+      absurd (not_too_long (h.left ++ g ∷ []) brought requests (brings.brings h.left h.takes) fault (sym (ap outcome_in phase_is) ∙ ended) too_long)
+
+  -- the bytes were refused
+  pub fault_in_time : (fault : Fault) (phase : Phase A) → phase ≡ refused_by fault.kind fault → (fault_of old.reader ≡ None → ShownByFeed fault used piece)
+      → StopsInTime answers old used piece (outcome_in phase)
+  fault_in_time fault phase phase_is shown s so_far over before r wants other ended too_long =
+      let h = serves_of answers old old [] s so_far over before wants r in
+      let same : Some (Refused fault) ≡ Some (Refused other) = sym (refused_outcome_by A fault.kind fault) ∙ sym (ap outcome_in phase_is) ∙ ended in
+      let one : fault ≡ other = cc in
+      (shown h.no_fault).one_more (ap (λ (f : Fault). f.kind) one ∙ too_long)
 
 -- a server that waits for bytes, and has some packets of a request
 pub is_within : {A : Type 0} (phase : Phase A) → reads_in phase ≡ true → (phase ≡ Between → ⊥) → phase ≡ Within

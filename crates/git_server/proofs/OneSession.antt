@@ -1,6 +1,6 @@
 -- What was asked by the bytes that a server used, and how it is answered, is one thing: so a server that has given all
 -- of it owes nothing.
-use Rattle.std.proofs.Common.{◌≡◌, ◌≢◌, ℕ, ◌+◌, ◌≤◌, drop, map, codes, Bool, true, false, List, [], ◌∷◌, ◌++◌, length, length-append, Option, None, refl, sym, ap, ◌∙◌, append_assoc, append-nil, subst, inl, inr, arith}
+use Rattle.std.proofs.Common.{◌≡◌, ◌≢◌, ℕ, ◌+◌, drop, map, codes, Bool, true, false, List, [], ◌∷◌, ◌++◌, length, length-append, Option, None, refl, sym, ap, ◌∙◌, append_assoc, append-nil, subst, inl, inr, arith}
 use Rattle.git_pkt.specs.Digits.{digits_of}
 use Rattle.git_pkt.specs.Packets.{Pkt, flush, delim, resp_end, payload, body_of, length_field, spelling_of}
 use Rattle.git_pkt.proofs.Spelling.{same_start}
@@ -15,7 +15,7 @@ use Rattle.git_msg.specs.Requests.{AreLines, Asks}
 use Rattle.git_msg.proofs.LineLaws.{one_request}
 use Rattle.git_server.specs.Repository.{Entry, Repository}
 use Rattle.git_server.specs.Answers.{AllFit, flushes, offered_line, reference_packet, shown_refs, spelled, IsAnswer}
-use Rattle.git_server.specs.Greetings.{format_on, greeting_packet, greetings_from}
+use Rattle.git_server.specs.Greetings.{format_on, greetings_from}
 use Rattle.git_server.specs.declared.greeting.Greeting.TheVariants.{Version, Agent, LsRefs, ServerOption, ObjectFormat, End}
 use Rattle.git_server.specs.Sessions.{Setting, Cuts, AreAnswers, Begins, IsAnswered, IsSent, advertised}
 use Rattle.git_server.specs.Phases.{IsAnswerFrom, outcome_in, Owes, reads_in}
@@ -26,12 +26,10 @@ use Rattle.git_server.specs.declared.server.Phase.{Phase}
 use Rattle.git_server.specs.declared.server.Phase.TheVariants.{Greeting, Between, Within, Answering, Refusing, Ended}
 use Rattle.git_server.specs.declared.server.Server.{Server}
 use Rattle.git_server.proofs.WholeRequests.{answers_more, begins}
-use Rattle.git_server.proofs.Sent.{spelled_both}
-use Rattle.git_server.proofs.Owing.{one_line}
 use Rattle.git_server.proofs.Going.{owes_some}
 
 -- no packet of the list is a flush
-abbrev NoFlush : List Given → Type 0
+abbrev pub NoFlush : List Given → Type 0
 NoFlush [] = Unit {0}
 NoFlush (g ∷ gs) = (g.packet ≢ flush) × NoFlush gs
 
@@ -39,27 +37,29 @@ flush_is_no_line_in : (part : Bool) (offer : Offer) (limit : ℕ) (before : List
 flush_is_no_line_in true offer limit before line h = h
 flush_is_no_line_in false offer limit before line h = h
 
-flush_is_no_line : (offer : Offer) (limit : ℕ) (before : List Line) (packet : Pkt) (line : Line) → IsLine offer limit before packet line → packet ≢ flush
+pub flush_is_no_line : (offer : Offer) (limit : ℕ) (before : List Line) (packet : Pkt) (line : Line) → IsLine offer limit before packet line → packet ≢ flush
 flush_is_no_line offer limit before packet line h is = flush_is_no_line_in (has_delimiter before) offer limit before line (subst (λ (p : Pkt). IsLine offer limit before p line) is h)
 
-lines_have_no_flush : (offer : Offer) (limit : ℕ) (before : List Line) (gs : List Given) (lines : List Line) → AreLines offer limit before gs lines → NoFlush gs
+pub lines_have_no_flush : (offer : Offer) (limit : ℕ) (before : List Line) (gs : List Given) (lines : List Line) → AreLines offer limit before gs lines
+    → NoFlush gs
 lines_have_no_flush offer limit before [] lines h = tt
 lines_have_no_flush offer limit before (g ∷ gs) [] h = absurd h
 lines_have_no_flush offer limit before (g ∷ gs) (l ∷ ls) h =
     (flush_is_no_line offer limit before g.packet l h.0, lines_have_no_flush offer limit (before ++ l ∷ []) gs ls h.1)
 
-flush_inside : (xs more left : List Given) (last : Given) → NoFlush left → last.packet ≡ flush → left ≡ xs ++ last ∷ more → ⊥
+pub flush_inside : (xs more left : List Given) (last : Given) → NoFlush left → last.packet ≡ flush → left ≡ xs ++ last ∷ more → ⊥
 flush_inside [] more [] last none ends e = cc
 flush_inside (x ∷ xs) more [] last none ends e = cc
 flush_inside [] more (g ∷ gs) last none ends e = let same : g ≡ last = cc in none.0 (ap (λ (p : Given). p.packet) same ∙ ends)
 flush_inside (x ∷ xs) more (g ∷ gs) last none ends e = let same : gs ≡ xs ++ last ∷ more = cc in flush_inside xs more gs last none.1 ends same
 
 -- what comes up to the first flush
-record SameFront (xs ys more others : List Given) (l m : Given) : Type 0 where
+pub record SameFront (xs ys more others : List Given) (l m : Given) : Type 0 where
   pub front : xs ++ l ∷ [] ≡ ys ++ m ∷ []
   pub back : more ≡ others
 
-same_front : (xs ys more others : List Given) (l m : Given) → NoFlush xs → NoFlush ys → l.packet ≡ flush → m.packet ≡ flush → xs ++ l ∷ more ≡ ys ++ m ∷ others → SameFront xs ys more others l m
+pub same_front : (xs ys more others : List Given) (l m : Given) → NoFlush xs → NoFlush ys → l.packet ≡ flush → m.packet ≡ flush
+    → xs ++ l ∷ more ≡ ys ++ m ∷ others → SameFront xs ys more others l m
 same_front [] [] more others l m none clear l_ends m_ends e = let same : l ≡ m = cc in record { front = ap (λ (g : Given). g ∷ []) same; back = cc }
 same_front [] (y ∷ ys) more others l m none clear l_ends m_ends e = let same : l ≡ y = cc in absurd (clear.0 (ap (λ (g : Given). g.packet) (sym same) ∙ l_ends))
 same_front (x ∷ xs) [] more others l m none clear l_ends m_ends e = let same : x ≡ m = cc in absurd (none.0 (ap (λ (g : Given). g.packet) same ∙ m_ends))
@@ -70,7 +70,8 @@ same_front (x ∷ xs) (y ∷ ys) more others l m none clear l_ends m_ends e =
     record { front = ap (λ (g : Given). g ∷ (xs ++ l ∷ [])) same ∙ ap (λ (gs : List Given). y ∷ gs) later.front; back = later.back }
 
 module _ (s : Setting) where
-  whole_then : (front more packets : List Given) (q : Asked) (kept : ℕ) → (a : Asks s.offer s.limit front q kept) → packets ≡ front ++ more → packets ≡ a.front ++ a.last ∷ more
+  pub whole_then : (front more packets : List Given) (q : Asked) (kept : ℕ) → (a : Asks s.offer s.limit front q kept) → packets ≡ front ++ more
+      → packets ≡ a.front ++ a.last ∷ more
   whole_then front more packets q kept a e = e ∙ ap (λ (gs : List Given). gs ++ more) a.whole ∙ append_assoc a.front (a.last ∷ []) more
 
   -- packets ask for one list of requests
@@ -90,7 +91,7 @@ module _ (s : Setting) where
       let tail = one_cut more qs rs left rest none clear cuts (subst (λ (gs : List Given). Cuts s gs rs rest) (sym same.back) later) in
       ap (λ (a : Asked). a ∷ qs) first ∙ ap (λ (l : List Asked). r ∷ l) tail
 
-  begun_has_no_flush : (left : List Given) → Begins s left → NoFlush left
+  pub begun_has_no_flush : (left : List Given) → Begins s left → NoFlush left
   begun_has_no_flush left h = lines_have_no_flush s.offer s.limit [] left h.lines h.taken
 
 -- what was sent and what is owed are the advertisement and an answer to each request

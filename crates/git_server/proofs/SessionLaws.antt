@@ -1,9 +1,8 @@
 -- What a server's moments and its end are, without the server.
 use Rattle.std.proofs.Common.{◌≡◌, ℕ, Bool, true, List, [], ◌++◌, Option, Some, None, refl, sym, ap, ◌∙◌, append-nil, subst, inl, inr}
-use Rattle.git_pkt.specs.Packets.{Pkt}
 use Rattle.git_server.specs.Repository.{Repository}
-use Rattle.git_server.specs.Answers.{AllFit, spelled, tail_of}
-use Rattle.git_server.specs.Sessions.{Setting, IsTail, IsEnding, IsAnswered, IsRunning, IsSent, IsSession, advertised}
+use Rattle.git_server.specs.Answers.{AllFit, spelled}
+use Rattle.git_server.specs.Sessions.{Setting, IsTail, IsEnding, IsAnswered, IsRunning, IsSession}
 use Rattle.git_server.specs.Phases.{Owes, outcome_in, turn_in}
 use Rattle.git_server.specs.declared.server.Phase.{Phase}
 use Rattle.git_server.specs.declared.server.Phase.TheVariants.{Greeting, Between, Within, Answering, Refusing, Ended}
@@ -34,6 +33,7 @@ module _ {R A : Type 0} (answers : R → Repository) (server : Server R A) (s : 
           unrefused = (sound_rest server.reader 0 used h.packets h.rest h.no_fault h.reads).1;
           is_sent = h.is_sent (owes_some server.offer s.repo server.phase).0 (owes_some server.offer s.repo server.phase).1;
           given_is = h.given_is;
+          fit = h.fit;
         },
       )
   moment (Some outcome) some h = let some_owed = owes_some server.offer s.repo server.phase in inr (outcome, some_owed.0, h some_owed.0 some_owed.1)
@@ -56,6 +56,7 @@ module _ {R A : Type 0} (answers : R → Repository) (server : Server R A) (s : 
         tail = h.sent;
         is_tail = subst (IsTail s h.left outcome) (append-nil h.sent) h.parts;
         given_is = h.given_is;
+        fit = h.fit;
       }
 
 module _ {R A : Type 0} (answers : R → Repository) (server : Server R A) (s : Setting) (used : List ℕ) (over : Bool) (given : List ℕ) (r : Running answers s used over given server) (wants : wants_input server ≡ true) where

@@ -85,7 +85,7 @@ cuts_last s packets (p ∷ ps) q (front, more, kept, whole, asks, rest) =
       behind = whole ∙ ap (λ (l : List Given). front ++ l) later.behind ∙ sym (append_assoc front later.before later.left);
     }
 
-last_same : (xs ys : List Given) (x y : Given) → xs ++ x ∷ [] ≡ ys ++ y ∷ [] → x ≡ y
+pub last_same : (xs ys : List Given) (x y : Given) → xs ++ x ∷ [] ≡ ys ++ y ∷ [] → x ≡ y
 last_same [] [] x y e = cc
 last_same [] (b ∷ []) x y e = absurd (let t : [] ≡ y ∷ [] = cc in cc)
 last_same [] (b ∷ c ∷ ys) x y e = absurd (let t : [] ≡ c ∷ (ys ++ y ∷ []) = cc in cc)

@@ -1,5 +1,5 @@
 -- What each call does to all that a server used and gave.
-use Rattle.std.specs.Prelude.{◌≡◌, ◌⊎◌, ℕ, ◌<◌, Bool, true, List, [], ◌∷◌, ◌++◌, Option, Some}
+use Rattle.std.specs.Prelude.{◌≡◌, ◌⊎◌, ℕ, ◌<◌, Bool, true, List, [], ◌∷◌, ◌++◌, length, Option, Some}
 use Rattle.git_pkt.specs.Packets.{Pkt, spelling_of}
 use Rattle.git_pkt.specs.Splits.{Given}
 use Rattle.git_pkt.specs.Reading.{ReadsOn, held_of}
@@ -8,7 +8,7 @@ use Rattle.git_server.specs.Sessions.{Setting, IsSession}
 use Rattle.git_server.specs.Phases.{Owes, most_owed}
 use Rattle.git_server.specs.Serving.{Running, outcome_of, wants_input}
 use Rattle.git_pkt.specs.declared.fault.Fault.{Fault}
-use Rattle.git_pkt.specs.declared.fault.Kind.TheVariants.{Truncated}
+use Rattle.git_pkt.specs.declared.fault.Kind.TheVariants.{StreamTooLong, Truncated}
 use Rattle.git_server.specs.declared.outcome.Outcome.{Outcome}
 use Rattle.git_server.specs.declared.outcome.Outcome.TheVariants.{Closed, Refused}
 use Rattle.git_server.specs.declared.server.Server.{Server}
@@ -37,6 +37,12 @@ module _ {R A : Type 0} where
   Closes answers old new =
       (s : Setting) (so_far : List ℕ) (over : Bool) (before : List ℕ) → Running answers s so_far over before old
       → Running answers s so_far true before new × IsClosing (outcome_of new)
+
+  -- the stream is too long only where there was one byte more than was used
+  abbrev pub StopsInTime : (R → Repository) → Server R A → ℕ → List ℕ → Option Outcome → Type 0
+  StopsInTime answers old used piece outcome =
+      (s : Setting) (so_far : List ℕ) (over : Bool) (before : List ℕ) → Running answers s so_far over before old → wants_input old ≡ true
+      → (fault : Fault) → outcome ≡ Some (Refused fault) → fault.kind ≡ StreamTooLong → used < length piece
 
   -- these packets may wait to be pulled, and then nothing does
   abbrev pub OwesNow : (R → Repository) → Server R A → List Pkt → Type 0

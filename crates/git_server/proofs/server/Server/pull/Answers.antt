@@ -1,6 +1,4 @@
-use Rattle.std.proofs.Common.{◌≡◌, refl, ap, ◌∙◌, sym, subst, append-nil, [], List, ℕ}
-use Rattle.git_server.specs.Phases.{outcome_in}
-use Rattle.git_server.specs.Serving.{Running}
+use Rattle.std.proofs.Common.{refl, ◌∙◌, sym}
 use Rattle.git_server.proofs.SessionLaws.{ends_now}
 use Rattle.git_server.proofs.server.Server.pull.Goals as goal
 
