@@ -7,6 +7,7 @@ use Rattle.git_pkt.specs.declared.told.Told.{Told}
 use Rattle.git_pkt.specs.Told.{reads_of, has_failed, has_ended, AppendsFront}
 use Rattle.git_pkt.specs.Engine.{Relation, Exchanges, ExchangesFront}
 use Rattle.git_pkt.specs.Packets.{Pkt, flush, Spells, seen}
+use Rattle.git_pkt.specs.Splits.{NoneBegins}
 use Rattle.git_pkt.specs.Faults.{IsOpen, StopsBy}
 use Rattle.git_pkt.specs.Reading.{Reads, ShownByFeed}
 use Rattle.git_pkt.specs.declared.packet.Packet.{Packet}
@@ -216,13 +217,14 @@ pub record IsNoPacket (ended : Bool) (read : List ℕ) (f : Fault) : Type 0 wher
   pub used : List ℕ
   pub unused : List ℕ
   pub cut : read ≡ used ++ unused
+  pub none : NoneBegins used
   pub by : StopsBy 0 used (length used) f.kind f.offset
   pub timely : IsTimely f.kind ended unused
 
 -- what the bytes read of the requests have to do with how they were judged
 abbrev pub IsJudged : Judgement → Bool → List ℕ → Type 0
 IsJudged unread ended read = read ≡ []
-IsJudged unfinished ended read = IsOpen read
+IsJudged unfinished ended read = NoneBegins read × IsOpen read × (ended ≡ false)
 IsJudged nothing_asked ended read = AsksNothing ended read
 IsJudged (refused f) ended read = IsOtherPacket read f ⊎ IsNoPacket ended read f
 
@@ -247,6 +249,7 @@ pub record AsksSoFar (reader : PacketReader) (left_before left_after : Option (L
   pub rest : List ℕ
   pub consumed : Consumes left_before left_after read
   pub reads : Reads reader 0 read [] rest
+  pub none : NoneBegins read
 
 -- the first packet of the requests is a flush, or refused at this offset
 abbrev pub IsFirst : Packet → ℕ → Result (Unit {0}) CheckFault → Type 0
