@@ -7,7 +7,7 @@ use Rattle.git2show_lib.proofs.checking.read_requests.Goals as goal
 pub returns-in-Failed-clause-asked : goal.returns-in-Failed-clause-asked
 returns-in-Failed-clause-asked g c =
     let read : Consumes (g.Q.Read.remaining (inner_of c.loop.requests)) (g.Q.Read.remaining (inner_of c.receive.new.reader)) (take c.in_ok-count.count c.receive.new.piece) = search rules in
-    asks_failed _ _ _ _ _ _ _ c.loop.invariant.asked read c.feed.follows.holds-at-none _ _ c.loop.invariant.packets_sound c.in-Failed.is
+    asks_failed _ _ _ _ _ _ _ c.loop.invariant.asked read c.feed.follows.holds-at-none _ _ _ c.loop.invariant.packets_sound c.in-Failed.is
 
 pub returns-in-Packet : goal.returns-in-Packet
 returns-in-Packet g c =
@@ -17,7 +17,7 @@ returns-in-Packet g c =
       reads = search rules;
       ok = search rules;
       fault = first_shown c.receive.new.reader c.args.turns _ _ _ c.read_first.ensures;
-      asked = asks_first _ _ _ _ _ _ _ c.loop.invariant.asked read c.feed.follows.holds-at-none _ _ _ c.read_first.result c.read_first.ensures c.in-Packet.is;
+      asked = asks_first _ _ _ _ _ _ _ c.loop.invariant.asked read c.feed.follows.holds-at-none _ _ _ _ c.read_first.result c.read_first.ensures c.in-Packet.is;
     }
 
 pub loop-init : goal.loop-init
