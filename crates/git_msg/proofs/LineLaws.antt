@@ -15,7 +15,7 @@ use Rattle.git_msg.specs.declared.capability_key.Key.TheVariants.{CommandKey, Ag
 use Rattle.git_msg.specs.Texts.{IsErrorText}
 use Rattle.git_msg.specs.Capability.{IsNoCapability}
 use Rattle.git_msg.specs.Arguments.{Arg, IsArgument}
-use Rattle.git_msg.specs.Asked.{Asked, asked_by}
+use Rattle.git_msg.specs.Asked.{Asked, ls_refs, asked_by}
 use Rattle.git_msg.specs.Checks.{Refuses, Passes}
 use Rattle.git_msg.specs.Lines.{Line, command, agent, server_option, object_format, delimiter, argument, is_none, commands_of, arguments_of, kept_in, has_format, has_delimiter, IsWordOf, HasKey, IsAnyCapability, NamesCommand, key_checks, by_key, capability_checks, IsLineOf, IsCapabilityLine, IsFormatMeant, IsOtherFormatMeant, part_checks, argument_checks, IsArgumentLine, IsArgumentRefused, end_checks, at_end, flush_checks_in, IsLine, IsLineIn, HasFault, HasFaultIn}
 use Rattle.git_msg.specs.Requests.{AreLines, Asks}
@@ -80,18 +80,22 @@ fair_argument offer limit c kept text = (
 same_command : (cs : List Command) (c d : Command) → cs ≡ c ∷ [] → cs ≡ d ∷ [] → c ≡ d
 same_command cs c d h k = cc
 
-fair_end_checks : (c : Command) (args : List Arg) → AllFair (end_checks c args)
+fair_end_checks : (asked : Asked) → AllFair (end_checks asked)
 unfolding AllFair
-fair_end_checks LsRefs args = tt
+fair_end_checks (ls_refs q) = tt
 
 fair_at_end : (lines : List Line) → IsFair (at_end lines)
 fair_at_end lines = record {
   apart = λ kind p r.
       let same = same_command (commands_of lines) p.0 r.0 p.1 r.1 in
-      passes_or_refuses (end_checks r.0 (arguments_of lines)) (fair_end_checks r.0 (arguments_of lines)) kind (subst (λ (c : Command). Passes (end_checks c (arguments_of lines))) same p.2) r.2;
+      let asked : Asked = asked_by r.0 (arguments_of lines) in
+      passes_or_refuses (end_checks asked) (fair_end_checks asked) kind
+      (subst (λ (c : Command). Passes (end_checks (asked_by c (arguments_of lines)))) same p.2) r.2;
   single = λ kind other r s.
       let same = same_command (commands_of lines) r.0 s.0 r.1 s.1 in
-      one_name (end_checks s.0 (arguments_of lines)) (fair_end_checks s.0 (arguments_of lines)) kind other (subst (λ (c : Command). Refuses (end_checks c (arguments_of lines)) kind) same r.2) s.2;
+      let asked : Asked = asked_by s.0 (arguments_of lines) in
+      one_name (end_checks asked) (fair_end_checks asked) kind other
+      (subst (λ (c : Command). Refuses (end_checks (asked_by c (arguments_of lines))) kind) same r.2) s.2;
 }
 
 fair_flush : (part : Bool) (offer : Offer) (lines : List Line) → AllFair (flush_checks_in part offer lines)

@@ -13,6 +13,7 @@ use Rattle.git_msg.specs.declared.arguments.Command.TheVariants.{LsRefs}
 use Rattle.git_msg.specs.declared.capability_key.Key.{Key}
 use Rattle.git_msg.specs.declared.capability_key.Key.TheVariants.{CommandKey, AgentKey, ServerOptionKey, ObjectFormatKey, OtherKey}
 use Rattle.git_msg.specs.Arguments.{Arg, Row, of_ref_prefix, IsArgumentFault, IsRowFault}
+use Rattle.git_msg.specs.Asked.{Asked, ls_refs, asked_by}
 use Rattle.git_msg.specs.Checks.{Check, check, Refuses}
 use Rattle.git_msg.specs.Lines.{Line, argument_checks, at_end, capability_checks, commands_of, end_checks, flush_checks_in, has_delimiter, has_format, is_none, kept_in, key_checks, part_checks, HasFault, HasFaultIn}
 use Rattle.git_msg.specs.Requests.{IsTold}
@@ -56,15 +57,15 @@ quiet_argument : (offer : Offer) (limit : ℕ) (c : Command) (kept : ℕ) (text 
 unfolding AllQuiet
 quiet_argument offer limit c kept text = ((λ r. let e = r.1 in cc), (quiet_value c offer text, ((λ r. let e = r.1 in cc), tt)))
 
-quiet_end : (c : Command) (args : List Arg) → AllQuiet (end_checks c args)
+quiet_end : (asked : Asked) → AllQuiet (end_checks asked)
 unfolding AllQuiet
-quiet_end LsRefs args = tt
+quiet_end (ls_refs q) = tt
 
 quiet_flush : (part : Bool) (offer : Offer) (lines : List Line) → AllQuiet (flush_checks_in part offer lines)
 unfolding AllQuiet
-quiet_flush true offer lines = ((λ r. quiet (end_checks r.0 _) (quiet_end r.0 _) r.2), tt)
+quiet_flush true offer lines = ((λ r. quiet (end_checks _) (quiet_end _) r.2), tt)
 quiet_flush false offer lines =
-    ((λ r. let e = r.1 in cc), ((λ r. let e = r.1 in cc), ((λ r. quiet (end_checks r.0 _) (quiet_end r.0 _) r.2), tt)))
+    ((λ r. let e = r.1 in cc), ((λ r. let e = r.1 in cc), ((λ r. quiet (end_checks _) (quiet_end _) r.2), tt)))
 
 no_such_fault : (part : Bool) (offer : Offer) (limit : ℕ) (before : List Line) (packet : Pkt) → HasFaultIn part offer limit before packet StreamTooLong → ⊥
 no_such_fault false offer limit before (payload bytes) r = quiet (capability_checks offer (is_none (commands_of before)) (text_of bytes)) (quiet_capability offer _ _) r

@@ -16,6 +16,7 @@ use Rattle.git_msg.specs.declared.capability_key.Key.TheVariants.{CommandKey, Ag
 use Rattle.git_msg.specs.Texts.{IsErrorText, IsNoneOf}
 use Rattle.git_msg.specs.Capability.{IsCapability, IsNoCapability}
 use Rattle.git_msg.specs.Arguments.{Arg, name_of, ReadsAs, IsArgumentFault}
+use Rattle.git_msg.specs.Asked.{Asked, ls_refs, asked_by}
 use Rattle.git_msg.specs.Checks.{Check, check, unless, Refuses, Passes}
 
 -- a packet of a request that is not refused: the capability lines, the delimiter, and the arguments with the
@@ -189,14 +190,14 @@ pub record IsArgumentRefused (offer : Offer) (limit : ℕ) (before : List Line) 
   pub asked : commands_of before ≡ of ∷ []
   pub refuses : Refuses (argument_checks offer limit of (kept_in before) text) kind
 
--- what refuses the flush, by the command
-abbrev pub end_checks : Command → List Arg → List Check
-end_checks LsRefs args = []
+-- what refuses a request at its flush, by what it asks for
+abbrev pub end_checks : Asked → List Check
+end_checks (ls_refs q) = []
 
 abbrev pub at_end : List Line → Check
 at_end lines = record {
-  refuses = λ kind. (c : Command) × (commands_of lines ≡ c ∷ []) × Refuses (end_checks c (arguments_of lines)) kind;
-  passes = (c : Command) × (commands_of lines ≡ c ∷ []) × Passes (end_checks c (arguments_of lines));
+  refuses = λ kind. (c : Command) × (commands_of lines ≡ c ∷ []) × Refuses (end_checks (asked_by c (arguments_of lines))) kind;
+  passes = (c : Command) × (commands_of lines ≡ c ∷ []) × Passes (end_checks (asked_by c (arguments_of lines)));
 }
 
 -- what refuses the flush behind these lines: what is judged at the end of the capability part was judged at the
