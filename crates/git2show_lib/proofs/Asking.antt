@@ -4,6 +4,8 @@ use Rattle.std.proofs.Math.Seq.{take-length}
 use Rattle.std.proofs.KnownBytes.{Consumes-nil, Consumes-trans}
 use Rattle.std.specs.Io.KnownBytes.{Consumes}
 use Rattle.git_pkt.specs.Packets.{Pkt, seen}
+use Rattle.git_pkt.specs.Splits.{NoneBegins}
+use Rattle.git_pkt.proofs.Spelling.{none_begins_nothing}
 use Rattle.git_pkt.specs.Faults.{StopsBy}
 use Rattle.git_pkt.specs.Reading.{Reads, StandsAt, Feeds, Tells, given_by, fault_of}
 use Rattle.git_pkt.specs.declared.fault.Fault.{Fault}
@@ -59,10 +61,11 @@ module _ (old new : PacketReader) (piece : List ℕ) (fed : Fed) (left_before at
         rest = later;
         consumed = consumed;
         reads = subst (λ (l : List ℕ). Reads new 0 (so_far.read ++ l) [] later) same reads;
+        none = subst (λ (l : List ℕ). NoneBegins (so_far.read ++ l)) same (subst (λ (l : List ℕ). NoneBegins l) (sym reads.splits.spelled) reads.splits.ends);
       }
 
-  pub asks_failed : (f : Fault) (ended : Bool) → fault_of old ≡ None → fed.got ≡ Failed f → Judges ended left_before left_after (refused f)
-  asks_failed f ended sound is =
+  pub asks_failed : (f : Fault) (ended failed : Bool) → fault_of old ≡ None → fed.got ≡ Failed f → Judges ended failed left_before left_after (refused f)
+  asks_failed f ended failed sound is =
       let (later, reads) = goes_on (Failed f) is in
       let shown = feeds.news f sound is in
       record {
@@ -72,6 +75,7 @@ module _ (old new : PacketReader) (piece : List ℕ) (fed : Fed) (left_before at
           used = all;
           unused = drop fed.used piece;
           cut = whole;
+          none = subst (λ (l : List ℕ). NoneBegins l) (sym reads.splits.spelled) reads.splits.ends;
           by = stops_at new all later f (tells (Failed f) is) reads;
           timely = timely f.kind ended (drop fed.used piece) shown.not_the_end (λ e. omega (arith, shown.one_more e, length-drop fed.used piece));
         });
@@ -90,31 +94,36 @@ module _ (old new : PacketReader) (piece : List ℕ) (fed : Fed) (left_before at
         at_start,
       )
 
-  pub asks_first : (p : Packet) (offset : ℕ) (ended : Bool) (result : Result (Unit {0}) CheckFault) → IsFirst p offset result → fed.got ≡ GotPacket p offset → Judges ended left_before left_after (judgement_of result)
-  asks_first p offset ended (Ok done) first is = record {
+  pub asks_first : (p : Packet) (offset : ℕ) (ended failed : Bool) (result : Result (Unit {0}) CheckFault) → IsFirst p offset result
+      → fed.got ≡ GotPacket p offset → Judges ended failed left_before left_after (judgement_of result)
+  asks_first p offset ended failed (Ok done) first is = record {
     read = so_far.read ++ piece;
     consumed = consumed;
     judged = inr (subst (λ (q : Pkt). BeginsWith q (so_far.read ++ piece)) first (begins p offset is).0);
   }
-  asks_first p offset ended (Err fault) first is = subst (λ (x : CheckFault). Judges ended left_before left_after (judgement_of (Err x))) (sym first.1) (record {
-    read = so_far.read ++ piece;
-    consumed = consumed;
-    judged = inl (record {
-      packet = seen p;
-      begins = (begins p offset is).0;
-      other = first.0;
-      fault = ap (λ (n : ℕ). record { kind = UnexpectedPacket; offset = n }) (begins p offset is).1;
-    });
-  })
+  asks_first p offset ended failed (Err fault) first is = subst (λ (x : CheckFault). Judges ended failed left_before left_after (judgement_of (Err x)))
+      (sym first.1) (record {
+        read = so_far.read ++ piece;
+        consumed = consumed;
+        judged = inl (record {
+          packet = seen p;
+          begins = (begins p offset is).0;
+          other = first.0;
+          fault = ap (λ (n : ℕ). record { kind = UnexpectedPacket; offset = n }) (begins p offset is).1;
+        });
+      })
 
 -- a fault at the first packet needs no more to be shown
 pub first_shown : {Q : Type 0} (requests : Told Q) (turns : ℕ) (p : Packet) (offset : ℕ) (result : Result (Unit {0}) CheckFault) → IsFirst p offset result → IfErr result (IsShownInRequests requests turns)
 first_shown requests turns p offset (Ok done) first = tt
 first_shown requests turns p offset (Err fault) first = subst (λ (x : CheckFault). IsShownInRequests requests turns x) (sym first.1) tt
 
+pub asks_nothing_yet : (reader : PacketReader) (at : Option (List ℕ)) → Reads reader 0 [] [] [] → AsksSoFar reader at at
+asks_nothing_yet reader at reads = record { read = []; rest = []; consumed = Consumes-nil at; reads = reads; none = none_begins_nothing }
+
 -- nothing was read of the requests
-pub unread_yet : (ended : Bool) (at : Option (List ℕ)) → Judges ended at at unread
-unread_yet ended at = record { read = []; consumed = Consumes-nil at; judged = refl }
+pub unread_yet : (ended failed : Bool) (at : Option (List ℕ)) → Judges ended failed at at unread
+unread_yet ended failed at = record { read = []; consumed = Consumes-nil at; judged = refl }
 
 -- what is wrong with the first packet is no fault of a stream
 pub first_fails : (p : Packet) (offset : ℕ) (failed : Bool) (result : Result (Unit {0}) CheckFault) → IsFirst p offset result → failed ≡ false → FailsInCheck result failed false

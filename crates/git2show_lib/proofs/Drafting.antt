@@ -196,19 +196,22 @@ refused_count old count never said h may =
 pub said_reference : (old new : Lists) (ref : Ref) (result : Result (Unit {0}) LineFault) → IsFit old.format (reference ref) → AddsReference old (entry_of ref) new result → AddsSaid old (reference ref) new result
 said_reference old new ref (Ok u) fit h = adds_reference old new ref fit h.0 h.1
 said_reference old new ref (Err Refused) fit h = refused_reference old ref h
-said_reference old new ref (Err OutOfMemory) fit h = tt
+said_reference old new ref (Err OutOfMemory) fit h =
+    (tt, λ said holds. ((adds_reference old (with_ref old (entry_of ref)) ref fit refl h).holds said holds).may_stand)
 
 pub said_object : (old new : Lists) (id : ObjectName) (size : ℕ) (result : Result (Unit {0}) LineFault) → IsFit old.format (object id size) → AddsObject old (id, size) new result → AddsSaid old (object id size) new result
 said_object old new id size (Ok u) fit h = adds_object old new id size fit h.0 h.1
 said_object old new id size (Err Refused) fit h = refused_object old id size h
-said_object old new id size (Err OutOfMemory) fit h = tt
+said_object old new id size (Err OutOfMemory) fit h =
+    (tt, λ said holds. ((adds_object old (with_object old (id, size)) id size fit refl h).holds said holds).may_stand)
 
 pub said_count : (old new : Lists) (count : ℕ) (result : Result (Unit {0}) LineFault) → AddsCount old count new result → AddsSaid old (ready count) new result
 said_count old new count (Ok u) h = adds_count old new count h.0 h.1
-said_count old new count (Err Refused) h = refused_count old count h
-said_count old new count (Err OutOfMemory) h = tt
+said_count old new count (Err Refused) h = refused_count old count h.1
+said_count old new count (Err OutOfMemory) h = let e = h.0 in absurd (cc)
 
 pub said_boundary : (old new : Lists) (line : Boundary) (result : Result (Unit {0}) LineFault) → IsFit old.format (boundary line) → AddsBoundary old line new result → AddsSaid old (boundary line) new result
 said_boundary old new line (Ok u) fit h = adds_boundary old new line fit h
 said_boundary old new line (Err Refused) fit h = absurd (cc)
-said_boundary old new line (Err OutOfMemory) fit h = tt
+said_boundary old new line (Err OutOfMemory) fit h =
+    (tt, λ said holds. ((adds_boundary old (with_boundary old line) line fit refl).holds said holds).may_stand)

@@ -10,9 +10,9 @@ use Rattle.git_server.specs.Lists.{Lists, IsRepository}
 use Rattle.git_server.specs.Repository.{IsRising}
 use Rattle.git_server.specs.Objects.{AreRising}
 use Rattle.git2show_lib.specs.RepositoryLines.{Said, Says, SaysNothing, ended_lines, format_line, lines_left, lines_of, without_last_end}
-use Rattle.git2show_lib.specs.RepositoryText.{Begins, IsFirstBad, IsRepositoryText, MayStand, SayAll, lists_said}
+use Rattle.git2show_lib.specs.RepositoryText.{Begins, IsFirstBad, IsRepositoryText, MayStand, SayAll, lists_said, WantsMemory}
 use Rattle.git2show_lib.specs.Drafts.{Adds, Holds, IsLineFault, empty_lists, with_pack}
-use Rattle.git2show_lib.specs.declared.drafts.LineFault.TheVariants.{Refused}
+use Rattle.git2show_lib.specs.declared.drafts.LineFault.TheVariants.{Refused, OutOfMemory}
 use Rattle.git2show_lib.proofs.Saying.{one_said}
 
 -- some lines were read, and this is left
@@ -92,6 +92,23 @@ says_nothing_at text format lists line left this next h lines nothing = refused_
 pub may_not_stand_at : (text : List ℕ) (format : Format) (lists : Lists) (line : ℕ) (left this : List ℕ) (next : Option (List ℕ)) (says : Said) → Reading text format lists line (Some left) → ended_lines left ≡ this ∷ lines_left next → Says format this says → IsLineFault lists says Refused → IsFirstBad text (line + 1)
 may_not_stand_at text format lists line left this next says h lines is fault = refused_at text format lists line left this next h lines
     (λ more also may. fault h.said h.holds (subst (λ (s : Said). MayStand (h.said ++ s ∷ [])) (one_said format this more says also is) may))
+
+pub memory_ran_out_at : (text : List ℕ) (format : Format) (lists : Lists) (line : ℕ) (left this : List ℕ) (next : Option (List ℕ)) (says : Said)
+    → Reading text format lists line (Some left) → ended_lines left ≡ this ∷ lines_left next → Says format this says → IsLineFault lists says OutOfMemory
+    → WantsMemory (lines_of text)
+memory_ran_out_at text format lists line left this next says h lines is fault = record {
+  format = format;
+  before = h.before;
+  line = this;
+  after = lines_left next;
+  whole = h.whole ∙ ap (λ (ls : List (List ℕ)). h.before ++ ls) lines;
+  said = h.said;
+  begins = h.begins;
+  next = says;
+  says = is;
+  may_stand = fault.1 h.said h.holds;
+  takes_memory = fault.0;
+}
 
 pub no_format_at : (text first : List ℕ) (rest : Option (List ℕ)) → ended_lines (without_last_end text) ≡ first ∷ lines_left rest → ((format : Format) → first ≡ format_line format → ⊥) → IsFirstBad text 1
 no_format_at text first rest lines none = inl (record { at_first = refl; first = first; others = lines_left rest; whole = lines; no_format = none })

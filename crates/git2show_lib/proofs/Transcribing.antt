@@ -1,5 +1,5 @@
 -- Events written one after another, and what that comes to.
-use Rattle.std.proofs.Common.{◌≡◌, ℕ, ◌+◌, ◌-◌, ◌<◌, ◌≤◌, Bool, true, List, [], ◌∷◌, ◌++◌, length, take, drop, Option, Some, None, Ok, Err, Result, IfOk, IfErr, IsErrAnd, inl, inr, arith, ap, sym, ◌∙◌, refl, subst, append_assoc, append-nil, length-drop, take-append-drop}
+use Rattle.std.proofs.Common.{◌≡◌, ℕ, ◌+◌, ◌-◌, ◌<◌, ◌≤◌, Bool, true, List, [], ◌∷◌, ◌++◌, length, take, drop, Option, Some, None, Ok, Err, Result, IfOk, IfErr, IsErrAnd, inl, inr, arith, ap, sym, ◌∙◌, refl, subst, append_assoc, append-nil, length-drop, take-append-drop, false}
 use Rattle.std.proofs.lemmas.Grind.{flat_map-append, common_steps}
 use Rattle.std.proofs.lemmas.List.{drop-take}
 use Rattle.std.proofs.lemmas.Result.{err_from_is_err_and}
@@ -33,7 +33,7 @@ use Rattle.git_client.proofs.EventsHeard.{has_events, goes_well, goes_on_asking,
 use Rattle.git2show_lib.specs.declared.checking.CheckFault.{CheckFault}
 use Rattle.git2show_lib.specs.declared.checking.CheckFault.TheVariants.{Requests, Responses, ReadFault, WriteFault, ReadLimit}
 use Rattle.git2show_lib.specs.Showing.{IsTimely}
-use Rattle.git2show_lib.specs.Checking.{Judgement, unread, nothing_asked, judgement_of, IsCutOffAt, IsCutOff, transcript_of, Transcribes, TranscribesFront, TranscribesUpTo, TranscribesInto, TranscribesUntil, Transcribed, TranscribedFront, TranscribedUpTo, TranscribedAll, TranscribedUntil, Checks, EndsAs, EndsCheck, IsShownInRequests}
+use Rattle.git2show_lib.specs.Checking.{Judgement, unread, nothing_asked, judgement_of, IsCutOffAt, IsCutOff, transcript_of, Transcribes, TranscribesFront, TranscribesUpTo, TranscribesInto, TranscribesUntil, Transcribed, TranscribedFront, TranscribedUpTo, TranscribedAll, TranscribedUntil, Checks, EndsAs, EndsCheck, IsShownInRequests, broken, unfinished}
 use Rattle.git2show_lib.proofs.Printing.{left, timely}
 
 transcript-append : (es fs : List EventValue) → transcript_of (es ++ fs) ≡ transcript_of es ++ transcript_of fs
@@ -288,8 +288,9 @@ module _ (format : Format) (ending : Ending) (old new : Client) (begun : Hears f
   flush_failed none (Ok x) unused_of ok err = checks_front none (whole_front (unused_of x) ok)
   flush_failed none (Err fault) unused_of ok err = checks_front none (front_until fault err)
 
-  still_due : judged unread → TranscribedAll old new left_before left_after held_before held → (used : List ℕ) (events : List EventValue) → Hears format ending new used events → IsCutOff format judged used [] events
-  still_due none t used events h = record {
+  still_due : (inside : Judgement) → judged unread → TranscribedAll old new left_before left_after held_before held
+      → (used : List ℕ) (events : List EventValue) → Hears format ending new used events → IsCutOff format judged inside ended used [] events
+  still_due inside none t used events h = record {
     sound = goes_well format ending new used events h t.sound;
     at = inl (is_due format ending new used events h t.due, refl, none);
   }
@@ -299,30 +300,36 @@ module _ (format : Format) (ending : Ending) (old new : Client) (begun : Hears f
   responses_stopped none (Requests f) t = absurd t
   responses_stopped none (Responses f) t =
       checks (Err (Responses f)) t.unused t.writes (λ used events h. inl (record { first = first_fault format ending new used events f h t.told; timely = t.timely }, none))
-  responses_stopped none ReadFault t = checks (Err ReadFault) [] t.writes (still_due none t)
+  responses_stopped none ReadFault t = checks (Err ReadFault) [] t.writes (still_due broken none t)
   responses_stopped none WriteFault t = checks_front none t
-  responses_stopped none ReadLimit t = checks (Err ReadLimit) [] t.writes (still_due none t)
+  responses_stopped none ReadLimit t = checks (Err ReadLimit) [] t.writes (still_due unfinished none t)
 
   module _ (ready : can_ask new ≡ true) (unused : List ℕ) (t : Transcribed old new unused left_before left_after held_before held) where
-    behind_it : ((used : List ℕ) (events : List EventValue) → IsAdvertisement format used events → IsCutOffAt format judged used unused events) → (used : List ℕ) (events : List EventValue) → Hears format ending new used events → IsCutOff format judged used unused events
-    behind_it at used events h =
+    after_it : (inside : Judgement)
+        → ((used : List ℕ) (events : List EventValue) → IsAdvertisement format used events → IsCutOffAt format judged inside ended used unused events)
+        → (used : List ℕ) (events : List EventValue) → Hears format ending new used events → IsCutOff format judged inside ended used unused events
+    after_it inside at used events h =
         record { sound = goes_on_asking format ending new used events h ready; at = at used events (is_whole format ending new used events h ready) }
 
     -- a fault ended the requests
-    pub requests_stopped : {Q : Type 0} (requests : Told Q) (turns : ℕ) (fault : CheckFault) → IsShownInRequests requests turns fault → judged (judgement_of (Err fault))
+    pub requests_stopped : {Q : Type 0} (requests : Told Q) (turns : ℕ) (fault : CheckFault) → ended ≡ false → IsShownInRequests requests turns fault
+        → judged (judgement_of (Err fault))
         → EndsCheck (Checks format (Err fault) judged ended) left_before left_after held_before held_after (Err fault)
-    requests_stopped requests turns (Requests f) shown so = checks (Err (Requests f)) unused t (λ used events h. (is_whole format ending new used events h ready, so))
-    requests_stopped requests turns (Responses f) shown so = absurd shown
-    requests_stopped requests turns ReadFault shown so = checks (Err ReadFault) unused t (behind_it (λ used events whole. inr (inl (whole, so))))
-    requests_stopped requests turns WriteFault shown so = absurd shown
-    requests_stopped requests turns ReadLimit shown so = checks (Err ReadLimit) unused t (behind_it (λ used events whole. inr (inl (whole, so))))
+    requests_stopped requests turns (Requests f) going shown so = checks (Err (Requests f)) unused t
+        (λ used events h. (is_whole format ending new used events h ready, so, going))
+    requests_stopped requests turns (Responses f) going shown so = absurd shown
+    requests_stopped requests turns ReadFault going shown so = checks (Err ReadFault) unused t
+        (after_it broken (λ used events whole. inr (inl (whole, so, going))))
+    requests_stopped requests turns WriteFault going shown so = absurd shown
+    requests_stopped requests turns ReadLimit going shown so = checks (Err ReadLimit) unused t
+        (after_it unfinished (λ used events whole. inr (inl (whole, so, going))))
 
     module _ (so : judged nothing_asked) where
       pub limit_met : unused ≡ [] → Exchanges (Checks format (Err ReadLimit) judged ended) left_before left_after held_before held_after
-      limit_met nothing = checks (Err ReadLimit) unused t (behind_it (λ used events whole. inr (inr (whole, nothing, so))))
+      limit_met nothing = checks (Err ReadLimit) unused t (after_it unfinished (λ used events whole. inr (inr (whole, nothing, so))))
 
       pub read_failed : unused ≡ [] → Exchanges (Checks format (Err ReadFault) judged ended) left_before left_after held_before held_after
-      read_failed nothing = checks (Err ReadFault) unused t (behind_it (λ used events whole. inr (inr (whole, nothing, so))))
+      read_failed nothing = checks (Err ReadFault) unused t (after_it broken (λ used events whole. inr (inr (whole, nothing, so))))
 
       pub all_was_used : unused ≡ [] → ended ≡ true → Exchanges (Checks format (Ok tt) judged ended) left_before left_after held_before held_after
       all_was_used nothing at_end = checks (Ok tt) unused t (λ used events h. (is_whole format ending new used events h ready, nothing, at_end, so))

@@ -7,6 +7,7 @@ use Rattle.git_pkt.specs.declared.told.Told.{Told}
 use Rattle.git_pkt.specs.Told.{reads_of, has_failed, has_ended, AppendsFront}
 use Rattle.git_pkt.specs.Engine.{Relation, Exchanges, ExchangesFront}
 use Rattle.git_pkt.specs.Packets.{Pkt, flush, Spells, seen}
+use Rattle.git_pkt.specs.Splits.{NoneBegins}
 use Rattle.git_pkt.specs.Faults.{IsOpen, StopsBy}
 use Rattle.git_pkt.specs.Reading.{Reads, ShownByFeed}
 use Rattle.git_pkt.specs.declared.packet.Packet.{Packet}
@@ -80,33 +81,38 @@ pub record IsLeftOver (format : Format) (used unused : List ℕ) (events : List 
   pub fault : f ≡ record { kind = UnexpectedPacket; offset = length used }
   pub more : 0 < length unused
 
--- how far the requests were judged: not begun; read, and no packet is whole; read, and nothing is asked; or refused
+-- how far the requests were judged: not begun; read, and no packet is whole where the reads were spent, or where their
+-- reader failed; read, and nothing is asked; or refused
 pub data Judgement : Type 0 where
   unread : Judgement
   unfinished : Judgement
+  broken : Judgement
   nothing_asked : Judgement
   refused : Fault → Judgement
 
--- where a check is cut off with nothing wrong so far: in the advertisement, in the requests behind it, or at the end of both
-abbrev pub IsCutOffAt : Format → (Judgement → Type 0) → List ℕ → List ℕ → List EventValue → Type 0
-IsCutOffAt format judged used unused events =
-    ((turns_of events ≡ 0) × (unused ≡ []) × judged unread) ⊎ ((IsAdvertisement format used events × judged unfinished) ⊎ (IsAdvertisement format used events × (unused ≡ []) × judged nothing_asked))
+-- where a check is cut off with nothing wrong so far: in the advertisement; in the requests after it, while the responses
+-- are not read on; or at the end of both
+abbrev pub IsCutOffAt : Format → (Judgement → Type 0) → Judgement → Bool → List ℕ → List ℕ → List EventValue → Type 0
+IsCutOffAt format judged inside ended used unused events =
+    ((turns_of events ≡ 0) × (unused ≡ []) × judged unread)
+    ⊎ ((IsAdvertisement format used events × judged inside × (ended ≡ false)) ⊎ (IsAdvertisement format used events × (unused ≡ []) × judged nothing_asked))
 
 -- nothing is wrong with the responses so far, and one more read was due
-pub record IsCutOff (format : Format) (judged : Judgement → Type 0) (used unused : List ℕ) (events : List EventValue) : Type 0 where
+pub record IsCutOff (format : Format) (judged : Judgement
+    → Type 0) (inside : Judgement) (ended : Bool) (used unused : List ℕ) (events : List EventValue) : Type 0 where
   pub sound : GoesWell format used events
-  pub at : IsCutOffAt format judged used unused events
+  pub at : IsCutOffAt format judged inside ended used unused events
 
 -- what the bytes used of the responses, those that were read and not used, and how the requests were judged by then have to
 -- do with how the check ended: the requests are judged behind the advertisement, and before anything left over is
 abbrev pub EndsAs : Format → Result (Unit {0}) CheckFault → (Judgement → Type 0) → Bool → List ℕ → List ℕ → List EventValue → Type 0
 EndsAs format (Ok done) judged ended used unused events = IsAdvertisement format used events × (unused ≡ []) × (ended ≡ true) × judged nothing_asked
-EndsAs format (Err (Requests f)) judged ended used unused events = IsAdvertisement format used events × judged (refused f)
+EndsAs format (Err (Requests f)) judged ended used unused events = IsAdvertisement format used events × judged (refused f) × (ended ≡ false)
 EndsAs format (Err (Responses f)) judged ended used unused events =
     (IsMalformed format ended used unused f × judged unread) ⊎ (IsLeftOver format used unused events f × judged nothing_asked)
-EndsAs format (Err ReadFault) judged ended used unused events = IsCutOff format judged used unused events
+EndsAs format (Err ReadFault) judged ended used unused events = IsCutOff format judged broken ended used unused events
 EndsAs format (Err WriteFault) judged ended used unused events = judged unread
-EndsAs format (Err ReadLimit) judged ended used unused events = IsCutOff format judged used unused events
+EndsAs format (Err ReadLimit) judged ended used unused events = IsCutOff format judged unfinished ended used unused events
 
 -- the bytes given are the transcript of what was used of the responses
 pub record Checks (format : Format) (result : Result (Unit {0}) CheckFault) (judged : Judgement → Type 0) (ended : Bool) (read given : List ℕ) : Type 0 where
@@ -216,28 +222,30 @@ pub record IsNoPacket (ended : Bool) (read : List ℕ) (f : Fault) : Type 0 wher
   pub used : List ℕ
   pub unused : List ℕ
   pub cut : read ≡ used ++ unused
+  pub none : NoneBegins used
   pub by : StopsBy 0 used (length used) f.kind f.offset
   pub timely : IsTimely f.kind ended unused
 
 -- what the bytes read of the requests have to do with how they were judged
-abbrev pub IsJudged : Judgement → Bool → List ℕ → Type 0
-IsJudged unread ended read = read ≡ []
-IsJudged unfinished ended read = IsOpen read
-IsJudged nothing_asked ended read = AsksNothing ended read
-IsJudged (refused f) ended read = IsOtherPacket read f ⊎ IsNoPacket ended read f
+abbrev pub IsJudged : Judgement → Bool → Bool → List ℕ → Type 0
+IsJudged unread ended failed read = read ≡ []
+IsJudged unfinished ended failed read = NoneBegins read × IsOpen read × (ended ≡ false)
+IsJudged broken ended failed read = NoneBegins read × IsOpen read × (ended ≡ false) × (failed ≡ true)
+IsJudged nothing_asked ended failed read = AsksNothing ended read
+IsJudged (refused f) ended failed read = IsOtherPacket read f ⊎ IsNoPacket ended read f
 
 -- what was read of the requests was judged so
-pub record Judges (ended : Bool) (left_before left_after : Option (List ℕ)) (judgement : Judgement) : Type 0 where
+pub record Judges (ended failed : Bool) (left_before left_after : Option (List ℕ)) (judgement : Judgement) : Type 0 where
   pub read : List ℕ
   pub consumed : Consumes left_before left_after read
-  pub judged : IsJudged judgement ended read
+  pub judged : IsJudged judgement ended failed read
 
 -- how the requests were judged where reading them ended so
 abbrev pub judgement_of : Result (Unit {0}) CheckFault → Judgement
 judgement_of (Ok done) = nothing_asked
 judgement_of (Err (Requests f)) = refused f
 judgement_of (Err (Responses f)) = unread
-judgement_of (Err ReadFault) = unfinished
+judgement_of (Err ReadFault) = broken
 judgement_of (Err WriteFault) = unread
 judgement_of (Err ReadLimit) = unfinished
 
@@ -247,6 +255,7 @@ pub record AsksSoFar (reader : PacketReader) (left_before left_after : Option (L
   pub rest : List ℕ
   pub consumed : Consumes left_before left_after read
   pub reads : Reads reader 0 read [] rest
+  pub none : NoneBegins read
 
 -- the first packet of the requests is a flush, or refused at this offset
 abbrev pub IsFirst : Packet → ℕ → Result (Unit {0}) CheckFault → Type 0

@@ -7,7 +7,7 @@ use Rattle.git_server.specs.Repository.{Entry, IsNamed, IsOfFormat, comes_before
 use Rattle.git_server.specs.Objects.{object_of, precedes}
 use Rattle.git_server.specs.Lists.{Lists, AreOfFormat}
 use Rattle.git2show_lib.specs.RepositoryLines.{Said, reference, object, ready, boundary}
-use Rattle.git2show_lib.specs.RepositoryText.{MayStand, entry_of, lists_said}
+use Rattle.git2show_lib.specs.RepositoryText.{MayStand, TakesMemory, entry_of, lists_said}
 use Rattle.git2show_lib.specs.declared.drafts.Draft.{Draft}
 use Rattle.git2show_lib.specs.declared.drafts.LineFault.{LineFault}
 use Rattle.git2show_lib.specs.declared.drafts.LineFault.TheVariants.{Refused, OutOfMemory}
@@ -83,10 +83,10 @@ with_boundary lists line = record {
   pack = lists.pack;
 }
 
--- why a line is not kept: it may not stand there, or there was no memory
+-- why a line is not kept: it may not stand there, or it may and there was no memory
 abbrev pub IsFaultOf : Type 0 → LineFault → Type 0
 IsFaultOf P Refused = ¬ P
-IsFaultOf P OutOfMemory = Unit {0}
+IsFaultOf P OutOfMemory = P
 
 abbrev pub AddsReference : Lists → Entry → Lists → Result (Unit {0}) LineFault → Type 0
 AddsReference old entry new result = MatchResult result (λ _. (new ≡ with_ref old entry) × ComesLast old.refs entry.name) (IsFaultOf (ComesLast old.refs entry.name))
@@ -95,7 +95,8 @@ abbrev pub AddsObject : Lists → ObjectName × ℕ → Lists → Result (Unit {
 AddsObject old sized new result = MatchResult result (λ _. (new ≡ with_object old sized) × ComesLastObject old.objects sized.0) (IsFaultOf (ComesLastObject old.objects sized.0))
 
 abbrev pub AddsCount : Lists → ℕ → Lists → Result (Unit {0}) LineFault → Type 0
-AddsCount old count new result = MatchResult result (λ _. (new ≡ with_count old count) × (old.ready_after ≡ None)) (IsFaultOf (old.ready_after ≡ None))
+AddsCount old count new result = MatchResult result (λ _. (new ≡ with_count old count) × (old.ready_after ≡ None))
+    (λ fault. (fault ≡ Refused) × ¬ (old.ready_after ≡ None))
 
 abbrev pub AddsBoundary : Lists → Boundary → Lists → Result (Unit {0}) LineFault → Type 0
 AddsBoundary old line new result = MatchResult result (λ _. new ≡ with_boundary old line) (λ fault. fault ≡ OutOfMemory)
@@ -120,7 +121,7 @@ pub record Adds (old : Lists) (next : Said) (new : Lists) : Type 0 where
 
 abbrev pub IsLineFault : Lists → Said → LineFault → Type 0
 IsLineFault old next Refused = (said : List Said) → Holds said old → ¬ MayStand (said ++ next ∷ [])
-IsLineFault old next OutOfMemory = Unit {0}
+IsLineFault old next OutOfMemory = TakesMemory next × ((said : List Said) → Holds said old → MayStand (said ++ next ∷ []))
 
 abbrev pub AddsSaid : Lists → Said → Lists → Result (Unit {0}) LineFault → Type 0
 AddsSaid old next new result = MatchResult result (λ _. Adds old next new) (IsLineFault old next)

@@ -2,7 +2,8 @@
 use Rattle.std.specs.Prelude.{ℕ, List}
 use Rattle.git_server.specs.declared.list_repo.ListRepo.{ListRepo}
 use Rattle.git_server.specs.ListRepo.{lists_of}
-use Rattle.git2show_lib.specs.RepositoryText.{IsRepositoryText, IsFirstBad}
+use Rattle.git2show_lib.specs.RepositoryLines.{lines_of}
+use Rattle.git2show_lib.specs.RepositoryText.{IsRepositoryText, IsFirstBad, WantsMemory}
 use Rattle.git2show_lib.specs.declared.repository_text.TextFault.{TextFault}
 use Rattle.git2show_lib.specs.declared.repository_text.TextFault.TheVariants.{Bad, OutOfMemory}
 
@@ -12,4 +13,4 @@ IsWholeText text pack repo = IsRepositoryText text pack (lists_of repo)
 
 abbrev pub IsTextFault : List ℕ → TextFault → Type 0
 IsTextFault text (Bad line) = IsFirstBad text line
-IsTextFault text OutOfMemory = Unit {0}
+IsTextFault text OutOfMemory = WantsMemory (lines_of text)

@@ -108,3 +108,24 @@ pub record HasBadLine (lines : List (List ℕ)) (number : ℕ) : Type 0 where
 -- the first bad line is the one of this number, from 1
 abbrev pub IsFirstBad : List ℕ → ℕ → Type 0
 IsFirstBad text number = HasNoFormat (lines_of text) number ⊎ HasBadLine (lines_of text) number
+
+-- what a line says is kept in memory
+abbrev pub TakesMemory : Said → Type 0
+TakesMemory (reference ref) = Unit {0}
+TakesMemory (object id size) = Unit {0}
+TakesMemory (ready count) = ⊥
+TakesMemory (boundary line) = Unit {0}
+
+-- memory ran out at a line: with it the lines before it begin a text, and what it says takes memory
+pub record WantsMemory (lines : List (List ℕ)) : Type 0 where
+  pub format : Format
+  pub before : List (List ℕ)
+  pub line : List ℕ
+  pub after : List (List ℕ)
+  pub whole : lines ≡ before ++ line ∷ after
+  pub said : List Said
+  pub begins : Begins format before said
+  pub next : Said
+  pub says : Says format line next
+  pub may_stand : MayStand (said ++ next ∷ [])
+  pub takes_memory : TakesMemory next

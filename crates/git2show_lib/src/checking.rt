@@ -63,7 +63,7 @@ pub fn check<Q: Read, A: Read, W: Write>(
     ensures ok { OnOk result (IsTrue (has_ended responses.new)) }
     ensures fault { IfErr result (IsShownInCheck requests.new responses.new (has_failed out.new) turns) }
     ensures told { FailsInCheck result (has_failed requests.new || has_failed responses.new) (has_failed out.new) }
-    ensures checked { EndsCheck (Checks format result (Judges (has_ended requests.new) (Q.remaining (inner_of requests.old)) (Q.remaining (inner_of requests.new)))
+    ensures checked { EndsCheck (Checks format result (Judges (has_ended requests.new) (has_failed requests.new) (Q.remaining (inner_of requests.old)) (Q.remaining (inner_of requests.new)))
         (has_ended responses.new)) (A.remaining (inner_of responses.old)) (A.remaining (inner_of responses.new))
         (W.contents (inner_of out.old)) (W.contents (inner_of out.new)) result }
 {
@@ -184,7 +184,7 @@ fn read_requests<Q: Read>(
     ensures reads { reads_of requests.new ≤ turns }
     ensures ok { OnOk result (has_failed requests.new ≡ false) }
     ensures fault { IfErr result (IsShownInRequests requests.new turns) }
-    ensures asked { Judges (has_ended requests.new) (Q.remaining (inner_of requests.old)) (Q.remaining (inner_of requests.new)) (judgement_of result) }
+    ensures asked { Judges (has_ended requests.new) (has_failed requests.new) (Q.remaining (inner_of requests.old)) (Q.remaining (inner_of requests.new)) (judgement_of result) }
 {
     let mut packets = PacketReader::new();
     for _ in 0..turns {

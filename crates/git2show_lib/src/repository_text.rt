@@ -18,7 +18,7 @@ pub enum TextFault {
         /// Which line, counted from 1.
         line: u64,
     },
-    /// Memory ran out.
+    /// Memory ran out at a line that takes some. With the lines before it that line begins a text.
     #[error("OutOfMemory")]
     OutOfMemory,
 }
@@ -29,7 +29,7 @@ pub enum TextFault {
 /// reference line of ls-refs, gitprotocol-v2(5); `object`, an object name and a size in bytes; `ready` and the number of
 /// common objects, once at the most; `shallow` or `unshallow` and an object name. Lines are parted by LF, which the last
 /// may lack. References rise strictly by their names, and objects by theirs. The first line that is none of these, or
-/// may not stand behind those before it, is `Bad`.
+/// may not stand after those before it, is `Bad`.
 pub fn read_repo(alloc: Global, text: &[u8], pack: Vec<u8>) -> Result<ListRepo, TextFault>
     ensures { MatchResult result (IsWholeText text.now pack.items) (IsTextFault text.now) }
 {

@@ -1,9 +1,9 @@
 //! Packets shown as lines.
 
-ghost use Rattle.std.specs.Prelude.{◌≡◌, ◌<◌, ◌≤◌, [], ◌||◌, Bool, None, Err, false, length, IsTrue, OnOk, OnErr, IfErr, IfOk, is_err};
+ghost use Rattle.std.specs.Prelude.{◌≡◌, ◌<◌, ◌≤◌, [], ◌||◌, ⊤, Bool, None, Err, false, length, IsTrue, OnOk, OnErr, IfErr, IfOk, is_err};
 ghost use Rattle.std.specs.Io.KnownBytes.{IsAtEnd};
 ghost use Rattle.git_pkt.specs.Told.{inner_of, reads_of, has_failed, has_ended, IsNew};
-ghost use Rattle.git_pkt.specs.Engine.{EndsExchange, FailsAs, Gives, GivesUntil, IsShownBy, IsSpent};
+ghost use Rattle.git_pkt.specs.Engine.{EndsExchange, FailsAs, Gives, GivesUntil, HasRead, IsShownBy, IsSpent};
 ghost use Rattle.git_pkt.specs.Reading.{fault_of};
 ghost use Rattle.git2show_lib.specs.Showing.{Shows, ShowsSoFar, PrintsPiece, PrintsInto};
 
@@ -32,6 +32,7 @@ pub fn show<R: Read, W: Write>(
     ensures end { OnOk result (IsAtEnd (R.remaining (inner_of reader.new))) }
     ensures fault { IfErr result (IsShownBy (IsTrue (has_failed reader.new)) (IsTrue (has_failed writer.new)) (IsSpent reader.new turns)) }
     ensures told { FailsAs result (has_failed reader.new) (has_failed writer.new) }
+    ensures brought { IfErr result (IsShownBy ⊤ ⊤ (HasRead turns (R.remaining (inner_of reader.old)) (R.remaining (inner_of reader.new)))) }
     ensures shown { EndsExchange (Shows result (has_ended reader.new)) (R.remaining (inner_of reader.old)) (R.remaining (inner_of reader.new))
         (W.contents (inner_of writer.old)) (W.contents (inner_of writer.new)) result }
 {

@@ -102,6 +102,12 @@ hears_refused old new u g f wants failed reads sound shut spells at same_format 
       stands = subst (λ (phase : Phase). StandsIn phase format h.clean (h.given ++ g ∷ []) on.0 (length (bytes ++ u)) (reader_of new)) (sym failed) (inl packet);
     }
 
+due_in : (phase : Phase) (before : List Pkt) → takes_packets phase ≡ true → Behind phase before → flushes before ≡ 0
+due_in Opening before e h = ap flushes h
+due_in Advertisement before e h = h.1
+due_in Ready before e h = absurd (cc)
+due_in (Failed fault) before e h = absurd (cc)
+
 -- bytes that the reader refuses
 pub hears_failed : (old new : Client) (u : List ℕ) (f : Fault) → wants_input old ≡ true → phase_of new ≡ Failed f → ReadsOn (reader_of old) u [] (reader_of new) → reader_fault_of (reader_of new) ≡ Some f → format_of new ≡ format_of old → ending_of new ≡ ending_of old → caps_of new ≡ caps_of old → HearsOn old u [] new
 hears_failed old new u f wants failed reads told same_format same_ending same_caps format ending bytes events h =
@@ -112,6 +118,7 @@ hears_failed old new u f wants failed reads told same_format same_ending same_ca
     subst (λ (o : Option Fault). StandsAt o (0 + length (bytes ++ u) - length on.0) (0 + length (bytes ++ u)) on.0 (reader_of new)) told on.1.state in
     let refused : RefusedBytes h.clean (h.given ++ []) on.0 (length (bytes ++ u)) f = record {
       cut = append-nil h.given ∙ goes.cut;
+      due = due_in (phase_of old) (nearest h.clean []) wants goes.behind;
       by = subst (λ (n : ℕ). StopsBy (n - length on.0) on.0 n f.kind f.offset) start stops.1;
     } in
     record {

@@ -40,6 +40,7 @@ module _ (format : Format) (bytes : List ℕ) (clean given : List Given) (rest :
     events = events;
     splits = splits;
     sound = subst (λ (gs : List Given). GiveAll format [] gs events) (sym p.cut) gives;
+    due = subst (λ (gs : List Given). flushes (nearest gs []) ≡ 0) (sym p.cut) p.due;
     by = p.by;
   }))
 

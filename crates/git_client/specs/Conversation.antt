@@ -79,6 +79,7 @@ pub record MalformedRest (format : Format) (bytes : List ℕ) (fault : Fault) : 
   pub events : List EventValue
   pub splits : Splits 0 bytes given rest
   pub sound : GiveAll format [] given events
+  pub due : flushes (nearest given []) ≡ 0
   pub by : StopsBy (length bytes - length rest) rest (length bytes) fault.kind fault.offset
 
 -- nothing has a fault, and the input ended before the advertisement did: told at the end of the last whole packet

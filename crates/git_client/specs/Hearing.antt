@@ -89,6 +89,7 @@ pub record RefusedPacket (format : Format) (clean given : List Given) (rest : Li
 -- the bytes behind the packets, of which none is refused, are no packet and can't become one, or ended in one
 pub record RefusedBytes (clean given : List Given) (rest : List ℕ) (end : ℕ) (fault : Fault) : Type 0 where
   pub cut : given ≡ clean
+  pub due : flushes (nearest clean []) ≡ 0
   pub by : StopsBy (end - length rest) rest end fault.kind fault.offset
 
 -- the input ended behind a whole packet, where more was due

@@ -84,6 +84,30 @@ first_faults offer limit before (f ∷ fs) bad back [] others worse rest its kin
 first_faults offer limit before front bad back lines [] worse rest (m ∷ ms) kind other are h those k whole = absurd those
 first_faults offer limit before front bad back lines (x ∷ xs) worse rest [] kind other are h those k whole = absurd those
 
+lines_or_fault : (offer : Offer) (limit : ℕ) (before : List Line) (gs : List Given) (lines : List Line) (others : List Given) (bad : Given)
+    (back : List Given) (its : List Line) (kind : Kind)
+    → AreLines offer limit before gs lines → gs ≡ others ++ bad ∷ back → AreLines offer limit before others its
+    → HasFault offer limit (before ++ its) bad.packet kind → ⊥
+lines_or_fault offer limit before [] lines others bad back its kind are whole those fault = not_empty others bad back whole
+lines_or_fault offer limit before (g ∷ gs) [] others bad back its kind are whole those fault = are
+lines_or_fault offer limit before (g ∷ gs) (l ∷ ls) [] bad back [] kind are whole those fault =
+    let e = heads_same g bad gs back whole in
+    line_or_fault offer limit before g.packet l kind are.0
+    (fault_of_same offer limit before g bad kind e.0 (at_start offer limit before bad.packet kind fault))
+lines_or_fault offer limit before (g ∷ gs) (l ∷ ls) (x ∷ xs) bad back (m ∷ ms) kind are whole those fault =
+    let e = heads_same g x gs (xs ++ bad ∷ back) whole in
+    lines_or_fault offer limit (before ++ l ∷ []) gs ls xs bad back ms kind are.1 e.1
+    (same_line offer limit before g x xs l m ms e.0 are.0 those.0 those.1) (same_fault offer limit before g x l m ms bad.packet kind e.0 are.0 those.0 fault)
+lines_or_fault offer limit before (g ∷ gs) (l ∷ ls) [] bad back (m ∷ ms) kind are whole those fault = those
+lines_or_fault offer limit before (g ∷ gs) (l ∷ ls) (x ∷ xs) bad back [] kind are whole those fault = those
+
+-- lines have no fault
+pub no_fault_in_lines : (offer : Offer) (limit : ℕ) (packets : List Given) (lines : List Line) (kind : Kind) (offset : ℕ)
+    → AreLines offer limit [] packets lines
+    → FirstFault offer limit packets kind offset → ⊥
+no_fault_in_lines offer limit packets lines kind offset are k =
+    lines_or_fault offer limit [] packets lines k.front k.bad k.back k.lines kind are k.whole k.taken k.fault
+
 -- packets have one first fault
 pub one_first_fault : (offer : Offer) (limit : ℕ) (packets : List Given) (kind other : Kind) (offset place : ℕ) → FirstFault offer limit packets kind offset → FirstFault offer limit packets other place → (kind ≡ other) × (offset ≡ place)
 one_first_fault offer limit packets kind other offset place h k =

@@ -14,3 +14,9 @@ pub mod RoundTrip
 pub mod FaultLaws
 pub mod KeptBytes
 pub mod Adding
+pub mod ArgumentsInOrder
+pub mod ReferenceFaults
+pub mod CheckLaws
+pub mod Rows
+pub mod Values
+pub mod PacketFaults

@@ -1,12 +1,12 @@
 -- A packet is one line, or has one fault, and not both.
-use Rattle.std.proofs.Common.{arith, ◌≡◌, ◌≢◌, ℕ, ◌+◌, ◌<◌, ◌≤◌, Bool, true, false, Option, Some, List, [], ◌∷◌, ◌++◌, refl, ap, sym, ◌∙◌, subst, length, drop, slice_index, codes, inl, inr}
+use Rattle.std.proofs.Common.{arith, ◌≡◌, ◌≢◌, ℕ, ◌+◌, ◌<◌, ◌≤◌, Bool, true, false, Option, Some, List, [], ◌∷◌, ◌++◌, refl, ap, sym, ◌∙◌, subst, length}
 use Rattle.git_names.specs.ObjectFormat.{name_of as format_name}
 use Rattle.git_names.specs.declared.object_format.Format.{Format}
 use Rattle.git_names.specs.declared.object_format.Format.TheVariants.{Sha1, Sha256}
 use Rattle.git_pkt.specs.Packets.{Pkt, flush, delim, resp_end, payload, text_of}
 use Rattle.git_pkt.specs.Splits.{Given}
 use Rattle.git_pkt.specs.declared.fault.Kind.{Kind}
-use Rattle.git_pkt.specs.declared.fault.Kind.TheVariants.{BadCapability, UnknownCommand, TwoCommands, NoCommand, NotAdvertised, WrongFormat, TooMuchKept, RemoteError, UnknownArgument, BadLine}
+use Rattle.git_pkt.specs.declared.fault.Kind.TheVariants.{BadCapability, UnknownCommand, TwoCommands, NoCommand, NotAdvertised, WrongFormat, TooMuchKept, RemoteError}
 use Rattle.git_msg.specs.declared.offers.Offer.{Offer}
 use Rattle.git_msg.specs.declared.arguments.Command.{Command}
 use Rattle.git_msg.specs.declared.arguments.Command.TheVariants.{LsRefs}
@@ -14,98 +14,20 @@ use Rattle.git_msg.specs.declared.capability_key.Key.{Key}
 use Rattle.git_msg.specs.declared.capability_key.Key.TheVariants.{CommandKey, AgentKey, ServerOptionKey, ObjectFormatKey, OtherKey}
 use Rattle.git_msg.specs.Texts.{IsErrorText}
 use Rattle.git_msg.specs.Capability.{IsNoCapability}
-use Rattle.git_msg.specs.Arguments.{Arg, symrefs, peel, ref_prefix, IsArgument, IsArgumentFault}
-use Rattle.git_msg.specs.Asked.{Asked, asked_by}
-use Rattle.git_msg.specs.Checks.{Check, check, Refuses, Passes}
+use Rattle.git_msg.specs.Arguments.{Arg, IsArgument}
+use Rattle.git_msg.specs.Asked.{Asked, ls_refs, asked_by}
+use Rattle.git_msg.specs.Checks.{Refuses, Passes}
 use Rattle.git_msg.specs.Lines.{Line, command, agent, server_option, object_format, delimiter, argument, is_none, commands_of, arguments_of, kept_in, has_format, has_delimiter, IsWordOf, HasKey, IsAnyCapability, NamesCommand, key_checks, by_key, capability_checks, IsLineOf, IsCapabilityLine, IsFormatMeant, IsOtherFormatMeant, part_checks, argument_checks, IsArgumentLine, IsArgumentRefused, end_checks, at_end, flush_checks_in, IsLine, IsLineIn, HasFault, HasFaultIn}
 use Rattle.git_msg.specs.Requests.{AreLines, Asks}
+use Rattle.git_msg.proofs.CheckLaws.{IsFair, AllFair, passes_or_refuses, one_name, fair_check}
 use Rattle.git_msg.proofs.Keys.{one_capability}
-
--- texts of different lengths, or that begin otherwise, are not the same
-lengths : (text a b : List ℕ) → text ≡ a → text ≡ b → length a ≡ length b
-lengths text a b h k = ap length (sym h ∙ k)
-
-firsts : (text a b : List ℕ) → text ≡ a → text ≡ b → slice_index a 0 ≡ slice_index b 0
-firsts text a b h k = ap (λ (xs : List ℕ). slice_index xs 0) (sym h ∙ k)
-
-not_lengths : (text a b : List ℕ) → length a ≢ length b → text ≡ a → text ≡ b → ⊥
-not_lengths text a b differ h k = differ (lengths text a b h k)
-
-not_firsts : (text a b : List ℕ) → slice_index a 0 ≢ slice_index b 0 → text ≡ a → text ≡ b → ⊥
-not_firsts text a b differ h k = differ (firsts text a b h k)
-
--- a word is one key
-pub one_key : (text : List ℕ) (a b : Key) → IsWordOf text a → IsWordOf text b → a ≡ b
-one_key text CommandKey CommandKey h k = refl
-one_key text CommandKey AgentKey h k = absurd (not_lengths text (codes "command") (codes "agent") (λ e. omega arith) h k)
-one_key text CommandKey ServerOptionKey h k = absurd (not_lengths text (codes "command") (codes "server-option") (λ e. omega arith) h k)
-one_key text CommandKey ObjectFormatKey h k = absurd (not_lengths text (codes "command") (codes "object-format") (λ e. omega arith) h k)
-one_key text CommandKey OtherKey h k = absurd (k.0 h)
-one_key text AgentKey CommandKey h k = absurd (not_lengths text (codes "agent") (codes "command") (λ e. omega arith) h k)
-one_key text AgentKey AgentKey h k = refl
-one_key text AgentKey ServerOptionKey h k = absurd (not_lengths text (codes "agent") (codes "server-option") (λ e. omega arith) h k)
-one_key text AgentKey ObjectFormatKey h k = absurd (not_lengths text (codes "agent") (codes "object-format") (λ e. omega arith) h k)
-one_key text AgentKey OtherKey h k = absurd (k.1.0 h)
-one_key text ServerOptionKey CommandKey h k = absurd (not_lengths text (codes "server-option") (codes "command") (λ e. omega arith) h k)
-one_key text ServerOptionKey AgentKey h k = absurd (not_lengths text (codes "server-option") (codes "agent") (λ e. omega arith) h k)
-one_key text ServerOptionKey ServerOptionKey h k = refl
-one_key text ServerOptionKey ObjectFormatKey h k = absurd (not_firsts text (codes "server-option") (codes "object-format") (λ e. omega arith) h k)
-one_key text ServerOptionKey OtherKey h k = absurd (k.1.1.0 h)
-one_key text ObjectFormatKey CommandKey h k = absurd (not_lengths text (codes "object-format") (codes "command") (λ e. omega arith) h k)
-one_key text ObjectFormatKey AgentKey h k = absurd (not_lengths text (codes "object-format") (codes "agent") (λ e. omega arith) h k)
-one_key text ObjectFormatKey ServerOptionKey h k = absurd (not_firsts text (codes "object-format") (codes "server-option") (λ e. omega arith) h k)
-one_key text ObjectFormatKey ObjectFormatKey h k = refl
-one_key text ObjectFormatKey OtherKey h k = absurd (k.1.1.1.0 h)
-one_key text OtherKey CommandKey h k = absurd (h.0 k)
-one_key text OtherKey AgentKey h k = absurd (h.1.0 k)
-one_key text OtherKey ServerOptionKey h k = absurd (h.1.1.0 k)
-one_key text OtherKey ObjectFormatKey h k = absurd (h.1.1.1.0 k)
-one_key text OtherKey OtherKey h k = refl
-
--- an argument's text is one argument
-pub one_argument : (c : Command) (format : Format) (text : List ℕ) (a b : Arg) → IsArgument c format text a → IsArgument c format text b → a ≡ b
-one_argument LsRefs format text symrefs symrefs h k = refl
-one_argument LsRefs format text symrefs peel h k = absurd (not_lengths text (codes "symrefs") (codes "peel") (λ e. omega arith) h k)
-one_argument LsRefs format text symrefs (ref_prefix p) h k = absurd (not_firsts text (codes "symrefs") (codes "ref-prefix " ++ p) (λ e. omega arith) h k.0)
-one_argument LsRefs format text peel symrefs h k = absurd (not_lengths text (codes "peel") (codes "symrefs") (λ e. omega arith) h k)
-one_argument LsRefs format text peel peel h k = refl
-one_argument LsRefs format text peel (ref_prefix p) h k = absurd (not_firsts text (codes "peel") (codes "ref-prefix " ++ p) (λ e. omega arith) h k.0)
-one_argument LsRefs format text (ref_prefix p) symrefs h k = absurd (not_firsts text (codes "ref-prefix " ++ p) (codes "symrefs") (λ e. omega arith) h.0 k)
-one_argument LsRefs format text (ref_prefix p) peel h k = absurd (not_firsts text (codes "ref-prefix " ++ p) (codes "peel") (λ e. omega arith) h.0 k)
-one_argument LsRefs format text (ref_prefix p) (ref_prefix q) h k = ap ref_prefix (ap (λ (xs : List ℕ). drop 11 xs) (sym h.0 ∙ k.0))
+use Rattle.git_msg.proofs.Rows.{one_key, one_argument, argument_or_fault, one_argument_fault}
 
 -- the keys of a text
 same_key : (text : List ℕ) (a b : Key) (v w : Option (List ℕ)) → HasKey text a v → HasKey text b w → (a ≡ b) × (v ≡ w)
 same_key text a b v w h k =
     let same = one_capability text h.word k.word v w h.is_capability k.is_capability in
     (one_key k.word a b (subst (λ (x : List ℕ). IsWordOf x a) same.0 h.is_word) k.is_word, same.1)
-
--- in each check, what passes and what refuses exclude each other, and it refuses by one name
-record IsFair (c : Check) : Type 0 where
-  apart : (kind : Kind) → c.passes → c.refuses kind → ⊥
-  single : (kind other : Kind) → c.refuses kind → c.refuses other → kind ≡ other
-
-AllFair : List Check → Type 0
-AllFair [] = Unit {0}
-AllFair (c ∷ cs) = IsFair c × AllFair cs
-
-passes_or_refuses : (cs : List Check) → AllFair cs → (kind : Kind) → Passes cs → Refuses cs kind → ⊥
-unfolding AllFair
-passes_or_refuses [] fair kind p r = r
-passes_or_refuses (c ∷ cs) fair kind p (inl r) = fair.0.apart kind p.0 r
-passes_or_refuses (c ∷ cs) fair kind p (inr r) = passes_or_refuses cs fair.1 kind p.1 r.1
-
-one_name : (cs : List Check) → AllFair cs → (kind other : Kind) → Refuses cs kind → Refuses cs other → kind ≡ other
-unfolding AllFair
-one_name [] fair kind other r s = absurd r
-one_name (c ∷ cs) fair kind other (inl r) (inl s) = fair.0.single kind other r s
-one_name (c ∷ cs) fair kind other (inl r) (inr s) = absurd (fair.0.apart kind s.0 r)
-one_name (c ∷ cs) fair kind other (inr r) (inl s) = absurd (fair.0.apart other r.0 s)
-one_name (c ∷ cs) fair kind other (inr r) (inr s) = one_name cs fair.1 kind other r.1 s.1
-
--- a check with one name
-fair_check : (P Q : Type 0) (name : Kind) → (P → Q → ⊥) → IsFair (check P Q name)
-fair_check P Q name h = record { apart = λ kind p r. h p r.0; single = λ kind other r s. r.1 ∙ sym s.1 }
 
 true_false : (b : Bool) → b ≡ true → b ≡ false → ⊥
 true_false b h k = cc
@@ -145,30 +67,6 @@ unfolding AllFair
 fair_part offer commands said =
     (fair_check (is_none commands ≡ false) (is_none commands ≡ true) NoCommand (λ p q. true_false (is_none commands) q p), (fair_check (IsFormatMeant offer.format said) (IsOtherFormatMeant offer.format said) WrongFormat (λ p q. format_or_other offer.format said p q), tt))
 
--- an argument or its fault
-argument_or_fault : (c : Command) (offer : Offer) (text : List ℕ) (arg : Arg) (kind : Kind) → IsArgument c offer.format text arg → IsArgumentFault c offer text kind → ⊥
-argument_or_fault LsRefs offer text symrefs UnknownArgument h fault = fault.0.0 h
-argument_or_fault LsRefs offer text peel UnknownArgument h fault = fault.0.1.0 h
-argument_or_fault LsRefs offer text (ref_prefix p) UnknownArgument h fault = fault.1.0 p h.0
-argument_or_fault LsRefs offer text symrefs BadLine h fault = absurd (not_firsts text (codes "symrefs") (codes "ref-prefix " ++ fault.value) (λ e. omega arith) h fault.spelled)
-argument_or_fault LsRefs offer text peel BadLine h fault = absurd (not_firsts text (codes "peel") (codes "ref-prefix " ++ fault.value) (λ e. omega arith) h fault.spelled)
-argument_or_fault LsRefs offer text (ref_prefix p) BadLine h fault =
-    let same : p ≡ fault.value = ap (λ (xs : List ℕ). drop 11 xs) (sym h.0 ∙ fault.spelled) in
-    let long : length p ≡ length fault.value = ap length same in
-    let most = h.1 in
-    let over = fault.holds in
-    absurd (omega arith)
-argument_or_fault LsRefs offer text arg kind h fault = fault
-
-one_argument_fault : (c : Command) (offer : Offer) (text : List ℕ) (kind other : Kind) → IsArgumentFault c offer text kind → IsArgumentFault c offer text other → kind ≡ other
-one_argument_fault LsRefs offer text UnknownArgument UnknownArgument h k = refl
-one_argument_fault LsRefs offer text UnknownArgument BadLine h k = absurd (h.1.0 k.value k.spelled)
-one_argument_fault LsRefs offer text BadLine UnknownArgument h k = absurd (k.1.0 h.value h.spelled)
-one_argument_fault LsRefs offer text BadLine BadLine h k = refl
-one_argument_fault LsRefs offer text UnknownArgument other h k = absurd k
-one_argument_fault LsRefs offer text BadLine other h k = absurd k
-one_argument_fault LsRefs offer text kind other h k = absurd h
-
 fair_argument : (offer : Offer) (limit : ℕ) (c : Command) (kept : ℕ) (text : List ℕ) → AllFair (argument_checks offer limit c kept text)
 unfolding AllFair
 fair_argument offer limit c kept text = (
@@ -182,18 +80,22 @@ fair_argument offer limit c kept text = (
 same_command : (cs : List Command) (c d : Command) → cs ≡ c ∷ [] → cs ≡ d ∷ [] → c ≡ d
 same_command cs c d h k = cc
 
-fair_end_checks : (c : Command) (args : List Arg) → AllFair (end_checks c args)
+fair_end_checks : (asked : Asked) → AllFair (end_checks asked)
 unfolding AllFair
-fair_end_checks LsRefs args = tt
+fair_end_checks (ls_refs q) = tt
 
 fair_at_end : (lines : List Line) → IsFair (at_end lines)
 fair_at_end lines = record {
   apart = λ kind p r.
       let same = same_command (commands_of lines) p.0 r.0 p.1 r.1 in
-      passes_or_refuses (end_checks r.0 (arguments_of lines)) (fair_end_checks r.0 (arguments_of lines)) kind (subst (λ (c : Command). Passes (end_checks c (arguments_of lines))) same p.2) r.2;
+      let asked : Asked = asked_by r.0 (arguments_of lines) in
+      passes_or_refuses (end_checks asked) (fair_end_checks asked) kind
+      (subst (λ (c : Command). Passes (end_checks (asked_by c (arguments_of lines)))) same p.2) r.2;
   single = λ kind other r s.
       let same = same_command (commands_of lines) r.0 s.0 r.1 s.1 in
-      one_name (end_checks s.0 (arguments_of lines)) (fair_end_checks s.0 (arguments_of lines)) kind other (subst (λ (c : Command). Refuses (end_checks c (arguments_of lines)) kind) same r.2) s.2;
+      let asked : Asked = asked_by s.0 (arguments_of lines) in
+      one_name (end_checks asked) (fair_end_checks asked) kind other
+      (subst (λ (c : Command). Refuses (end_checks (asked_by c (arguments_of lines))) kind) same r.2) s.2;
 }
 
 fair_flush : (part : Bool) (offer : Offer) (lines : List Line) → AllFair (flush_checks_in part offer lines)

@@ -15,9 +15,9 @@ use Rattle.git_msg.specs.declared.reader.Part.TheVariants.{Capabilities, Argumen
 use Rattle.git_msg.specs.declared.reader.RequestReader.{RequestReader}
 use Rattle.git_msg.specs.declared.reader.Taken.TheVariants.{More, Request as TakenRequest}
 use Rattle.git_msg.specs.Arguments.{Arg}
-use Rattle.git_msg.specs.Asked.{nothing_asked, asked_by}
+use Rattle.git_msg.specs.Asked.{Asked, nothing_asked, asked_by}
 use Rattle.git_msg.specs.Checks.{Refuses, Passes}
-use Rattle.git_msg.specs.Holding.{IsEmpty, command_of, limit_of}
+use Rattle.git_msg.specs.Holding.{IsEmpty, asked_of, command_of, limit_of}
 use Rattle.git_msg.specs.Lines.{Line, command, agent, server_option, object_format, delimiter, argument, is_none, commands_of, arguments_of, kept_in, has_format, is_object_format, command_in, argument_in, long_of, is_delimiter, IsLineOf, key_checks, IsCapabilityLine, argument_checks, text_checks, capability_checks, part_checks, end_checks, flush_checks_in, IsLineIn, HasFaultIn}
 use Rattle.git_msg.specs.Taking.{InCapabilities, InArguments, is_nil, fault_in, waits_in, limit_in, kept_so_far}
 use Rattle.git_msg.specs.TakingSteps.{InLines, Advances, StepsOn, Notes, IsDue, is_first, with_line, restarted}
@@ -74,9 +74,6 @@ stands_ready part h = rw h (refl, refl)
 
 pub nothing_asked_by : (c : Command) → nothing_asked c ≡ asked_by c []
 nothing_asked_by LsRefs = refl
-
-end_passes : (c : Command) (args : List Arg) → Passes (end_checks c args)
-end_passes LsRefs args = tt
 
 -- an argument's text that is refused
 text_refused : (c : Command) (offer : Offer) (limit kept : ℕ) (text : List ℕ) (kind : Kind) → Refuses (text_checks c offer text) kind → Refuses (argument_checks offer limit c kept text) kind
@@ -235,19 +232,48 @@ module _ {A : Type 0} where
   empty_lines : (q : Request A) (r : RequestReader A) → InCapabilities [] (restarted q r)
   empty_lines q r = record { before = refl; begun = refl; command = refl; format = refl; no_argument = refl; nothing_kept = refl }
 
-  -- the flush of a request without delimiter
-  pub flushed : (r new : RequestReader A) (offset : ℕ) (c : Command) (q : Request A) → r.part ≡ Capabilities → IsDue r c → IsEmpty c r.offer.format (limit_in r) q → IsEmpty LsRefs r.offer.format (limit_of q) new.request → new ≡ restarted new.request r → StepsOn r flush offset (Ok (TakenRequest q)) new
-  flushed r new offset c q part due empty next same = record {
+  -- a request without delimiter asks for nothing
+  nothing_but : (lines : List Line) (r : RequestReader A) (c : Command) (q : Request A) → InCapabilities lines r → IsEmpty c r.offer.format (limit_in r) q
+      → asked_of q ≡ asked_by c (arguments_of lines)
+  nothing_but lines r c q h empty = empty.asked ∙ nothing_asked_by c ∙ ap (λ args. asked_by c args) (sym h.no_argument)
+
+  -- that flush, refused for what the request asks for
+  pub flush_refused : (r : RequestReader A) (offset : ℕ) (c : Command) (q : Request A) (kind : Kind) → r.part ≡ Capabilities → r.begun ≡ true → IsDue r c
+      → IsEmpty c r.offer.format (limit_in r) q → Refuses (end_checks (asked_of q)) kind → StepsOn r flush offset (Err kind) r
+  flush_refused r offset c q kind part begun due empty refuses = record {
     goes = λ lines there.
         let h = in_capabilities lines r part there in
         let once = commands_due lines r c h due in
         let j = judged lines r c h due in
-        let checks : Passes (flush_checks_in false r.offer lines) = (j.0, (j.1.0, ((c, once, end_passes c (arguments_of lines)), tt))) in
+        let asked : asked_of q ≡ asked_by c (arguments_of lines) = nothing_but lines r c q h empty in
+        let told : Refuses (flush_checks_in false r.offer lines) kind = inr
+        (j.0, inr (j.1.0, inl (c, once, subst (λ (a : Asked). Refuses (end_checks a) kind) asked refuses))) in
+        let some : is_nil lines ≡ false = h.begun ∙ ap not begun in
+        let fault : HasFaultIn false r.offer (limit_in r) lines flush kind = ((λ e. let none : is_nil lines ≡ true = ap is_nil e in cc), told) in
+        subst (λ (b : Bool). HasFaultIn b r.offer (limit_in r) lines flush kind) (sym h.before) fault;
+    leaves = tt;
+    offer = refl;
+    limit = refl;
+    within = λ h. h;
+  }
+
+  -- the flush of a request without delimiter
+  pub flushed : (r new : RequestReader A) (offset : ℕ) (c : Command) (q : Request A) → r.part ≡ Capabilities → IsDue r c
+      → IsEmpty c r.offer.format (limit_in r) q → Passes (end_checks (asked_of q)) → IsEmpty LsRefs r.offer.format (limit_of q) new.request
+      → new ≡ restarted new.request r → StepsOn r flush offset (Ok (TakenRequest q)) new
+  flushed r new offset c q part due empty passes next same = record {
+    goes = λ lines there.
+        let h = in_capabilities lines r part there in
+        let once = commands_due lines r c h due in
+        let j = judged lines r c h due in
+        let asked : asked_of q ≡ asked_by c (arguments_of lines) = nothing_but lines r c q h empty in
+        let checks : Passes (flush_checks_in false r.offer lines) =
+        (j.0, (j.1.0, ((c, once, subst (λ (a : Asked). Passes (end_checks a)) asked passes), tt))) in
         record {
           ends = refl;
           once = once ∙ ap (λ x. x ∷ []) (sym empty.command_is);
           checks = subst (λ (b : Bool). Passes (flush_checks_in b r.offer lines)) (sym h.before) checks;
-          asked = empty.asked ∙ nothing_asked_by c ∙ ap (λ args. asked_by c args) (sym h.no_argument) ∙ ap (λ x. asked_by x (arguments_of lines)) (sym empty.command_is);
+          asked = asked ∙ ap (λ x. asked_by x (arguments_of lines)) (sym empty.command_is);
           kept = empty.kept ∙ sym h.nothing_kept;
           format = empty.format_is ∙ ap (λ (x : RequestReader A). x.offer.format) (sym same);
           fresh = subst (λ (n : RequestReader A). InCapabilities [] n) (sym same) (empty_lines new.request r);
@@ -260,11 +286,13 @@ module _ {A : Type 0} where
   }
 
   -- the flush behind the arguments
-  pub completed : (r new : RequestReader A) (offset : ℕ) → r.part ≡ Arguments → IsEmpty LsRefs r.offer.format (limit_in r) new.request → new ≡ restarted new.request r → StepsOn r flush offset (Ok (TakenRequest r.request)) new
-  completed r new offset part next same = record {
+  pub completed : (r new : RequestReader A) (offset : ℕ) → r.part ≡ Arguments → Passes (end_checks (asked_of r.request))
+      → IsEmpty LsRefs r.offer.format (limit_in r) new.request → new ≡ restarted new.request r → StepsOn r flush offset (Ok (TakenRequest r.request)) new
+  completed r new offset part passes next same = record {
     goes = λ lines there.
         let h = in_arguments lines r part there in
-        let checks : Passes (flush_checks_in true r.offer lines) = ((command_of r.request, h.command, end_passes (command_of r.request) (arguments_of lines)), tt) in
+        let checks : Passes (flush_checks_in true r.offer lines) =
+        ((command_of r.request, h.command, subst (λ (a : Asked). Passes (end_checks a)) h.asked passes), tt) in
         record {
           ends = refl;
           once = h.command;
@@ -279,6 +307,21 @@ module _ {A : Type 0} where
     offer = ap (λ (x : RequestReader A). x.offer) same;
     limit = next.limit_is;
     within = λ h. (sym next.limit_is, omega (arith, h, next.limit_is), next.kept);
+  }
+
+  -- the flush after the arguments, refused for what the request asks for
+  pub end_refused : (r : RequestReader A) (offset : ℕ) (kind : Kind) → r.part ≡ Arguments → Refuses (end_checks (asked_of r.request)) kind
+      → StepsOn r flush offset (Err kind) r
+  end_refused r offset kind part refuses = record {
+    goes = λ lines there.
+        let h = in_arguments lines r part there in
+        let fault : HasFaultIn true r.offer (limit_in r) lines flush kind =
+        inl (command_of r.request, h.command, subst (λ (a : Asked). Refuses (end_checks a) kind) h.asked refuses) in
+        subst (λ (b : Bool). HasFaultIn b r.offer (limit_in r) lines flush kind) (sym h.behind) fault;
+    leaves = tt;
+    offer = refl;
+    limit = refl;
+    within = λ h. h;
   }
 
   pub unread : (r : RequestReader A) (bytes : List ℕ) (offset : ℕ) (kind : Kind) → r.part ≡ Arguments → Refuses (text_checks (command_of r.request) r.offer (text_of bytes)) kind → StepsOn r (payload bytes) offset (Err kind) r

@@ -63,3 +63,18 @@ noted_offer caps format = record {
   object_info = caps.object_info;
   server_option = caps.server_option;
 }
+
+-- what is noted when a line with this key and value comes too
+abbrev pub noted_with : Caps → List ℕ → List ℕ → Caps
+noted_with caps key value = record {
+  agent = bytes_eq key (codes "agent") || caps.agent;
+  ls_refs = bytes_eq key (codes "ls-refs") || caps.ls_refs;
+  fetch = bytes_eq key (codes "fetch") || caps.fetch;
+  shallow = bytes_eq key (codes "fetch") && list_any (λ w. bytes_eq w (codes "shallow")) (spaced_words value) || caps.shallow;
+  ref_in_want = bytes_eq key (codes "fetch") && list_any (λ w. bytes_eq w (codes "ref-in-want")) (spaced_words value) || caps.ref_in_want;
+  server_option = bytes_eq key (codes "server-option") || caps.server_option;
+  object_info = bytes_eq key (codes "object-info") || caps.object_info;
+  object_format = bytes_eq key (codes "object-format") || caps.object_format;
+  sha1 = bytes_eq key (codes "object-format") && bytes_eq value (codes "sha1") || caps.sha1;
+  sha256 = bytes_eq key (codes "object-format") && bytes_eq value (codes "sha256") || caps.sha256;
+}

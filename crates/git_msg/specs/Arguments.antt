@@ -1,5 +1,7 @@
 -- The argument lines of requests, by gitprotocol-v2(5).
-use Rattle.std.specs.Prelude.{◌≡◌, ℕ, ◌<◌, ◌≤◌, List, [], ◌∷◌, ◌++◌, length, codes}
+use Rattle.std.specs.Prelude.{◌≡◌, ℕ, ◌<◌, ◌≤◌, ◌==◌, List, [], ◌∷◌, ◌++◌, length, codes, if◌then◌else◌}
+use Rattle.std.specs.List.{before_first}
+use Rattle.std.specs.Str.{bytes_eq}
 use Rattle.git_names.specs.declared.object_format.Format.{Format}
 use Rattle.git_pkt.specs.declared.fault.Kind.{Kind}
 use Rattle.git_pkt.specs.declared.fault.Kind.TheVariants.{UnknownArgument, BadLine}
@@ -59,11 +61,44 @@ flags_of LsRefs = codes "symrefs" ∷ codes "peel" ∷ []
 abbrev pub keywords_of : Command → List (List ℕ)
 keywords_of LsRefs = codes "ref-prefix " ∷ []
 
+-- the rows of the table of arguments
+pub data Row : Type 0 where
+  of_symrefs : Row
+  of_peel : Row
+  of_ref_prefix : Row
+  of_none : Row
+
+-- the row that a word stands for
+abbrev pub row_by : List ℕ → Row
+row_by word =
+    if bytes_eq word (codes "symrefs") then of_symrefs
+    else if bytes_eq word (codes "peel") then of_peel
+    else if bytes_eq word (codes "ref-prefix") then of_ref_prefix
+    else of_none
+
+-- the row of a text, by its first word
+abbrev pub row_of : List ℕ → Row
+row_of text = row_by (before_first (λ c. c == 32) text)
+
+-- the row that an argument stands in
+abbrev pub row_in : Arg → Row
+row_in symrefs = of_symrefs
+row_in peel = of_peel
+row_in (ref_prefix prefix) = of_ref_prefix
+
+-- by which name a text of this row is refused for its value
+abbrev pub IsRowFault : Command → Format → Row → List ℕ → Kind → Type 0
+IsRowFault LsRefs format of_ref_prefix text BadLine = Follows (codes "ref-prefix ") (λ prefix. most_text < length prefix) text
+IsRowFault _ format _ text _ = ⊥
+
+-- the text is no argument of the command
+abbrev pub IsNoArgument : Command → List ℕ → Type 0
+IsNoArgument command text = IsNoneOf (flags_of command) text × BeginsWithNone (keywords_of command) text
+
 -- the text is no argument of the command, or one whose value may not stand there
 abbrev pub IsArgumentFault : Command → Offer → List ℕ → Kind → Type 0
-IsArgumentFault command offer text UnknownArgument = IsNoneOf (flags_of command) text × BeginsWithNone (keywords_of command) text
-IsArgumentFault LsRefs offer text BadLine = Follows (codes "ref-prefix ") (λ prefix. most_text < length prefix) text
-IsArgumentFault _ offer text _ = ⊥
+IsArgumentFault command offer text UnknownArgument = IsNoArgument command text
+IsArgumentFault command offer text kind = (row : Row) × IsRowFault command offer.format row text kind
 
 -- the line of an argument, as it is written
 abbrev pub written_text : Arg → List ℕ

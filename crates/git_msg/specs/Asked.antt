@@ -1,5 +1,5 @@
 -- What requests ask for: their arguments by kind.
-use Rattle.std.specs.Prelude.{ℕ, Bool, true, false, ◌||◌, Option, Some, None, option_to_list, ◌+◌, ◌≤◌, List, [], ◌∷◌, ◌++◌, All, length}
+use Rattle.std.specs.Prelude.{ℕ, Bool, true, false, ◌||◌, Option, Some, None, option_to_list, ◌+◌, ◌≤◌, List, [], ◌∷◌, ◌++◌, All, length, map}
 use Rattle.std.specs.List.{list_any, filter_map}
 use Rattle.git_msg.specs.declared.arguments.Command.{Command}
 use Rattle.git_msg.specs.declared.arguments.Command.TheVariants.{LsRefs}
@@ -72,3 +72,12 @@ written_bytes (ls_refs q) = flag_bytes q.peel 4 + (flag_bytes q.symrefs 7 + pref
 -- the texts are not longer than they may be
 abbrev pub HasShortTexts : Asked → Type 0
 HasShortTexts (ls_refs q) = All (λ prefix. length prefix ≤ most_text) q.ref_prefixes
+
+-- an argument before the others, where the flag is set
+abbrev pub where_asked : Bool → Arg → List Arg → List Arg
+where_asked true arg args = arg ∷ args
+where_asked false arg args = args
+
+-- the arguments of a request, in the order in which they are written
+abbrev pub arguments_in : Asked → List Arg
+arguments_in (ls_refs q) = where_asked q.peel peel (where_asked q.symrefs symrefs (map ref_prefix q.ref_prefixes))

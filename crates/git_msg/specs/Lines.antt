@@ -1,6 +1,7 @@
 -- The packets of a request as lines, each behind the lines before it, and what refuses a packet.
-use Rattle.std.specs.Prelude.{◌≡◌, ◌≢◌, ℕ, ◌+◌, ◌<◌, ◌≤◌, Bool, true, false, Option, Some, None, List, [], ◌∷◌, ◌++◌, length, codes, sum_by}
+use Rattle.std.specs.Prelude.{◌≡◌, ◌≢◌, ℕ, ◌+◌, ◌<◌, ◌≤◌, Bool, true, false, Option, Some, None, List, [], ◌∷◌, ◌++◌, length, codes, sum_by, if◌then◌else◌}
 use Rattle.std.specs.List.{list_any, filter_map}
+use Rattle.std.specs.Str.{bytes_eq}
 use Rattle.git_names.specs.ObjectFormat.{name_of as format_name}
 use Rattle.git_names.specs.declared.object_format.Format.{Format}
 use Rattle.git_names.specs.declared.object_format.Format.TheVariants.{Sha1, Sha256}
@@ -15,6 +16,7 @@ use Rattle.git_msg.specs.declared.capability_key.Key.TheVariants.{CommandKey, Ag
 use Rattle.git_msg.specs.Texts.{IsErrorText, IsNoneOf}
 use Rattle.git_msg.specs.Capability.{IsCapability, IsNoCapability}
 use Rattle.git_msg.specs.Arguments.{Arg, name_of, ReadsAs, IsArgumentFault}
+use Rattle.git_msg.specs.Asked.{Asked, ls_refs, asked_by}
 use Rattle.git_msg.specs.Checks.{Check, check, unless, Refuses, Passes}
 
 -- a packet of a request that is not refused: the capability lines, the delimiter, and the arguments with the
@@ -78,6 +80,15 @@ IsWordOf text AgentKey = text ≡ codes "agent"
 IsWordOf text ServerOptionKey = text ≡ codes "server-option"
 IsWordOf text ObjectFormatKey = text ≡ codes "object-format"
 IsWordOf text OtherKey = IsNoneOf (codes "command" ∷ codes "agent" ∷ codes "server-option" ∷ codes "object-format" ∷ []) text
+
+-- the key that a word stands for
+abbrev pub key_by : List ℕ → Key
+key_by word =
+    if bytes_eq word (codes "command") then CommandKey
+    else if bytes_eq word (codes "agent") then AgentKey
+    else if bytes_eq word (codes "server-option") then ServerOptionKey
+    else if bytes_eq word (codes "object-format") then ObjectFormatKey
+    else OtherKey
 
 -- the text is a capability line with this key and value
 pub record HasKey (text : List ℕ) (key : Key) (value : Option (List ℕ)) : Type 0 where
@@ -179,14 +190,14 @@ pub record IsArgumentRefused (offer : Offer) (limit : ℕ) (before : List Line) 
   pub asked : commands_of before ≡ of ∷ []
   pub refuses : Refuses (argument_checks offer limit of (kept_in before) text) kind
 
--- what refuses the flush, by the command
-abbrev pub end_checks : Command → List Arg → List Check
-end_checks LsRefs args = []
+-- what refuses a request at its flush, by what it asks for
+abbrev pub end_checks : Asked → List Check
+end_checks (ls_refs q) = []
 
 abbrev pub at_end : List Line → Check
 at_end lines = record {
-  refuses = λ kind. (c : Command) × (commands_of lines ≡ c ∷ []) × Refuses (end_checks c (arguments_of lines)) kind;
-  passes = (c : Command) × (commands_of lines ≡ c ∷ []) × Passes (end_checks c (arguments_of lines));
+  refuses = λ kind. (c : Command) × (commands_of lines ≡ c ∷ []) × Refuses (end_checks (asked_by c (arguments_of lines))) kind;
+  passes = (c : Command) × (commands_of lines ≡ c ∷ []) × Passes (end_checks (asked_by c (arguments_of lines)));
 }
 
 -- what refuses the flush behind these lines: what is judged at the end of the capability part was judged at the

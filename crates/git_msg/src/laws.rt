@@ -1,23 +1,25 @@
 //! What follows from the definitions alone: each law is the contract of a function without parameters.
 
-ghost use Rattle.std.specs.Prelude.{◌≡◌, ◌≤◌, ℕ, List, Option, length, map, sum_by};
+ghost use Rattle.std.specs.Prelude.{◌≡◌, ◌≤◌, ◌++◌, ◌∷◌, [], ℕ, List, Option, length, map, sum_by};
 ghost use Rattle.git_names.specs.declared.object_format.Format.{Format};
-ghost use Rattle.git_pkt.specs.Packets.{Pkt};
+ghost use Rattle.git_pkt.specs.Packets.{Pkt, flush};
 ghost use Rattle.git_pkt.specs.Splits.{Given};
 ghost use Rattle.git_pkt.specs.declared.fault.Kind.{Kind};
 ghost use Rattle.git_msg.specs.declared.arguments.Command.{Command};
 ghost use Rattle.git_msg.specs.declared.offers.Caps.{Caps};
 ghost use Rattle.git_msg.specs.declared.offers.Offer.{Offer};
 ghost use Rattle.git_msg.specs.declared.requests.Request.{Request};
-ghost use Rattle.git_msg.specs.Arguments.{Arg, written_text};
-ghost use Rattle.git_msg.specs.Asked.{Asked, HasShortTexts, asked_by, written_bytes};
+ghost use Rattle.git_msg.specs.Arguments.{Arg, IsArgumentFault, ReadsAs, written_text};
+ghost use Rattle.git_msg.specs.Asked.{Asked, HasShortTexts, arguments_in, asked_by, written_bytes};
 ghost use Rattle.git_msg.specs.Capability.{IsCapability};
-ghost use Rattle.git_msg.specs.Holding.{IsEmpty, AddsAll, asked_of, kept_of};
+ghost use Rattle.git_msg.specs.Checks.{Passes, Refuses};
+ghost use Rattle.git_msg.specs.Holding.{IsEmpty, AddsAll, add_checks, asked_of, kept_of};
 ghost use Rattle.git_msg.specs.Lines.{Line, IsFormatMeant, IsLine, HasFault};
-ghost use Rattle.git_msg.specs.References.{Ref, IsReferenceLine};
+ghost use Rattle.git_msg.specs.References.{Ref, IsReferenceFault, IsReferenceLine};
 ghost use Rattle.git_msg.specs.Requests.{Asks, FirstFault};
-ghost use Rattle.git_msg.specs.Writing.{lines_written};
+ghost use Rattle.git_msg.specs.Writing.{argument_lines, lines_written, text_line};
 
+use crate::requests::Limits;
 use std::alloc::Allocator;
 
 // Texts of single lines.
@@ -31,6 +33,28 @@ pub fn one_capability()
 /// A reference line is one reference at most.
 pub fn one_reference()
     ensures { (format : Format) (text : List ℕ) (a b : Ref) → IsReferenceLine format text a → IsReferenceLine format text b → a ≡ b }
+{}
+
+/// A text is a reference line or is refused, never both, and it is refused by one name at most.
+pub fn reference_or_fault()
+    ensures never_both { (format : Format) (text : List ℕ) (ref : Ref) (kind : Kind)
+        → IsReferenceLine format text ref → IsReferenceFault format text kind → ⊥ }
+    ensures one { (format : Format) (text : List ℕ) (kind other : Kind)
+        → IsReferenceFault format text kind → IsReferenceFault format text other → kind ≡ other }
+{}
+
+/// The text of an argument line is one argument of a command at most.
+pub fn one_argument()
+    ensures { (command : Command) (offer : Offer) (text : List ℕ) (a b : Arg)
+        → ReadsAs command offer text a → ReadsAs command offer text b → a ≡ b }
+{}
+
+/// A text is an argument of a command or is refused, never both, and it is refused by one name at most.
+pub fn argument_or_fault()
+    ensures never_both { (command : Command) (offer : Offer) (text : List ℕ) (arg : Arg) (kind : Kind)
+        → ReadsAs command offer text arg → IsArgumentFault command offer text kind → ⊥ }
+    ensures one { (command : Command) (offer : Offer) (text : List ℕ) (kind other : Kind)
+        → IsArgumentFault command offer text kind → IsArgumentFault command offer text other → kind ≡ other }
 {}
 
 // Packets of requests.
@@ -85,6 +109,20 @@ pub fn written_request_reads_back()
 
 // Requests that a program makes.
 
+/// An argument that a program adds passes the checks or is refused, never both, and it is refused by one name at most.
+/// Want of memory is told where it passes.
+pub fn add_passes_or_is_refused<A: Allocator + Copy>()
+    ensures never_both { (request : Request A) (arg : Arg) (kind : Kind)
+        → Passes (add_checks request arg) → Refuses (add_checks request arg) kind → ⊥ }
+    ensures one { (request : Request A) (arg : Arg) (kind other : Kind)
+        → Refuses (add_checks request arg) kind → Refuses (add_checks request arg) other → kind ≡ other }
+{}
+
+/// The usual limit on the texts of a request's argument lines is 16 MiB.
+pub fn usual_limit()
+    ensures { Limits.USUAL ≡ 16777216 }
+{}
+
 /// A request that was empty, and to which these arguments were added one behind the other, asks for what the list of
 /// them says, and has kept as many bytes as the texts of their lines have.
 pub fn added_arguments_are_asked_for<A: Allocator + Copy>()
@@ -92,4 +130,10 @@ pub fn added_arguments_are_asked_for<A: Allocator + Copy>()
         → IsEmpty command format limit empty → AddsAll empty args request → asked_of request ≡ asked_by command args }
     ensures kept { (command : Command) (format : Format) (limit : ℕ) (args : List Arg) (empty request : Request A)
         → IsEmpty command format limit empty → AddsAll empty args request → kept_of request ≡ sum_by (λ arg. length (written_text arg)) args }
+{}
+
+/// The lines and the bytes of a request are those of its arguments in their order.
+pub fn arguments_in_order()
+    ensures lines { (asked : Asked) → argument_lines asked ≡ map (λ a. text_line (written_text a)) (arguments_in asked) ++ flush ∷ [] }
+    ensures bytes { (asked : Asked) → written_bytes asked ≡ sum_by (λ a. length (written_text a)) (arguments_in asked) }
 {}

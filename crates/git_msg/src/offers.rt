@@ -1,12 +1,12 @@
 //! What an advertisement offers, and what of it this project knows.
 
-ghost use Rattle.std.specs.Prelude.{◌≡◌, ℕ, List, [], ◌∷◌};
+ghost use Rattle.std.specs.Prelude.{◌≡◌, ℕ, List, [], ◌∷◌, unwrap_or};
 ghost use Rattle.std.specs.Option.{option_copied};
 ghost use Rattle.std.specs.List.{list_any};
 ghost use Rattle.std.specs.Str.{bytes_eq};
 ghost use Rattle.git_pkt.specs.Packets.{Pkt, payload, text_of};
 ghost use Rattle.git_msg.specs.Capability.{IsCapability};
-ghost use Rattle.git_msg.specs.Advertisement.{noted_of, noted_offer, is_spoken};
+ghost use Rattle.git_msg.specs.Advertisement.{noted_of, noted_offer, noted_with, is_spoken};
 ghost use Rattle.git_msg.specs.Texts.{spaced_words};
 
 use crate::capabilities::Capability;
@@ -76,7 +76,8 @@ impl Caps {
 
     /// What is noted when this line comes too.
     pub fn with(self, capability: &Capability<'_>) -> Caps
-        ensures { (packets : List Pkt) (line : List ℕ) → self ≡ noted_of packets
+        ensures exact { result ≡ noted_with self capability.now.key.now (unwrap_or (option_copied capability.now.value) []) }
+        ensures notes { (packets : List Pkt) (line : List ℕ) → self ≡ noted_of packets
             → IsCapability (text_of line) capability.now.key.now (option_copied capability.now.value)
             → result ≡ noted_of (payload line ∷ packets) }
     {

@@ -143,7 +143,9 @@ impl<A: Allocator + Copy> RequestReader<A> {
                     return Ok(Taken::Stop);
                 }
                 let command = self.command_due()?;
-                self.request = self.empty_request(command);
+                let request = self.empty_request(command);
+                request.check_end()?;
+                self.request = request;
                 Ok(Taken::Request(self.restart()))
             }
             Packet::RespEnd => Err(Kind::UnexpectedPacket),
@@ -161,7 +163,10 @@ impl<A: Allocator + Copy> RequestReader<A> {
                 self.part = Part::Waiting(offset, text.len());
                 Ok(Taken::Argument(argument))
             }
-            Packet::Flush => Ok(Taken::Request(self.restart())),
+            Packet::Flush => {
+                self.request.check_end()?;
+                Ok(Taken::Request(self.restart()))
+            }
             Packet::Delim => Err(Kind::UnexpectedPacket),
             Packet::RespEnd => Err(Kind::UnexpectedPacket),
         }

@@ -38,6 +38,7 @@ pub fn put_reference(hold: &mut Hold, reference: Reference<'_>)
     requires { IsWritable (shown_reference reference) }
     ensures written { hold.new.items ≡ spelling_of (payload (reference_text (shown_reference reference.entry) ++ 10 ∷ [])) }
     ensures reads_back { IsReferenceLine reference.entry.id.format (reference_text (shown_reference reference.entry)) (shown_reference reference.entry) }
+    ensures fits { length (reference_text (shown_reference reference.entry)) ≤ 65515 }
 {
     let Reference {
         id,
@@ -52,6 +53,7 @@ fn put_parts(hold: &mut Hold, id: &Oid, name: &[u8], target: Option<&[u8]>, peel
     requires { IsWritable (reference_of id.now name.now (option_copied target) peeled.now) }
     ensures written { hold.new.items ≡ spelling_of (payload (reference_text (reference_of id.now name.now (option_copied target.entry) peeled.now) ++ 10 ∷ [])) }
     ensures reads_back { IsReferenceLine id.now.format (reference_text (reference_of id.now name.now (option_copied target.entry) peeled.now)) (reference_of id.now name.now (option_copied target.entry) peeled.now) }
+    ensures fits { length (reference_text (reference_of id.now name.now (option_copied target.entry) peeled.now)) ≤ 65515 }
 {
     let length = id.format().digits() + 1 + name.len();
     begin(

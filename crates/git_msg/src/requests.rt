@@ -1,5 +1,5 @@
 //! Requests as they are kept.
-ghost use Rattle.std.specs.Prelude.{◌≡◌, ◌+◌, ◌^◌, ◌≤◌, ◌<◌, [], ◌∷◌, ◌++◌, length, OnOk, OnSome, OnErr, IfErr, IfSome, slice_get};
+ghost use Rattle.std.specs.Prelude.{◌≡◌, ◌+◌, ◌^◌, ◌≤◌, ◌<◌, [], ◌∷◌, ◌++◌, length, OnOk, OnSome, OnErr, IfErr, IfSome, MatchResult, slice_get};
 ghost use Rattle.std.specs.Option.{option_copied};
 ghost use Rattle.git_msg.specs.Arguments.{most_limit, shown, written_text};
 
@@ -176,7 +176,8 @@ impl<A: Allocator + Copy> LsRefs<A> {
 impl<A: Allocator + Copy> Request<A> {
     ghost use Rattle.git_msg.specs.Arguments.{most_text};
     ghost use Rattle.git_msg.specs.Asked.{nothing_asked, symrefs_of, peel_of, ref_prefixes_of, written_bytes, HasShortTexts};
-    ghost use Rattle.git_msg.specs.Checks.{Passes};
+    ghost use Rattle.git_msg.specs.Checks.{Passes, Refuses};
+    ghost use Rattle.git_msg.specs.Lines.{end_checks};
     ghost use Rattle.git_msg.specs.Holding.{IsEmpty, asked_of, command_of, format_of, kept_of, limit_of, Keeps, add_checks, keep_checks, IsRefused, IsValue, IsValueFault};
 
     /// A request without arguments. Later calls take memory from `alloc`, and only where an argument with a text is
@@ -200,6 +201,15 @@ impl<A: Allocator + Copy> Request<A> {
     {
         let length = written_length(&argument);
         self.keep(argument, length)
+    }
+
+    /// Judges what the request asks for, at its end: by what it is refused, if by something.
+    pub fn check_end(&self) -> Result<(), Kind>
+        ensures { MatchResult result (λ _. Passes (end_checks (asked_of self.now))) (Refuses (end_checks (asked_of self.now))) }
+    {
+        match self {
+            Request::LsRefs(_) => Ok(()),
+        }
     }
 
     /// The request's command.

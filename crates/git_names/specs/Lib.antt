@@ -1,4 +1,6 @@
 pub mod Following
+pub mod NameBytes
+pub mod NameFaults
 pub mod ObjectFormat
 pub mod ObjectName
 pub mod RefName

@@ -1,3 +1,6 @@
+ghost use Rattle.std.specs.Prelude.{Some};
+ghost use Rattle.git_names.specs.NameFaults.{name_fault_text};
+
 use std::error::Error;
 use std::fmt;
 
@@ -11,6 +14,8 @@ pub enum NameFault {
 }
 
 impl fmt::Display for NameFault {
+    ghost output = { λ fault. Some (name_fault_text fault) };
+
     fn fmt<W: fmt::Write>(&self, f: &mut fmt::Formatter<W>) -> fmt::Result {
         f.write_str(match self {
             NameFault::BadObjectName => "BadObjectName",

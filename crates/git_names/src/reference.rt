@@ -4,24 +4,13 @@ ghost use Rattle.git_names.specs.Following.{IsPlain, MayFollow};
 
 use crate::fault::NameFault;
 use bstr::ByteSlice;
-use std::marker::Model;
 
 /// A reference name: `HEAD`, or a name below `refs/` of at most 32,000 bytes that keeps the rules of
 /// git-check-ref-format(1). Bytes from 0x80 on are allowed.
-#[derive(Debug, Drop)]
+#[derive(Clone, Copy, Debug)]
 pub struct RefName<'a> {
     text: &'a [u8],
-}
-
-impl<'a> Model for RefName<'a> {
-    ghost use Rattle.std.specs.Prelude.{List, ℕ};
-    ghost use Rattle.git_names.specs.RefName.{BeginsWith, IsRefName};
-
-    ghost Value = { List ℕ };
-
-    ghost view = { λ name. name.text.now };
-
-    ghost invariant = { λ name. IsRefName name.text.now };
+    ghost named: { IsRefName text.now },
 }
 
 // The most bytes that a reference name may have.
@@ -40,9 +29,11 @@ static PLAIN_BYTES: [u8; 256] = *b"\
     xxxxxxxxxxxxxxxxxxxxxxxxxxxxxxxx";
 
 impl<'a> RefName<'a> {
+    ghost use Rattle.git_names.specs.NameBytes.{name_bytes};
+
     /// The reference name that is `text`, or `BadRefName` where it breaks a rule.
     pub fn read(text: &'a [u8]) -> Result<RefName<'a>, NameFault>
-        ensures { MatchResult result (λ name. (name ≡ text.now) × IsRefName text.now)
+        ensures { MatchResult result (λ name. (name_bytes name ≡ text.now) × IsRefName text.now)
             (λ fault. (fault ≡ NameFault.BadRefName) × ¬ IsRefName text.now) }
     {
         if !is_ref_name(text) {
@@ -53,8 +44,8 @@ impl<'a> RefName<'a> {
 
     /// The bytes of the name.
     pub fn as_bytes(&self) -> &'a [u8]
-        ensures value { result.now ≡ self.now }
-        ensures name { IsRefName self.now }
+        ensures value { result.now ≡ name_bytes self.now }
+        ensures name { IsRefName (name_bytes self.now) }
     {
         self.text
     }

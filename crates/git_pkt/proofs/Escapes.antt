@@ -1,8 +1,9 @@
 -- The table of escapes, and what a block of bytes comes to.
-use Rattle.std.proofs.Common.{append_assoc, ◌≡◌, ℕ, zero, suc, ◌+◌, ◌<◌, ◌≤◌, Bool, true, false, ◌&&◌, ◌||◌, not, nat_eq, nat_le, List, [], ◌∷◌, ◌++◌, length, take, drop, slice_index, refl, sym, ◌∙◌, ap, inl, inr, arith, length-append}
+use Rattle.std.proofs.Common.{append_assoc, ◌≡◌, ℕ, zero, suc, ◌+◌, ◌<◌, ◌≤◌, Bool, true, false, IsTrue, ◌↔◌, ◌&&◌, ◌||◌, not, nat_eq, nat_le, List, [], ◌∷◌, ◌++◌, length, take, drop, slice_index, refl, sym, ◌∙◌, ap, inl, inr, arith, length-append}
 use Rattle.std.proofs.lemmas.Bool.{and_parts, cases_lt, eqb-true}
 use Rattle.std.proofs.lemmas.List.{take_more, take-append-le, length-take-le, append-nil}
-use Rattle.std.proofs.Math.Seq.{take-append-add}
+use Rattle.std.proofs.lemmas.Slice.{drop-append-drop}
+use Rattle.std.proofs.Math.Seq.{take-append-add, take-length}
 use Rattle.std.proofs.lemmas.Grind.{common_steps, flat_map-append}
 use Rattle.git_pkt.specs.Escape.{escape_of, escaped_of}
 
@@ -64,7 +65,57 @@ plain_more block i false below so_far h =
     not_false true h = refl
     not_false false h = absurd (cc)
 
--- four bytes put behind the first, of which some count
+-- a byte's escape is never empty, and longer than the byte where the byte does not stand for itself
+pub escape_of_some : (b : ℕ) → 1 ≤ length (escape_of b)
+unfolding escape_of
+escape_of_some b = grind (arith, common_steps)
+
+pub escape_of_other : (b : ℕ) → ((nat_le 32 b && nat_le b 126) && not (nat_eq b 92)) ≡ false → 2 ≤ length (escape_of b)
+unfolding escape_of
+escape_of_other b h = grind (arith, common_steps)
+
+-- of the bytes before this one, the escapes have as many or more; more where one does not stand for itself
+pub record AreLong (block : List ℕ) (i : ℕ) (other : Bool) : Type 0 where
+  pub least : i ≤ length (escaped_of (take i block))
+  pub more : other ≡ true → i < length (escaped_of (take i block))
+
+-- one more byte
+longer : (n after i b : ℕ) (other plain : Bool) → ((nat_le 32 b && nat_le b 126) && not (nat_eq b 92)) ≡ plain → after ≡ n + length (escape_of b)
+    → i ≤ n → (other ≡ true → i < n) → (other || not plain) ≡ true → i + 1 < after
+longer n after i b true plain is joined least more e = omega (arith, joined, more refl, escape_of_some b)
+longer n after i b false true is joined least more e = absurd (cc)
+longer n after i b false false is joined least more e = omega (arith, joined, least, escape_of_other b is)
+
+pub long_more : (block : List ℕ) (i : ℕ) (other : Bool) → i < length block → AreLong block i other
+    → AreLong block (i + 1) (other || not ((nat_le 32 (slice_index block i) && nat_le (slice_index block i) 126) && not (nat_eq (slice_index block i) 92)))
+long_more block i other below h =
+    let joined = ap length (escaped_more block i below) ∙ length-append (escaped_of (take i block)) (escape_of (slice_index block i)) in
+    record {
+      least = omega (arith, joined, h.least, escape_of_some (slice_index block i));
+      more = longer (length (escaped_of (take i block))) (length (escaped_of (take (i + 1) block))) i (slice_index block i) other _ refl joined h.least h.more;
+    }
+
+-- bytes are plain exactly where their escapes are the bytes
+pub plain_exactly : (block : List ℕ) (i : ℕ) (other : Bool) → i ≡ length block → (other ≡ false → escaped_of (take i block) ≡ take i block) → AreLong block i other
+    → IsTrue (not other) ↔ (escaped_of block ≡ block)
+plain_exactly block i true at plain long =
+    let all : take i block ≡ block = ap (λ (n : ℕ). take n block) at ∙ take-length block in (
+      λ yes. absurd (cc),
+      λ same. absurd (omega (arith, at, long.more refl, ap (λ (l : List ℕ). length (escaped_of l)) all, ap length same)),
+    )
+plain_exactly block i false at plain long =
+    let all : take i block ≡ block = ap (λ (n : ℕ). take n block) at ∙ take-length block in (
+      λ yes. ap escaped_of (sym all) ∙ plain refl ∙ all,
+      λ same. refl,
+    )
+
+-- what stands after bytes that are written stays
+pub others_stay : (out four : List ℕ) (at from : ℕ) → at + length four ≤ from → at ≤ length out → drop from (take at out ++ four ++ drop (at + length four) out) ≡ drop from out
+others_stay out four at from after within =
+    drop-append-drop (at + length four) out (take at out ++ four) from after
+    (length-append (take at out) four ∙ ap (λ (n : ℕ). n + length four) (length-take-le at out within))
+
+-- four bytes put after the first, of which some count
 pub overwritten : (out four escaped escape : List ℕ) (at n : ℕ) → at ≤ length out → n ≤ length four → take at out ≡ escaped → take n four ≡ escape → take (at + n) (take at out ++ four ++ drop (at + length four) out) ≡ escaped ++ escape
 overwritten out four escaped escape at n within fits e f =
     let long : length (take at out) ≡ at = length-take-le at out within in

@@ -75,6 +75,12 @@ IsNews old piece fed = (f : Fault) → fault_of old ≡ None → fed.got ≡ Fai
 abbrev pub Repeats : PacketReader → Fed → PacketReader → Type 0
 Repeats old fed new = (f : Fault) → fault_of old ≡ Some f → (fed.used ≡ 0) × (fed.got ≡ Failed f) × (new ≡ old)
 
+-- after a packet the hold has its bytes as they came
+abbrev pub HoldsAsItCame : PacketReader → List ℕ → Got → PacketReader → Type 0
+HoldsAsItCame old used More new = Unit {0}
+HoldsAsItCame old used (Packet p offset) new = held_of new ≡ rest_of old ++ used
+HoldsAsItCame old used (Failed f) new = Unit {0}
+
 -- what a call of `feed` does
 pub record Feeds (old : PacketReader) (piece : List ℕ) (fed : Fed) (new : PacketReader) : Type 0 where
   pub reads : ReadsOn old (take fed.used piece) (given_by fed.got) new
@@ -82,3 +88,4 @@ pub record Feeds (old : PacketReader) (piece : List ℕ) (fed : Fed) (new : Pack
   pub news : IsNews old piece fed
   pub stays : Repeats old fed new
   pub keeps : fed.used ≡ 0 → held_of new ≡ held_of old
+  pub held : HoldsAsItCame old (take fed.used piece) fed.got new

@@ -1,6 +1,6 @@
 //! The escapes by which bytes are shown on one line of text.
 
-ghost use Rattle.std.specs.Prelude.{◌≡◌, ◌+◌, ◌*◌, ◌≤◌, ◌++◌, length, take, IsTrue};
+ghost use Rattle.std.specs.Prelude.{◌≡◌, ◌+◌, ◌*◌, ◌≤◌, ◌↔◌, ◌++◌, drop, length, take, IsTrue};
 ghost use Rattle.git_pkt.specs.Escape.{escape_of, escaped_of};
 
 use crate::hold::overwrite;
@@ -297,11 +297,13 @@ fn look_up(byte: u8) -> Escaped
 
 /// Writes the escape of each byte: LF is `\n`, a backslash is two, bytes from 0x20 to 0x7e stand for
 /// themselves and others are `\x` and two digits. They are put at a place of `out`, over what stands there; the
-/// answer is where they end.
+/// answer is where they end. Of the four bytes of room that each byte has, those after the end mean nothing; the
+/// bytes after that room stay.
 pub fn escape_into(bytes: &[u8], out: &mut [u8], at: usize) -> usize
     requires { at + 4 * length bytes.now ≤ length out.old }
     ensures within { result ≤ at + 4 * length bytes.now }
     ensures escaped { take result out.new ≡ take at out.old ++ escaped_of bytes.now }
+    ensures others { drop (at + 4 * length bytes.now) out.new ≡ drop (at + 4 * length bytes.now) out.old }
 {
     let mut end = at;
     for byte in bytes {
@@ -312,9 +314,9 @@ pub fn escape_into(bytes: &[u8], out: &mut [u8], at: usize) -> usize
     end
 }
 
-/// Whether each byte stands for itself. The answer may be false where each does.
+/// Whether each byte stands for itself.
 pub fn is_plain(bytes: &[u8]) -> bool
-    ensures { IsTrue result → escaped_of bytes.now ≡ bytes.now }
+    ensures { IsTrue result ↔ (escaped_of bytes.now ≡ bytes.now) }
 {
     let mut has_other = false;
     for byte in bytes {

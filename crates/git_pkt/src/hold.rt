@@ -10,7 +10,7 @@ pub const LONGEST_PACKET: usize = 65_520;
 
 /// A buffer for one packet. It lies where its owner does and never allocates; making or moving one
 /// moves 64 KiB, so hold on to it and lend it.
-pub type Hold = ArrayVec<u8, 65_520>;
+pub type Hold = ArrayVec<u8, LONGEST_PACKET>;
 
 /// Appends bytes for which there is room.
 pub fn append(hold: &mut Hold, bytes: &[u8])

@@ -1,5 +1,6 @@
 -- A server whose input ends.
 use Rattle.std.proofs.Common.{◌≡◌, ◌≢◌, ◌⊎◌, ℕ, ◌+◌, ◌<◌, Bool, true, false, List, [], ◌∷◌, length, Option, Some, None, refl, sym, ap, ◌∙◌, append-nil, subst, inl, inr, arith}
+use Rattle.git_pkt.specs.Packets.{Pkt}
 use Rattle.git_pkt.specs.Splits.{Given}
 use Rattle.git_pkt.specs.Reading.{is_open, rest_of, fault_of, position_of}
 use Rattle.git_pkt.specs.declared.fault.Fault.{Fault}
@@ -7,9 +8,9 @@ use Rattle.git_pkt.specs.declared.fault.Kind.TheVariants.{Truncated}
 use Rattle.git_pkt.proofs.ReaderMoves.{rest_of_shut}
 use Rattle.git_msg.specs.Taking.{offer_of, limit_in, kept_so_far, is_waiting, fault_of as requests_fault}
 use Rattle.git_server.specs.Repository.{Repository}
-use Rattle.git_server.specs.Answers.{tail_of, spelled}
-use Rattle.git_server.specs.Sessions.{Setting, EndsBy}
-use Rattle.git_server.specs.Phases.{LeftIn, outcome_in, owed_in, refused_by}
+use Rattle.git_server.specs.Answers.{AllFit, spelled}
+use Rattle.git_server.specs.Sessions.{Setting, EndsBy, IsTail}
+use Rattle.git_server.specs.Phases.{LeftIn, outcome_in, Owes, refused_by}
 use Rattle.git_server.specs.Serving.{Running, Serves, StandsBy, outcome_of, wants_input}
 use Rattle.git_server.specs.Moves.{Closes, Keeps}
 use Rattle.git_server.specs.declared.outcome.Outcome.{Outcome}
@@ -20,7 +21,7 @@ use Rattle.git_server.specs.declared.server.Server.{Server}
 use Rattle.git_server.proofs.Readers.{open_rest, sound_rest}
 use Rattle.git_server.proofs.Sent.{all_sent}
 use Rattle.git_server.proofs.WholeRequests.{begins}
-use Rattle.git_server.proofs.Going.{all_sent_of, refused_outcome_by, refused_owes_by, serves_of, none_kept_at_end}
+use Rattle.git_server.proofs.Going.{all_sent_of, owes_at, refused_outcome_by, refused_owes_by, serves_of, none_kept_at_end}
 
 none_is_left : {A : Type 0} (phase : Phase A) (left : List Given) → phase ≡ Between → LeftIn phase left → left ≡ []
 none_is_left {A = A} phase left is h = subst (λ (p : Phase A). LeftIn p left) is h
@@ -35,7 +36,8 @@ not_nil (x ∷ xs) some e = cc
 module _ {R A : Type 0} (answers : R → Repository) (old new : Server R A) where
   ends_here : (s : Setting) (so_far : List ℕ) (over : Bool) (before : List ℕ) (outcome : Outcome) → wants_input old ≡ true → Keeps old new
       → (r : Running answers s so_far over before old) → (h : Serves s so_far before old) → EndsBy s true h.left h.rest (length so_far) outcome
-      → outcome_of new ≡ Some outcome → tail_of outcome ≡ owed_in new.offer s.repo.refs new.phase → Running answers s so_far true before new
+      → outcome_of new ≡ Some outcome → ((owed : List Pkt) → Owes new.offer s.repo new.phase owed → IsTail s h.left outcome owed)
+      → Running answers s so_far true before new
   ends_here s so_far over before outcome wants keeps r h ends outcome_is tail =
       let all = all_sent s h.asked h.sent (all_sent_of answers old new [] s so_far before wants h) in
       record {
@@ -44,7 +46,7 @@ module _ {R A : Type 0} (answers : R → Repository) (old new : Server R A) wher
         limit = ap limit_in keeps.requests ∙ r.limit;
         repo = ap answers keeps.repo ∙ r.repo;
         within = omega (arith, r.within, ap kept_so_far keeps.requests, none_kept_at_end new.phase outcome outcome_is);
-        stands = subst (λ (o : Option Outcome). StandsBy o s so_far true before new) (sym outcome_is) (record {
+        stands = subst (λ (o : Option Outcome). StandsBy o s so_far true before new) (sym outcome_is) (λ owed owes. record {
           asked = h.asked;
           left = h.left;
           rest = h.rest;
@@ -53,8 +55,9 @@ module _ {R A : Type 0} (answers : R → Repository) (old new : Server R A) wher
           stream = record { packets = h.packets; splits = h.reads.splits; cuts = h.cuts };
           ends = ends;
           answered = all.answered;
-          parts = tail;
+          parts = tail owed owes;
           given_is = h.given_is ∙ ap spelled (all.sent_is ∙ sym (append-nil _));
+          fit = subst AllFit (all.sent_is ∙ sym (append-nil _)) h.fit;
         });
       }
 
@@ -63,8 +66,12 @@ module _ {R A : Type 0} (answers : R → Repository) (old new : Server R A) wher
   closes_between wants keeps was is sound shut s so_far over before r =
       let h = serves_of answers old new [] s so_far over before wants r in
       let known = sound_rest old.reader 0 so_far h.packets h.rest sound h.reads in (
-        ends_here s so_far over before Closed wants keeps r h
-            (refl, none_is_left old.phase h.left was h.left_is, sym known.0 ∙ rest_of_shut old.reader shut) (ap outcome_in is) (sym (ap (owed_in new.offer s.repo.refs) is)),
+        ends_here s so_far over before Closed wants keeps r h (
+          refl,
+          none_is_left old.phase h.left was h.left_is,
+          sym known.0
+              ∙ rest_of_shut old.reader shut,
+        ) (ap outcome_in is) (λ owed owes. sym (owes_at answers old new [] s (Ended Closed) owed is owes)),
         inl (ap outcome_in is),
       )
 
@@ -84,7 +91,7 @@ module _ {R A : Type 0} (answers : R → Repository) (old new : Server R A) wher
         at = at;
       })))
       (ap outcome_in is ∙ refused_outcome_by A fault.kind fault)
-      (refused_owes_by A new.offer s.repo.refs fault.kind fault refl ∙ sym (ap (owed_in new.offer s.repo.refs) is))
+      (λ owed owes. refused_owes_by A new.offer s.repo fault.kind fault owed refl (owes_at answers old new [] s (refused_by fault.kind fault) owed is owes))
 
   -- inside a request, between two packets
   pub closes_within : (fault : Fault) → wants_input old ≡ true → Keeps old new → old.phase ≡ Within → new.phase ≡ refused_by fault.kind fault → requests_fault old.requests ≡ None → is_waiting old.requests ≡ false

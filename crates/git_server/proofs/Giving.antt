@@ -1,29 +1,30 @@
 -- A server that gives a packet.
-use Rattle.std.proofs.Common.{arith, ◌≡◌, ◌≤◌, ℕ, Bool, List, [], ◌∷◌, ◌++◌, Option, Some, None, sym, ap, ◌∙◌, append_assoc, append-nil, subst}
+use Rattle.std.proofs.Common.{arith, ◌≡◌, ◌≤◌, ◌<◌, ℕ, Bool, List, [], ◌∷◌, ◌++◌, Option, Some, None, sym, ap, ◌∙◌, append_assoc, append-nil, subst}
 use Rattle.git_pkt.specs.Packets.{Pkt}
 use Rattle.git_pkt.specs.Splits.{Given}
 use Rattle.git_pkt.specs.Reading.{held_of}
 use Rattle.git_server.specs.Repository.{Repository}
-use Rattle.git_server.specs.Answers.{spelled}
-use Rattle.git_server.specs.Sessions.{Setting, IsSent, advertised}
-use Rattle.git_server.specs.Phases.{LeftIn, kept_in, owed_in}
+use Rattle.git_server.specs.Answers.{AllFit, spelled}
+use Rattle.git_server.specs.Sessions.{Setting, IsTail, advertised}
+use Rattle.git_server.specs.Phases.{LeftIn, kept_in, Owes}
 use Rattle.git_server.specs.Writing.{Writes}
 use Rattle.git_server.specs.Serving.{StandsBy, outcome_of}
-use Rattle.git_server.specs.Moves.{Gives, Keeps, owed_by}
+use Rattle.git_server.specs.Moves.{ComesFirst, Gives, Keeps, most_left}
 use Rattle.git_msg.specs.Taking.{Takes, offer_of, limit_in, kept_so_far}
 use Rattle.git_server.specs.declared.outcome.Outcome.{Outcome}
 use Rattle.git_server.specs.declared.server.Server.{Server}
-use Rattle.git_server.proofs.Sent.{sent_one, spelled_one}
+use Rattle.git_server.proofs.Sent.{fit_more, sent_one, spelled_one}
 
 module _ {R A : Type 0} (answers : R → Repository) (old new : Server R A) (packet : Pkt) (writes : Writes old.reader packet new.reader) (keeps : Keeps old new)
-    (owed : owed_by answers old ≡ packet ∷ owed_by answers new) (same : outcome_of new ≡ outcome_of old)
+    (owed : ComesFirst answers packet old new) (less : most_left answers new < most_left answers old) (same : outcome_of new ≡ outcome_of old)
     (left_stays : (left : List Given) → LeftIn old.phase left → LeftIn new.phase left) (no_more : kept_in new.phase ≤ kept_in old.phase) where
   -- what is owed, as the session's repository has it
-  owed_here : (s : Setting) → answers old.repo ≡ s.repo → owed_in old.offer s.repo.refs old.phase ≡ packet ∷ owed_in new.offer s.repo.refs new.phase
-  owed_here s repo =
+  owed_here : (s : Setting) (later : List Pkt) → answers old.repo ≡ s.repo → Owes new.offer s.repo new.phase later
+      → Owes old.offer s.repo old.phase (packet ∷ later)
+  owed_here s later repo owes =
       let repo_now : answers new.repo ≡ s.repo = ap answers keeps.repo ∙ repo in
-      subst (λ (r : Repository). owed_in old.offer r.refs old.phase ≡ packet ∷ owed_in new.offer s.repo.refs new.phase) repo
-      (subst (λ (r : Repository). owed_by answers old ≡ packet ∷ owed_in new.offer r.refs new.phase) repo_now owed)
+      subst (λ (r : Repository). Owes old.offer r old.phase (packet ∷ later)) repo
+      (owed later (subst (λ (r : Repository). Owes new.offer r new.phase later) (sym repo_now) owes))
 
   given_on : (before : List ℕ) (sent : List Pkt) → before ≡ spelled sent → before ++ held_of new.reader ≡ spelled (sent ++ packet ∷ [])
   given_on before sent is = ap (λ (l : List ℕ). l ++ held_of new.reader) is ∙ ap (λ (l : List ℕ). spelled sent ++ l) writes.held ∙ sym (spelled_one sent packet)
@@ -42,11 +43,14 @@ module _ {R A : Type 0} (answers : R → Repository) (old new : Server R A) (pac
       cuts = h.cuts;
       takes = subst (Takes h.left) (sym keeps.requests) h.takes;
       left_is = left_stays h.left h.left_is;
-      is_sent = sent_one s h.asked h.sent (owed_in new.offer s.repo.refs new.phase) packet (subst (λ (l : List Pkt). IsSent s h.asked h.sent l) (owed_here s repo) h.is_sent);
+      is_sent = λ later owes. sent_one s h.asked h.sent later packet (h.is_sent (packet ∷ later) (owed_here s later repo owes));
       given_is = given_on before h.sent h.given_is;
+      fit = fit_more h.sent packet h.fit writes.fits;
     },
   )
-  gives_in (Some outcome) s used over before repo h =
+  gives_in (Some outcome) s used over before repo ends =
+      λ later owes.
+      let h = ends (packet ∷ later) (owed_here s later repo owes) in
       record {
         asked = h.asked;
         left = h.left;
@@ -56,8 +60,10 @@ module _ {R A : Type 0} (answers : R → Repository) (old new : Server R A) (pac
         stream = h.stream;
         ends = h.ends;
         answered = h.answered;
-        parts = h.parts ∙ ap (λ (l : List Pkt). h.sent ++ l) (owed_here s repo) ∙ sym (append_assoc h.sent (packet ∷ []) (owed_in new.offer s.repo.refs new.phase));
+        parts = subst (IsTail s h.left outcome) (sym (append_assoc h.sent (packet ∷ []) later)) h.parts;
         given_is = given_on before (advertised s ++ h.answers ++ h.sent) h.given_is ∙ ap spelled (append_assoc (advertised s ++ h.answers) h.sent (packet ∷ []));
+        fit = subst AllFit (append_assoc (advertised s ++ h.answers) h.sent (packet ∷ []))
+            (fit_more (advertised s ++ h.answers ++ h.sent) packet h.fit writes.fits);
       }
 
   pub gives : Gives answers old new
@@ -65,6 +71,7 @@ module _ {R A : Type 0} (answers : R → Repository) (old new : Server R A) (pac
       record {
         packet = packet;
         owed = owed;
+        less = less;
         held = writes.held;
         outcome = same;
         goes = λ s so_far over before r.

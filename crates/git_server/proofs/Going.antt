@@ -2,23 +2,25 @@
 use Rattle.std.proofs.Common.{arith, ◌≡◌, ◌≢◌, ℕ, ◌+◌, ◌≤◌, Bool, true, false, List, [], ◌∷◌, ◌++◌, length, Option, Some, None, refl, sym, ap, ◌∙◌, append_assoc, append-nil, subst, inl, inr}
 use Rattle.git_pkt.specs.Packets.{Pkt}
 use Rattle.git_pkt.specs.Splits.{Given}
-use Rattle.git_pkt.specs.Reading.{Reads, is_open, fault_of}
+use Rattle.git_pkt.specs.Reading.{Reads, is_open, fault_of, ShownByFeed}
 use Rattle.git_pkt.specs.declared.fault.Fault.{Fault}
 use Rattle.git_pkt.specs.declared.fault.Kind.{Kind}
-use Rattle.git_pkt.specs.declared.fault.Kind.TheVariants.{RemoteError, Truncated}
+use Rattle.git_pkt.specs.declared.fault.Kind.TheVariants.{RemoteError, Truncated, StreamTooLong}
 use Rattle.git_msg.specs.Asked.{Asked, ls_refs}
 use Rattle.git_msg.specs.Holding.{asked_of, kept_of}
 use Rattle.git_msg.specs.Requests.{Asks, IsTold}
+use Rattle.git_msg.proofs.PacketFaults.{told_of_packets}
 use Rattle.git_msg.specs.Taking.{Takes, offer_of, limit_in, kept_so_far, is_waiting, fault_of as requests_fault}
 use Rattle.git_msg.specs.declared.offers.Offer.{Offer}
 use Rattle.git_msg.specs.declared.reader.RequestReader.{RequestReader}
-use Rattle.git_server.specs.Repository.{Entry, Repository}
-use Rattle.git_server.specs.Answers.{IsAnswer, tail_of, spelled}
-use Rattle.git_server.specs.Sessions.{Begins, Setting, Cuts, IsSent, IsEnding, IsRefused, EndsBy}
-use Rattle.git_server.specs.Phases.{LeftIn, answer_from, kept_in, outcome_in, owed_in, reads_in, phase_after, refused_by}
+use Rattle.git_server.specs.Repository.{Repository}
+use Rattle.git_server.specs.Answers.{AllFit, IsAnswer, error_packet, tail_of, spelled}
+use Rattle.git_server.specs.Greetings.{greetings_from}
+use Rattle.git_server.specs.Sessions.{Begins, IsTail, Setting, Cuts, IsSent, IsEnding, IsRefused, EndsBy}
+use Rattle.git_server.specs.Phases.{LeftIn, answer_from, IsAnswerFrom, Owes, kept_in, outcome_in, reads_in, phase_after, refused_by}
 use Rattle.git_server.specs.Taking.{Brings, IsBrought, IsWithin}
 use Rattle.git_server.specs.Serving.{Running, Serves, StandsBy, outcome_of, wants_input}
-use Rattle.git_server.specs.Moves.{Goes, ReadsFor}
+use Rattle.git_server.specs.Moves.{Goes, ReadsFor, StopsInTime}
 use Rattle.git_server.specs.declared.outcome.Outcome.{Outcome}
 use Rattle.git_server.specs.declared.outcome.Outcome.TheVariants.{Flush, Refused}
 use Rattle.git_server.specs.declared.requests.Brought.{Brought}
@@ -32,16 +34,17 @@ use Rattle.git_server.proofs.Sent.{all_sent, one_more_asked}
 use Rattle.git_server.proofs.WholeRequests.{begins, cuts_more, cuts_whole}
 
 -- an answer from the first reference on is the answer
-whole_answer : (repo : Repository) (q : Asked) → IsAnswer repo q (answer_from q repo.refs 0)
-whole_answer repo (ls_refs q) = refl
+whole_answer : (repo : Repository) (q : Asked) (later : List Pkt) → IsAnswerFrom repo q 0 later → IsAnswer repo q later
+whole_answer repo (ls_refs q) later h = h
 
 pub refused_outcome_by : (A : Type 0) (kind : Kind) (fault : Fault) → outcome_in {A = A} (refused_by kind fault) ≡ Some (Refused fault)
 refused_outcome_by A RemoteError fault = refl
 refused_outcome_by A _ fault = refl
 
-pub refused_owes_by : (A : Type 0) (offer : Offer) (refs : List Entry) (kind : Kind) (fault : Fault) → fault.kind ≡ kind → tail_of (Refused fault) ≡ owed_in {A = A} offer refs (refused_by kind fault)
-refused_owes_by A offer refs RemoteError fault is = rw is refl
-refused_owes_by A offer refs kind fault is = rw is refl
+pub refused_owes_by : (A : Type 0) (offer : Offer) (repo : Repository) (kind : Kind) (fault : Fault) (owed : List Pkt) → fault.kind ≡ kind
+    → Owes {A = A} offer repo (refused_by kind fault) owed → tail_of (Refused fault) ≡ owed
+refused_owes_by A offer repo RemoteError fault owed is owes = let tail : tail_of (Refused fault) ≡ [] = rw is refl in tail ∙ sym owes
+refused_owes_by A offer repo kind fault owed is owes = let tail : tail_of (Refused fault) ≡ error_packet fault ∷ [] = rw is refl in tail ∙ sym owes
 
 module _ {A : Type 0} where
   -- a server that waits for bytes has no outcome, and owes nothing
@@ -77,17 +80,48 @@ module _ {A : Type 0} where
   kept_behind Stop requests h = omega (arith, h)
   kept_behind (RefusedPacket fault) requests h = omega (arith, h, none_kept_at_end (refused_by fault.kind fault) (Refused fault) (refused_outcome_by A fault.kind fault))
 
-  pub nothing_owed : (offer : Offer) (refs : List Entry) (phase : Phase A) → reads_in phase ≡ true → owed_in offer refs phase ≡ []
-  nothing_owed offer refs Between h = refl
-  nothing_owed offer refs Within h = refl
-  nothing_owed offer refs (Greeting line) h = absurd (cc)
-  nothing_owed offer refs (Answering request next) h = absurd (cc)
-  nothing_owed offer refs (Refusing fault) h = absurd (cc)
-  nothing_owed offer refs (Ended outcome) h = absurd (cc)
+  pub nothing_owed : (offer : Offer) (repo : Repository) (phase : Phase A) (owed : List Pkt) → reads_in phase ≡ true → Owes offer repo phase owed → owed ≡ []
+  nothing_owed offer repo Between owed h owes = owes
+  nothing_owed offer repo Within owed h owes = owes
+  nothing_owed offer repo (Greeting line) owed h owes = absurd (cc)
+  nothing_owed offer repo (Answering request next) owed h owes = absurd (cc)
+  nothing_owed offer repo (Refusing fault) owed h owes = absurd (cc)
+  nothing_owed offer repo (Ended outcome) owed h owes = absurd (cc)
+
+  pub owes_nothing : (offer : Offer) (repo : Repository) (phase : Phase A) → reads_in phase ≡ true → Owes offer repo phase []
+  owes_nothing offer repo Between h = refl
+  owes_nothing offer repo Within h = refl
+  owes_nothing offer repo (Greeting line) h = absurd (cc)
+  owes_nothing offer repo (Answering request next) h = absurd (cc)
+  owes_nothing offer repo (Refusing fault) h = absurd (cc)
+  owes_nothing offer repo (Ended outcome) h = absurd (cc)
+
+some_owed : {A : Type 0} (offer : Offer) (repo : Repository) (phase : Phase A) → (owed : List Pkt) × Owes offer repo phase owed
+some_owed offer repo (Greeting line) = (greetings_from offer line, refl)
+some_owed offer repo (Answering request next) = (answer_from (asked_of request) repo.refs next, refl)
+some_owed offer repo (Refusing fault) = (error_packet fault ∷ [], refl)
+some_owed offer repo Between = ([], refl)
+some_owed offer repo Within = ([], refl)
+some_owed offer repo (Ended outcome) = ([], refl)
+
+-- in each phase some packets make an end
+pub owes_some : {A : Type 0} (offer : Offer) (repo : Repository) (phase : Phase A) → (owed : List Pkt) × Owes offer repo phase owed
+owes_some offer repo phase = some_owed offer repo phase
 
 one_more : {X : Type 0} (xs : List X) (x : X) → xs ++ x ∷ [] ≢ []
 one_more [] x e = cc
 one_more (y ∷ ys) x e = cc
+
+-- a packet of a request is not told as a stream that is too long
+not_too_long : {A : Type 0} (packets : List Given) (brought : Brought A) (requests : RequestReader A) → IsBrought packets brought requests
+    → (fault : Fault) → outcome_in (phase_after brought) ≡ Some (Refused fault) → fault.kind ≡ StreamTooLong → ⊥
+not_too_long packets Part requests h fault ended too_long = cc
+not_too_long packets (Whole request) requests h fault ended too_long = cc
+not_too_long packets Stop requests h fault ended too_long = cc
+not_too_long {A = A} packets (RefusedPacket f) requests h fault ended too_long =
+    let same : Some (Refused f) ≡ Some (Refused fault) = sym (refused_outcome_by A f.kind f) ∙ ended in
+    let one : f ≡ fault = cc in
+    told_of_packets (offer_of requests) (limit_in requests) packets f h (ap (λ (x : Fault). x.kind) one ∙ too_long)
 
 module _ {R A : Type 0} (answers : R → Repository) (old new : Server R A) (u : List ℕ) where
   -- what a server that waits for bytes stands for
@@ -100,7 +134,7 @@ module _ {R A : Type 0} (answers : R → Repository) (old new : Server R A) (u :
 
   pub all_sent_of : (s : Setting) (so_far before : List ℕ) → wants_input old ≡ true → (h : Serves s so_far before old) → IsSent s h.asked h.sent []
   all_sent_of s so_far before wants h =
-      subst (λ (owed : List Pkt). IsSent s h.asked h.sent owed) (nothing_owed old.offer s.repo.refs old.phase wants) h.is_sent
+      h.is_sent [] (owes_nothing old.offer s.repo old.phase wants)
 
   -- no packet came of the bytes
   pub goes_open : wants_input old ≡ true → ReadsFor old u [] new → new.requests ≡ old.requests → new.phase ≡ old.phase → fault_of new.reader ≡ None → Goes answers u [] old new
@@ -126,9 +160,10 @@ module _ {R A : Type 0} (answers : R → Repository) (old new : Server R A) (u :
             cuts = h.cuts;
             takes = subst (Takes h.left) (sym same_requests) h.takes;
             left_is = subst (λ (p : Phase A). LeftIn p h.left) (sym same_phase) h.left_is;
-            is_sent = subst (λ (owed : List Pkt). IsSent s h.asked h.sent owed)
-                (sym (nothing_owed new.offer s.repo.refs new.phase (ap reads_in same_phase ∙ wants))) (all_sent_of s so_far before wants h);
+            is_sent = λ owed owes. subst (λ (l : List Pkt). IsSent s h.asked h.sent l)
+                (sym (nothing_owed new.offer s.repo new.phase owed (ap reads_in same_phase ∙ wants) owes)) (all_sent_of s so_far before wants h);
             given_is = append-nil before ∙ h.given_is;
+            fit = h.fit;
           },
         );
       }
@@ -136,7 +171,8 @@ module _ {R A : Type 0} (answers : R → Repository) (old new : Server R A) (u :
   -- with this packet the session ends, and nothing of its end was given yet
   ended_at : (s : Setting) (so_far : List ℕ) (over : Bool) (before : List ℕ) (left : List Given) (packets : List Given) (rest : List ℕ) (outcome : Outcome)
       → wants_input old ≡ true → (h : Serves s so_far before old) → Reads new.reader 0 (so_far ++ u) packets rest → Cuts s packets h.asked left
-      → EndsBy s over left rest (length (so_far ++ u)) outcome → (owed : List Pkt) → tail_of outcome ≡ owed → IsEnding s (so_far ++ u) over (before ++ []) outcome owed
+      → EndsBy s over left rest (length (so_far ++ u)) outcome → (owed : List Pkt) → IsTail s left outcome owed
+      → IsEnding s (so_far ++ u) over (before ++ []) outcome owed
   ended_at s so_far over before left packets rest outcome wants h stream cuts ends owed tail =
       let all = all_sent s h.asked h.sent (all_sent_of s so_far before wants h) in
       record {
@@ -150,6 +186,7 @@ module _ {R A : Type 0} (answers : R → Repository) (old new : Server R A) (u :
         answered = all.answered;
         parts = tail;
         given_is = append-nil before ∙ h.given_is ∙ ap spelled (all.sent_is ∙ sym (append-nil _));
+        fit = subst AllFit (all.sent_is ∙ sym (append-nil _)) h.fit;
       }
 
   -- behind a whole packet there is no rest
@@ -158,11 +195,17 @@ module _ {R A : Type 0} (answers : R → Repository) (old new : Server R A) (u :
       let known = sound_rest new.reader 0 bytes packets rest sound stream in
       sym known.0 ∙ rest_of_shut new.reader shut
 
+  -- what is owed, in the phase that was come to
+  pub owes_at : (s : Setting) (phase : Phase A) (owed : List Pkt) → new.phase ≡ phase → Owes new.offer s.repo new.phase owed → Owes new.offer s.repo phase owed
+  owes_at s phase owed is owes = subst (λ (p : Phase A). Owes new.offer s.repo p owed) is owes
+
   -- where the session goes on behind a packet
-  packet_serves : (s : Setting) (so_far : List ℕ) (before : List ℕ) (asked : List Asked) (packets left : List Given) (rest : List ℕ) (sent owed : List Pkt) (phase : Phase A)
+  packet_serves : (s : Setting) (so_far : List ℕ) (before : List ℕ) (asked : List Asked) (packets left : List Given) (rest : List ℕ) (sent : List Pkt)
+      (phase : Phase A)
       → Reads new.reader 0 (so_far ++ u) packets rest → fault_of new.reader ≡ None → Cuts s packets asked left → Takes left new.requests → new.phase ≡ phase
-      → LeftIn phase left → owed_in new.offer s.repo.refs phase ≡ owed → IsSent s asked sent owed → before ≡ spelled sent → Serves s (so_far ++ u) (before ++ []) new
-  packet_serves s so_far before asked packets left rest sent owed phase stream sound cuts takes phase_is left_is owed_is is_sent given =
+      → LeftIn phase left → ((owed : List Pkt) → Owes new.offer s.repo phase owed → IsSent s asked sent owed) → before ≡ spelled sent → AllFit sent
+      → Serves s (so_far ++ u) (before ++ []) new
+  packet_serves s so_far before asked packets left rest sent phase stream sound cuts takes phase_is left_is is_sent given fit =
       record {
         asked = asked;
         packets = packets;
@@ -174,8 +217,9 @@ module _ {R A : Type 0} (answers : R → Repository) (old new : Server R A) (u :
         cuts = cuts;
         takes = takes;
         left_is = subst (λ (p : Phase A). LeftIn p left) (sym phase_is) left_is;
-        is_sent = subst (λ (l : List Pkt). IsSent s asked sent l) (sym (ap (owed_in new.offer s.repo.refs) phase_is ∙ owed_is)) is_sent;
+        is_sent = λ owed owes. is_sent owed (subst (λ (p : Phase A). Owes new.offer s.repo p owed) phase_is owes);
         given_is = append-nil before ∙ given;
+        fit = fit;
       }
 
   -- how a server stands behind a packet, by what the packet brought
@@ -186,8 +230,9 @@ module _ {R A : Type 0} (answers : R → Repository) (old new : Server R A) (u :
       → StandsBy (outcome_in (phase_after brought)) s (so_far ++ u) over (before ++ []) new
   packet_stands s so_far over before g Part wants not_over h rest stream sound shut offer limit begun takes phase_is = (
     not_over,
-    packet_serves s so_far before h.asked (h.packets ++ g ∷ []) (h.left ++ g ∷ []) rest h.sent [] Within stream sound
-        (cuts_more s h.packets (g ∷ []) h.asked h.left h.cuts) takes phase_is (one_more h.left g) refl (all_sent_of s so_far before wants h) h.given_is,
+    packet_serves s so_far before h.asked (h.packets ++ g ∷ []) (h.left ++ g ∷ []) rest h.sent Within stream sound
+        (cuts_more s h.packets (g ∷ []) h.asked h.left h.cuts) takes phase_is (one_more h.left g)
+        (λ owed owes. subst (λ (l : List Pkt). IsSent s h.asked h.sent l) (sym owes) (all_sent_of s so_far before wants h)) h.given_is h.fit,
   )
   packet_stands s so_far over before g (Whole request) wants not_over h rest stream sound shut offer limit begun (takes, asks) phase_is =
       let cuts = cuts_more s h.packets (g ∷ []) h.asked h.left h.cuts in
@@ -195,20 +240,23 @@ module _ {R A : Type 0} (answers : R → Repository) (old new : Server R A) (u :
       subst (λ (n : ℕ). Asks s.offer n (h.left ++ g ∷ []) (asked_of request) (kept_of request)) limit
       (subst (λ (o : Offer). Asks o (limit_in new.requests) (h.left ++ g ∷ []) (asked_of request) (kept_of request)) offer asks) in (
         not_over,
-        packet_serves s so_far before (h.asked ++ asked_of request ∷ []) (h.packets ++ g ∷ []) [] rest h.sent (answer_from (asked_of request) s.repo.refs 0) (Answering request 0) stream sound
-            (cuts_whole s (h.packets ++ g ∷ []) h.asked (h.left ++ g ∷ []) (asked_of request) (kept_of request) cuts asks_here) takes phase_is refl refl
-            (one_more_asked s h.asked h.sent (answer_from (asked_of request) s.repo.refs 0) (asked_of request) (all_sent_of s so_far before wants h) (whole_answer s.repo (asked_of request))) h.given_is,
+        packet_serves s so_far before (h.asked ++ asked_of request ∷ []) (h.packets ++ g ∷ []) [] rest h.sent (Answering request 0) stream sound
+            (cuts_whole s (h.packets ++ g ∷ []) h.asked (h.left ++ g ∷ []) (asked_of request) (kept_of request) cuts asks_here) takes phase_is refl
+            (λ owed owes. one_more_asked s h.asked h.sent owed (asked_of request) (all_sent_of s so_far before wants h)
+            (whole_answer s.repo (asked_of request) owed owes)) h.given_is h.fit,
       )
   packet_stands s so_far over before g Stop wants not_over h rest stream sound shut offer limit begun stop phase_is =
-      ended_at s so_far over before (h.left ++ g ∷ []) (h.packets ++ g ∷ []) rest Flush wants h stream (cuts_more s h.packets (g ∷ []) h.asked h.left h.cuts)
-      (stop, no_rest _ _ rest sound shut stream) (owed_in new.offer s.repo.refs new.phase) (sym (ap (owed_in new.offer s.repo.refs) phase_is))
+      λ owed owes. ended_at s so_far over before (h.left ++ g ∷ []) (h.packets ++ g ∷ []) rest Flush wants h stream
+      (cuts_more s h.packets (g ∷ []) h.asked h.left h.cuts)
+      (stop, no_rest _ _ rest sound shut stream) owed (sym (owes_at s (Ended Flush) owed phase_is owes))
   packet_stands s so_far over before g (RefusedPacket fault) wants not_over h rest stream sound shut offer limit begun told phase_is =
       let told_here : IsTold s.offer s.limit (h.left ++ g ∷ []) fault =
       subst (λ (n : ℕ). IsTold s.offer n (h.left ++ g ∷ []) fault) limit (subst (λ (o : Offer). IsTold o (limit_in new.requests) (h.left ++ g ∷ []) fault) offer told) in
       subst (λ (o : Option Outcome). StandsBy o s (so_far ++ u) over (before ++ []) new) (sym (refused_outcome_by A fault.kind fault))
-      (ended_at s so_far over before (h.left ++ g ∷ []) (h.packets ++ g ∷ []) rest (Refused fault) wants h stream (cuts_more s h.packets (g ∷ []) h.asked h.left h.cuts)
-      (inl (record { front = h.left; last = g; whole = refl; begins = begun; told = told_here; no_rest = no_rest _ _ rest sound shut stream })) (owed_in new.offer s.repo.refs new.phase)
-      (refused_owes_by A new.offer s.repo.refs fault.kind fault refl ∙ sym (ap (owed_in new.offer s.repo.refs) phase_is)))
+      (λ owed owes. ended_at s so_far over before (h.left ++ g ∷ []) (h.packets ++ g ∷ []) rest (Refused fault) wants h stream
+      (cuts_more s h.packets (g ∷ []) h.asked h.left h.cuts)
+      (inl (record { front = h.left; last = g; whole = refl; begins = begun; told = told_here; no_rest = no_rest _ _ rest sound shut stream })) owed
+      (refused_owes_by A new.offer s.repo fault.kind fault owed refl (owes_at s (refused_by fault.kind fault) owed phase_is owes)))
 
   -- a packet came of the bytes
   pub goes_packet : (g : Given) (brought : Brought A) → wants_input old ≡ true → ReadsFor old u (g ∷ []) new → Brings old.requests g brought new.requests
@@ -237,14 +285,14 @@ module _ {R A : Type 0} (answers : R → Repository) (old new : Server R A) (u :
       → IsRefused s over left rest (length (so_far ++ u)) fault → new.phase ≡ refused_by fault.kind fault → StandsBy (outcome_of new) s (so_far ++ u) over (before ++ []) new
   ends_refused s so_far over before left packets rest fault wants h stream cuts refused phase_is =
       subst (λ (o : Option Outcome). StandsBy o s (so_far ++ u) over (before ++ []) new) (sym (ap outcome_in phase_is ∙ refused_outcome_by A fault.kind fault))
-      (ended_at s so_far over before left packets rest (Refused fault) wants h stream cuts refused (owed_in new.offer s.repo.refs new.phase)
-      (refused_owes_by A new.offer s.repo.refs fault.kind fault refl ∙ sym (ap (owed_in new.offer s.repo.refs) phase_is)))
+      (λ owed owes. ended_at s so_far over before left packets rest (Refused fault) wants h stream cuts refused owed
+      (refused_owes_by A new.offer s.repo fault.kind fault owed refl (owes_at s (refused_by fault.kind fault) owed phase_is owes)))
 
   -- the bytes were refused
   pub goes_refused : (fault : Fault) → wants_input old ≡ true → ReadsFor old u [] new → new.requests ≡ old.requests → requests_fault old.requests ≡ None → is_waiting old.requests ≡ false
       → fault_of new.reader ≡ Some fault → (fault_of old.reader ≡ None → fault.kind ≢ Truncated) → new.phase ≡ refused_by fault.kind fault → Goes answers u [] old new
   goes_refused fault wants reads same_requests sound ready told not_the_end phase_is s so_far over before r =
-      let h = serves_of s so_far over before wants r in
+      let (not_over, h) = stands_of s so_far over before wants r in
       let (rest, later) = reads.reads 0 so_far h.packets h.rest h.reads in
       let stream = subst (λ (l : List Given). Reads new.reader 0 (so_far ++ u) l rest) (append-nil h.packets) later in
       record {
@@ -255,11 +303,36 @@ module _ {R A : Type 0} (answers : R → Repository) (old new : Server R A) (u :
         within = omega (arith, r.within, ap kept_so_far same_requests, none_kept_at_end new.phase (Refused fault) (ap outcome_in phase_is ∙ refused_outcome_by A fault.kind fault));
         stands = ends_refused s so_far over before h.left h.packets rest fault wants h stream h.cuts
             (inr (inl (record {
+              goes_on = not_over;
               begins = begins s h.left old.requests r.reads_for r.limit sound ready h.takes;
               stops = stopped_by new.reader (so_far ++ u) h.packets rest fault told stream;
               not_the_end = not_the_end h.no_fault;
             }))) phase_is;
       }
+
+module _ {R A : Type 0} (answers : R → Repository) (old : Server R A) (used : ℕ) (piece : List ℕ) where
+  -- the session went on
+  pub open_in_time : StopsInTime answers old used piece (outcome_in old.phase)
+  open_in_time s so_far over before r wants fault ended too_long =
+      let none : outcome_in old.phase ≡ None = no_outcome old.phase wants in
+      absurd (cc)
+
+  -- a packet was judged
+  pub packet_in_time : (g : Given) (brought : Brought A) (requests : RequestReader A) (phase : Phase A) → Brings old.requests g brought requests
+      → phase ≡ phase_after brought
+      → StopsInTime answers old used piece (outcome_in phase)
+  packet_in_time g brought requests phase brings phase_is s so_far over before r wants fault ended too_long =
+      let h = serves_of answers old old [] s so_far over before wants r in
+      absurd (not_too_long (h.left ++ g ∷ []) brought requests (brings.brings h.left h.takes) fault (sym (ap outcome_in phase_is) ∙ ended) too_long)
+
+  -- the bytes were refused
+  pub fault_in_time : (fault : Fault) (phase : Phase A) → phase ≡ refused_by fault.kind fault → (fault_of old.reader ≡ None → ShownByFeed fault used piece)
+      → StopsInTime answers old used piece (outcome_in phase)
+  fault_in_time fault phase phase_is shown s so_far over before r wants other ended too_long =
+      let h = serves_of answers old old [] s so_far over before wants r in
+      let same : Some (Refused fault) ≡ Some (Refused other) = sym (refused_outcome_by A fault.kind fault) ∙ sym (ap outcome_in phase_is) ∙ ended in
+      let one : fault ≡ other = cc in
+      (shown h.no_fault).one_more (ap (λ (f : Fault). f.kind) one ∙ too_long)
 
 -- a server that waits for bytes, and has some packets of a request
 pub is_within : {A : Type 0} (phase : Phase A) → reads_in phase ≡ true → (phase ≡ Between → ⊥) → phase ≡ Within

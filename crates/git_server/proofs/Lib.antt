@@ -14,3 +14,4 @@ pub mod Owing
 pub mod SessionLaws
 pub mod OneSession
 pub mod RunLemmas
+pub mod OneOutcome

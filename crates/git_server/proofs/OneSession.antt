@@ -1,8 +1,10 @@
 -- What was asked by the bytes that a server used, and how it is answered, is one thing: so a server that has given all
 -- of it owes nothing.
-use Rattle.std.proofs.Common.{◌≡◌, ◌≢◌, ℕ, Bool, true, false, List, [], ◌∷◌, ◌++◌, length, length-append, Option, None, refl, sym, ap, ◌∙◌, append_assoc, append-nil, subst, inl, inr, arith}
+use Rattle.std.proofs.Common.{◌≡◌, ◌≢◌, ℕ, ◌+◌, drop, map, codes, Bool, true, false, List, [], ◌∷◌, ◌++◌, length, length-append, Option, None, refl, sym, ap, ◌∙◌, append_assoc, append-nil, subst, inl, inr, arith}
 use Rattle.git_pkt.specs.Digits.{digits_of}
-use Rattle.git_pkt.specs.Packets.{Pkt, flush, body_of, length_field, spelling_of}
+use Rattle.git_pkt.specs.Packets.{Pkt, flush, delim, resp_end, payload, body_of, length_field, spelling_of}
+use Rattle.git_pkt.proofs.Spelling.{same_start}
+use Rattle.git_pkt.proofs.Written.{spells_written}
 use Rattle.git_pkt.specs.Splits.{Given}
 use Rattle.git_pkt.proofs.Streams.{one_split}
 use Rattle.git_msg.specs.declared.offers.Offer.{Offer}
@@ -12,10 +14,11 @@ use Rattle.git_msg.specs.Lines.{Line, IsLine, IsLineIn, has_delimiter}
 use Rattle.git_msg.specs.Requests.{AreLines, Asks}
 use Rattle.git_msg.proofs.LineLaws.{one_request}
 use Rattle.git_server.specs.Repository.{Entry, Repository}
-use Rattle.git_server.specs.Answers.{spelled, IsAnswer}
-use Rattle.git_server.specs.Greetings.{greetings_from}
+use Rattle.git_server.specs.Answers.{AllFit, flushes, offered_line, reference_packet, shown_refs, spelled, IsAnswer}
+use Rattle.git_server.specs.Greetings.{format_on, greetings_from}
+use Rattle.git_server.specs.declared.greeting.Greeting.TheVariants.{Version, Agent, LsRefs, ServerOption, ObjectFormat, End}
 use Rattle.git_server.specs.Sessions.{Setting, Cuts, AreAnswers, Begins, IsAnswered, IsSent, advertised}
-use Rattle.git_server.specs.Phases.{answer_from, outcome_in, owed_in, reads_in}
+use Rattle.git_server.specs.Phases.{IsAnswerFrom, outcome_in, Owes, reads_in}
 use Rattle.git_server.specs.Serving.{Running, Serves, StandsBy, outcome_of, wants_input}
 use Rattle.git_server.specs.declared.greeting.Greeting.{Greeting as GreetingLine}
 use Rattle.git_server.specs.declared.outcome.Outcome.{Outcome}
@@ -23,11 +26,10 @@ use Rattle.git_server.specs.declared.server.Phase.{Phase}
 use Rattle.git_server.specs.declared.server.Phase.TheVariants.{Greeting, Between, Within, Answering, Refusing, Ended}
 use Rattle.git_server.specs.declared.server.Server.{Server}
 use Rattle.git_server.proofs.WholeRequests.{answers_more, begins}
-use Rattle.git_server.proofs.Sent.{spelled_both}
-use Rattle.git_server.proofs.Owing.{one_line}
+use Rattle.git_server.proofs.Going.{owes_some}
 
 -- no packet of the list is a flush
-abbrev NoFlush : List Given → Type 0
+abbrev pub NoFlush : List Given → Type 0
 NoFlush [] = Unit {0}
 NoFlush (g ∷ gs) = (g.packet ≢ flush) × NoFlush gs
 
@@ -35,27 +37,29 @@ flush_is_no_line_in : (part : Bool) (offer : Offer) (limit : ℕ) (before : List
 flush_is_no_line_in true offer limit before line h = h
 flush_is_no_line_in false offer limit before line h = h
 
-flush_is_no_line : (offer : Offer) (limit : ℕ) (before : List Line) (packet : Pkt) (line : Line) → IsLine offer limit before packet line → packet ≢ flush
+pub flush_is_no_line : (offer : Offer) (limit : ℕ) (before : List Line) (packet : Pkt) (line : Line) → IsLine offer limit before packet line → packet ≢ flush
 flush_is_no_line offer limit before packet line h is = flush_is_no_line_in (has_delimiter before) offer limit before line (subst (λ (p : Pkt). IsLine offer limit before p line) is h)
 
-lines_have_no_flush : (offer : Offer) (limit : ℕ) (before : List Line) (gs : List Given) (lines : List Line) → AreLines offer limit before gs lines → NoFlush gs
+pub lines_have_no_flush : (offer : Offer) (limit : ℕ) (before : List Line) (gs : List Given) (lines : List Line) → AreLines offer limit before gs lines
+    → NoFlush gs
 lines_have_no_flush offer limit before [] lines h = tt
 lines_have_no_flush offer limit before (g ∷ gs) [] h = absurd h
 lines_have_no_flush offer limit before (g ∷ gs) (l ∷ ls) h =
     (flush_is_no_line offer limit before g.packet l h.0, lines_have_no_flush offer limit (before ++ l ∷ []) gs ls h.1)
 
-flush_inside : (xs more left : List Given) (last : Given) → NoFlush left → last.packet ≡ flush → left ≡ xs ++ last ∷ more → ⊥
+pub flush_inside : (xs more left : List Given) (last : Given) → NoFlush left → last.packet ≡ flush → left ≡ xs ++ last ∷ more → ⊥
 flush_inside [] more [] last none ends e = cc
 flush_inside (x ∷ xs) more [] last none ends e = cc
 flush_inside [] more (g ∷ gs) last none ends e = let same : g ≡ last = cc in none.0 (ap (λ (p : Given). p.packet) same ∙ ends)
 flush_inside (x ∷ xs) more (g ∷ gs) last none ends e = let same : gs ≡ xs ++ last ∷ more = cc in flush_inside xs more gs last none.1 ends same
 
 -- what comes up to the first flush
-record SameFront (xs ys more others : List Given) (l m : Given) : Type 0 where
+pub record SameFront (xs ys more others : List Given) (l m : Given) : Type 0 where
   pub front : xs ++ l ∷ [] ≡ ys ++ m ∷ []
   pub back : more ≡ others
 
-same_front : (xs ys more others : List Given) (l m : Given) → NoFlush xs → NoFlush ys → l.packet ≡ flush → m.packet ≡ flush → xs ++ l ∷ more ≡ ys ++ m ∷ others → SameFront xs ys more others l m
+pub same_front : (xs ys more others : List Given) (l m : Given) → NoFlush xs → NoFlush ys → l.packet ≡ flush → m.packet ≡ flush
+    → xs ++ l ∷ more ≡ ys ++ m ∷ others → SameFront xs ys more others l m
 same_front [] [] more others l m none clear l_ends m_ends e = let same : l ≡ m = cc in record { front = ap (λ (g : Given). g ∷ []) same; back = cc }
 same_front [] (y ∷ ys) more others l m none clear l_ends m_ends e = let same : l ≡ y = cc in absurd (clear.0 (ap (λ (g : Given). g.packet) (sym same) ∙ l_ends))
 same_front (x ∷ xs) [] more others l m none clear l_ends m_ends e = let same : x ≡ m = cc in absurd (none.0 (ap (λ (g : Given). g.packet) same ∙ m_ends))
@@ -66,7 +70,8 @@ same_front (x ∷ xs) (y ∷ ys) more others l m none clear l_ends m_ends e =
     record { front = ap (λ (g : Given). g ∷ (xs ++ l ∷ [])) same ∙ ap (λ (gs : List Given). y ∷ gs) later.front; back = later.back }
 
 module _ (s : Setting) where
-  whole_then : (front more packets : List Given) (q : Asked) (kept : ℕ) → (a : Asks s.offer s.limit front q kept) → packets ≡ front ++ more → packets ≡ a.front ++ a.last ∷ more
+  pub whole_then : (front more packets : List Given) (q : Asked) (kept : ℕ) → (a : Asks s.offer s.limit front q kept) → packets ≡ front ++ more
+      → packets ≡ a.front ++ a.last ∷ more
   whole_then front more packets q kept a e = e ∙ ap (λ (gs : List Given). gs ++ more) a.whole ∙ append_assoc a.front (a.last ∷ []) more
 
   -- packets ask for one list of requests
@@ -86,17 +91,8 @@ module _ (s : Setting) where
       let tail = one_cut more qs rs left rest none clear cuts (subst (λ (gs : List Given). Cuts s gs rs rest) (sym same.back) later) in
       ap (λ (a : Asked). a ∷ qs) first ∙ ap (λ (l : List Asked). r ∷ l) tail
 
-  begun_has_no_flush : (left : List Given) → Begins s left → NoFlush left
+  pub begun_has_no_flush : (left : List Given) → Begins s left → NoFlush left
   begun_has_no_flush left h = lines_have_no_flush s.offer s.limit [] left h.lines h.taken
-
-one_answer : (repo : Repository) (q : Asked) (answer other : List Pkt) → IsAnswer repo q answer → IsAnswer repo q other → answer ≡ other
-one_answer repo (ls_refs q) answer other h k = h ∙ sym k
-
--- requests have one list of answers
-pub same_answers : (repo : Repository) (asked : List Asked) (packets others : List Pkt) → AreAnswers repo asked packets → AreAnswers repo asked others → packets ≡ others
-same_answers repo [] packets others h k = h ∙ sym k
-same_answers repo (q ∷ qs) packets others (answer, more, e, is, later) (other, rest, f, is_other, back) =
-    e ∙ ap (λ (l : List Pkt). l ++ more) (one_answer repo q answer other is is_other) ∙ ap (λ (l : List Pkt). other ++ l) (same_answers repo qs more rest later back) ∙ sym f
 
 -- what was sent and what is owed are the advertisement and an answer to each request
 record IsWhole (s : Setting) (asked : List Asked) (sent owed : List Pkt) : Type 0 where
@@ -114,31 +110,65 @@ is_whole s asked sent owed (inr h) =
       parts = ap (λ (l : List Pkt). l ++ owed) h.sent_is ∙ append_assoc (advertised s ++ h.answers) h.front owed ∙ append_assoc (advertised s) h.answers (h.front ++ owed);
     }
 
--- each packet has some bytes
-spelled_nothing : (packets : List Pkt) → length (spelled packets) ≡ 0 → packets ≡ []
-spelled_nothing [] none = refl
-spelled_nothing (p ∷ ps) none = absurd (omega (arith, none, length-append (spelling_of p) (spelled ps), length-append (digits_of (length_field p)) (body_of p)))
+pub flushes-append : (front back : List Pkt) → flushes (front ++ back) ≡ flushes front + flushes back
+flushes-append [] back = omega arith
+flushes-append (flush ∷ ps) back = omega (arith, flushes-append ps back)
+flushes-append (delim ∷ ps) back = flushes-append ps back
+flushes-append (resp_end ∷ ps) back = flushes-append ps back
+flushes-append (payload x ∷ ps) back = flushes-append ps back
 
-all_given : (sent owed : List Pkt) → spelled (sent ++ owed) ≡ spelled sent → owed ≡ []
-all_given sent owed e = spelled_nothing owed (omega (arith, ap length e, ap length (spelled_both sent owed), length-append (spelled sent) (spelled owed)))
+lines_have_none : (symrefs peel : Bool) (refs : List Entry) → flushes (map (reference_packet symrefs peel) refs) ≡ 0
+lines_have_none symrefs peel [] = refl
+lines_have_none symrefs peel (r ∷ rs) = lines_have_none symrefs peel rs
 
-not_nil : (xs : List Pkt) (x : Pkt) → xs ++ x ∷ [] ≢ []
-not_nil [] x e = cc
-not_nil (y ∷ ys) x e = cc
+ends_once : (symrefs peel : Bool) (refs : List Entry) → flushes (map (reference_packet symrefs peel) refs ++ flush ∷ []) ≡ 1
+ends_once symrefs peel refs = omega (arith, flushes-append (map (reference_packet symrefs peel) refs) (flush ∷ []), lines_have_none symrefs peel refs)
 
-owes_answer : (q : Asked) (refs : List Entry) (next : ℕ) → answer_from q refs next ≢ []
-owes_answer (ls_refs q) refs next e = not_nil _ flush e
+-- an answer has one flush
+answer_ends : (repo : Repository) (q : Asked) (answer : List Pkt) → IsAnswer repo q answer → flushes answer ≡ 1
+answer_ends repo (ls_refs q) answer h = ap flushes h ∙ ends_once q.symrefs q.peel (shown_refs q.ref_prefixes repo.refs)
 
-owes_line : (offer : Offer) (line : GreetingLine) → greetings_from offer line ≢ []
-owes_line offer line e = let some = sym (one_line offer line) ∙ e in cc
+answers_end : (repo : Repository) (asked : List Asked) (packets : List Pkt) → AreAnswers repo asked packets → flushes packets ≡ length asked
+answers_end repo [] packets h = ap flushes h
+answers_end repo (q ∷ qs) packets (answer, more, e, is, later) =
+    omega (arith, ap flushes e, flushes-append answer more, answer_ends repo q answer is, answers_end repo qs more later)
 
-waits_where_nothing_is_owed : {A : Type 0} (offer : Offer) (refs : List Entry) (phase : Phase A) → outcome_in phase ≡ None → owed_in offer refs phase ≡ [] → reads_in phase ≡ true
-waits_where_nothing_is_owed offer refs Between none nothing = refl
-waits_where_nothing_is_owed offer refs Within none nothing = refl
-waits_where_nothing_is_owed offer refs (Greeting line) none nothing = absurd (owes_line offer line nothing)
-waits_where_nothing_is_owed offer refs (Answering request next) none nothing = absurd (owes_answer (asked_of request) refs next nothing)
-waits_where_nothing_is_owed offer refs (Refusing fault) none nothing = absurd (cc)
-waits_where_nothing_is_owed offer refs (Ended outcome) none nothing = absurd (cc)
+-- packets are spelled in one way
+one_spelling : (ps qs : List Pkt) → AllFit ps → AllFit qs → spelled ps ≡ spelled qs → ps ≡ qs
+one_spelling [] [] h k e = refl
+one_spelling [] (q ∷ qs) h k e = absurd
+    (omega (arith, ap length e, length-append (spelling_of q) (spelled qs), length-append (digits_of (length_field q)) (body_of q)))
+one_spelling (p ∷ ps) [] h k e = absurd
+    (omega (arith, ap length e, length-append (spelling_of p) (spelled ps), length-append (digits_of (length_field p)) (body_of p)))
+one_spelling (p ∷ ps) (q ∷ qs) h k e =
+    let same = same_start p q (spelling_of p) (spelling_of q) (spelled ps) (spelled qs) (spells_written p h.0) (spells_written q k.0) e in
+    ap (λ (x : Pkt). x ∷ ps) same.packet ∙ ap (λ (xs : List Pkt). q ∷ xs) (one_spelling ps qs h.1 k.1 same.rest)
+
+-- where something is owed, a flush is
+option_owes : (offer : Offer) (b : Bool) → flushes (offered_line b (codes "server-option") ++ format_on offer) ≡ 1
+option_owes offer true = refl
+option_owes offer false = refl
+
+line_owes : (offer : Offer) (line : GreetingLine) → flushes (greetings_from offer line) ≡ 1
+line_owes offer End = refl
+line_owes offer ObjectFormat = refl
+line_owes offer ServerOption = refl
+line_owes offer LsRefs = option_owes offer offer.server_option
+line_owes offer Agent = option_owes offer offer.server_option
+line_owes offer Version = option_owes offer offer.server_option
+
+owes_flush : {A : Type 0} (offer : Offer) (repo : Repository) (phase : Phase A) (owed : List Pkt) → outcome_in phase ≡ None → Owes offer repo phase owed
+    → flushes owed ≡ 0 → reads_in phase ≡ true
+owes_flush offer repo Between owed none owes zero = refl
+owes_flush offer repo Within owed none owes zero = refl
+owes_flush offer repo (Greeting line) owed none owes zero = absurd (omega (arith, zero, ap flushes owes, line_owes offer line))
+owes_flush offer repo (Answering request next) owed none owes zero = absurd (answer_owes (asked_of request) repo next owed owes zero)
+  where
+    answer_owes : (q : Asked) (repo : Repository) (next : ℕ) (owed : List Pkt) → IsAnswerFrom repo q next owed → flushes owed ≡ 0 → ⊥
+    answer_owes (ls_refs q) repo next owed owes zero = omega
+        (arith, zero, ap flushes owes, ends_once q.symrefs q.peel (shown_refs q.ref_prefixes (drop next repo.refs)))
+owes_flush offer repo (Refusing fault) owed none owes zero = absurd (cc)
+owes_flush offer repo (Ended outcome) owed none owes zero = absurd (cc)
 
 module _ {R A : Type 0} (answers : R → Repository) (server : Server R A) (s : Setting) (used : List ℕ) (over : Bool) (given : List ℕ) (r : Running answers s used over given server) where
   -- a server without an outcome that has given all waits for bytes
@@ -150,8 +180,12 @@ module _ {R A : Type 0} (answers : R → Repository) (server : Server R A) (s : 
       let asked : h.asked ≡ all.asked =
       one_cut s all.stream.packets h.asked all.asked h.left all.left (begun_has_no_flush s h.left begun) (begun_has_no_flush s all.left all.begins)
       (subst (λ (gs : List Given). Cuts s gs h.asked h.left) split.packets h.cuts) all.stream.cuts in
-      let owed = owed_in server.offer s.repo.refs server.phase in
-      let whole = is_whole s h.asked h.sent owed h.is_sent in
-      let same : whole.answers ≡ all.answers = same_answers s.repo all.asked whole.answers all.answers (subst (λ (qs : List Asked). AreAnswers s.repo qs whole.answers) asked whole.answered) all.answered in
-      let given_whole : spelled (h.sent ++ owed) ≡ spelled h.sent = ap spelled (whole.parts ∙ ap (λ (l : List Pkt). advertised s ++ l) same) ∙ sym all.given_is ∙ h.given_is in
-      waits_where_nothing_is_owed server.offer s.repo.refs server.phase none (all_given h.sent owed given_whole)
+      let (owed, owes) = owes_some server.offer s.repo server.phase in
+      let whole = is_whole s h.asked h.sent owed (h.is_sent owed owes) in
+      let sent : h.sent ≡ advertised s ++ all.answers = one_spelling h.sent (advertised s ++ all.answers) h.fit all.fit (sym h.given_is ∙ all.given_is) in
+      let both = ap flushes whole.parts in
+      let split_both = flushes-append h.sent owed in
+      let split_whole = flushes-append (advertised s) whole.answers in
+      let split_all = ap flushes sent ∙ flushes-append (advertised s) all.answers in
+      let same = answers_end s.repo h.asked whole.answers whole.answered ∙ ap length asked ∙ sym (answers_end s.repo all.asked all.answers all.answered) in
+      owes_flush server.offer s.repo server.phase owed none owes (omega (arith, both, split_both, split_whole, split_all, same))

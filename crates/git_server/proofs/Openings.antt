@@ -1,8 +1,10 @@
 -- A server before its first byte.
-use Rattle.std.proofs.Common.{arith, ◌≡◌, false, [], Option, None, refl, sym, ◌∙◌, subst, ap, inl}
+use Rattle.std.proofs.Common.{arith, ◌≡◌, false, List, [], Option, None, refl, sym, ◌∙◌, subst, ap, inl}
+use Rattle.git_pkt.specs.Packets.{Pkt}
+use Rattle.git_msg.specs.declared.offers.Offer.{Offer}
 use Rattle.git_server.specs.Repository.{Repository}
 use Rattle.git_server.specs.Sessions.{Setting, advertised}
-use Rattle.git_server.specs.Phases.{LeftIn, kept_in, outcome_in, owed_in}
+use Rattle.git_server.specs.Phases.{LeftIn, kept_in, outcome_in, Owes}
 use Rattle.git_server.specs.Serving.{IsFresh, Running, StandsBy}
 use Rattle.git_server.specs.declared.outcome.Outcome.{Outcome}
 use Rattle.git_server.specs.declared.server.Server.{Server}
@@ -12,9 +14,11 @@ use Rattle.git_server.proofs.Readers.{fresh_has_no_fault}
 module _ {R A : Type 0} (answers : R → Repository) (s : Setting) (repo : R) (phase : Phase A) (server : Server R A) where
   -- nothing was used and nothing given, and the advertisement is owed, if there is one
   pub opens : IsFresh repo s.offer s.limit phase server → answers repo ≡ s.repo → outcome_in phase ≡ None → LeftIn phase [] → kept_in phase ≡ 0
-      → owed_in s.offer s.repo.refs phase ≡ advertised s → Running answers s [] false [] server
+      → ((owed : List Pkt) → Owes s.offer s.repo phase owed → owed ≡ advertised s) → Running answers s [] false [] server
   opens fresh same none left kept owed =
-      let owed_now : owed_in server.offer s.repo.refs server.phase ≡ advertised s = rw (fresh.offer_is, fresh.phase_is) owed in
+      let owed_now : (l : List Pkt) → Owes server.offer s.repo server.phase l → l ≡ advertised s =
+      λ l owes. owed l (subst (λ (p : Phase A). Owes s.offer s.repo p l) fresh.phase_is
+      (subst (λ (o : Offer). Owes o s.repo server.phase l) fresh.offer_is owes)) in
       record {
         offer = fresh.offer_is;
         reads_for = fresh.reads_for;
@@ -34,8 +38,9 @@ module _ {R A : Type 0} (answers : R → Repository) (s : Setting) (repo : R) (p
             cuts = refl;
             takes = fresh.takes;
             left_is = subst (λ (p : Phase A). LeftIn p []) (sym fresh.phase_is) left;
-            is_sent = inl (record { none = refl; parts = owed_now });
+            is_sent = λ l owes. inl (record { none = refl; parts = owed_now l owes });
             given_is = refl;
+            fit = tt;
           },
         );
       }

@@ -1,14 +1,16 @@
 -- What is owed, by the phase that a server is in.
-use Rattle.std.proofs.Common.{◌≡◌, ℕ, Bool, true, false, if◌then◌else◌, List, [], ◌∷◌, ◌++◌, Option, Some, None, codes, refl, sym, ap, ◌∙◌, subst}
+use Rattle.std.proofs.Common.{arith, ◌≡◌, ◌<◌, length, ℕ, Bool, true, false, if◌then◌else◌, List, [], ◌∷◌, ◌++◌, Option, Some, None, codes, refl, sym, ap, ◌∙◌, subst}
 use Rattle.git_pkt.specs.Packets.{Pkt}
 use Rattle.git_pkt.specs.Splits.{Given}
 use Rattle.git_pkt.specs.declared.fault.Fault.{Fault}
 use Rattle.git_msg.specs.declared.offers.Offer.{Offer}
 use Rattle.git_msg.specs.declared.requests.Request.{Request}
-use Rattle.git_server.specs.Repository.{Entry}
+use Rattle.git_msg.specs.Holding.{asked_of}
+use Rattle.git_server.specs.Repository.{Repository}
+use Rattle.git_server.specs.Answering.{answer_behind}
 use Rattle.git_server.specs.Answers.{offered_line, error_packet}
 use Rattle.git_server.specs.Greetings.{format_on, greeting_packet, greeting_after, greetings_from, greetings_after}
-use Rattle.git_server.specs.Phases.{LeftIn, greeting_phase, kept_in, outcome_in, owed_in}
+use Rattle.git_server.specs.Phases.{LeftIn, greeting_phase, kept_in, outcome_in, Owes, most_owed, answer_from}
 use Rattle.git_server.specs.declared.greeting.Greeting.{Greeting as Line}
 use Rattle.git_server.specs.declared.greeting.Greeting.TheVariants.{Version, Agent, LsRefs, ServerOption, ObjectFormat, End}
 use Rattle.git_server.specs.declared.outcome.Outcome.TheVariants.{Refused}
@@ -28,9 +30,15 @@ one_line offer ObjectFormat = refl
 one_line offer End = refl
 
 module _ {A : Type 0} where
-  greeting_owes : (offer : Offer) (refs : List Entry) (o : Option Line) (phase : Phase A) → phase ≡ greeting_phase o → owed_in offer refs phase ≡ greetings_after offer o
-  greeting_owes offer refs (Some line) phase is = ap (owed_in offer refs) is
-  greeting_owes offer refs None phase is = ap (owed_in offer refs) is
+  greeting_owes : (offer : Offer) (repo : Repository) (o : Option Line) (phase : Phase A) (later : List Pkt) → phase ≡ greeting_phase o
+      → Owes offer repo phase later → later ≡ greetings_after offer o
+  greeting_owes offer repo (Some line) phase later is owes = subst (λ (p : Phase A). Owes offer repo p later) is owes
+  greeting_owes offer repo None phase later is owes = subst (λ (p : Phase A). Owes offer repo p later) is owes
+
+  greeting_most : (offer : Offer) (repo : Repository) (o : Option Line) (phase : Phase A) → phase ≡ greeting_phase o
+      → most_owed offer repo phase ≡ length (greetings_after offer o)
+  greeting_most offer repo (Some line) phase is = ap (most_owed offer repo) is
+  greeting_most offer repo None phase is = ap (most_owed offer repo) is
 
   -- behind such a line no request is kept
   pub none_kept_in_greeting : (o : Option Line) (phase : Phase A) → phase ≡ greeting_phase o → kept_in phase ≡ 0
@@ -38,11 +46,32 @@ module _ {A : Type 0} where
   none_kept_in_greeting None phase is = ap kept_in is
 
   -- behind a line of the advertisement the other lines are owed
-  pub line_behind : (offer : Offer) (refs : List Entry) (old new : Phase A) (line : Line) (next : Option Line) (packet : Pkt) → old ≡ Greeting line → packet ≡ greeting_packet offer.format line
-      → next ≡ greeting_after offer line → new ≡ greeting_phase next → owed_in offer refs old ≡ packet ∷ owed_in offer refs new
-  line_behind offer refs old new line next packet was packet_is next_is is =
-      ap (owed_in offer refs) was ∙ one_line offer line ∙ ap (λ (p : Pkt). p ∷ greetings_after offer (greeting_after offer line)) (sym packet_is)
-      ∙ ap (λ (l : List Pkt). packet ∷ l) (ap (greetings_after offer) (sym next_is) ∙ sym (greeting_owes offer refs next new is))
+  pub line_behind : (offer : Offer) (repo : Repository) (old new : Phase A) (line : Line) (next : Option Line) (packet : Pkt) → old ≡ Greeting line
+      → packet ≡ greeting_packet offer.format line
+      → next ≡ greeting_after offer line → new ≡ greeting_phase next → (later : List Pkt) → Owes offer repo new later → Owes offer repo old (packet ∷ later)
+  line_behind offer repo old new line next packet was packet_is next_is is later owes =
+      subst (λ (p : Phase A). Owes offer repo p (packet ∷ later)) (sym was)
+      (ap (λ (l : List Pkt). packet ∷ l) (greeting_owes offer repo next new later is owes ∙ ap (greetings_after offer) next_is)
+      ∙ ap (λ (p : Pkt). p ∷ greetings_after offer (greeting_after offer line)) packet_is ∙ sym (one_line offer line))
+
+  pub fewer_lines : (offer : Offer) (repo : Repository) (old new : Phase A) (line : Line) (next : Option Line) → old ≡ Greeting line
+      → next ≡ greeting_after offer line → new ≡ greeting_phase next → most_owed offer repo new < most_owed offer repo old
+  fewer_lines offer repo old new line next was next_is is =
+      let after = greeting_most offer repo next new is ∙ ap (λ (o : Option Line). length (greetings_after offer o)) next_is in
+      omega (arith, after, ap (most_owed offer repo) was, ap length (one_line offer line))
+
+  -- a packet of an answer
+  pub answer_next : (offer : Offer) (repo : Repository) (old new : Phase A) (request : Request A) (next : ℕ) (behind : Option ℕ) (packet : Pkt)
+      → old ≡ Answering request next → answer_from (asked_of request) repo.refs next ≡ packet ∷ answer_behind (asked_of request) repo.refs behind
+      → ((later : List Pkt) → Owes offer repo new later → later ≡ answer_behind (asked_of request) repo.refs behind) → (later : List Pkt)
+      → Owes offer repo new later → Owes offer repo old (packet ∷ later)
+  answer_next offer repo old new request next behind packet was first is later owes =
+      subst (λ (p : Phase A). Owes offer repo p (packet ∷ later)) (sym was) (ap (λ (l : List Pkt). packet ∷ l) (is later owes) ∙ sym first)
+
+  pub fewer_answers : (offer : Offer) (repo : Repository) (old new : Phase A) (request : Request A) (next : ℕ) (behind : Option ℕ) (packet : Pkt)
+      → old ≡ Answering request next → answer_from (asked_of request) repo.refs next ≡ packet ∷ answer_behind (asked_of request) repo.refs behind
+      → most_owed offer repo new ≡ length (answer_behind (asked_of request) repo.refs behind) → most_owed offer repo new < most_owed offer repo old
+  fewer_answers offer repo old new request next behind packet was first most = omega (arith, most, ap (most_owed offer repo) was, ap length first)
 
   -- a phase without outcome, in which no part of a request is left
   pub record IsQuiet (phase : Phase A) : Type 0 where
@@ -82,9 +111,10 @@ module _ {A : Type 0} where
   left_stays old new q r left h = r.back left (q.out left h)
 
   -- behind the packet of a fault nothing is owed
-  pub refusal_behind : (offer : Offer) (refs : List Entry) (old : Phase A) (fault : Fault) (packet : Pkt) → old ≡ Refusing fault → packet ≡ error_packet fault
-      → owed_in offer refs old ≡ packet ∷ []
-  refusal_behind offer refs old fault packet was is = ap (owed_in offer refs) was ∙ ap (λ (p : Pkt). p ∷ []) (sym is)
+  pub refusal_behind : (offer : Offer) (repo : Repository) (old : Phase A) (fault : Fault) (packet : Pkt) → old ≡ Refusing fault → packet ≡ error_packet fault
+      → (later : List Pkt) → later ≡ [] → Owes offer repo old (packet ∷ later)
+  refusal_behind offer repo old fault packet was is later nothing = subst (λ (p : Phase A). Owes offer repo p (packet ∷ later)) (sym was)
+      (ap (λ (l : List Pkt). packet ∷ l) nothing ∙ ap (λ (p : Pkt). p ∷ []) is)
 
   pub refusal_outcome : (old : Phase A) (fault : Fault) → old ≡ Refusing fault → Some (Refused fault) ≡ outcome_in old
   refusal_outcome old fault was = sym (ap outcome_in was)

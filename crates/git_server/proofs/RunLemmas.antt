@@ -1,21 +1,22 @@
 -- A run of a server, one call after another.
-use Rattle.std.proofs.Common.{◌≡◌, ◌⊎◌, ℕ, ◌+◌, ◌-◌, ◌<◌, ◌≤◌, length, take, drop, take-append-drop, IsSome, IfErr, IsErrAnd, Result, inl, inr, Bool, true, false, List, [], ◌∷◌, ◌++◌, Option, Some, None, refl, sym, ap, ◌∙◌, append_assoc, append-nil, subst}
+use Rattle.std.proofs.Common.{◌≡◌, ◌⊎◌, ℕ, ◌+◌, ◌-◌, ◌<◌, ◌≤◌, length, take, drop, take-append-drop, IsSome, IfErr, OnErr, IsErrAnd, Result, inl, inr, Bool, true, false, List, [], ◌∷◌, ◌++◌, Option, Some, None, refl, sym, ap, ◌∙◌, append_assoc, append-nil, subst}
 use Rattle.std.specs.Io.KnownBytes.{Appends, Consumes, Keeps}
 use Rattle.std.proofs.KnownBytes.{Appends-kept, Appends-nil, Appends-trans, Consumes-nil, Consumes-trans}
 use Rattle.git_pkt.specs.Engine.{Exchanges}
-use Rattle.git_pkt.proofs.EngineLemmas.{Exchanges-flush, Exchanges-more}
+use Rattle.git_pkt.specs.Told.{AppendsFront}
+use Rattle.git_pkt.proofs.EngineLemmas.{AppendsFront-after, Exchanges-flush, Exchanges-more}
 use Rattle.git_server.specs.Repository.{Repository}
-use Rattle.git_server.specs.Sessions.{Setting, IsAnswered}
+use Rattle.git_server.specs.Sessions.{Setting}
 use Rattle.git_server.specs.Serving.{Running, outcome_of, wants_input}
-use Rattle.git_server.specs.Moves.{Closes, EndsAs, Goes, Pulls, TellsPulled, given_by}
-use Rattle.git_server.specs.Runs.{IsRun, WritesAll, WritesItsEnd, WritesOn}
+use Rattle.git_server.specs.Moves.{Closes, EndsAs, Goes, OwesNow, Pulls, TellsPulled, given_by}
+use Rattle.git_server.specs.Runs.{IsBroken, IsRun, Standing, Waits, WritesAll, WritesFront, WritesItsEnd, WritesOn}
 use Rattle.git_server.specs.declared.outcome.Outcome.{Outcome}
 use Rattle.git_server.specs.declared.server.Pulled.{Pulled}
 use Rattle.git_server.specs.declared.server.Pulled.TheVariants.{Packet, Finished}
 use Rattle.git_server.specs.declared.server.Server.{Server}
 use Rattle.git_pkt.proofs.Pieces.{take_joined}
 use Rattle.git_server.proofs.Going.{no_outcome}
-use Rattle.git_server.proofs.SessionLaws.{all_answered}
+use Rattle.git_server.proofs.SessionLaws.{all_answered, every_moment}
 use Rattle.std.proofs.lemmas.Result.{err_from_is_err_and}
 use Rattle.git_pkt.specs.declared.fault.RunFault.{RunFault}
 use denote.Ref.{Bor}
@@ -55,6 +56,20 @@ module _ {R A : Type 0} (answers : R → Repository) (old middle new : Server R 
   writes_packet held_before held held_after pulled bytes so_far pulls is written =
       writes_more held_before held held_after [] [] bytes.now so_far written (subst (λ (p : Pulled). Goes answers [] (given_by p) middle new) is pulls.goes)
 
+  -- a packet was pulled, and a front of it written
+  pub writes_front : (held_before held held_after : Option (List ℕ)) (pulled : Pulled) (bytes : Bor (List ℕ))
+      → WritesOn answers [] held_before held old middle → Pulls answers middle pulled new
+      → pulled ≡ Packet bytes → AppendsFront held held_after bytes.now → WritesFront answers [] held_before held_after old new
+  writes_front held_before held held_after pulled bytes so_far pulls is front =
+      record {
+        used = [];
+        unused = [];
+        given = so_far.given ++ bytes.now;
+        parts = refl;
+        written = AppendsFront-after held_before held held_after so_far.given bytes.now so_far.written front;
+        goes = goes_join [] [] so_far.given bytes.now so_far.goes (subst (λ (p : Pulled). Goes answers [] (given_by p) middle new) is pulls.goes);
+      }
+
   -- the end was pulled
   pub writes_end : (held_before held : Option (List ℕ)) (pulled : Pulled) (outcome : Outcome) → WritesOn answers [] held_before held old middle → Pulls answers middle pulled new
       → pulled ≡ Finished outcome → WritesItsEnd answers [] held_before held old new outcome
@@ -68,6 +83,7 @@ module _ {R A : Type 0} (answers : R → Repository) (old middle new : Server R 
         written = so_far.written;
         goes = subst (Goes answers [] so_far.given old) (sym tells.2) so_far.goes;
         ends = pulls.outcome ∙ tells.0;
+        owes = subst (λ (server : Server R A). OwesNow answers server []) (sym tells.2) tells.1;
         session = subst (λ (server : Server R A). EndsAs answers server outcome) (sym tells.2) tells.3;
       }
 
@@ -98,8 +114,52 @@ module _ {R A : Type 0} (answers : R → Repository) (old middle fed new : Serve
         written = on.written;
         goes = subst (λ (l : List ℕ). Goes answers l on.given old new) (ap (λ (l : List ℕ). take (done + used) bytes ++ l) nothing ∙ append-nil (take (done + used) bytes)) on.goes;
         ends = end.ends;
+        owes = end.owes;
         session = end.session;
       }
+
+  -- a part of a piece was used, and a front of what was given for it was written
+  pub writes_piece_front : WritesFront answers [] held held_after fed new → WritesFront answers bytes held_before held_after old new
+  writes_piece_front front =
+      let nothing : front.used ≡ [] = front_of_nothing front.used front.unused front.parts in
+      let given = fed_so_far.given ++ front.given in
+      let goes = goes_join answers old fed new (take (done + used) bytes) front.used fed_so_far.given front.given fed_so_far.goes front.goes in
+      record {
+        used = take (done + used) bytes;
+        unused = drop (done + used) bytes;
+        given = given;
+        parts = sym (take-append-drop (done + used) bytes);
+        written = AppendsFront-after held_before held held_after fed_so_far.given front.given fed_so_far.written front.written;
+        goes = subst (λ (l : List ℕ). Goes answers l given old new) (ap (λ (l : List ℕ). take (done + used) bytes ++ l) nothing
+            ∙ append-nil (take (done + used) bytes)) goes;
+      }
+
+module _ {R A : Type 0} (answers : R → Repository) (old new : Server R A) where
+  -- nothing was used or given, and a flush failed
+  pub nothing_written : (held held_after : Option (List ℕ)) → Keeps held held_after → WritesFront answers [] held held_after old old
+  nothing_written held held_after kept = record {
+    used = [];
+    unused = [];
+    given = [];
+    parts = refl;
+    written = ([], [], refl, Appends-kept held held held_after [] (Appends-nil held) kept);
+    goes = λ s so_far over before r.
+        subst (λ (l : List ℕ). Running answers s l over (before ++ []) old) (sym (append-nil so_far))
+        (subst (λ (l : List ℕ). Running answers s so_far over l old) (sym (append-nil before)) r);
+  }
+
+  -- the session ended, and the flush after it failed
+  pub end_unflushed : (bytes : List ℕ) (held_before held held_after : Option (List ℕ)) (outcome : Outcome)
+      → WritesItsEnd answers bytes held_before held old new outcome
+      → Keeps held held_after → WritesFront answers bytes held_before held_after old new
+  end_unflushed bytes held_before held held_after outcome end kept = record {
+    used = end.used;
+    unused = end.unused;
+    given = end.given;
+    parts = end.parts;
+    written = (end.given, [], sym (append-nil end.given), Appends-kept held_before held held_after end.given end.written kept);
+    goes = end.goes;
+  }
 
 -- a server that waits for bytes has no outcome, so it used some
 pub used_some : {R A : Type 0} (fed new : Server R A) (used : ℕ) → 0 < used ⊎ IsSome (outcome_of fed) → outcome_of new ≡ outcome_of fed → wants_input new ≡ true → 0 < used
@@ -107,39 +167,87 @@ used_some fed new used (inl some) same wants = some
 used_some fed new used (inr ended) same wants = absurd (some_not_none (outcome_of fed) ended (sym same ∙ no_outcome new.phase wants))
 
 module _ {R A : Type 0} (answers : R → Repository) (s : Setting) where
-  -- what was used and given stands behind the server
-  abbrev pub Behind : Server R A → List ℕ → List ℕ → Type 0
-  Behind server used given = Running answers s used false given server
+  -- the server stands to the bytes used and given while its input goes on
+  abbrev pub StandsTo : Server R A → List ℕ → List ℕ → Type 0
+  StandsTo server used given = Running answers s used false given server
+
+  -- how it stands, whether or not the input has ended
+  abbrev pub standing : Server R A → Standing
+  standing server used over given = Running answers s used over given server
 
   -- a new server, which has written what it owes at first
   pub starts : (old new : Server R A) (left held_before held_after : Option (List ℕ)) → Running answers s [] false [] old → WritesAll answers [] held_before held_after old new
-      → Exchanges (Behind new) left left held_before held_after
+      → Exchanges (StandsTo new) left left held_before held_after
   starts old new left held_before held_after r all =
       record { used = []; given = all.given; read = Consumes-nil left; written = all.written; related = all.goes s [] false [] r }
 
   -- a turn: the writer was flushed, bytes were read, and all that was given for them was written
   pub turns_on : (old new : Server R A) (left_before left left_after held_before held flushed held_after : Option (List ℕ)) (bytes : List ℕ)
-      → Exchanges (Behind old) left_before left held_before held → Keeps held flushed → Consumes left left_after bytes → WritesAll answers bytes flushed held_after old new
-      → Exchanges (Behind new) left_before left_after held_before held_after
+      → Exchanges (StandsTo old) left_before left held_before held → Keeps held flushed → Consumes left left_after bytes
+      → WritesAll answers bytes flushed held_after old new
+      → Exchanges (StandsTo new) left_before left_after held_before held_after
   turns_on old new left_before left left_after held_before held flushed held_after bytes so_far kept read all =
       Exchanges-more (Exchanges-flush so_far kept) read (record { given = all.given; written = all.written; carries = λ used given r. all.goes s used false given r })
 
   -- where the server waits for bytes, all answers were given
   pub answered : (server : Server R A) (left_before left_after held_before held_after : Option (List ℕ)) → wants_input server ≡ true
-      → Exchanges (Behind server) left_before left_after held_before held_after → Exchanges (IsAnswered s) left_before left_after held_before held_after
+      → Exchanges (StandsTo server) left_before left_after held_before held_after → Waits s (standing server) left_before left_after held_before held_after
   answered server left_before left_after held_before held_after wants so_far =
       record {
         used = so_far.used;
         given = so_far.given;
         read = so_far.read;
         written = so_far.written;
-        related = all_answered answers server s so_far.used false so_far.given so_far.related wants;
+        related = (all_answered answers server s so_far.used false so_far.given so_far.related wants, so_far.related);
+      }
+
+  -- a write failed while the input went on
+  pub breaks_off : (old new : Server R A) (left_before left left_after held_before held flushed held_after : Option (List ℕ)) (bytes : List ℕ) (ended : Bool)
+      → Exchanges (StandsTo old) left_before left held_before held → Keeps held flushed → Consumes left left_after bytes
+      → WritesFront answers bytes flushed held_after old new
+      → IsBroken s (standing new) left_before left_after held_before held_after ended
+  breaks_off old new left_before left left_after held_before held flushed held_after bytes ended so_far kept read front =
+      let on = Exchanges-flush so_far kept in
+      let stands : Running answers s (on.used ++ front.used) false (on.given ++ front.given) new = front.goes s on.used false on.given on.related in
+      record {
+        used = on.used ++ front.used;
+        unused = front.unused;
+        over = false;
+        given = on.given ++ front.given;
+        read = subst (Consumes left_before left_after) (ap (λ (l : List ℕ). on.used ++ l) front.parts ∙ sym (append_assoc on.used front.used front.unused))
+            (Consumes-trans left_before left left_after on.used bytes on.read read);
+        written = AppendsFront-after held_before flushed held_after on.given front.given on.written front.written;
+        moment = every_moment answers new s (on.used ++ front.used) false (on.given ++ front.given) stands;
+        stands = stands;
+        whole = λ e. absurd (cc);
+      }
+
+  -- a write failed after the input had ended
+  pub breaks_closed : (old closed new : Server R A) (left_before left left_after held_before held flushed held_after : Option (List ℕ)) (ended : Bool)
+      → Exchanges (StandsTo old) left_before left held_before held → Keeps held flushed → Consumes left left_after [] → Closes answers old closed
+      → WritesFront answers [] flushed held_after closed new → ended ≡ true → IsBroken s (standing new) left_before left_after held_before held_after ended
+  breaks_closed old closed new left_before left left_after held_before held flushed held_after ended so_far kept read closes front told =
+      let on = Exchanges-flush so_far kept in
+      let stands : Running answers s (on.used ++ front.used) true (on.given ++ front.given) new =
+      front.goes s on.used true on.given (closes s on.used false on.given on.related).0 in
+      record {
+        used = on.used ++ front.used;
+        unused = front.unused;
+        over = true;
+        given = on.given ++ front.given;
+        read = subst (Consumes left_before left_after) (ap (λ (l : List ℕ). on.used ++ l) front.parts ∙ sym (append_assoc on.used front.used front.unused))
+            (Consumes-trans left_before left left_after on.used [] on.read read);
+        written = AppendsFront-after held_before flushed held_after on.given front.given on.written front.written;
+        moment = every_moment answers new s (on.used ++ front.used) true (on.given ++ front.given) stands;
+        stands = stands;
+        whole = λ e. (back_of_nothing front.used front.unused front.parts, told);
       }
 
   -- the session ended with a front of the bytes
   pub ends_with : (old new : Server R A) (left_before left left_after held_before held flushed written_all held_after : Option (List ℕ)) (bytes : List ℕ) (ended : Bool) (outcome : Outcome)
-      → Exchanges (Behind old) left_before left held_before held → Keeps held flushed → Consumes left left_after bytes → WritesItsEnd answers bytes flushed written_all old new outcome → Keeps written_all held_after
-      → IsRun s left_before left_after held_before held_after ended outcome
+      → Exchanges (StandsTo old) left_before left held_before held → Keeps held flushed → Consumes left left_after bytes
+      → WritesItsEnd answers bytes flushed written_all old new outcome → Keeps written_all held_after
+      → IsRun s (standing new) left_before left_after held_before held_after ended outcome
   ends_with old new left_before left left_after held_before held flushed written_all held_after bytes ended outcome so_far kept read end last =
       let on = Exchanges-flush so_far kept in
       record {
@@ -151,13 +259,15 @@ module _ {R A : Type 0} (answers : R → Repository) (s : Setting) where
             (Consumes-trans left_before left left_after on.used bytes on.read read);
         written = Appends-kept held_before written_all held_after (on.given ++ end.given) (Appends-trans held_before flushed written_all on.given end.given on.written end.written) last;
         session = end.session s (on.used ++ end.used) false (on.given ++ end.given) (end.goes s on.used false on.given on.related);
+        stands = end.goes s on.used false on.given on.related;
         whole = λ e. absurd (cc);
       }
 
   -- the session ended with the input
   pub ends_closed : (old closed new : Server R A) (left_before left left_after held_before held flushed held_after : Option (List ℕ)) (ended : Bool) (outcome : Outcome)
-      → Exchanges (Behind old) left_before left held_before held → Keeps held flushed → Consumes left left_after [] → Closes answers old closed
-      → WritesItsEnd answers [] flushed held_after closed new outcome → ended ≡ true → IsRun s left_before left_after held_before held_after ended outcome
+      → Exchanges (StandsTo old) left_before left held_before held → Keeps held flushed → Consumes left left_after [] → Closes answers old closed
+      → WritesItsEnd answers [] flushed held_after closed new outcome → ended ≡ true
+      → IsRun s (standing new) left_before left_after held_before held_after ended outcome
   ends_closed old closed new left_before left left_after held_before held flushed held_after ended outcome so_far kept read closes end told =
       let on = Exchanges-flush so_far kept in
       let nothing : end.used ≡ [] = front_of_nothing end.used end.unused end.parts in
@@ -171,6 +281,7 @@ module _ {R A : Type 0} (answers : R → Repository) (s : Setting) where
             (Consumes-trans left_before left left_after on.used [] on.read read);
         written = Appends-trans held_before flushed held_after on.given end.given on.written end.written;
         session = end.session s (on.used ++ end.used) true (on.given ++ end.given) (end.goes s on.used true on.given (closes s on.used false on.given on.related).0);
+        stands = end.goes s on.used true on.given (closes s on.used false on.given on.related).0;
         whole = λ e. (after, told);
       }
 
@@ -182,3 +293,8 @@ pub if_err_at : {T : Type 0} (r : Result T RunFault) (fault : RunFault) (P : Run
 if_err_at r fault P met holds =
     let (e, is, same) = err_from_is_err_and r met in
     subst (λ x. IfErr x P) (sym is) (subst P (sym same) holds)
+
+pub on_err_at : {T : Type 0} (r : Result T RunFault) (fault : RunFault) (P : Type 0) → IsErrAnd r (λ e. e ≡ fault) → P → OnErr r P
+on_err_at r fault P met holds =
+    let (e, is, same) = err_from_is_err_and r met in
+    subst (λ x. OnErr x P) (sym is) holds

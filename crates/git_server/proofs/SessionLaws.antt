@@ -1,18 +1,21 @@
 -- What a server's moments and its end are, without the server.
 use Rattle.std.proofs.Common.{◌≡◌, ℕ, Bool, true, List, [], ◌++◌, Option, Some, None, refl, sym, ap, ◌∙◌, append-nil, subst, inl, inr}
-use Rattle.git_pkt.specs.Packets.{Pkt}
 use Rattle.git_server.specs.Repository.{Repository}
-use Rattle.git_server.specs.Answers.{spelled, tail_of}
-use Rattle.git_server.specs.Sessions.{Setting, IsEnding, IsAnswered, IsRunning, IsSent, IsSession, advertised}
-use Rattle.git_server.specs.Phases.{owed_in}
+use Rattle.git_server.specs.Answers.{AllFit, spelled}
+use Rattle.git_server.specs.Sessions.{Setting, IsTail, IsEnding, IsAnswered, IsRunning, IsSession}
+use Rattle.git_server.specs.Phases.{Owes, outcome_in, turn_in}
+use Rattle.git_server.specs.declared.server.Phase.{Phase}
+use Rattle.git_server.specs.declared.server.Phase.TheVariants.{Greeting, Between, Within, Answering, Refusing, Ended}
+use Rattle.git_server.specs.declared.server.Turn.TheVariants.{Finished}
+use Rattle.git_server.specs.declared.server.Pulled.TheVariants.{Finished as FinishedNow}
 use Rattle.git_server.specs.Serving.{Running, Serves, StandsBy, outcome_of, wants_input}
-use Rattle.git_server.specs.Moves.{owed_by}
+use Rattle.git_server.specs.Moves.{OwesNow, Pulls}
 use Rattle.git_server.specs.declared.outcome.Outcome.{Outcome}
 use Rattle.git_server.specs.declared.server.Server.{Server}
 use Rattle.git_server.proofs.Readers.{sound_rest}
 use Rattle.git_server.proofs.WholeRequests.{begins}
 use Rattle.git_server.proofs.Sent.{all_sent}
-use Rattle.git_server.proofs.Going.{no_outcome, nothing_owed}
+use Rattle.git_server.proofs.Going.{no_outcome, owes_nothing, owes_some}
 
 module _ {R A : Type 0} (answers : R → Repository) (server : Server R A) (s : Setting) (used : List ℕ) (over : Bool) (given : List ℕ) (r : Running answers s used over given server) where
   moment : (o : Option Outcome) → outcome_of server ≡ o → StandsBy o s used over given server → IsRunning s used over given
@@ -24,24 +27,24 @@ module _ {R A : Type 0} (answers : R → Repository) (server : Server R A) (s : 
           left = h.left;
           rest = h.rest;
           sent = h.sent;
-          owed = owed_in server.offer s.repo.refs server.phase;
+          owed = (owes_some server.offer s.repo server.phase).0;
           stream = record { packets = h.packets; splits = h.reads.splits; cuts = h.cuts };
           begins = begins s h.left server.requests r.reads_for r.limit (server.sound none) (server.ready none) h.takes;
           unrefused = (sound_rest server.reader 0 used h.packets h.rest h.no_fault h.reads).1;
-          is_sent = h.is_sent;
+          is_sent = h.is_sent (owes_some server.offer s.repo server.phase).0 (owes_some server.offer s.repo server.phase).1;
           given_is = h.given_is;
+          fit = h.fit;
         },
       )
-  moment (Some outcome) some h = inr (outcome, owed_in server.offer s.repo.refs server.phase, h)
+  moment (Some outcome) some h = let some_owed = owes_some server.offer s.repo server.phase in inr (outcome, some_owed.0, h some_owed.0 some_owed.1)
 
   pub every_moment : IsRunning s used over given
   every_moment = moment (outcome_of server) refl r.stands
 
-  pub its_end : (outcome : Outcome) → outcome_of server ≡ Some outcome → owed_by answers server ≡ [] → IsSession s used over given outcome
+  pub its_end : (outcome : Outcome) → outcome_of server ≡ Some outcome → OwesNow answers server [] → IsSession s used over given outcome
   its_end outcome some none =
-      let h : IsEnding s used over given outcome (owed_in server.offer s.repo.refs server.phase) = subst (λ (o : Option Outcome). StandsBy o s used over given server) some r.stands in
-      let nothing : owed_in server.offer s.repo.refs server.phase ≡ [] = subst (λ (p : Repository). owed_in server.offer p.refs server.phase ≡ []) r.repo none in
-      let tail : tail_of outcome ≡ h.sent = h.parts ∙ ap (λ (l : List Pkt). h.sent ++ l) nothing ∙ append-nil h.sent in
+      let stands : StandsBy (Some outcome) s used over given server = subst (λ (o : Option Outcome). StandsBy o s used over given server) some r.stands in
+      let h : IsEnding s used over given outcome [] = stands [] (subst (λ (p : Repository). Owes server.offer p server.phase []) r.repo none) in
       record {
         asked = h.asked;
         left = h.left;
@@ -50,7 +53,10 @@ module _ {R A : Type 0} (answers : R → Repository) (server : Server R A) (s : 
         stream = h.stream;
         ends = h.ends;
         answered = h.answered;
-        given_is = h.given_is ∙ ap (λ (l : List Pkt). spelled (advertised s ++ h.answers ++ l)) (sym tail);
+        tail = h.sent;
+        is_tail = subst (IsTail s h.left outcome) (append-nil h.sent) h.parts;
+        given_is = h.given_is;
+        fit = h.fit;
       }
 
 module _ {R A : Type 0} (answers : R → Repository) (server : Server R A) (s : Setting) (used : List ℕ) (over : Bool) (given : List ℕ) (r : Running answers s used over given server) (wants : wants_input server ≡ true) where
@@ -59,7 +65,7 @@ module _ {R A : Type 0} (answers : R → Repository) (server : Server R A) (s : 
   all_answered =
       let none = no_outcome server.phase wants in
       let h : Serves s used given server = (subst (λ (o : Option Outcome). StandsBy o s used over given server) none r.stands).1 in
-      let all = all_sent s h.asked h.sent (subst (λ (owed : List Pkt). IsSent s h.asked h.sent owed) (nothing_owed server.offer s.repo.refs server.phase wants) h.is_sent) in
+      let all = all_sent s h.asked h.sent (h.is_sent [] (owes_nothing server.offer s.repo server.phase wants)) in
       record {
         asked = h.asked;
         left = h.left;
@@ -70,4 +76,27 @@ module _ {R A : Type 0} (answers : R → Repository) (server : Server R A) (s : 
         unrefused = (sound_rest server.reader 0 used h.packets h.rest h.no_fault h.reads).1;
         answered = all.answered;
         given_is = h.given_is ∙ ap spelled all.sent_is;
+        fit = subst AllFit all.sent_is h.fit;
       }
+
+-- a phase whose turn is an end has that outcome, and owes nothing
+turn_ends : {A : Type 0} (phase : Phase A) (outcome : Outcome) → turn_in phase ≡ Finished outcome → phase ≡ Ended outcome
+turn_ends Between outcome h = absurd (cc)
+turn_ends Within outcome h = absurd (cc)
+turn_ends (Greeting line) outcome h = absurd (cc)
+turn_ends (Answering request next) outcome h = absurd (cc)
+turn_ends (Refusing fault) outcome h = absurd (cc)
+turn_ends (Ended o) outcome h = let same : o ≡ outcome = cc in ap Ended same
+
+-- what `pull` says at the end
+pub ends_now : {R A : Type 0} (answers : R → Repository) (server : Server R A) (outcome : Outcome) → turn_in server.phase ≡ Finished outcome
+    → Pulls answers server (FinishedNow outcome) server
+ends_now {A = A} answers server outcome turn =
+    let is = turn_ends server.phase outcome turn in
+    let nothing : OwesNow answers server [] = subst (λ (p : Phase A). Owes server.offer (answers server.repo) p []) (sym is) refl in
+    record {
+      goes = λ s so_far over before r. subst (λ (l : List ℕ). Running answers s l over (before ++ []) server) (sym (append-nil so_far))
+          (subst (λ (l : List ℕ). Running answers s so_far over l server) (sym (append-nil before)) r);
+      tells = (ap outcome_in is, nothing, refl, λ s used over given r. its_end answers server s used over given r outcome (ap outcome_in is) nothing);
+      outcome = refl;
+    }

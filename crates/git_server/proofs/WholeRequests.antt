@@ -52,3 +52,51 @@ module _ {A : Type 0} where
         lines = lines;
         taken = subst (λ (n : ℕ). AreLines s.offer n [] left lines) limit (subst (λ (o : Offer). AreLines o (limit_in r) [] left lines) offer taken);
       }
+
+-- the last of the whole requests, taken back
+pub record TakenBack (s : Setting) (packets : List Given) (qs : List Asked) (q : Asked) : Type 0 where
+  pub left : List Given
+  pub kept : ℕ
+  pub cuts : Cuts s packets qs left
+  pub asks : Asks s.offer s.limit left q kept
+  pub before : List Given
+  pub behind : packets ≡ before ++ left
+
+pub cuts_last : (s : Setting) (packets : List Given) (qs : List Asked) (q : Asked) → Cuts s packets (qs ++ q ∷ []) [] → TakenBack s packets qs q
+cuts_last s packets [] q (front, more, kept, whole, asks, rest) =
+    let same : packets ≡ front = whole ∙ ap (λ (l : List Given). front ++ l) rest ∙ append-nil front in
+    record {
+      left = packets;
+      kept = kept;
+      cuts = refl;
+      asks = subst (λ (l : List Given). Asks s.offer s.limit l q kept)
+          (sym same) asks;
+      before = [];
+      behind = refl;
+    }
+cuts_last s packets (p ∷ ps) q (front, more, kept, whole, asks, rest) =
+    let later = cuts_last s more ps q rest in
+    record {
+      left = later.left;
+      kept = later.kept;
+      cuts = (front, more, kept, whole, asks, later.cuts);
+      asks = later.asks;
+      before = front ++ later.before;
+      behind = whole ∙ ap (λ (l : List Given). front ++ l) later.behind ∙ sym (append_assoc front later.before later.left);
+    }
+
+pub last_same : (xs ys : List Given) (x y : Given) → xs ++ x ∷ [] ≡ ys ++ y ∷ [] → x ≡ y
+last_same [] [] x y e = cc
+last_same [] (b ∷ []) x y e = absurd (let t : [] ≡ y ∷ [] = cc in cc)
+last_same [] (b ∷ c ∷ ys) x y e = absurd (let t : [] ≡ c ∷ (ys ++ y ∷ []) = cc in cc)
+last_same (a ∷ []) [] x y e = absurd (let t : x ∷ [] ≡ [] = cc in cc)
+last_same (a ∷ c ∷ xs) [] x y e = absurd (let t : c ∷ (xs ++ x ∷ []) ≡ [] = cc in cc)
+last_same (a ∷ xs) (b ∷ ys) x y e = last_same xs ys x y (cc)
+
+-- and its last packet is the last of all
+pub last_offset : (s : Setting) (packets : List Given) (qs : List Asked) (q : Asked) (t : TakenBack s packets qs q) (front : List Given) (last : Given)
+    → packets ≡ front ++ last ∷ [] → t.asks.last ≡ last
+last_offset s packets qs q t front last e =
+    let both : (t.before ++ t.asks.front) ++ t.asks.last ∷ [] ≡ front ++ last ∷ [] =
+    append_assoc t.before t.asks.front (t.asks.last ∷ []) ∙ ap (λ (l : List Given). t.before ++ l) (sym t.asks.whole) ∙ sym t.behind ∙ e in
+    last_same (t.before ++ t.asks.front) front t.asks.last last both

@@ -1,8 +1,8 @@
 -- What a server gives: its advertisement, the answer to each request, and what it writes of an outcome.
-use Rattle.std.specs.Prelude.{◌≡◌, ℕ, Bool, ◌||◌, if◌then◌else◌, None, List, [], ◌∷◌, ◌++◌, true, false, codes, filter, map, nat_eq}
+use Rattle.std.specs.Prelude.{◌≡◌, ◌≤◌, ◌+◌, length, ℕ, Bool, ◌||◌, if◌then◌else◌, None, List, [], ◌∷◌, ◌++◌, true, false, codes, filter, map, nat_eq}
 use Rattle.std.specs.List.{list_any, flat_map, starts_with}
 use Rattle.git_names.specs.ObjectFormat.{name_of}
-use Rattle.git_pkt.specs.Packets.{Pkt, flush, payload, spelling_of}
+use Rattle.git_pkt.specs.Packets.{Pkt, flush, payload, spelling_of, body_of}
 use Rattle.git_pkt.specs.FaultNames.{fault_text}
 use Rattle.git_pkt.specs.declared.fault.Fault.{Fault}
 use Rattle.git_pkt.specs.declared.fault.Kind.{Kind}
@@ -21,6 +21,17 @@ line text = payload (text ++ 10 ∷ [])
 -- the packets as they are written
 abbrev pub spelled : List Pkt → List ℕ
 spelled = flat_map spelling_of
+
+-- each is a packet of the wire
+abbrev pub AllFit : List Pkt → Type 0
+AllFit [] = Unit {0}
+AllFit (p ∷ ps) = (length (body_of p) ≤ 65516) × AllFit ps
+
+-- how many flush packets there are
+abbrev pub flushes : List Pkt → ℕ
+flushes [] = 0
+flushes (flush ∷ ps) = 1 + flushes ps
+flushes (p ∷ ps) = flushes ps
 
 -- the line of a capability that may be offered
 abbrev pub offered_line : Bool → List ℕ → List Pkt

@@ -1,14 +1,14 @@
 -- What each call does to all that a server used and gave.
-use Rattle.std.specs.Prelude.{◌≡◌, ◌⊎◌, ℕ, Bool, true, List, [], ◌∷◌, ◌++◌, Option, Some}
+use Rattle.std.specs.Prelude.{◌≡◌, ◌⊎◌, ℕ, ◌<◌, Bool, true, List, [], ◌∷◌, ◌++◌, length, Option, Some}
 use Rattle.git_pkt.specs.Packets.{Pkt, spelling_of}
 use Rattle.git_pkt.specs.Splits.{Given}
 use Rattle.git_pkt.specs.Reading.{ReadsOn, held_of}
 use Rattle.git_server.specs.Repository.{Repository}
 use Rattle.git_server.specs.Sessions.{Setting, IsSession}
-use Rattle.git_server.specs.Phases.{owed_in}
+use Rattle.git_server.specs.Phases.{Owes, most_owed}
 use Rattle.git_server.specs.Serving.{Running, outcome_of, wants_input}
 use Rattle.git_pkt.specs.declared.fault.Fault.{Fault}
-use Rattle.git_pkt.specs.declared.fault.Kind.TheVariants.{Truncated}
+use Rattle.git_pkt.specs.declared.fault.Kind.TheVariants.{StreamTooLong, Truncated}
 use Rattle.git_server.specs.declared.outcome.Outcome.{Outcome}
 use Rattle.git_server.specs.declared.outcome.Outcome.TheVariants.{Closed, Refused}
 use Rattle.git_server.specs.declared.server.Server.{Server}
@@ -38,9 +38,23 @@ module _ {R A : Type 0} where
       (s : Setting) (so_far : List ℕ) (over : Bool) (before : List ℕ) → Running answers s so_far over before old
       → Running answers s so_far true before new × IsClosing (outcome_of new)
 
-  -- the packets that wait to be pulled
-  abbrev pub owed_by : (R → Repository) → Server R A → List Pkt
-  owed_by answers server = owed_in server.offer (answers server.repo).refs server.phase
+  -- the stream is too long only where there was one byte more than was used
+  abbrev pub StopsInTime : (R → Repository) → Server R A → ℕ → List ℕ → Option Outcome → Type 0
+  StopsInTime answers old used piece outcome =
+      (s : Setting) (so_far : List ℕ) (over : Bool) (before : List ℕ) → Running answers s so_far over before old → wants_input old ≡ true
+      → (fault : Fault) → outcome ≡ Some (Refused fault) → fault.kind ≡ StreamTooLong → used < length piece
+
+  -- these packets may wait to be pulled, and then nothing does
+  abbrev pub OwesNow : (R → Repository) → Server R A → List Pkt → Type 0
+  OwesNow answers server later = Owes server.offer (answers server.repo) server.phase later
+
+  -- how many wait at the most
+  abbrev pub most_left : (R → Repository) → Server R A → ℕ
+  most_left answers server = most_owed server.offer (answers server.repo) server.phase
+
+  -- the packet comes before whatever waits now
+  abbrev pub ComesFirst : (R → Repository) → Pkt → Server R A → Server R A → Type 0
+  ComesFirst answers packet old new = (later : List Pkt) → OwesNow answers new later → OwesNow answers old (packet ∷ later)
 
   -- what was used and given is a session that ended so
   abbrev pub EndsAs : (R → Repository) → Server R A → Outcome → Type 0
@@ -50,10 +64,10 @@ module _ {R A : Type 0} where
   -- what each answer of `pull` says
   abbrev pub TellsPulled : (R → Repository) → Server R A → Pulled → Server R A → Type 0
   TellsPulled answers old (Packet bytes) new =
-      (packet : Pkt) × (owed_by answers old ≡ packet ∷ owed_by answers new) × (bytes.now ≡ spelling_of packet)
+      (packet : Pkt) × ComesFirst answers packet old new × (bytes.now ≡ spelling_of packet) × (most_left answers new < most_left answers old)
   TellsPulled answers old NeedInput new = (wants_input old ≡ true) × (new ≡ old)
   TellsPulled answers old (Finished outcome) new =
-      (outcome_of old ≡ Some outcome) × (owed_by answers old ≡ []) × (new ≡ old) × EndsAs answers old outcome
+      (outcome_of old ≡ Some outcome) × OwesNow answers old [] × (new ≡ old) × EndsAs answers old outcome
 
   -- what a call of `pull` does
   pub record Pulls (answers : R → Repository) (old : Server R A) (pulled : Pulled) (new : Server R A) : Type 0 where
@@ -76,7 +90,8 @@ module _ {R A : Type 0} where
   -- the next packet that is owed is in the hold, and given with it
   pub record Gives (answers : R → Repository) (old new : Server R A) : Type 0 where
     pub packet : Pkt
-    pub owed : owed_by answers old ≡ packet ∷ owed_by answers new
+    pub owed : ComesFirst answers packet old new
+    pub less : most_left answers new < most_left answers old
     pub held : held_of new.reader ≡ spelling_of packet
     pub goes : Goes answers [] (held_of new.reader) old new
     pub outcome : outcome_of new ≡ outcome_of old

@@ -1,5 +1,5 @@
 -- Where a server stands in its session.
-use Rattle.std.specs.Prelude.{◌≡◌, ◌≢◌, ℕ, Bool, true, false, Option, Some, None, List, [], ◌∷◌, ◌++◌, drop, map}
+use Rattle.std.specs.Prelude.{◌≡◌, ◌≢◌, ℕ, Bool, true, false, Option, Some, None, List, [], ◌∷◌, ◌++◌, drop, length, map}
 use Rattle.git_pkt.specs.Packets.{Pkt, flush}
 use Rattle.git_pkt.specs.Splits.{Given}
 use Rattle.git_pkt.specs.declared.fault.Fault.{Fault}
@@ -8,7 +8,7 @@ use Rattle.git_pkt.specs.declared.fault.Kind.TheVariants.{RemoteError}
 use Rattle.git_msg.specs.declared.offers.Offer.{Offer}
 use Rattle.git_msg.specs.Asked.{Asked, ls_refs}
 use Rattle.git_msg.specs.Holding.{asked_of, kept_of}
-use Rattle.git_server.specs.Repository.{Entry}
+use Rattle.git_server.specs.Repository.{Entry, Repository}
 use Rattle.git_server.specs.Answers.{error_packet, reference_packet, shown_refs}
 use Rattle.git_server.specs.Greetings.{greetings_from}
 use Rattle.git_server.specs.declared.greeting.Greeting.{Greeting as Line}
@@ -24,6 +24,14 @@ use Rattle.git_server.specs.declared.server.Phase.TheVariants.{Greeting, Between
 -- the packets of an answer from the reference at `next` on
 abbrev pub answer_from : Asked → List Entry → ℕ → List Pkt
 answer_from (ls_refs q) refs next = map (reference_packet q.symrefs q.peel) (shown_refs q.ref_prefixes (drop next refs)) ++ flush ∷ []
+
+-- from this place on, the packets end an answer
+abbrev pub IsAnswerFrom : Repository → Asked → ℕ → List Pkt → Type 0
+IsAnswerFrom repo q next later = later ≡ answer_from q repo.refs next
+
+-- no more packets than these end it
+abbrev pub most_from : Repository → Asked → ℕ → ℕ
+most_from repo q next = length (answer_from q repo.refs next)
 
 -- the fault of an outcome, if it has one
 abbrev pub refusal_in : Option Outcome → Option Fault
@@ -50,12 +58,19 @@ module _ {A : Type 0} where
   outcome_in (Ended outcome) = Some outcome
   outcome_in _ = None
 
-  -- the packets that wait to be pulled
-  abbrev pub owed_in : Offer → List Entry → Phase A → List Pkt
-  owed_in offer refs (Greeting line) = greetings_from offer line
-  owed_in offer refs (Answering request next) = answer_from (asked_of request) refs next
-  owed_in offer refs (Refusing fault) = error_packet fault ∷ []
-  owed_in offer refs _ = []
+  -- in this phase these packets may wait to be pulled, and then nothing does
+  abbrev pub Owes : Offer → Repository → Phase A → List Pkt → Type 0
+  Owes offer repo (Greeting line) later = later ≡ greetings_from offer line
+  Owes offer repo (Answering request next) later = IsAnswerFrom repo (asked_of request) next later
+  Owes offer repo (Refusing fault) later = later ≡ error_packet fault ∷ []
+  Owes offer repo _ later = later ≡ []
+
+  -- how many packets wait at the most
+  abbrev pub most_owed : Offer → Repository → Phase A → ℕ
+  most_owed offer repo (Greeting line) = length (greetings_from offer line)
+  most_owed offer repo (Answering request next) = most_from repo (asked_of request) next
+  most_owed offer repo (Refusing fault) = 1
+  most_owed offer repo _ = 0
 
   -- how many bytes the argument lines of the request have that is answered
   abbrev pub kept_in : Phase A → ℕ

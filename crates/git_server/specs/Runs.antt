@@ -1,13 +1,14 @@
 -- What a run of a server over a reader and a writer does to their bytes.
-use Rattle.std.specs.Prelude.{◌≡◌, ℕ, Bool, true, List, [], ◌++◌, Option, Some, None}
+use Rattle.std.specs.Prelude.{◌≡◌, ℕ, Bool, true, false, List, [], ◌++◌, Option, Some, None}
 use Rattle.std.specs.Io.KnownBytes.{Appends, Consumes}
 use Rattle.git_pkt.specs.Engine.{Exchanges, HasRead}
+use Rattle.git_pkt.specs.Told.{AppendsFront}
 use Rattle.git_pkt.specs.declared.fault.RunFault.{RunFault}
 use Rattle.git_pkt.specs.declared.fault.RunFault.TheVariants.{ReadFault, WriteFault, ReadLimit, Refused}
 use Rattle.git_server.specs.Repository.{Repository}
-use Rattle.git_server.specs.Sessions.{Setting, IsAnswered, IsSession}
+use Rattle.git_server.specs.Sessions.{Setting, IsAnswered, IsRunning, IsSession}
 use Rattle.git_server.specs.Serving.{outcome_of, wants_input}
-use Rattle.git_server.specs.Moves.{EndsAs, Goes}
+use Rattle.git_server.specs.Moves.{EndsAs, Goes, OwesNow}
 use Rattle.git_server.specs.declared.outcome.Outcome.{Outcome}
 use Rattle.git_server.specs.declared.server.Server.{Server}
 
@@ -17,6 +18,15 @@ module _ {R A : Type 0} (answers : R → Repository) (bytes : List ℕ) (held_be
     pub given : List ℕ
     pub written : Appends held_before held_after given
     pub goes : Goes answers bytes given old new
+
+  -- a write failed: a front of the bytes was used, and of what was given for it a front was written
+  pub record WritesFront : Type 0 where
+    pub used : List ℕ
+    pub unused : List ℕ
+    pub given : List ℕ
+    pub parts : bytes ≡ used ++ unused
+    pub written : AppendsFront held_before held_after given
+    pub goes : Goes answers used given old new
 
   -- all the bytes were used, and all that was given for them was written
   pub record WritesAll : Type 0 where
@@ -34,6 +44,7 @@ module _ {R A : Type 0} (answers : R → Repository) (bytes : List ℕ) (held_be
     pub written : Appends held_before held_after given
     pub goes : Goes answers used given old new
     pub ends : outcome_of new ≡ Some outcome
+    pub owes : OwesNow answers new []
     pub session : EndsAs answers new outcome
 
   -- what was written, where the session goes on or ended
@@ -41,9 +52,14 @@ module _ {R A : Type 0} (answers : R → Repository) (bytes : List ℕ) (held_be
   WritesFor None = WritesAll
   WritesFor (Some outcome) = WritesItsEnd outcome
 
+-- how a server stands to the bytes used, and `over` where the input ended with them, and to the bytes given
+abbrev pub Standing : Type 1
+Standing = List ℕ → Bool → List ℕ → Type 0
+
 -- a whole run: of what was read a front was used, and just what the session gives for it was written. Where the session
 -- ended with the input, all was used, and the reader told its end.
-pub record IsRun (s : Setting) (left_before left_after held_before held_after : Option (List ℕ)) (ended : Bool) (outcome : Outcome) : Type 0 where
+pub record IsRun (s : Setting) (P : Standing) (left_before left_after held_before held_after : Option (List ℕ)) (ended : Bool)
+    (outcome : Outcome) : Type 0 where
   pub used : List ℕ
   pub unused : List ℕ
   pub over : Bool
@@ -51,12 +67,30 @@ pub record IsRun (s : Setting) (left_before left_after held_before held_after : 
   pub read : Consumes left_before left_after (used ++ unused)
   pub written : Appends held_before held_after given
   pub session : IsSession s used over given outcome
+  pub stands : P used over given
   pub whole : over ≡ true → (unused ≡ []) × (ended ≡ true)
 
--- a run that a fault ended: all that was read was used, and the advertisement and each answer were written whole. Where
--- its reads were spent each of them had brought some bytes. After a failing write nothing is said.
-abbrev pub RunsUntil : Setting → ℕ → Option (List ℕ) → Option (List ℕ) → Option (List ℕ) → Option (List ℕ) → RunFault → Type 0
-RunsUntil s turns left_before left_after held_before held_after ReadFault = Exchanges (IsAnswered s) left_before left_after held_before held_after
-RunsUntil s turns left_before left_after held_before held_after WriteFault = Unit {0}
-RunsUntil s turns left_before left_after held_before held_after ReadLimit = Exchanges (IsAnswered s) left_before left_after held_before held_after × HasRead turns left_before left_after
-RunsUntil s turns left_before left_after held_before held_after (Refused fault) = ⊥
+-- all that was read was used, and the advertisement and each answer were written whole
+abbrev pub Waits : Setting → Standing → Option (List ℕ) → Option (List ℕ) → Option (List ℕ) → Option (List ℕ) → Type 0
+Waits s P left_before left_after held_before held_after =
+    Exchanges (λ used given. IsAnswered s used given × P used false given) left_before left_after held_before held_after
+
+-- a write failed: of what was read a front was used, and of what the session gives for it a front was written
+pub record IsBroken (s : Setting) (P : Standing) (left_before left_after held_before held_after : Option (List ℕ)) (ended : Bool) : Type 0 where
+  pub used : List ℕ
+  pub unused : List ℕ
+  pub over : Bool
+  pub given : List ℕ
+  pub read : Consumes left_before left_after (used ++ unused)
+  pub written : AppendsFront held_before held_after given
+  pub moment : IsRunning s used over given
+  pub stands : P used over given
+  pub whole : over ≡ true → (unused ≡ []) × (ended ≡ true)
+
+-- a run that a fault ended. Where its reads were spent each of them had brought some bytes.
+abbrev pub RunsUntil : Setting → Standing → ℕ → Option (List ℕ) → Option (List ℕ) → Option (List ℕ) → Option (List ℕ) → Bool → RunFault → Type 0
+RunsUntil s P turns left_before left_after held_before held_after ended ReadFault = Waits s P left_before left_after held_before held_after
+RunsUntil s P turns left_before left_after held_before held_after ended WriteFault = IsBroken s P left_before left_after held_before held_after ended
+RunsUntil s P turns left_before left_after held_before held_after ended ReadLimit =
+    Waits s P left_before left_after held_before held_after × HasRead turns left_before left_after
+RunsUntil s P turns left_before left_after held_before held_after ended (Refused fault) = ⊥

@@ -6,9 +6,9 @@ use Rattle.git_pkt.specs.Reading.{Reads, fault_of}
 use Rattle.git_msg.specs.Asked.{Asked}
 use Rattle.git_msg.specs.Taking.{Takes, offer_of, limit_in, kept_so_far}
 use Rattle.git_server.specs.Repository.{Repository}
-use Rattle.git_server.specs.Answers.{spelled}
+use Rattle.git_server.specs.Answers.{AllFit, spelled}
 use Rattle.git_server.specs.Sessions.{Setting, Cuts, IsSent, IsEnding}
-use Rattle.git_server.specs.Phases.{LeftIn, kept_in, outcome_in, owed_in, reads_in}
+use Rattle.git_server.specs.Phases.{LeftIn, kept_in, outcome_in, Owes, reads_in}
 use Rattle.git_server.specs.declared.outcome.Outcome.{Outcome}
 use Rattle.git_msg.specs.declared.offers.Offer.{Offer}
 use Rattle.git_server.specs.declared.server.Phase.{Phase}
@@ -43,12 +43,14 @@ module _ {R A : Type 0} where
     pub cuts : Cuts s packets asked left
     pub takes : Takes left server.requests
     pub left_is : LeftIn server.phase left
-    pub is_sent : IsSent s asked sent (owed_in server.offer s.repo.refs server.phase)
+    pub is_sent : (owed : List Pkt) → Owes server.offer s.repo server.phase owed → IsSent s asked sent owed
     pub given_is : given ≡ spelled sent
+    pub fit : AllFit sent
 
   abbrev pub StandsBy : Option Outcome → Setting → List ℕ → Bool → List ℕ → Server R A → Type 0
   StandsBy None s used over given server = (over ≡ false) × Serves s used given server
-  StandsBy (Some outcome) s used over given server = IsEnding s used over given outcome (owed_in server.offer s.repo.refs server.phase)
+  StandsBy (Some outcome) s used over given server =
+      (owed : List Pkt) → Owes server.offer s.repo server.phase owed → IsEnding s used over given outcome owed
 
   -- the server has used these bytes, and `over` if the input ended with them, and has given those
   pub record Running (answers : R → Repository) (s : Setting) (used : List ℕ) (over : Bool) (given : List ℕ) (server : Server R A) : Type 0 where

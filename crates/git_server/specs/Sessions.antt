@@ -4,13 +4,13 @@ use Rattle.git_pkt.specs.Packets.{Pkt}
 use Rattle.git_pkt.specs.Splits.{Given, Splits}
 use Rattle.git_pkt.specs.Faults.{IsOpen, StopsBy}
 use Rattle.git_pkt.specs.declared.fault.Fault.{Fault}
-use Rattle.git_pkt.specs.declared.fault.Kind.TheVariants.{Truncated}
+use Rattle.git_pkt.specs.declared.fault.Kind.TheVariants.{OutOfMemory, Truncated}
 use Rattle.git_msg.specs.declared.offers.Offer.{Offer}
 use Rattle.git_msg.specs.Asked.{Asked}
 use Rattle.git_msg.specs.Lines.{Line}
 use Rattle.git_msg.specs.Requests.{AreLines, Asks, IsTold, IsStop}
 use Rattle.git_server.specs.Repository.{Repository}
-use Rattle.git_server.specs.Answers.{spelled, advertisement_of, IsAnswer, tail_of}
+use Rattle.git_server.specs.Answers.{AllFit, spelled, advertisement_of, IsAnswer, tail_of}
 use Rattle.git_server.specs.declared.outcome.Outcome.{Outcome}
 use Rattle.git_server.specs.declared.outcome.Outcome.TheVariants.{Flush, Closed, Refused}
 
@@ -59,8 +59,9 @@ pub record IsRefusedAtPacket (s : Setting) (left : List Given) (rest : List ℕ)
   pub told : IsTold s.offer s.limit left fault
   pub no_rest : rest ≡ []
 
--- the bytes behind the packets, of which none is refused, are no packet's
-pub record IsRefusedAtByte (s : Setting) (left : List Given) (rest : List ℕ) (end : ℕ) (fault : Fault) : Type 0 where
+-- the bytes after the packets, of which none is refused, are no packet's; the input goes on
+pub record IsRefusedAtByte (s : Setting) (over : Bool) (left : List Given) (rest : List ℕ) (end : ℕ) (fault : Fault) : Type 0 where
+  pub goes_on : over ≡ false
   pub begins : Begins s left
   pub stops : StopsBy (end - length rest) rest end fault.kind fault.offset
   pub not_the_end : fault.kind ≢ Truncated
@@ -76,13 +77,23 @@ pub record IsCutShort (s : Setting) (over : Bool) (left : List Given) (rest : Li
 
 abbrev pub IsRefused : Setting → Bool → List Given → List ℕ → ℕ → Fault → Type 0
 IsRefused s over left rest end fault =
-    IsRefusedAtPacket s left rest fault ⊎ (IsRefusedAtByte s left rest end fault ⊎ IsCutShort s over left rest end fault)
+    IsRefusedAtPacket s left rest fault ⊎ (IsRefusedAtByte s over left rest end fault ⊎ IsCutShort s over left rest end fault)
 
 -- a session ends so, where this is left behind the whole requests and `end` bytes were used
 abbrev pub EndsBy : Setting → Bool → List Given → List ℕ → ℕ → Outcome → Type 0
 EndsBy s over left rest end Flush = IsStop left × (rest ≡ [])
 EndsBy s over left rest end Closed = (over ≡ true) × (left ≡ []) × (rest ≡ [])
 EndsBy s over left rest end (Refused fault) = IsRefused s over left rest end fault
+
+-- memory ran out
+abbrev pub WantsMemory : Outcome → Type 0
+WantsMemory Flush = ⊥
+WantsMemory Closed = ⊥
+WantsMemory (Refused fault) = fault.kind ≡ OutOfMemory
+
+-- what is written at the end of a session, after the answers to the whole requests before what is left
+abbrev pub IsTail : Setting → List Given → Outcome → List Pkt → Type 0
+IsTail s left outcome tail = tail_of outcome ≡ tail
 
 -- the session ended so: for the bytes used, and `over` where the input ended with them, just these were given
 pub record IsSession (s : Setting) (used : List ℕ) (over : Bool) (given : List ℕ) (outcome : Outcome) : Type 0 where
@@ -93,7 +104,10 @@ pub record IsSession (s : Setting) (used : List ℕ) (over : Bool) (given : List
   pub stream : Stream s used asked left rest
   pub ends : EndsBy s over left rest (length used) outcome
   pub answered : AreAnswers s.repo asked answers
-  pub given_is : given ≡ spelled (advertised s ++ answers ++ tail_of outcome)
+  pub tail : List Pkt
+  pub is_tail : IsTail s left outcome tail
+  pub given_is : given ≡ spelled (advertised s ++ answers ++ tail)
+  pub fit : AllFit (advertised s ++ answers ++ tail)
 
 -- no request has come, and of the advertisement this was sent, and that is owed
 pub record IsOpening (s : Setting) (asked : List Asked) (sent owed : List Pkt) : Type 0 where
@@ -127,6 +141,7 @@ pub record GoesOn (s : Setting) (used given : List ℕ) : Type 0 where
   pub unrefused : IsOpen rest
   pub is_sent : IsSent s asked sent owed
   pub given_is : given ≡ spelled sent
+  pub fit : AllFit sent
 
 -- the session ends so, and all was given but a part of what is written at its end
 pub record IsEnding (s : Setting) (used : List ℕ) (over : Bool) (given : List ℕ) (outcome : Outcome) (owed : List Pkt) : Type 0 where
@@ -138,8 +153,9 @@ pub record IsEnding (s : Setting) (used : List ℕ) (over : Bool) (given : List 
   pub stream : Stream s used asked left rest
   pub ends : EndsBy s over left rest (length used) outcome
   pub answered : AreAnswers s.repo asked answers
-  pub parts : tail_of outcome ≡ sent ++ owed
+  pub parts : IsTail s left outcome (sent ++ owed)
   pub given_is : given ≡ spelled (advertised s ++ answers ++ sent)
+  pub fit : AllFit (advertised s ++ answers ++ sent)
 
 -- what stands at every moment between the bytes used and those given. A session goes on only while its input does.
 abbrev pub IsRunning : Setting → List ℕ → Bool → List ℕ → Type 0
@@ -157,3 +173,4 @@ pub record IsAnswered (s : Setting) (used given : List ℕ) : Type 0 where
   pub unrefused : IsOpen rest
   pub answered : AreAnswers s.repo asked answers
   pub given_is : given ≡ spelled (advertised s ++ answers)
+  pub fit : AllFit (advertised s ++ answers)

@@ -1,7 +1,8 @@
 //! What a server's contract says of the bytes alone: each function does nothing, and its contract is the law.
 
 ghost use Rattle.std.specs.Prelude.{◌≡◌, ◌≤◌, ◌↔◌, ℕ, Bool, true, None, List};
-ghost use Rattle.git_server.specs.Sessions.{IsAnswered, IsRunning, Setting};
+ghost use Rattle.git_server.specs.Sessions.{IsAnswered, IsRunning, IsSession, Setting, WantsMemory};
+ghost use Rattle.git_server.specs.declared.outcome.Outcome.{Outcome};
 ghost use Rattle.git_server.specs.Serving.{Running, kept_by, outcome_of, wants_input};
 
 use crate::repo::Repo;
@@ -20,4 +21,11 @@ pub fn server_keeps_to_its_session<R: Repo, A: Allocator + Copy>(server: &Server
 pub fn server_waits_where_all_is_given<R: Repo, A: Allocator + Copy>(server: &Server<R, A>)
     ensures { (s : Setting) (used : List ℕ) (over : Bool) (given : List ℕ) → Running R.answers s used over given server.now
         → (wants_input server.now ≡ true) ↔ ((outcome_of server.now ≡ None) × IsAnswered s used given) }
+{}
+
+/// For the bytes used, and by whether the input ended with them, a session ends in one way, want of memory aside.
+pub fn session_has_one_outcome()
+    ensures { (s : Setting) (used : List ℕ) (over : Bool) (given others : List ℕ) (outcome other : Outcome)
+        → IsSession s used over given outcome → IsSession s used over others other
+        → ¬ WantsMemory outcome → ¬ WantsMemory other → outcome ≡ other }
 {}

@@ -1,9 +1,10 @@
 //! A server run over a reader and a writer.
 
-ghost use Rattle.std.specs.Prelude.{◌≡◌, ◌≢◌, ◌<◌, ◌≤◌, ◌||◌, [], false, true, length, Some, IsTrue, IsSome, IfOk, IfErr, OnOk, is_err};
+ghost use Rattle.std.specs.Prelude.{◌≡◌, ◌≢◌, ◌<◌, ◌≤◌, ◌||◌, [], false, true, length, Some, IsTrue, IsSome, IfOk, IfErr, OnErr, OnOk, is_err};
 ghost use Rattle.git_pkt.specs.Told.{inner_of, reads_of, has_failed, has_ended, IsNew};
 ghost use Rattle.git_pkt.specs.Engine.{FailsAs, IsShownBy, IsSpent};
-ghost use Rattle.git_server.specs.Runs.{IsRun, RunsUntil, WritesFor, WritesItsEnd};
+ghost use Rattle.git_server.specs.Runs.{IsRun, RunsUntil, WritesFor, WritesFront, WritesItsEnd};
+ghost use Rattle.git_server.specs.Moves.{OwesNow};
 ghost use Rattle.git_server.specs.Serving.{Running, outcome_of, wants_input};
 ghost use Rattle.git_server.specs.Sessions.{Setting};
 
@@ -20,6 +21,7 @@ fn drain<W: Write, R: Repo, A: Allocator + Copy>(
     server: &mut Server<R, A>,
 ) -> Result<Option<Outcome>, RunFault>
     ensures ok { IfOk result (WritesFor R.answers [] (W.contents (inner_of writer.old)) (W.contents (inner_of writer.new)) server.old server.new) }
+    ensures front { OnErr result (WritesFront R.answers [] (W.contents (inner_of writer.old)) (W.contents (inner_of writer.new)) server.old server.new) }
     ensures outcome { OnOk result (outcome_of server.new ≡ outcome_of server.old) }
     ensures fault { IfErr result (λ fault. fault ≡ RunFault.WriteFault) }
     ensures failed { has_failed writer.new ≡ (has_failed writer.old || is_err result) }
@@ -42,6 +44,7 @@ fn serve_piece<W: Write, R: Repo, A: Allocator + Copy>(
 ) -> Result<Option<Outcome>, RunFault>
     requires { wants_input server.old ≡ true }
     ensures ok { IfOk result (WritesFor R.answers bytes.now (W.contents (inner_of writer.old)) (W.contents (inner_of writer.new)) server.old server.new) }
+    ensures front { OnErr result (WritesFront R.answers bytes.now (W.contents (inner_of writer.old)) (W.contents (inner_of writer.new)) server.old server.new) }
     ensures fault { IfErr result (λ fault. fault ≡ RunFault.WriteFault) }
     ensures failed { has_failed writer.new ≡ (has_failed writer.old || is_err result) }
 {
@@ -74,12 +77,14 @@ pub fn serve<In: Read, W: Write, R: Repo, A: Allocator + Copy>(
 
     ensures reads { reads_of reader.new ≤ turns }
     ensures run { IfOk result (λ outcome. (s : Setting) → Running R.answers s [] false [] server.old
-        → IsRun s (In.remaining (inner_of reader.old)) (In.remaining (inner_of reader.new)) (W.contents (inner_of writer.old)) (W.contents (inner_of writer.new)) (has_ended reader.new) outcome) }
+        → IsRun s (λ used over given. Running R.answers s used over given server.new) (In.remaining (inner_of reader.old)) (In.remaining (inner_of reader.new))
+        (W.contents (inner_of writer.old)) (W.contents (inner_of writer.new)) (has_ended reader.new) outcome) }
     ensures until { IfErr result (λ fault. (s : Setting) → Running R.answers s [] false [] server.old
-        → RunsUntil s turns (In.remaining (inner_of reader.old)) (In.remaining (inner_of reader.new)) (W.contents (inner_of writer.old)) (W.contents (inner_of writer.new)) fault) }
+        → RunsUntil s (λ used over given. Running R.answers s used over given server.new) turns (In.remaining (inner_of reader.old)) (In.remaining (inner_of reader.new))
+        (W.contents (inner_of writer.old)) (W.contents (inner_of writer.new)) (has_ended reader.new) fault) }
     ensures fault { IfErr result (IsShownBy (IsTrue (has_failed reader.new)) (IsTrue (has_failed writer.new)) (IsSpent reader.new turns)) }
     ensures told { FailsAs result (has_failed reader.new) (has_failed writer.new) }
-    ensures ends { IfOk result (λ outcome. outcome_of server.new ≡ Some outcome) }
+    ensures ends { IfOk result (λ outcome. (outcome_of server.new ≡ Some outcome) × OwesNow R.answers server.new []) }
     ensures goes_on { IfErr result (λ fault. fault ≢ RunFault.WriteFault → wants_input server.new ≡ true) }
 {
     if let Some(outcome) = drain(writer, server)? {
@@ -110,6 +115,7 @@ fn finish<W: Write, R: Repo, A: Allocator + Copy>(
 ) -> Result<Outcome, RunFault>
     requires { IsSome (outcome_of server.old) }
     ensures ok { IfOk result (WritesItsEnd R.answers [] (W.contents (inner_of writer.old)) (W.contents (inner_of writer.new)) server.old server.new) }
+    ensures front { OnErr result (WritesFront R.answers [] (W.contents (inner_of writer.old)) (W.contents (inner_of writer.new)) server.old server.new) }
     ensures fault { IfErr result (λ fault. fault ≡ RunFault.WriteFault) }
     ensures failed { has_failed writer.new ≡ (has_failed writer.old || is_err result) }
 {

@@ -71,7 +71,7 @@ impl<R: Repo, A: Allocator + Copy> Server<R, A> {
     ghost use Rattle.git_server.specs.contracts.server.Server.{the_row};
     ghost use Rattle.git_server.specs.Sessions.{Setting};
     ghost use Rattle.git_server.specs.Serving.{IsFresh, Running, repo_of, wants_input, outcome_of};
-    ghost use Rattle.git_server.specs.Moves.{Closes, Gives, Goes, Pulls, owed_by};
+    ghost use Rattle.git_server.specs.Moves.{Closes, Gives, Goes, OwesNow, Pulls, StopsInTime};
     ghost use Rattle.git_pkt.specs.Reading.{held_of};
 
     /// A server at the beginning of a session over this repository. It keeps at most `limits` of a request's
@@ -112,7 +112,7 @@ impl<R: Repo, A: Allocator + Copy> Server<R, A> {
     /// Whether bytes are wanted: there is no outcome yet, and all that is owed was pulled.
     pub fn wants_input(&self) -> bool
         ensures value { result ≡ wants_input self.now }
-        ensures waits { IsTrue result ↔ ((outcome_of self.now ≡ None) × (owed_by R.answers self.now ≡ [])) }
+        ensures waits { IsTrue result ↔ ((outcome_of self.now ≡ None) × OwesNow R.answers self.now []) }
     {
         match self.phase {
             Phase::Between => true,
@@ -140,6 +140,7 @@ impl<R: Repo, A: Allocator + Copy> Server<R, A> {
         ensures goes { Goes R.answers (take result piece.now) [] self.old self.new }
         ensures whole { IsTrue (wants_input self.new) → result ≡ length piece.now }
         ensures moves { wants_input self.old ≡ true → 0 < length piece.now → 0 < result ⊎ IsSome (outcome_of self.new) }
+        ensures in_time { StopsInTime R.answers self.old result piece.now (outcome_of self.new) }
         ensures stays { wants_input self.old ≡ false → (result ≡ 0) × (self.new ≡ self.old) }
         ensures nothing { length piece.now ≡ 0 → (result ≡ 0) × (self.new ≡ self.old) }
     {
@@ -241,6 +242,7 @@ impl<R: Repo, A: Allocator + Copy> Server<R, A> {
         ensures goes { Goes R.answers (take result piece.now) [] self.old self.new }
         ensures moves { 0 < result ⊎ IsSome (outcome_of self.new) }
         ensures goes_on { wants_input self.new ≡ true → 0 < result }
+        ensures in_time { StopsInTime R.answers self.old result piece.now (outcome_of self.new) }
     {
         let fed = self.reader.feed(piece);
         let used = fed.used;

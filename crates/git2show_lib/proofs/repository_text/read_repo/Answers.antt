@@ -3,7 +3,7 @@ use Rattle.std.specs.Option.{option_copied}
 use Rattle.git_names.specs.declared.object_format.Format.{Format}
 use Rattle.git2show_lib.specs.Drafts.{IsFit, drafted}
 use Rattle.git2show_lib.specs.RepositoryLines.{shown}
-use Rattle.git2show_lib.proofs.Reading.{may_not_stand_at, room_at_start, room_behind, started, stepped}
+use Rattle.git2show_lib.proofs.Reading.{memory_ran_out_at, may_not_stand_at, room_at_start, room_behind, started, stepped}
 use Rattle.git2show_lib.proofs.Saying.{fit_of_says}
 use Rattle.git2show_lib.proofs.repository_text.read_repo.Goals as goal
 
@@ -24,6 +24,14 @@ returns-in-Err-Refused c =
     let h = rw c.in-Some-rest.is at c.lines.invariant in
     may_not_stand_at c.args.text.now c.in-Some.format (drafted c.lines.draft) c.lines.line c.in-Some-rest.left.now c.split_line-in-Some-rest.result.0.now (option_copied c.split_line-in-Some-rest.result.1)
     (shown c.in-Some-read_item.item) h.reading c.split_line-in-Some-rest.ensures.lines c.in-Some-read_item.ensures (rw c.in-Err-Refused.field-0-is at c.in-Err-Refused.ensures)
+
+pub returns-in-Err-OutOfMemory : goal.returns-in-Err-OutOfMemory
+returns-in-Err-OutOfMemory c =
+    let h = rw c.in-Some-rest.is at c.lines.invariant in
+    memory_ran_out_at c.args.text.now c.in-Some.format (drafted c.lines.draft) c.lines.line c.in-Some-rest.left.now c.split_line-in-Some-rest.result.0.now
+    (option_copied c.split_line-in-Some-rest.result.1)
+    (shown c.in-Some-read_item.item) h.reading c.split_line-in-Some-rest.ensures.lines c.in-Some-read_item.ensures
+    (rw c.in-Err-OutOfMemory.field-0-is at c.in-Err-OutOfMemory.ensures)
 
 pub lines-preserved : goal.lines-preserved
 lines-preserved c =

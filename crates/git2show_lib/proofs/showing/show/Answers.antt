@@ -1,6 +1,6 @@
 use Rattle.std.proofs.Common.{rules}
 use Rattle.git_pkt.specs.Told.{has_ended}
-use Rattle.git_pkt.proofs.EngineLemmas.{Exchanges-more, ExchangesUntil-more, Exchanges-read_fault}
+use Rattle.git_pkt.proofs.EngineLemmas.{Exchanges-more, ExchangesUntil-more, Exchanges-read_fault, one_more_read}
 use Rattle.git2show_lib.proofs.Printing.{ends_at_fault, until_read_fault}
 use Rattle.git2show_lib.proofs.showing.show.Goals as goal
 
@@ -25,6 +25,8 @@ loop-preserved g c = record {
   sound = search rules;
   empty = search rules;
   bytes = Exchanges-more c.loop.invariant.bytes c.in_ok-count.ensures.bytes.0 c.in_ok-show_piece.ensures.ok;
+  brought = one_more_read c.loop.counter c.in_ok-count.count _ _ _ c.receive.new.piece c.loop.invariant.brought c.in_ok-count.ensures.bytes.0 (search rules)
+      (search rules);
 }
 
 pub returns-in_err-count-clause-shown : goal.returns-in_err-count-clause-shown

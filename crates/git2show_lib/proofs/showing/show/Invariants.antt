@@ -1,7 +1,7 @@
 -- Each turn is one read, nothing has failed or ended, and the lines of what was read were written.
 use Rattle.std.proofs.Common.{◌≡◌, false, None, []}
 use Rattle.git_pkt.specs.Told.{inner_of, reads_of, has_failed, has_ended}
-use Rattle.git_pkt.specs.Engine.{Exchanges}
+use Rattle.git_pkt.specs.Engine.{Exchanges, HasRead}
 use Rattle.git_pkt.specs.Reading.{fault_of}
 use Rattle.git2show_lib.specs.Showing.{ShowsSoFar}
 use Rattle.git2show_lib.proofs.showing.show.Given as goal
@@ -16,4 +16,5 @@ invariant-loop g l = record {
   empty : l.lines ≡ [];
   bytes : Exchanges (ShowsSoFar l.packets) (g.R.Read.remaining (inner_of l.fn.reader)) (g.R.Read.remaining (inner_of l.reader))
       (g.W.Write.contents (inner_of l.fn.writer)) (g.W.Write.contents (inner_of l.writer));
+  brought : HasRead l.counter (g.R.Read.remaining (inner_of l.fn.reader)) (g.R.Read.remaining (inner_of l.reader));
 }

@@ -1,5 +1,5 @@
 use Rattle.std.proofs.Common.{rules}
-use Rattle.git_server.proofs.RunLemmas.{writes_packet, writes_end}
+use Rattle.git_server.proofs.RunLemmas.{on_err_at, writes_packet, writes_front, writes_end}
 use Rattle.git_server.proofs.run.drain.Goals as goal
 
 pub loop-bytes-preserved : goal.loop-bytes-preserved
@@ -13,3 +13,8 @@ loop-bytes-preserved g c =
 pub returns-in-Finished-clause-ok : goal.returns-in-Finished-clause-ok
 returns-in-Finished-clause-ok g c =
     writes_end g.R.Repo.answers _ _ _ _ _ _ c.in-Finished.outcome c.loop-bytes.invariant.writes c.pull.follows.holds-at-none c.in-Finished.is
+
+pub returns-in_err-send-in-Packet-clause-front : goal.returns-in_err-send-in-Packet-clause-front
+returns-in_err-send-in-Packet-clause-front g c =
+    on_err_at _ _ _ c.from_residual.ensures.1
+    (writes_front g.R.Repo.answers _ _ _ _ _ _ _ c.in-Packet.bytes c.loop-bytes.invariant.writes c.pull.follows.holds-at-none c.in-Packet.is c.in_err-send-in-Packet.ensures.err)

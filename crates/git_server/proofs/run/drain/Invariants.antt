@@ -1,7 +1,7 @@
 -- What was pulled was written, and nothing has failed since the call began.
-use Rattle.std.proofs.Common.{◌≡◌, [], length}
+use Rattle.std.proofs.Common.{◌≡◌, []}
 use Rattle.git_pkt.specs.Told.{inner_of, has_failed}
-use Rattle.git_server.specs.Moves.{owed_by}
+use Rattle.git_server.specs.Moves.{most_left}
 use Rattle.git_server.specs.Serving.{outcome_of}
 use Rattle.git_server.specs.Runs.{WritesOn}
 use Rattle.git_server.proofs.run.drain.Given as goal
@@ -14,4 +14,4 @@ invariant-loop-bytes g l = record {
 }
 
 abbrev pub decreases-loop-bytes : goal.decreases-loop-bytes
-decreases-loop-bytes g l = length (owed_by g.R.Repo.answers l.server)
+decreases-loop-bytes g l = most_left g.R.Repo.answers l.server

@@ -3,7 +3,7 @@ use Rattle.git_pkt.specs.Told.{inner_of}
 use Rattle.git_pkt.proofs.Pieces.{left_of}
 use Rattle.git_server.specs.Runs.{WritesFor}
 use Rattle.git_server.specs.declared.outcome.Outcome.{Outcome}
-use Rattle.git_server.proofs.RunLemmas.{writes_piece, writes_piece_end}
+use Rattle.git_server.proofs.RunLemmas.{on_err_at, writes_piece, writes_piece_end, writes_piece_front}
 use Rattle.git_server.proofs.run.serve_piece.Goals as goal
 
 pub returns-in-Some-clause-ok : goal.returns-in-Some-clause-ok
@@ -26,3 +26,11 @@ loop-used-preserved g c =
       writes = writes_piece g.R.Repo.answers _ c.loop-used.server c.feed-used.new.self _ _ held held_after c.args.bytes.now c.loop-used.used c.feed-used.result c.loop-used.invariant.within
           c.loop-used.invariant.writes c.feed-used.ensures.goes all;
     }
+
+pub returns-in_err-outcome-clause-front : goal.returns-in_err-outcome-clause-front
+returns-in_err-outcome-clause-front g c =
+    let held = g.W.Write.contents (inner_of c.loop-used.writer) in
+    let held_after = g.W.Write.contents (inner_of c.drain.new.writer) in
+    on_err_at _ _ _ c.from_residual.ensures.1
+    (writes_piece_front g.R.Repo.answers _ c.loop-used.server c.feed-used.new.self c.drain.new.server _ held held_after c.args.bytes.now c.loop-used.used c.feed-used.result
+    c.loop-used.invariant.within c.loop-used.invariant.writes c.feed-used.ensures.goes c.in_err-outcome.ensures.front)

@@ -1,5 +1,5 @@
 use Rattle.std.proofs.lemmas.Result.{err_from_is_err_and}
-use Rattle.git_msg.proofs.StepFacts.{unread, completed}
+use Rattle.git_msg.proofs.StepFacts.{unread, completed, end_refused}
 use Rattle.git_msg.proofs.reader.RequestReader.take_argument.Goals as goal
 
 pub returns-in_err-argument-in-Payload : goal.returns-in_err-argument-in-Payload
@@ -9,6 +9,13 @@ returns-in_err-argument-in-Payload g c =
     rw (p.1, p.2, c.in-Payload.is)
     (unread c.args.self.now c.in-Payload.payload.now c.args.offset c.in_err-argument-in-Payload.field-0.0 c.requires (rw (c.command.ensures, c.text-text.ensures) at h))
 
-pub returns-in-Flush : goal.returns-in-Flush
-returns-in-Flush g c =
-    rw (c.in-Flush.is, c.restart.ensures.given) (completed c.args.self.now c.restart.new.self c.args.offset c.requires c.restart.ensures.next c.restart.ensures.new)
+pub returns-in_ok-check_end-in-Flush : goal.returns-in_ok-check_end-in-Flush
+returns-in_ok-check_end-in-Flush g c =
+    rw (c.in-Flush.is, c.restart.ensures.given)
+    (completed c.args.self.now c.restart.new.self c.args.offset c.requires c.in_ok-check_end-in-Flush.ensures c.restart.ensures.next c.restart.ensures.new)
+
+pub returns-in_err-check_end-in-Flush : goal.returns-in_err-check_end-in-Flush
+returns-in_err-check_end-in-Flush g c =
+    let p = err_from_is_err_and c.from_residual-in_err-check_end-in-Flush.result c.from_residual-in_err-check_end-in-Flush.ensures.1 in
+    rw (p.1, p.2, c.in-Flush.is)
+    (end_refused c.args.self.now c.args.offset c.in_err-check_end-in-Flush.field-0.0 c.requires c.in_err-check_end-in-Flush.ensures)

@@ -1,5 +1,6 @@
+use Rattle.std.proofs.Common.{rules}
 use Rattle.std.proofs.lemmas.Result.{err_from_is_err_and}
-use Rattle.git_msg.proofs.StepFacts.{noted, refused, delimited, flushed}
+use Rattle.git_msg.proofs.StepFacts.{noted, refused, delimited, flushed, flush_refused}
 use Rattle.git_msg.proofs.reader.RequestReader.take_capability.Goals as goal
 
 pub returns-in_err-note-in-Payload : goal.returns-in_err-note-in-Payload
@@ -18,5 +19,15 @@ returns-in_ok-note-in-Payload g c =
 pub returns-in_ok-command-in-Delim : goal.returns-in_ok-command-in-Delim
 returns-in_ok-command-in-Delim g c = rw c.in-Delim.is (delimited c.args.self.now c.args.offset c.in_ok-command-in-Delim.command c.empty_request.result c.requires c.in_ok-command-in-Delim.ensures c.empty_request.ensures)
 
-pub returns-in_ok-command-in-Flush : goal.returns-in_ok-command-in-Flush
-returns-in_ok-command-in-Flush g c = rw (c.in-Flush.is, c.restart.ensures.given) (flushed c.args.self.now c.restart.new.self c.args.offset c.in_ok-command-in-Flush.command c.empty_request-in-Flush.result c.requires c.in_ok-command-in-Flush.ensures c.empty_request-in-Flush.ensures c.restart.ensures.next c.restart.ensures.new)
+pub returns-in_ok-check_end-in-Flush : goal.returns-in_ok-check_end-in-Flush
+returns-in_ok-check_end-in-Flush g c =
+    rw (c.in-Flush.is, c.restart.ensures.given)
+    (flushed c.args.self.now c.restart.new.self c.args.offset c.in_ok-command-in-Flush.command c.empty_request-request.result c.requires c.in_ok-command-in-Flush.ensures
+    c.empty_request-request.ensures c.in_ok-check_end-in-Flush.ensures c.restart.ensures.next c.restart.ensures.new)
+
+pub returns-in_err-check_end-in-Flush : goal.returns-in_err-check_end-in-Flush
+returns-in_err-check_end-in-Flush g c =
+    let p = err_from_is_err_and c.from_residual-in_err-check_end-in-Flush.result c.from_residual-in_err-check_end-in-Flush.ensures.1 in
+    rw (p.1, p.2, c.in-Flush.is)
+    (flush_refused c.args.self.now c.args.offset c.in_ok-command-in-Flush.command c.empty_request-request.result c.in_err-check_end-in-Flush.field-0.0 c.requires (search rules)
+    c.in_ok-command-in-Flush.ensures c.empty_request-request.ensures c.in_err-check_end-in-Flush.ensures)

@@ -26,6 +26,7 @@ returns-in-Open c =
           news = λ f sound is. absurd (cc);
           stays = λ f is. absurd (c.in_default.not-Some f is);
           keeps = c.step-step.ensures.keeps;
+          held = tt;
         },
       ),
       record { after = tt; used = c.step-step.ensures.used },
@@ -49,6 +50,7 @@ returns-in-Failed c =
               subst (λ (g : Fault). ShownByFeed g c.step-step.result.used c.args.piece.now) same shown;
           stays = λ f is. absurd (c.in_default.not-Some f is);
           keeps = c.step-step.ensures.keeps;
+          held = tt;
         },
       ),
       record { after = tt; used = c.step-step.ensures.used },
@@ -69,6 +71,7 @@ returns-in-Whole c =
           news = λ f sound is. absurd (cc);
           stays = λ f is. absurd (c.in_default.not-Some f is);
           keeps = c.step-step.ensures.keeps;
+          held = moves.arrives.held;
         },
       ),
       record { after = tt; used = c.step-step.ensures.used },

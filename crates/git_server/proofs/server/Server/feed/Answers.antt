@@ -1,8 +1,8 @@
-use Rattle.std.proofs.Common.{◌⊎◌, ◌<◌, inl, inr, ℕ, List, ◌≡◌, ◌+◌, ◌-◌, true, false, take, drop, length, arith, subst, ap, sym, ◌∙◌, [], length-drop}
+use Rattle.std.proofs.Common.{rules, ◌++◌, ◌⊎◌, ◌<◌, inl, inr, ℕ, List, ◌≡◌, ◌+◌, ◌-◌, true, false, take, drop, length, arith, subst, ap, sym, ◌∙◌, [], length-drop}
 use Rattle.git_pkt.proofs.Pieces.{left_of, take_joined}
 use Rattle.git_server.specs.Moves.{Goes}
 use Rattle.git_server.specs.Serving.{wants_input}
-use Rattle.git_server.proofs.Going.{goes_twice}
+use Rattle.git_server.proofs.Going.{goes_twice, open_in_time}
 use Rattle.git_server.proofs.server.Server.feed.Goals as goal
 
 true_not_false : true ≡ false → ⊥
@@ -30,6 +30,12 @@ loop-used-preserved g c =
       within = omega (arith, c.step-used.ensures.used, ap length (left_of piece done c.loop-used.invariant.within), length-drop done piece);
       goes = subst (λ (l : List ℕ). Goes g.R.Repo.answers l [] c.args.self.now c.step-used.new.self) (take_joined piece done c.step-used.result c.loop-used.invariant.within) both;
       moves = λ loud. inr (more_used done c.step-used.result _ c.step-used.ensures.moves);
+      in_time =
+          λ s so_far over before r wants fault ended too_long.
+          let inner = c.loop-used.invariant.goes s so_far over before r in
+          let loud : wants_input c.loop-used.self ≡ true = sym c.wants_input.ensures.value ∙ c.if-wants_input.true in
+          let less = c.step-used.ensures.in_time s (so_far ++ take done piece) over (before ++ []) inner loud fault ended too_long in
+          omega (arith, less, ap length (left_of piece done c.loop-used.invariant.within), length-drop done piece);
       stays =
           λ quiet.
           let same = ap wants_input (c.loop-used.invariant.stays quiet).1 in
@@ -37,3 +43,13 @@ loop-used-preserved g c =
           absurd (true_not_false (sym loud ∙ same ∙ quiet));
       nothing = λ empty. absurd (omega (arith, empty, c.loop-used-test));
     }
+
+pub loop-used-init : goal.loop-used-init
+loop-used-init g c = record {
+  within = search rules;
+  goes = search rules;
+  moves = search rules;
+  in_time = open_in_time g.R.Repo.answers c.args.self.now 0 c.args.piece.now;
+  stays = search rules;
+  nothing = search rules;
+}

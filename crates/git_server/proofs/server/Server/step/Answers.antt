@@ -2,7 +2,7 @@ use Rattle.std.proofs.Common.{refl, subst, take}
 use Rattle.git_pkt.specs.Packets.{seen}
 use Rattle.git_pkt.specs.Reading.{ReadsOn, Tells, given_by}
 use Rattle.git_pkt.specs.declared.reader.Got.{Got}
-use Rattle.git_server.proofs.Going.{goes_packet, goes_refused, no_outcome}
+use Rattle.git_server.proofs.Going.{goes_packet, goes_refused, open_in_time, packet_in_time, fault_in_time, no_outcome}
 use Rattle.git_server.proofs.server.Server.step.Goals as goal
 
 pub returns-in-Packet-clause-goes : goal.returns-in-Packet-clause-goes
@@ -25,3 +25,18 @@ returns-in-Failed-clause-goes g c =
     let open_ended = no_outcome old.phase c.requires.wants in
     goes_refused g.R.Repo.answers old _ used c.in-Failed.fault c.requires.wants (record { offer = refl; repo = refl; reads = reads }) refl (old.sound open_ended) (old.ready open_ended)
     tells (λ none. (feeds.news c.in-Failed.fault none c.in-Failed.is).not_the_end) c.refusal.ensures
+
+pub returns-in-More-clause-in_time : goal.returns-in-More-clause-in_time
+returns-in-More-clause-in_time g c = open_in_time g.R.Repo.answers c.args.self.now c.feed-fed.result.used c.args.piece.now
+
+pub returns-in-Packet-clause-in_time : goal.returns-in-Packet-clause-in_time
+returns-in-Packet-clause-in_time g c =
+    packet_in_time g.R.Repo.answers c.args.self.now c.feed-fed.result.used c.args.piece.now
+    (record { packet = seen c.in-Packet.packet; offset = c.in-Packet.offset })
+    _ _ c.following.result c.take_packet-brought.ensures c.following.ensures
+
+pub returns-in-Failed-clause-in_time : goal.returns-in-Failed-clause-in_time
+returns-in-Failed-clause-in_time g c =
+    let feeds = c.feed-fed.follows.holds-at-none in
+    fault_in_time g.R.Repo.answers c.args.self.now c.feed-fed.result.used c.args.piece.now c.in-Failed.fault c.refusal.result c.refusal.ensures
+    (λ none. feeds.news c.in-Failed.fault none c.in-Failed.is)

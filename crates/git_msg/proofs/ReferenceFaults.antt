@@ -1,0 +1,59 @@
+-- A reference line is taken or refused, not both, and refused by one name.
+use Rattle.std.proofs.Common.{arith, ◌≡◌, ℕ, List, [], ◌∷◌, ◌++◌, refl, ap, sym, ◌∙◌, subst, slice_index, codes}
+use Rattle.git_names.specs.ObjectName.{ObjectName, IsObjectName, IsNoObjectName}
+use Rattle.git_names.specs.RefName.{IsRefName}
+use Rattle.git_names.specs.declared.object_format.Format.{Format}
+use Rattle.git_pkt.specs.declared.fault.Kind.{Kind}
+use Rattle.git_pkt.specs.declared.fault.Kind.TheVariants.{BadLine, BadObjectName, BadRefName}
+use Rattle.git_msg.specs.Checks.{Refuses, Passes}
+use Rattle.git_msg.specs.References.{Ref, IsAttribute, IsAttributeFault, IsReferenceLine, IsReferenceFault, attribute_checks, reference_checks}
+use Rattle.git_msg.proofs.CheckLaws.{AllFair, passes_or_refuses, one_name, fair_check}
+
+attribute_apart : (format : Format) (word : List ℕ) (kind : Kind) → IsAttribute format word → IsAttributeFault format word kind → ⊥
+attribute_apart format word BadRefName h fault = fault.holds (h.target fault.value fault.spelled)
+attribute_apart format word BadObjectName h fault = let t = h.peeled fault.value fault.spelled in fault.holds t.0 t.1
+attribute_apart format word kind h fault = fault
+
+-- the two keys begin with different bytes
+other_key : (word target peeled : List ℕ) → word ≡ codes "symref-target:" ++ target → word ≡ codes "peeled:" ++ peeled → ⊥
+other_key word target peeled h k = let e = ap (λ (text : List ℕ). slice_index text 0) (sym h ∙ k) in omega arith
+
+attribute_single : (format : Format) (word : List ℕ) (kind other : Kind) → IsAttributeFault format word kind → IsAttributeFault format word other
+    → kind ≡ other
+attribute_single format word BadRefName BadRefName h k = refl
+attribute_single format word BadObjectName BadObjectName h k = refl
+attribute_single format word BadRefName BadObjectName h k = absurd (other_key word h.value k.value h.spelled k.spelled)
+attribute_single format word BadObjectName BadRefName h k = absurd (other_key word k.value h.value k.spelled h.spelled)
+attribute_single format word BadRefName other h k = absurd k
+attribute_single format word BadObjectName other h k = absurd k
+attribute_single format word kind other h k = absurd h
+
+fair_attributes : (format : Format) (words : List (List ℕ)) → AllFair (attribute_checks format words)
+unfolding AllFair
+fair_attributes format [] = tt
+fair_attributes format (word ∷ words) =
+    (record { apart = attribute_apart format word; single = attribute_single format word }, fair_attributes format words)
+
+fair_reference : (format : Format) (words : List (List ℕ)) → AllFair (reference_checks format words)
+unfolding AllFair
+fair_reference format [] = (fair_check ⊥ (Unit {0}) BadLine (λ p q. p), tt)
+fair_reference format (word ∷ []) = (fair_check ⊥ (Unit {0}) BadLine (λ p q. p), tt)
+fair_reference format (id ∷ name ∷ attributes) = (
+  fair_check ((named : ObjectName) × IsObjectName format id named) (IsNoObjectName format id) BadObjectName (λ p q. q p.0 p.1),
+  (fair_check (IsRefName name) (¬ IsRefName name) BadRefName (λ p q. q p), fair_attributes format attributes),
+)
+
+-- a reference line passes its checks
+line_passes : (format : Format) (text : List ℕ) (ref : Ref) → (h : IsReferenceLine format text ref)
+    → Passes (reference_checks format (h.id ∷ ref.name ∷ h.attributes))
+line_passes format text ref h = ((ref.id, h.id_is), (h.name_is, h.attributes_are.passes))
+
+pub reference_or_fault : (format : Format) (text : List ℕ) (ref : Ref) (kind : Kind) → IsReferenceLine format text ref → IsReferenceFault format text kind → ⊥
+reference_or_fault format text ref kind h fault =
+    let words : List (List ℕ) = h.id ∷ ref.name ∷ h.attributes in
+    passes_or_refuses (reference_checks format words) (fair_reference format words) kind (line_passes format text ref h)
+    (subst (λ (ws : List (List ℕ)). Refuses (reference_checks format ws) kind) h.words fault)
+
+pub one_reference_fault : (format : Format) (text : List ℕ) (kind other : Kind) → IsReferenceFault format text kind → IsReferenceFault format text other
+    → kind ≡ other
+one_reference_fault format text kind other h k = one_name (reference_checks format _) (fair_reference format _) kind other h k

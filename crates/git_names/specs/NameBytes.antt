@@ -1,0 +1,7 @@
+-- What a clause sees of a reference name that borrows its bytes.
+use Rattle.std.specs.Prelude.{ℕ, List}
+use Rattle.git_names.specs.declared.reference.RefName.{RefName}
+
+-- the bytes of the name
+abbrev pub name_bytes : RefName → List ℕ
+name_bytes name = name.text.now
