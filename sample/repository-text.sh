@@ -1,5 +1,6 @@
 #!/usr/bin/env bash
-# Writes the references of the Git repository here as a repository text, which `git2show serve --repo` reads.
+# Writes the references of the Git repository here as a repository text, which `git2show serve --repo` reads. What a tag
+# peels to is the object at the end of its chain of tags, as Git shows it.
 set -eu -o pipefail
 export LC_ALL=C
 
@@ -8,4 +9,13 @@ if head=$(git rev-parse --quiet --verify HEAD); then
     target=$(git symbolic-ref --quiet HEAD || true)
     echo "ref $head HEAD${target:+ symref-target:$target}"
 fi
-git for-each-ref --format='ref %(objectname) %(refname)%(if)%(symref)%(then) symref-target:%(symref)%(end)%(if)%(*objectname)%(then) peeled:%(*objectname)%(end)'
+# The object, name and target of each reference, and beside them what it peels to.
+paste -d ' ' \
+    <(git for-each-ref --format='%(objectname) %(refname) %(if)%(symref)%(then)%(symref)%(else)-%(end)') \
+    <(git for-each-ref --format='%(refname)^{}' | git cat-file --batch-check='%(objectname)') |
+    while read -r object name target peeled; do
+        line="ref $object $name"
+        [ "$target" = - ] || line+=" symref-target:$target"
+        [ "$peeled" = "$object" ] || line+=" peeled:$peeled"
+        echo "$line"
+    done

@@ -114,13 +114,14 @@ lists_as_its_own() {
         git commit -q --allow-empty -m one
         git tag light
         git tag -a -m tag annotated
+        git tag -a -m 'tag of a tag' nested annotated
         git branch topic
         git symbolic-ref refs/heads/alias refs/heads/topic
         "$top/sample/repository-text.sh" > ../own.repo
     )
     git ls-remote --symref "./own-$1" > own.list
     ls_remote --symref "$(served own.repo)"
-    lists 9 own.list
+    lists 11 own.list
 }
 
 case_git_lists_a_repository_of_its_own() {
