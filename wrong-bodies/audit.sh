@@ -60,7 +60,8 @@ while read -r crate; do cat "$room/$crate.told"; done < "$room/crates" | awk -v 
         if (what ~ /^NOT REFUSED/) return "proved"
         if (what !~ /^refused/) return "unfit"
         if (what ~ /only because|record `|projects from|has no field|has no `|is not in scope|was not admitted/) return "hollow"
-        if (what ~ /it is not proved that|`(omega|search|grind|simp|cc)`:/) return "goal"
+        # The last is how `cc` tells that it proves nothing.
+        if (what ~ /it is not proved that|`(omega|search|grind|simp)`:|list the missing equation/) return "goal"
         return what ~ /: (\.\/)?proofs\// ? "proof" : "hollow"
     }
     function tell(crate) {

@@ -1,4 +1,4 @@
-use Rattle.std.proofs.Common.{subst, sym, length}
+use Rattle.std.proofs.Common.{rules, subst, sym, length}
 use Rattle.std.specs.Option.{option_copied}
 use Rattle.git_names.specs.declared.object_format.Format.{Format}
 use Rattle.git2show_lib.specs.Drafts.{IsFit, drafted}
@@ -22,8 +22,10 @@ keep-requires c =
 pub returns-in-Err-Refused : goal.returns-in-Err-Refused
 returns-in-Err-Refused c =
     let h = rw c.in-Some-rest.is at c.lines.invariant in
+    let said =
     may_not_stand_at c.args.text.now c.in-Some.format (drafted c.lines.draft) c.lines.line c.in-Some-rest.left.now c.split_line-in-Some-rest.result.0.now (option_copied c.split_line-in-Some-rest.result.1)
-    (shown c.in-Some-read_item.item) h.reading c.split_line-in-Some-rest.ensures.lines c.in-Some-read_item.ensures (rw c.in-Err-Refused.field-0-is at c.in-Err-Refused.ensures)
+    (shown c.in-Some-read_item.item) h.reading c.split_line-in-Some-rest.ensures.lines c.in-Some-read_item.ensures (rw c.in-Err-Refused.field-0-is at c.in-Err-Refused.ensures) in
+    search (rules, said)
 
 pub returns-in-Err-OutOfMemory : goal.returns-in-Err-OutOfMemory
 returns-in-Err-OutOfMemory c =

@@ -4,7 +4,7 @@ use Rattle.git_msg.proofs.capabilities.read_capability.Goals as goal
 
 pub returns-then-not-is_key-clause-line : goal.returns-then-not-is_key-clause-line
 returns-then-not-is_key-clause-line c =
-    no_key c.args.text.now c.key_length-end.result c.key_length-end.ensures.first (sym c.is_key.ensures ∙ c.if-not-is_key.true)
+    no_key c.args.text.now c.key_length-end.result c.key_length-end.ensures.first (cc)
 
 pub returns-then-not-is_value-clause-line : goal.returns-then-not-is_value-clause-line
 returns-then-not-is_value-clause-line c =

@@ -8,6 +8,9 @@ use Rattle.git_server.specs.declared.outcome.Outcome.{Outcome}
 use Rattle.git_server.proofs.RunLemmas.{standing, turns_on, answered, breaks_off, breaks_closed, ends_with, ends_closed, end_unflushed, nothing_written, keeps_same, if_err_at}
 use Rattle.git_server.proofs.run.serve.Goals as goal
 
+pub returns-clause-ends : goal.returns-clause-ends
+returns-clause-ends g c = search rules
+
 pub returns-clause-goes_on : goal.returns-clause-goes_on
 returns-clause-goes_on g c = search rules
 

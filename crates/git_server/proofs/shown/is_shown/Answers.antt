@@ -1,4 +1,4 @@
-use Rattle.std.proofs.Common.{◌<◌, length, ◌∙◌, sym, nat_eq, arith}
+use Rattle.std.proofs.Common.{rules, ◌<◌, length, ◌∙◌, sym, nat_eq, arith}
 use Rattle.std.specs.List.{starts_with}
 use Rattle.std.proofs.lemmas.Option.{slice_get_within}
 use Rattle.git_msg.specs.Asked.{ref_prefixes_of}
@@ -25,4 +25,5 @@ loop-prefix-preserved g c =
 
 pub returns : goal.returns
 returns g c =
-    none_passes (starts_with nat_eq c.args.name.now) _ c.loop-prefix.count (sym c.in_default.ensures.value) c.loop-prefix.invariant.within c.loop-prefix.invariant.none
+    let said = none_passes (starts_with nat_eq c.args.name.now) _ c.loop-prefix.count (sym c.in_default.ensures.value) c.loop-prefix.invariant.within c.loop-prefix.invariant.none in
+    search (rules, said)

@@ -1,4 +1,4 @@
-use Rattle.std.proofs.Common.{◌≡◌, ◌∙◌, ℕ, ap, length, max, subst}
+use Rattle.std.proofs.Common.{rules, ◌≡◌, ◌∙◌, ℕ, ap, length, max, subst}
 use Rattle.git_msg.specs.Arguments.{shown, written_text}
 use Rattle.git_msg.specs.Checks.{Passes}
 use Rattle.git_msg.specs.Holding.{Keeps, IsRefused, keep_checks}
@@ -17,4 +17,4 @@ returns-in-Err g c =
     let same : c.max-length.result ≡ max c.in-Waiting.length (length (written_text (shown c.args.argument))) = c.max-length.ensures ∙ ap (λ (n : ℕ). max c.in-Waiting.length n) c.written_length.ensures in
     let h = keeps_err c.args.self.now c.in-Waiting.offset c.in-Waiting.length (shown c.args.argument) c.keep.new.self c.in-Err.kind c.in-Waiting.is c.in-Err.ensures.unchanged
     (subst (λ (n : ℕ). IsRefused (keep_checks c.args.self.now.request (shown c.args.argument) n) (shown c.args.argument) c.in-Err.kind) same c.in-Err.ensures.refused) in
-    rw (c.refuse.ensures.ends, c.refuse.ensures.fault) h
+    rw (c.refuse.ensures.ends, c.refuse.ensures.fault) (search (rules, h))

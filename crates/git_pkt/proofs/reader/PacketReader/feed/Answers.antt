@@ -1,6 +1,5 @@
-use Rattle.std.proofs.Common.{rules, ◌≡◌, ◌+◌, ◌-◌, take, length, arith, subst, refl, ◌∙◌}
+use Rattle.std.proofs.Common.{rules, ◌≡◌, take, length, arith, subst, refl, ◌∙◌}
 use Rattle.std.proofs.lemmas.List.{length-take-le}
-use Rattle.git_pkt.specs.Reading.{position_of, held_of}
 use Rattle.git_pkt.specs.Reading.{ShownByFeed}
 use Rattle.git_pkt.specs.ReaderSteps.{Moves, IsShown}
 use Rattle.git_pkt.specs.declared.fault.Fault.{Fault}
