@@ -2,7 +2,7 @@
 use Rattle.std.proofs.Common.{arith, ◌≡◌, inl, inr, Option, Some, ◌+◌, ◌-◌, ℕ, List, [], ◌∷◌, ◌++◌, length, true, false, None, ap, sym, ◌∙◌, refl, subst, append_assoc}
 use Rattle.std.proofs.lemmas.List.{append-nil}
 use Rattle.git_names.specs.declared.object_format.Format.{Format}
-use Rattle.git_pkt.specs.Packets.{Pkt, Spells}
+use Rattle.git_pkt.specs.Packets.{Pkt, Spells, flushes}
 use Rattle.git_pkt.specs.Splits.{Given}
 use Rattle.git_pkt.specs.Faults.{StopsBy}
 use Rattle.git_pkt.specs.Reading.{Reads, ReadsOn, StandsAt, is_open, held_of, fault_of as reader_fault_of}
@@ -11,7 +11,7 @@ use Rattle.git_pkt.specs.declared.reader.PacketReader.{PacketReader}
 use Rattle.git_pkt.proofs.ReaderMoves.{rest_of_shut}
 use Rattle.git_pkt.proofs.Carries.{rest_stands}
 use Rattle.git_msg.specs.Advertisement.{noted_of}
-use Rattle.git_client.specs.Parts.{nearest, flushes, advertisement_of}
+use Rattle.git_client.specs.Parts.{nearest, advertisement_of}
 use Rattle.git_client.specs.Events.{EventValue, turns_of}
 use Rattle.git_client.specs.Conversation.{GivesAt, GiveAll, RefusesAt}
 use Rattle.git_client.specs.Turns.{takes_packets}

@@ -6,7 +6,8 @@ use Rattle.git_pkt.specs.Faults.{IsOpen}
 use Rattle.git_pkt.specs.declared.fault.Fault.{Fault}
 use Rattle.git_pkt.specs.declared.reader.PacketReader.{PacketReader}
 use Rattle.git_pkt.proofs.Gathered.{open_nothing}
-use Rattle.git_client.specs.Parts.{nearest, flushes}
+use Rattle.git_pkt.specs.Packets.{flushes}
+use Rattle.git_client.specs.Parts.{nearest}
 use Rattle.git_client.specs.Events.{EventValue}
 use Rattle.git_client.specs.Conversation.{GiveAll, FirstMalformed}
 use Rattle.git_client.specs.Hearing.{Hears, StandsIn, RefusedPacket, RefusedBytes, EndedEarly, fault_in, fault_of, phase_of, reader_of}

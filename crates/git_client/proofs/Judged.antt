@@ -1,12 +1,12 @@
 -- What the judge of packets answers says what the packet gives, or why it is refused, behind whatever came before.
 use Rattle.std.proofs.Common.{◌≡◌, ℕ, suc, List, [], ◌∷◌, true, Err, ap, sym, ◌∙◌, refl, subst, codes}
 use Rattle.git_names.specs.declared.object_format.Format.{Format}
-use Rattle.git_pkt.specs.Packets.{Pkt, flush, delim, resp_end, payload, text_of}
+use Rattle.git_pkt.specs.Packets.{Pkt, flush, delim, resp_end, payload, text_of, flushes}
 use Rattle.git_pkt.specs.declared.fault.Kind.{Kind}
 use Rattle.git_pkt.specs.declared.fault.Kind.TheVariants.{Truncated, StreamTooLong}
 use Rattle.git_msg.specs.Advertisement.{noted_of, is_spoken}
 use Rattle.git_msg.specs.declared.offers.Caps.{Caps}
-use Rattle.git_client.specs.Parts.{opening, advertisement, flushes, advertisement_of}
+use Rattle.git_client.specs.Parts.{opening, advertisement, advertisement_of}
 use Rattle.git_client.specs.Events.{capability, offered, IsVersion, RefusesFlush}
 use Rattle.git_client.specs.Conversation.{GivesAt, RefusesAt}
 use Rattle.git_client.specs.Turns.{takes_packets, Judges, NotesLine}

@@ -2,9 +2,9 @@
 use Rattle.std.proofs.Common.{arith, ◌≡◌, ℕ, ◌+◌, List, [], ◌∷◌, ◌++◌, refl, sym, ap, ◌∙◌, append_assoc, cond}
 use Rattle.std.proofs.lemmas.List.{append-nil}
 use Rattle.git_names.specs.declared.object_format.Format.{Format}
-use Rattle.git_pkt.specs.Packets.{Pkt, flush, delim, resp_end, payload}
+use Rattle.git_pkt.specs.Packets.{Pkt, flush, delim, resp_end, payload, flushes}
 use Rattle.git_pkt.specs.Splits.{Given}
-use Rattle.git_client.specs.Parts.{Part, opening, advertisement, nearest, flushes, is_zero, advertisement_of}
+use Rattle.git_client.specs.Parts.{Part, opening, advertisement, nearest, is_zero, advertisement_of}
 use Rattle.git_client.specs.Events.{EventValue, capability, offered, Gives, turns_of}
 use Rattle.git_client.specs.Conversation.{GivesAt, GiveAll}
 

@@ -1,7 +1,7 @@
 -- The events of the bytes of a conversation, and the first fault in them.
 use Rattle.std.specs.Prelude.{◌≡◌, ◌⊎◌, ℕ, ◌+◌, ◌-◌, List, [], ◌∷◌, ◌++◌, length}
 use Rattle.git_names.specs.declared.object_format.Format.{Format}
-use Rattle.git_pkt.specs.Packets.{Pkt}
+use Rattle.git_pkt.specs.Packets.{Pkt, flushes}
 use Rattle.git_pkt.specs.Splits.{Given, Splits}
 use Rattle.git_pkt.specs.Faults.{IsOpen, StopsBy}
 use Rattle.git_pkt.specs.declared.fault.Fault.{Fault}
@@ -9,7 +9,7 @@ use Rattle.git_pkt.specs.declared.fault.Kind.{Kind}
 use Rattle.git_pkt.specs.declared.fault.Kind.TheVariants.{Truncated}
 use Rattle.git_msg.specs.Advertisement.{noted_of}
 use Rattle.git_msg.specs.declared.offers.Caps.{Caps}
-use Rattle.git_client.specs.Parts.{Part, IsPart, nearest, flushes, advertisement_of}
+use Rattle.git_client.specs.Parts.{Part, IsPart, nearest, advertisement_of}
 use Rattle.git_client.specs.Events.{EventValue, Gives, Refuses}
 
 -- a packet behind those before it has no fault and gives these events

@@ -2,7 +2,7 @@
 use Rattle.std.specs.Prelude.{◌≡◌, ◌≢◌, ◌⊎◌, ℕ, ◌-◌, ◌<◌, Bool, true, false, List, [], ◌∷◌, ◌++◌, length, take, Option, Some, None, Result, Ok, Err}
 use Rattle.std.specs.Option.{option_copied}
 use Rattle.git_names.specs.declared.object_format.Format.{Format}
-use Rattle.git_pkt.specs.Packets.{Pkt, payload, Spells, text_of}
+use Rattle.git_pkt.specs.Packets.{Pkt, payload, Spells, text_of, flushes}
 use Rattle.git_pkt.specs.Splits.{Given, Splits}
 use Rattle.git_pkt.specs.Faults.{StopsBy}
 use Rattle.git_pkt.specs.Reading.{Reads, position_of, ShownByFeed, is_open, held_of, fault_of as reader_fault_of}
@@ -13,7 +13,7 @@ use Rattle.git_pkt.specs.declared.reader.PacketReader.{PacketReader}
 use Rattle.git_msg.specs.Capability.{IsCapability}
 use Rattle.git_msg.specs.Advertisement.{noted_of}
 use Rattle.git_msg.specs.declared.offers.Caps.{Caps}
-use Rattle.git_client.specs.Parts.{nearest, flushes, advertisement_of}
+use Rattle.git_client.specs.Parts.{nearest, advertisement_of}
 use Rattle.git_client.specs.Events.{EventValue, capability, offered, IsErrorOf}
 use Rattle.git_client.specs.Conversation.{GiveAll, RefusesAt}
 use Rattle.git_client.specs.Turns.{takes_packets}

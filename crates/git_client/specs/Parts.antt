@@ -1,18 +1,12 @@
 -- Which part of a conversation a packet belongs to. What is looked at are the packets before it, the nearest first.
 use Rattle.std.specs.Prelude.{◌≡◌, ◌≢◌, ℕ, suc, zero, Bool, true, false, List, [], ◌∷◌, if◌then◌else◌}
-use Rattle.git_pkt.specs.Packets.{Pkt, flush}
+use Rattle.git_pkt.specs.Packets.{Pkt, flush, flushes}
 use Rattle.git_pkt.specs.Splits.{Given}
 
 -- the packets of a list, the last one first, behind those that were there before
 abbrev pub nearest : List Given → List Pkt → List Pkt
 nearest [] before = before
 nearest (g ∷ gs) before = nearest gs (g.packet ∷ before)
-
--- how many flush packets there are
-abbrev pub flushes : List Pkt → ℕ
-flushes [] = 0
-flushes (flush ∷ before) = suc (flushes before)
-flushes (p ∷ before) = flushes before
 
 abbrev pub is_zero : ℕ → Bool
 is_zero zero = true

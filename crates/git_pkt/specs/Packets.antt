@@ -1,5 +1,5 @@
 -- Packets, and how bytes spell them.
-use Rattle.std.specs.Prelude.{◌≡◌, ℕ, ◌+◌, ◌-◌, ◌≤◌, List, [], ◌++◌, length, take, drop, slice_index, nat_lt, ◌==◌, ◌&&◌, if◌then◌else◌}
+use Rattle.std.specs.Prelude.{◌≡◌, ℕ, suc, ◌+◌, ◌-◌, ◌≤◌, List, [], ◌∷◌, ◌++◌, length, take, drop, slice_index, nat_lt, ◌==◌, ◌&&◌, if◌then◌else◌}
 use Rattle.git_pkt.specs.Digits.{HasDigits, digits_value, digits_of}
 use Rattle.git_pkt.specs.declared.packet.Packet.{Packet}
 use Rattle.git_pkt.specs.declared.packet.Packet.TheVariants.{Flush, Delim, RespEnd, Payload}
@@ -10,6 +10,12 @@ pub data Pkt : Type 0 where
   delim : Pkt
   resp_end : Pkt
   payload : List ℕ → Pkt
+
+-- how many of the packets are flushes
+abbrev pub flushes : List Pkt → ℕ
+flushes [] = 0
+flushes (flush ∷ packets) = suc (flushes packets)
+flushes (packet ∷ packets) = flushes packets
 
 -- the packet that a borrowed one shows
 abbrev pub seen : Packet → Pkt

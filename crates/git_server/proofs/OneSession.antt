@@ -2,7 +2,7 @@
 -- of it owes nothing.
 use Rattle.std.proofs.Common.{◌≡◌, ◌≢◌, ℕ, ◌+◌, drop, map, codes, Bool, true, false, List, [], ◌∷◌, ◌++◌, length, length-append, Option, None, refl, sym, ap, ◌∙◌, append_assoc, append-nil, subst, inl, inr, arith}
 use Rattle.git_pkt.specs.Digits.{digits_of}
-use Rattle.git_pkt.specs.Packets.{Pkt, flush, delim, resp_end, payload, body_of, length_field, spelling_of}
+use Rattle.git_pkt.specs.Packets.{Pkt, flush, flushes, delim, resp_end, payload, body_of, length_field, spelling_of}
 use Rattle.git_pkt.proofs.Spelling.{same_start}
 use Rattle.git_pkt.proofs.Written.{spells_written}
 use Rattle.git_pkt.specs.Splits.{Given}
@@ -14,7 +14,7 @@ use Rattle.git_msg.specs.Lines.{Line, IsLine, IsLineIn, has_delimiter}
 use Rattle.git_msg.specs.Requests.{AreLines, Asks}
 use Rattle.git_msg.proofs.LineLaws.{one_request}
 use Rattle.git_server.specs.Repository.{Entry, Repository}
-use Rattle.git_server.specs.Answers.{AllFit, flushes, offered_line, reference_packet, shown_refs, spelled, IsAnswer}
+use Rattle.git_server.specs.Answers.{AllFit, offered_line, reference_packet, shown_refs, spelled, IsAnswer}
 use Rattle.git_server.specs.Greetings.{format_on, greetings_from}
 use Rattle.git_server.specs.declared.greeting.Greeting.TheVariants.{Version, Agent, LsRefs, ServerOption, ObjectFormat, End}
 use Rattle.git_server.specs.Sessions.{Setting, Cuts, AreAnswers, Begins, IsAnswered, IsSent, advertised}

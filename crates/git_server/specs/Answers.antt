@@ -9,14 +9,11 @@ use Rattle.git_pkt.specs.declared.fault.Kind.{Kind}
 use Rattle.git_pkt.specs.declared.fault.Kind.TheVariants.{RemoteError}
 use Rattle.git_msg.specs.declared.offers.Offer.{Offer}
 use Rattle.git_msg.specs.Asked.{Asked, LsRefsAsked, ls_refs}
+use Rattle.git_msg.specs.Writing.{text_line}
 use Rattle.git_msg.specs.References.{Ref, reference_text}
 use Rattle.git_server.specs.Repository.{Entry, Repository}
 use Rattle.git_server.specs.declared.outcome.Outcome.{Outcome}
 use Rattle.git_server.specs.declared.outcome.Outcome.TheVariants.{Flush, Closed, Refused}
-
--- the packet of a line of text
-abbrev pub line : List ℕ → Pkt
-line text = payload (text ++ 10 ∷ [])
 
 -- the packets as they are written
 abbrev pub spelled : List Pkt → List ℕ
@@ -27,21 +24,15 @@ abbrev pub AllFit : List Pkt → Type 0
 AllFit [] = Unit {0}
 AllFit (p ∷ ps) = (length (body_of p) ≤ 65516) × AllFit ps
 
--- how many flush packets there are
-abbrev pub flushes : List Pkt → ℕ
-flushes [] = 0
-flushes (flush ∷ ps) = 1 + flushes ps
-flushes (p ∷ ps) = flushes ps
-
 -- the line of a capability that may be offered
 abbrev pub offered_line : Bool → List ℕ → List Pkt
-offered_line offered text = if offered then line text ∷ [] else []
+offered_line offered text = if offered then text_line text ∷ [] else []
 
 -- what a server says first
 abbrev pub advertisement_of : Offer → List Pkt
 advertisement_of offer =
-    line (codes "version 2") ∷ line (codes "agent=git2/1") ∷ line (codes "ls-refs")
-    ∷ (offered_line offer.server_option (codes "server-option") ++ line (codes "object-format=" ++ name_of offer.format) ∷ flush ∷ [])
+    text_line (codes "version 2") ∷ text_line (codes "agent=git2/1") ∷ text_line (codes "ls-refs")
+    ∷ (offered_line offer.server_option (codes "server-option") ++ text_line (codes "object-format=" ++ name_of offer.format) ∷ flush ∷ [])
 
 abbrev pub is_empty : List (List ℕ) → Bool
 is_empty [] = true
@@ -66,7 +57,7 @@ shown_line symrefs peel entry = record {
 
 -- the packet of a reference
 abbrev pub reference_packet : (symrefs peel : Bool) → Entry → Pkt
-reference_packet symrefs peel entry = line (reference_text (shown_line symrefs peel entry))
+reference_packet symrefs peel entry = text_line (reference_text (shown_line symrefs peel entry))
 
 -- the answer to a request for references
 abbrev pub ls_refs_answer : LsRefsAsked → List Entry → List Pkt
@@ -78,7 +69,7 @@ IsAnswer repo (ls_refs q) packets = packets ≡ ls_refs_answer q repo.refs
 
 -- the error packet that tells a fault by its name and offset
 abbrev pub error_packet : Fault → Pkt
-error_packet fault = line (codes "ERR " ++ fault_text fault)
+error_packet fault = text_line (codes "ERR " ++ fault_text fault)
 
 -- an error packet is not answered; any other fault is told by an error packet
 abbrev pub refusal_by : Kind → Fault → List Pkt
