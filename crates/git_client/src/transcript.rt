@@ -19,7 +19,8 @@ const BLOCK: usize = 64;
 /// Writes the transcript's line of an event, and nothing else. The numbers are those of the pack and progress bytes of
 /// the response: the line of a response's end shows them.
 ///
-/// The fault is `WriteFault`, exactly where the writing fails; a front of the line was written then.
+/// The fault is `WriteFault`, where the writing fails; a front of the line was written then. A writer that has not
+/// failed before has failed exactly where this is the answer.
 pub fn write_event<W: Write>(
     out: &mut Told<W>,
     event: &Event<'_>,

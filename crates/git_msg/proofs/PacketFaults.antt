@@ -68,7 +68,8 @@ quiet_flush false offer lines =
     ((λ r. let e = r.1 in cc), ((λ r. let e = r.1 in cc), ((λ r. quiet (end_checks _) (quiet_end _) r.2), tt)))
 
 no_such_fault : (part : Bool) (offer : Offer) (limit : ℕ) (before : List Line) (packet : Pkt) → HasFaultIn part offer limit before packet StreamTooLong → ⊥
-no_such_fault false offer limit before (payload bytes) r = quiet (capability_checks offer (is_none (commands_of before)) (text_of bytes)) (quiet_capability offer _ _) r
+no_such_fault false offer limit before (payload bytes) r = quiet (capability_checks offer (is_none (commands_of before)) (text_of bytes))
+    (quiet_capability offer _ _) r
 no_such_fault false offer limit before delim r = quiet (part_checks offer (commands_of before) (has_format before)) (quiet_part offer _ _) r
 no_such_fault false offer limit before flush r = quiet (flush_checks_in false offer before) (quiet_flush false offer before) r.1
 no_such_fault false offer limit before resp_end r = cc

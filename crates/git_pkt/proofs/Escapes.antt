@@ -96,7 +96,8 @@ long_more block i other below h =
     }
 
 -- bytes are plain exactly where their escapes are the bytes
-pub plain_exactly : (block : List ℕ) (i : ℕ) (other : Bool) → i ≡ length block → (other ≡ false → escaped_of (take i block) ≡ take i block) → AreLong block i other
+pub plain_exactly : (block : List ℕ) (i : ℕ) (other : Bool) → i ≡ length block → (other ≡ false → escaped_of (take i block) ≡ take i block)
+    → AreLong block i other
     → IsTrue (not other) ↔ (escaped_of block ≡ block)
 plain_exactly block i true at plain long =
     let all : take i block ≡ block = ap (λ (n : ℕ). take n block) at ∙ take-length block in (
@@ -110,7 +111,8 @@ plain_exactly block i false at plain long =
     )
 
 -- what stands after bytes that are written stays
-pub others_stay : (out four : List ℕ) (at from : ℕ) → at + length four ≤ from → at ≤ length out → drop from (take at out ++ four ++ drop (at + length four) out) ≡ drop from out
+pub others_stay : (out four : List ℕ) (at from : ℕ) → at + length four ≤ from → at ≤ length out
+    → drop from (take at out ++ four ++ drop (at + length four) out) ≡ drop from out
 others_stay out four at from after within =
     drop-append-drop (at + length four) out (take at out ++ four) from after
     (length-append (take at out) four ∙ ap (λ (n : ℕ). n + length four) (length-take-le at out within))

@@ -33,7 +33,8 @@ alone_same [] more l m e = cc
 alone_same (x ∷ xs) more l m e = absurd (not_nothing xs more l (let tails : xs ++ l ∷ more ≡ [] = cc in tails))
 
 -- what comes up to a packet ends before the last one, or is all
-last_or_before : (xs more front : List Given) (l m : Given) → xs ++ l ∷ more ≡ front ++ m ∷ [] → (more ≡ []) ⊎ ((others : List Given) × (front ≡ xs ++ l ∷ others))
+last_or_before : (xs more front : List Given) (l m : Given) → xs ++ l ∷ more ≡ front ++ m ∷ []
+    → (more ≡ []) ⊎ ((others : List Given) × (front ≡ xs ++ l ∷ others))
 last_or_before [] more [] l m e = inl (let tails : more ≡ [] = cc in tails)
 last_or_before [] more (f ∷ fs) l m e = inr (fs, let same : f ∷ fs ≡ l ∷ fs = cc in same)
 last_or_before (x ∷ xs) more [] l m e = absurd (not_nothing xs more l (let tails : xs ++ l ∷ more ≡ [] = cc in tails))
@@ -50,10 +51,12 @@ no_lines_of_nothing offer limit [] are = refl
 no_lines_of_nothing offer limit (l ∷ ls) are = absurd are
 
 same_fault : (f g : Fault) → f.kind ≡ g.kind → f.offset ≡ g.offset → f ≡ g
-same_fault f g kinds offsets = ap (λ (k : Kind). let h : Fault = record { kind = k; offset = f.offset } in h) kinds ∙ ap (λ (n : ℕ). let h : Fault = record { kind = g.kind; offset = n } in h) offsets
+same_fault f g kinds offsets = ap (λ (k : Kind). let h : Fault = record { kind = k; offset = f.offset } in h) kinds
+    ∙ ap (λ (n : ℕ). let h : Fault = record { kind = g.kind; offset = n } in h) offsets
 
 -- what refuses bytes, while the input goes on
-bytes_once : (p end : ℕ) (rest : List ℕ) (kind other : Kind) (m n : ℕ) → kind ≢ Truncated → other ≢ Truncated → StopsBy p rest end kind m → StopsBy p rest end other n → (kind ≡ other) × (m ≡ n)
+bytes_once : (p end : ℕ) (rest : List ℕ) (kind other : Kind) (m n : ℕ) → kind ≢ Truncated → other ≢ Truncated → StopsBy p rest end kind m
+    → StopsBy p rest end other n → (kind ≡ other) × (m ≡ n)
 bytes_once p end rest Truncated other m n a b h k = absurd (a refl)
 bytes_once p end rest kind Truncated m n a b h k = absurd (b refl)
 bytes_once p end rest StreamTooLong StreamTooLong m n a b h k = (refl, one_offset p rest end StreamTooLong m n h k)
@@ -71,7 +74,8 @@ module _ (s : Setting) where
   none_in_stop : (left : List Given) → IsStop left → NoRequest left
   none_in_stop left stop front more q kept e asks =
       let nothing : asks.front ≡ [] = alone_first asks.front more asks.last stop.last (sym (whole_then s front more left q kept asks e) ∙ stop.alone) in
-      let lines : asks.lines ≡ [] = no_lines_of_nothing s.offer s.limit asks.lines (subst (λ (gs : List Given). AreLines s.offer s.limit [] gs asks.lines) nothing asks.taken) in
+      let lines : asks.lines ≡ [] = no_lines_of_nothing s.offer s.limit asks.lines
+      (subst (λ (gs : List Given). AreLines s.offer s.limit [] gs asks.lines) nothing asks.taken) in
       let once : commands_of asks.lines ≡ asks.command ∷ [] = asks.once in
       let none : commands_of asks.lines ≡ [] = ap commands_of lines in
       cc
@@ -101,7 +105,8 @@ module _ (s : Setting) where
   none_at_end over left rest end (Refused fault) (inr (inr r)) = none_in_lines left (begun_has_no_flush s left r.begins)
 
   -- what is left after whole requests is one thing
-  one_left : (packets : List Given) (asked others : List Asked) (left rest : List Given) → NoRequest left → NoRequest rest → Cuts s packets asked left → Cuts s packets others rest → left ≡ rest
+  one_left : (packets : List Given) (asked others : List Asked) (left rest : List Given) → NoRequest left → NoRequest rest → Cuts s packets asked left
+      → Cuts s packets others rest → left ≡ rest
   one_left packets [] [] left rest none clear h k = sym h ∙ k
   one_left packets [] (q ∷ qs) left rest none clear h (front, more, kept, whole, asks, cuts) = absurd (none front more q kept (sym h ∙ whole) asks)
   one_left packets (q ∷ qs) [] left rest none clear (front, more, kept, whole, asks, cuts) k = absurd (clear front more q kept (sym k ∙ whole) asks)
@@ -116,10 +121,13 @@ module _ (s : Setting) where
   stop_or_told : (left : List Given) (fault : Fault) → IsStop left → IsTold s.offer s.limit left fault → ⊥
   stop_or_told left fault stop (inl first) =
       let nothing : first.front ≡ [] = alone_first first.front first.back first.bad stop.last (sym first.whole ∙ stop.alone) in
-      let lines : first.lines ≡ [] = no_lines_of_nothing s.offer s.limit first.lines (subst (λ (gs : List Given). AreLines s.offer s.limit [] gs first.lines) nothing first.taken) in
-      let packet : first.bad.packet ≡ flush = ap (λ (g : Given). g.packet) (alone_same first.front first.back first.bad stop.last (sym first.whole ∙ stop.alone)) ∙ stop.ends in
+      let lines : first.lines ≡ [] = no_lines_of_nothing s.offer s.limit first.lines
+      (subst (λ (gs : List Given). AreLines s.offer s.limit [] gs first.lines) nothing first.taken) in
+      let packet : first.bad.packet ≡ flush = ap (λ (g : Given). g.packet) (alone_same first.front first.back first.bad stop.last (sym first.whole
+      ∙ stop.alone)) ∙ stop.ends in
       let here : HasFault s.offer s.limit [] flush fault.kind =
-      subst (λ (ls : List Line). HasFault s.offer s.limit ls flush fault.kind) lines (subst (λ (p : Pkt). HasFault s.offer s.limit first.lines p fault.kind) packet first.fault) in
+      subst (λ (ls : List Line). HasFault s.offer s.limit ls flush fault.kind) lines
+      (subst (λ (p : Pkt). HasFault s.offer s.limit first.lines p fault.kind) packet first.fault) in
       here.0 refl
   stop_or_told left fault stop (inr w) =
       let same : w.last ≡ stop.last = last_same w.front [] w.last stop.last (sym w.whole ∙ stop.alone) in
@@ -128,7 +136,8 @@ module _ (s : Setting) where
   stop_or_begun : (left : List Given) → IsStop left → NoFlush left → ⊥
   stop_or_begun left stop none = let it = subst NoFlush stop.alone none in it.0 stop.ends
 
-  told_once : (left : List Given) (f g : Fault) → ¬ WantsMemory (Refused f) → ¬ WantsMemory (Refused g) → IsTold s.offer s.limit left f → IsTold s.offer s.limit left g → f ≡ g
+  told_once : (left : List Given) (f g : Fault) → ¬ WantsMemory (Refused f) → ¬ WantsMemory (Refused g) → IsTold s.offer s.limit left f
+      → IsTold s.offer s.limit left g → f ≡ g
   told_once left f g a b (inl h) (inl k) = let same = one_first_fault s.offer s.limit left f.kind g.kind f.offset g.offset h k in same_fault f g same.0 same.1
   told_once left f g a b (inr w) k = absurd (a w.name)
   told_once left f g a b (inl h) (inr w) = absurd (b w.name)
@@ -140,14 +149,16 @@ module _ (s : Setting) where
   over_or_not : (over : Bool) → over ≡ true → over ≡ false → ⊥
   over_or_not over h k = cc
 
-  refused_once : (over : Bool) (left : List Given) (rest : List ℕ) (end : ℕ) (f g : Fault) → ¬ WantsMemory (Refused f) → ¬ WantsMemory (Refused g) → IsRefused s over left rest end f → IsRefused s over left rest end g → f ≡ g
+  refused_once : (over : Bool) (left : List Given) (rest : List ℕ) (end : ℕ) (f g : Fault) → ¬ WantsMemory (Refused f) → ¬ WantsMemory (Refused g)
+      → IsRefused s over left rest end f → IsRefused s over left rest end g → f ≡ g
   refused_once over left rest end f g a b (inl h) (inl k) = told_once left f g a b h.told k.told
   refused_once over left rest end f g a b (inl h) (inr (inl k)) = absurd (told_in_lines left f a h.told k.begins)
   refused_once over left rest end f g a b (inl h) (inr (inr k)) = absurd (told_in_lines left f a h.told k.begins)
   refused_once over left rest end f g a b (inr (inl h)) (inl k) = absurd (told_in_lines left g b k.told h.begins)
   refused_once over left rest end f g a b (inr (inr h)) (inl k) = absurd (told_in_lines left g b k.told h.begins)
   refused_once over left rest end f g a b (inr (inl h)) (inr (inl k)) =
-      let same = bytes_once (end - length rest) end rest f.kind g.kind f.offset g.offset h.not_the_end k.not_the_end h.stops k.stops in same_fault f g same.0 same.1
+      let same = bytes_once
+      (end - length rest) end rest f.kind g.kind f.offset g.offset h.not_the_end k.not_the_end h.stops k.stops in same_fault f g same.0 same.1
   refused_once over left rest end f g a b (inr (inl h)) (inr (inr k)) = absurd (over_or_not over k.ended h.goes_on)
   refused_once over left rest end f g a b (inr (inr h)) (inr (inl k)) = absurd (over_or_not over h.ended k.goes_on)
   refused_once over left rest end f g a b (inr (inr h)) (inr (inr k)) = same_fault f g (h.name ∙ sym k.name) (omega (arith, h.at, k.at))
@@ -157,7 +168,8 @@ module _ (s : Setting) where
   stop_or_refused over left rest end f stop (inr (inl h)) = stop_or_begun left stop (begun_has_no_flush s left h.begins)
   stop_or_refused over left rest end f stop (inr (inr h)) = stop_or_begun left stop (begun_has_no_flush s left h.begins)
 
-  closed_or_refused : (over : Bool) (left : List Given) (rest : List ℕ) (end : ℕ) (f : Fault) → (over ≡ true) × (left ≡ []) × (rest ≡ []) → IsRefused s over left rest end f → ⊥
+  closed_or_refused : (over : Bool) (left : List Given) (rest : List ℕ) (end : ℕ) (f : Fault) → (over ≡ true) × (left ≡ []) × (rest ≡ [])
+      → IsRefused s over left rest end f → ⊥
   closed_or_refused over left rest end f closed (inl h) = not_nothing h.front [] h.last (sym h.whole ∙ closed.1)
   closed_or_refused over left rest end f closed (inr (inl h)) = over_or_not over closed.0 h.goes_on
   closed_or_refused over left rest end f closed (inr (inr h)) = inside h.inside
@@ -169,7 +181,8 @@ module _ (s : Setting) where
   stop_or_closed : (left : List Given) → IsStop left → left ≡ [] → ⊥
   stop_or_closed left stop none = let e : stop.last ∷ [] ≡ [] = sym stop.alone ∙ none in cc
 
-  ends_once : (over : Bool) (left : List Given) (rest : List ℕ) (end : ℕ) (o p : Outcome) → ¬ WantsMemory o → ¬ WantsMemory p → EndsBy s over left rest end o → EndsBy s over left rest end p → o ≡ p
+  ends_once : (over : Bool) (left : List Given) (rest : List ℕ) (end : ℕ) (o p : Outcome) → ¬ WantsMemory o → ¬ WantsMemory p
+      → EndsBy s over left rest end o → EndsBy s over left rest end p → o ≡ p
   ends_once over left rest end Flush Flush a b h k = refl
   ends_once over left rest end Closed Closed a b h k = refl
   ends_once over left rest end Flush Closed a b h k = absurd (stop_or_closed left h.0 k.1)
@@ -180,12 +193,15 @@ module _ (s : Setting) where
   ends_once over left rest end (Refused f) Closed a b h k = absurd (closed_or_refused over left rest end f k h)
   ends_once over left rest end (Refused f) (Refused g) a b h k = ap Refused (refused_once over left rest end f g a b h k)
 
-  pub one_outcome : (used : List ℕ) (over : Bool) (given others : List ℕ) (o p : Outcome) → IsSession s used over given o → IsSession s used over others p → ¬ WantsMemory o → ¬ WantsMemory p → o ≡ p
+  pub one_outcome : (used : List ℕ) (over : Bool) (given others : List ℕ) (o p : Outcome) → IsSession s used over given o → IsSession s used over others p
+      → ¬ WantsMemory o → ¬ WantsMemory p → o ≡ p
   one_outcome used over given others o p h k a b =
       let split = one_split 0 used h.stream.packets k.stream.packets h.rest k.rest h.stream.splits.spelled k.stream.splits.spelled h.stream.splits.ends k.stream.splits.ends in
       let none = none_at_end over h.left h.rest (length used) o h.ends in
       let clear = none_at_end over k.left k.rest (length used) p k.ends in
       let left : h.left ≡ k.left =
-      one_left k.stream.packets h.asked k.asked h.left k.left none clear (subst (λ (gs : List Given). Cuts s gs h.asked h.left) split.packets h.stream.cuts) k.stream.cuts in
+      one_left k.stream.packets h.asked k.asked h.left k.left none clear
+      (subst (λ (gs : List Given). Cuts s gs h.asked h.left) split.packets h.stream.cuts) k.stream.cuts in
       ends_once over k.left k.rest (length used) o p a b
-      (subst (λ (gs : List Given). EndsBy s over gs k.rest (length used) o) left (subst (λ (l : List ℕ). EndsBy s over h.left l (length used) o) split.rest_is h.ends)) k.ends
+      (subst (λ (gs : List Given). EndsBy s over gs k.rest (length used) o) left
+      (subst (λ (l : List ℕ). EndsBy s over h.left l (length used) o) split.rest_is h.ends)) k.ends
