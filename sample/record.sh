@@ -94,7 +94,7 @@ oid() {
     printf 0000
 } > "$folder/requests.pkt"
 
-# Each part of the server's side is what a longer session has behind a shorter one.
+# Each part of the server's side is what a longer session has after a shorter one.
 server repository < /dev/null > "$folder/advertisement.pkt"
 server repository < "$folder/ls-refs-request.pkt" > shorter
 server repository < "$folder/requests.pkt" > "$folder/conversation.pkt"

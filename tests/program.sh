@@ -136,7 +136,7 @@ case_serve_tells_a_second_request_that_is_none() {
     expect 1 <(advertisement sha1; whole_answer; packet "ERR UnknownCommand at $at") <(fault "UnknownCommand at $at")
 }
 
-# The argument has 21 bytes, and stands behind 20 bytes of command and the delimiter's four.
+# The argument has 21 bytes, and stands after 20 bytes of command and the delimiter's four.
 case_serve_keeps_to_its_limit() {
     request 'ref-prefix refs/tags/' > first
     serve --limit 21 < first

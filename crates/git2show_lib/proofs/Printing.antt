@@ -47,7 +47,7 @@ reads_on_then a b c u v gs hs one two start bytes given rest reads =
 pub prints_nothing : (r : PacketReader) (held : Option (List ℕ)) → Prints r [] held held [] r
 prints_nothing r held = record { packets = []; reads = reads_on_nothing r; emits = emits_nothing held [] }
 
--- one more packet was read, and its line was put behind the others
+-- one more packet was read, and its line was put after the others
 pub prints_packet : (a b c : PacketReader) (u v : List ℕ) (before held after : Option (List ℕ)) (w x : List ℕ) (g : Given) → Prints a u before held w b → ReadsOn b v (g ∷ []) c → Emits held after w (line_of g) x → Prints a (u ++ v) before after x c
 prints_packet a b c u v before held after w x g so_far reads line = record {
   packets = so_far.packets ++ g ∷ [];
@@ -154,7 +154,7 @@ whole_into old new piece before after front = record {
 
 -- ---- one call of `feed` over what is left of a piece
 
--- what is left of a piece behind `done` bytes, as a slice shows it
+-- what is left of a piece after `done` bytes, as a slice shows it
 abbrev pub left : List ℕ → ℕ → List ℕ
 left piece done = take (length piece - done) (drop done piece)
 

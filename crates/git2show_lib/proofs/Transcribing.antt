@@ -334,7 +334,7 @@ module _ (format : Format) (ending : Ending) (old new : Client) (begun : Hears f
       pub all_was_used : unused ≡ [] → ended ≡ true → Exchanges (Checks format (Ok tt) judged ended) left_before left_after held_before held_after
       all_was_used nothing at_end = checks (Ok tt) unused t (λ used events h. (is_whole format ending new used events h ready, nothing, at_end, so))
 
-      -- more was read behind the advertisement
+      -- more was read after the advertisement
       pub some_was_left : (fault : CheckFault) → fault ≡ Responses (record { kind = UnexpectedPacket; offset = bytes_used new }) → 0 < length unused
           → EndsCheck (Checks format (Err fault) judged ended) left_before left_after held_before held_after (Err fault)
       some_was_left fault named more =

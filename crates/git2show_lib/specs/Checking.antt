@@ -33,7 +33,7 @@ IsShownInCheck requests responses out_failed turns ReadLimit =
     (reads_of requests + reads_of responses ≡ turns) × ((has_ended requests ≡ false) ⊎ (has_ended responses ≡ false))
 
 -- which of its streams failed, by how the check ended: the one that it tells, and else none. What was written is flushed
--- behind a failing read too, so both may fail, and the writing is told then.
+-- after a failing read too, so both may fail, and the writing is told then.
 abbrev pub FailsInCheck : {T : Type 0} → Result T CheckFault → Bool → Bool → Type 0
 FailsInCheck (Ok done) read_failed write_failed = (read_failed ≡ false) × (write_failed ≡ false)
 FailsInCheck (Err (Requests f)) read_failed write_failed = (read_failed ≡ false) × (write_failed ≡ false)
@@ -75,7 +75,7 @@ pub record IsMalformed (format : Format) (ended : Bool) (used unused : List ℕ)
   pub first : FirstMalformed format used f
   pub timely : IsTimely f.kind ended unused
 
--- the advertisement is whole, and more was read behind it
+-- the advertisement is whole, and more was read after it
 pub record IsLeftOver (format : Format) (used unused : List ℕ) (events : List EventValue) (f : Fault) : Type 0 where
   pub whole : IsAdvertisement format used events
   pub fault : f ≡ record { kind = UnexpectedPacket; offset = length used }
@@ -104,7 +104,7 @@ pub record IsCutOff (format : Format) (judged : Judgement
   pub at : IsCutOffAt format judged inside ended used unused events
 
 -- what the bytes used of the responses, those that were read and not used, and how the requests were judged by then have to
--- do with how the check ended: the requests are judged behind the advertisement, and before anything left over is
+-- do with how the check ended: the requests are judged after the advertisement, and before anything left over is
 abbrev pub EndsAs : Format → Result (Unit {0}) CheckFault → (Judgement → Type 0) → Bool → List ℕ → List ℕ → List EventValue → Type 0
 EndsAs format (Ok done) judged ended used unused events = IsAdvertisement format used events × (unused ≡ []) × (ended ≡ true) × judged nothing_asked
 EndsAs format (Err (Requests f)) judged ended used unused events = IsAdvertisement format used events × judged (refused f) × (ended ≡ false)

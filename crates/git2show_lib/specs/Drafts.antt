@@ -36,7 +36,7 @@ with_pack lists pack = record {
   pack = pack;
 }
 
--- the name comes behind those of the references
+-- the name comes after those of the references
 abbrev pub ComesLast : List Entry → List ℕ → Type 0
 ComesLast refs name = (d : Entry) → 0 < length refs → comes_before (slice_index_or refs (length refs - 1) d).name name ≡ true
 

@@ -6,7 +6,7 @@ use Rattle.git2show_lib.specs.declared.reports.ProgramFault.TheVariants.{Run, Ch
 use Rattle.git2show_lib.specs.declared.checking.CheckFault.{CheckFault}
 use Rattle.git2show_lib.specs.declared.checking.CheckFault.TheVariants.{Requests, Responses, ReadFault, WriteFault, ReadLimit}
 
--- a fault of a check, behind the stream that it is in
+-- a fault of a check, after the stream that it is in
 abbrev pub check_fault_text : CheckFault → List ℕ
 check_fault_text (Requests fault) = codes "requests: " ++ fault_text fault
 check_fault_text (Responses fault) = codes "responses: " ++ fault_text fault

@@ -62,7 +62,7 @@ pub record IsCount (count : ℕ) (text : List ℕ) : Type 0 where
   pub from_one : 0 < count
   pub at_most : count ≤ 2147483647
 
--- what a line behind the first says
+-- what a line after the first says
 abbrev pub Says : Format → List ℕ → Said → Type 0
 Says format line (reference ref) = Follows (codes "ref ") (λ text. IsReferenceLine format text ref) line
 Says format line (object id size) = Follows (codes "object ") (IsSizedObject format id size) line

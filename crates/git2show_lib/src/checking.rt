@@ -41,8 +41,8 @@ struct Left {
 /// Checks a recorded conversation: `responses` begins with an advertisement, and `requests` is what the client sent.
 /// The transcript is written to `out`, a line for each event, and flushed before the answer.
 ///
-/// So far `requests` is nothing, or one flush; what stands behind that flush is not read. A byte of the responses
-/// behind the advertisement is `UnexpectedPacket` at its offset. `turns` counts the reads of both streams.
+/// So far `requests` is nothing, or one flush; what stands after that flush is not read. A byte of the responses
+/// after the advertisement is `UnexpectedPacket` at its offset. `turns` counts the reads of both streams.
 pub fn check<Q: Read, A: Read, W: Write>(
     requests: &mut Told<Q>,
     responses: &mut Told<A>,

@@ -19,7 +19,7 @@ use std::alloc::{AllocError, Global};
 /// Why a line is not kept.
 #[derive(Clone, Copy, Debug, PartialEq, Eq)]
 pub(crate) enum LineFault {
-    /// It may not stand behind the lines before it.
+    /// It may not stand after the lines before it.
     Refused,
     /// Memory ran out.
     OutOfMemory,
@@ -49,7 +49,7 @@ impl Draft {
         }
     }
 
-    /// Keeps what a line says, or answers that it may not stand behind the lines before it.
+    /// Keeps what a line says, or answers that it may not stand after the lines before it.
     pub(crate) fn keep(&mut self, alloc: Global, item: &Item<'_>) -> Result<(), LineFault>
         requires { IsFit (drafted self.old).format (shown item.now) }
         ensures { AddsSaid (drafted self.old) (shown item.now) (drafted self.new) result }
@@ -153,7 +153,7 @@ fn copy_target(alloc: Global, target: Option<&[u8]>) -> Result<Option<Vec<u8>>, 
     }
 }
 
-/// Whether the name comes behind those of the references.
+/// Whether the name comes after those of the references.
 fn comes_last(refs: &[RefEntry], name: &[u8]) -> bool
     ensures { IsTrue result ↔ ComesLast refs.now name.now }
 {
@@ -163,7 +163,7 @@ fn comes_last(refs: &[RefEntry], name: &[u8]) -> bool
     refs[refs.len() - 1].name().cmp(name).is_lt()
 }
 
-/// Whether the object name comes behind those of the objects.
+/// Whether the object name comes after those of the objects.
 fn comes_last_object(objects: &[(Oid, u64)], id: &Oid) -> bool
     ensures { IsTrue result ↔ ComesLastObject objects.now id.now }
 {

@@ -77,7 +77,7 @@ impl Lines {
         flush(writer)
     }
 
-    /// Puts the line of a packet behind the others, and sends them where there is no room.
+    /// Puts the line of a packet after the others, and sends them where there is no room.
     pub(crate) fn put<W: Write>(
         &mut self,
         writer: &mut Told<W>,
@@ -98,7 +98,7 @@ impl Lines {
         self.emit(writer, b"\n")
     }
 
-    /// Puts a few bytes behind the others.
+    /// Puts a few bytes after the others.
     fn emit<W: Write>(&mut self, writer: &mut Told<W>, bytes: &[u8]) -> Result<(), RunFault>
         requires { length bytes.now ≤ 512 }
         ensures ok { OnOk result (Emits (W.contents (inner_of writer.old)) (W.contents (inner_of writer.new)) self.old bytes.now self.new) }
@@ -111,7 +111,7 @@ impl Lines {
         Ok(())
     }
 
-    /// Puts the escapes of bytes behind the others, a run at a time.
+    /// Puts the escapes of bytes after the others, a run at a time.
     fn emit_escaped<W: Write>(&mut self, writer: &mut Told<W>, bytes: &[u8]) -> Result<(), RunFault>
         ensures ok { OnOk result (Emits (W.contents (inner_of writer.old)) (W.contents (inner_of writer.new)) self.old (escaped_of bytes.now) self.new) }
         ensures err { OnErr result (EmitsFront (W.contents (inner_of writer.old)) (W.contents (inner_of writer.new)) self.old (escaped_of bytes.now)) }
@@ -128,7 +128,7 @@ impl Lines {
         Ok(())
     }
 
-    /// Puts the escapes of a run behind the others: at once where each byte stands for itself.
+    /// Puts the escapes of a run after the others: at once where each byte stands for itself.
     fn emit_run<W: Write>(&mut self, writer: &mut Told<W>, bytes: &[u8]) -> Result<(), RunFault>
         requires { length bytes.now ≤ 512 }
         ensures ok { OnOk result (Emits (W.contents (inner_of writer.old)) (W.contents (inner_of writer.new)) self.old (escaped_of bytes.now) self.new) }
@@ -142,7 +142,7 @@ impl Lines {
         self.emit_blocks(writer, bytes)
     }
 
-    /// Puts the escapes of a run behind the others, a block at a time.
+    /// Puts the escapes of a run after the others, a block at a time.
     fn emit_blocks<W: Write>(&mut self, writer: &mut Told<W>, bytes: &[u8]) -> Result<(), RunFault>
         ensures ok { OnOk result (Emits (W.contents (inner_of writer.old)) (W.contents (inner_of writer.new)) self.old (escaped_of bytes.now) self.new) }
         ensures err { OnErr result (EmitsFront (W.contents (inner_of writer.old)) (W.contents (inner_of writer.new)) self.old (escaped_of bytes.now)) }
@@ -159,7 +159,7 @@ impl Lines {
         Ok(())
     }
 
-    /// Puts the escapes of one block behind the others.
+    /// Puts the escapes of one block after the others.
     fn emit_block<W: Write>(&mut self, writer: &mut Told<W>, block: &[u8]) -> Result<(), RunFault>
         requires { length block.now ≤ 32 }
         ensures ok { OnOk result (Emits (W.contents (inner_of writer.old)) (W.contents (inner_of writer.new)) self.old (escaped_of block.now) self.new) }

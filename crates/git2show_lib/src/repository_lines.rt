@@ -98,7 +98,7 @@ pub(crate) fn without_last_end(text: &[u8]) -> &[u8]
     &text[..text.len() - 1]
 }
 
-/// The first line of a text, and what stands behind the LF that ends it.
+/// The first line of a text, and what stands after the LF that ends it.
 pub(crate) fn split_line(text: &[u8]) -> (&[u8], Option<&[u8]>)
     ensures lines { ended_lines text.now ≡ result.0.now ∷ lines_left (option_copied result.1) }
     ensures shorter { MatchOption result.1 (Unit {0}) (λ rest. length rest.now < length text.now) }

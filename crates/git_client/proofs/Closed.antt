@@ -12,7 +12,7 @@ use Rattle.git_client.specs.declared.events.Ending.{Ending}
 use Rattle.git_client.specs.declared.conversation.Client.{Client}
 use Rattle.git_client.proofs.Carries.{goes_in, takes_no_fault}
 
--- the reader of a client that waits for input has what stands behind the last whole packet
+-- the reader of a client that waits for input has what stands after the last whole packet
 pub rest_is : (format : Format) (ending : Ending) (bytes : List ℕ) (events : List EventValue) (client : Client) (given : List Given) (rest : List ℕ) → Hears format ending client bytes events → wants_input client ≡ true → Splits 0 bytes given rest → rest_of (reader_of client) ≡ rest
 rest_is format ending bytes events client given rest h wants splits =
     let goes = goes_in (phase_of client) format h.clean h.given h.rest (length bytes) (reader_of client) (takes_no_fault (phase_of client) wants) h.stands in

@@ -40,7 +40,7 @@ sounds_in (FailedPhase f) format bytes clean given rest events reader splits giv
   ]
 ]
 
--- where a client can ask, its packets are clean, the last of them is the one flush, and nothing stands behind it
+-- where a client can ask, its packets are clean, the last of them is the one flush, and nothing stands after it
 ready_in : (phase : Phase) (format : Format) (clean given : List Given) (rest : List ℕ) (end : ℕ) (reader : PacketReader) → is_ready phase ≡ true → StandsIn phase format clean given rest end reader
     → (given ≡ clean) × (flushes (nearest clean []) ≡ 1) × (rest ≡ [])
 ready_in Opening format clean given rest end reader ready h = absurd (cc)

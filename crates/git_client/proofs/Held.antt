@@ -20,7 +20,7 @@ use Rattle.git_client.specs.declared.phase.Phase.TheVariants.{Failed}
 use Rattle.git_client.specs.declared.events.Ending.{Ending}
 use Rattle.git_client.specs.declared.conversation.Client.{Client}
 
--- the bytes behind the four digits
+-- the bytes after the four digits
 pub held_payload : (held line : List ℕ) → Spells (payload line) held → take (length held - 4) (drop 4 held) ≡ line
 held_payload held line spells = left_of held 4 spells.digits.four ∙ spells.body
 
@@ -98,7 +98,7 @@ message_found format bytes client found (Some m) p e some = record {
   text = sym e ∙ some;
 }
 
--- what was found behind `ERR ` in the hold is the message
+-- what was found after `ERR ` in the hold is the message
 pub message_is : (format : Format) (ending : Ending) (bytes : List ℕ) (events : List EventValue) (client : Client) (fault : Fault) (found : List ℕ) (r : Option (Bor (List ℕ))) → Hears format ending client bytes events → phase_of client ≡ Failed fault → fault.kind ≡ RemoteError → found ≡ text_of (take (length (held_of (reader_of client)) - 4) (drop 4 (held_of (reader_of client)))) → MatchOption r ((message : List ℕ) → found ≢ codes "ERR " ++ message) (λ m. found ≡ codes "ERR " ++ m.now) → MatchOption r (EndsWithoutError client) (λ m. EndsWithError format bytes m.now)
 message_is format ending bytes events client fault found r h failed kind e m =
     let packet = error_packet format ending bytes events client fault h failed kind in

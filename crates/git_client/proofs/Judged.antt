@@ -1,4 +1,4 @@
--- What the judge of packets answers says what the packet gives, or why it is refused, behind whatever came before.
+-- What the judge of packets answers says what the packet gives, or why it is refused, after whatever came before.
 use Rattle.std.proofs.Common.{◌≡◌, ℕ, suc, List, [], ◌∷◌, true, Err, ap, sym, ◌∙◌, refl, subst, codes}
 use Rattle.git_names.specs.declared.object_format.Format.{Format}
 use Rattle.git_pkt.specs.Packets.{Pkt, flush, delim, resp_end, payload, text_of, flushes}

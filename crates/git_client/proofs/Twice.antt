@@ -1,4 +1,4 @@
--- A step over a part of a piece, behind what was used of it.
+-- A step over a part of a piece, after what was used of it.
 use Rattle.std.proofs.Common.{arith, ◌≡◌, ◌≢◌, ℕ, ◌+◌, ◌-◌, ◌≤◌, List, [], length, take, drop, subst, refl}
 use Rattle.std.proofs.lemmas.Grind.{common_steps}
 use Rattle.git_pkt.proofs.Pieces.{take_joined}

@@ -12,19 +12,19 @@ use Rattle.git_msg.specs.declared.offers.Caps.{Caps}
 use Rattle.git_client.specs.Parts.{Part, IsPart, nearest, advertisement_of}
 use Rattle.git_client.specs.Events.{EventValue, Gives, Refuses}
 
--- a packet behind those before it has no fault and gives these events
+-- a packet after those before it has no fault and gives these events
 pub record GivesAt (format : Format) (before : List Pkt) (p : Pkt) (events : List EventValue) : Type 0 where
   pub part : Part
   pub is_part : IsPart before part
   pub gives : Gives part format before p events
 
--- a packet behind those before it is refused
+-- a packet after those before it is refused
 pub record RefusesAt (format : Format) (before : List Pkt) (p : Pkt) (kind : Kind) : Type 0 where
   pub part : Part
   pub is_part : IsPart before part
   pub refuses : Refuses part format before p kind
 
--- packets behind those before them have no fault and give these events, in order
+-- packets after those before them have no fault and give these events, in order
 abbrev pub GiveAll : Format → List Pkt → List Given → List EventValue → Type 0
 GiveAll format before [] events = events ≡ []
 GiveAll format before (g ∷ gs) events =
@@ -41,7 +41,7 @@ pub record FirstFault (format : Format) (given : List Given) (kind : Kind) (offs
   pub refused : RefusesAt format (nearest clean []) bad.packet kind
   pub at : offset ≡ bad.offset
 
--- behind those before them no packet comes, or one that is refused
+-- after those before them no packet comes, or one that is refused
 abbrev pub IsStop : Format → List Pkt → List Given → Type 0
 IsStop format before [] = Unit {0}
 IsStop format before (g ∷ gs) = (kind : Kind) × RefusesAt format before g.packet kind
@@ -72,7 +72,7 @@ pub record MalformedPacket (format : Format) (bytes : List ℕ) (fault : Fault) 
   pub splits : Splits 0 bytes given rest
   pub first : FirstFault format given fault.kind fault.offset
 
--- no packet has a fault, and what stands behind them is no packet and cannot become one
+-- no packet has a fault, and what stands after them is no packet and cannot become one
 pub record MalformedRest (format : Format) (bytes : List ℕ) (fault : Fault) : Type 0 where
   pub given : List Given
   pub rest : List ℕ
@@ -94,7 +94,7 @@ pub record CutShort (format : Format) (bytes : List ℕ) (fault : Fault) : Type 
   pub kind : fault.kind ≡ Truncated
   pub at : fault.offset + length rest ≡ length bytes
 
--- the first fault of the bytes, where no byte comes behind them
+-- the first fault of the bytes, where no byte comes after them
 abbrev pub FirstMalformed : Format → List ℕ → Fault → Type 0
 FirstMalformed format bytes fault =
     MalformedPacket format bytes fault ⊎ (MalformedRest format bytes fault ⊎ CutShort format bytes fault)

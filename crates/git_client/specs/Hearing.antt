@@ -77,7 +77,7 @@ reader_of client = client.reader
 abbrev pub phase_of : Client → Phase
 phase_of client = client.phase
 
--- the packet behind the clean ones is refused; nothing was used behind it, and it lies in the hold
+-- the packet after the clean ones is refused; nothing was used after it, and it lies in the hold
 pub record RefusedPacket (format : Format) (clean given : List Given) (rest : List ℕ) (fault : Fault) (reader : PacketReader) : Type 0 where
   pub bad : Given
   pub cut : given ≡ clean ++ bad ∷ []
@@ -86,13 +86,13 @@ pub record RefusedPacket (format : Format) (clean given : List Given) (rest : Li
   pub at : fault.offset ≡ bad.offset
   pub held : Spells bad.packet (held_of reader)
 
--- the bytes behind the packets, of which none is refused, are no packet and can't become one, or ended in one
+-- the bytes after the packets, of which none is refused, are no packet and can't become one, or ended in one
 pub record RefusedBytes (clean given : List Given) (rest : List ℕ) (end : ℕ) (fault : Fault) : Type 0 where
   pub cut : given ≡ clean
   pub due : flushes (nearest clean []) ≡ 0
   pub by : StopsBy (end - length rest) rest end fault.kind fault.offset
 
--- the input ended behind a whole packet, where more was due
+-- the input ended after a whole packet, where more was due
 pub record EndedEarly (clean given : List Given) (rest : List ℕ) (end : ℕ) (fault : Fault) : Type 0 where
   pub cut : given ≡ clean
   pub nothing : rest ≡ []
@@ -107,7 +107,7 @@ Behind Advertisement before = (before ≢ []) × (flushes before ≡ 0)
 Behind Ready before = flushes before ≡ 1
 Behind (FailedPhase fault) before = ⊥
 
--- no packet so far has a fault, and neither have the bytes behind them; none have come where the client can ask
+-- no packet so far has a fault, and neither have the bytes after them; none have come where the client can ask
 pub record Goes (phase : Phase) (clean given : List Given) (rest : List ℕ) (reader : PacketReader) : Type 0 where
   pub cut : given ≡ clean
   pub sound : reader_fault_of reader ≡ None
@@ -222,14 +222,14 @@ Comes CapabilityLine events new =
 Comes OfferedNow events new = events ≡ offered ∷ []
 Comes (FailedNow fault) events new = events ≡ []
 
--- the phase behind a packet that was judged, where `phase` was before it
+-- the phase after a packet that was judged, where `phase` was before it
 abbrev pub phase_after : Phase → ℕ → Result Turn Kind → Phase
 phase_after phase offset (Ok Version) = Advertisement
 phase_after phase offset (Ok (CapabilityTurn caps)) = phase
 phase_after phase offset (Ok OfferedTurn) = Ready
 phase_after phase offset (Err kind) = FailedPhase (record { kind = kind; offset = offset })
 
--- what is noted behind it
+-- what is noted after it
 abbrev pub caps_after : Caps → Result Turn Kind → Caps
 caps_after caps (Ok (CapabilityTurn after)) = after
 caps_after caps result = caps

@@ -3,7 +3,7 @@ use Rattle.std.specs.Prelude.{◌≡◌, ◌≢◌, ℕ, suc, zero, Bool, true, 
 use Rattle.git_pkt.specs.Packets.{Pkt, flush, flushes}
 use Rattle.git_pkt.specs.Splits.{Given}
 
--- the packets of a list, the last one first, behind those that were there before
+-- the packets of a list, the last one first, after those that were there before
 abbrev pub nearest : List Given → List Pkt → List Pkt
 nearest [] before = before
 nearest (g ∷ gs) before = nearest gs (g.packet ∷ before)
@@ -23,7 +23,7 @@ pub data Part : Type 0 where
   opening : Part
   advertisement : Part
 
--- a packet behind those before it belongs to this part
+-- a packet after those before it belongs to this part
 abbrev pub IsPart : List Pkt → Part → Type 0
 IsPart before opening = before ≡ []
 IsPart before advertisement = (before ≢ []) × (flushes before ≡ 0)

@@ -3,7 +3,7 @@ use Rattle.std.specs.Prelude.{ℕ, List, [], ◌++◌, Option, Some, None, codes
 use Rattle.git_pkt.specs.Escape.{escaped_of}
 use Rattle.git_client.specs.Events.{EventValue, capability, offered}
 
--- what stands behind a capability's key
+-- what stands after a capability's key
 abbrev pub value_shown : Option (List ℕ) → List ℕ
 value_shown None = []
 value_shown (Some value) = codes "=" ++ escaped_of value

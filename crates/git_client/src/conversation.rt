@@ -108,7 +108,7 @@ impl Client {
         self.caps
     }
 
-    /// The message of the error packet that ended the conversation: the text behind `ERR `.
+    /// The message of the error packet that ended the conversation: the text after `ERR `.
     pub fn message(&self) -> Option<&[u8]>
         ensures { (format : Format) (ending : Ending) (bytes : List ℕ) (events : List EventValue)
             → Hears format ending self.now bytes events
@@ -249,7 +249,7 @@ impl Client {
         }
     }
 
-    /// Goes on behind a packet that was judged.
+    /// Goes on after a packet that was judged.
     fn settle(&mut self, judged: Result<Turn, Kind>, offset: u64) -> Outcome
         requires { reader_fault_of (reader_of self.old) ≡ None }
         ensures { Settles self.old judged offset result self.new }

@@ -28,7 +28,7 @@ next_place : (b : Bool) (n m : ℕ) → b ≡ false → n ≡ m → cond (not b)
 next_place true n m e h = absurd (cc)
 next_place false n m e h = omega arith
 
--- the first `=` stands behind the key
+-- the first `=` stands after the key
 first_equals : (key value : List ℕ) → list_all is_key_byte key ≡ true → position_or_len (λ c. eqb c 61) (key ++ 61 ∷ value) ≡ length key
 first_equals [] value e = refl
 first_equals (c ∷ key) value e =
@@ -90,7 +90,7 @@ no_key text n at e key value h =
     let known : is_key (take n text) ≡ true = rw same allowed in
     cc
 
--- what stands behind the first `=` is no value
+-- what stands after the first `=` is no value
 pub no_value : (text value : List ℕ) (n : ℕ) → n ≡ position_or_len (λ c. eqb c 61) text → n ≢ length text → value ≡ drop (n + 1) text → is_value value ≡ false → IsNoCapability text
 no_value text value n at short v e key None h = short (at ∙ key_ends text key None h ∙ ap length (sym h.1))
 no_value text value n at short v e key (Some other) h =
@@ -113,7 +113,7 @@ key_and_value text value n at within short v k e =
     let split = split_at_first (λ c. eqb c 61) text 0 there in
     (k, subst (λ (l : List ℕ). text ≡ l) (joined text value n found at v) split, e)
 
--- what the code has of the bytes behind the first `=`
+-- what the code has of the bytes after the first `=`
 pub rest_of_text : (text : List ℕ) (n : ℕ) → n ≤ length text → take (length text - n) (drop n text) ≡ drop n text
 rest_of_text text n h = grind (arith, common_steps)
 
@@ -133,7 +133,7 @@ one_capability text key other (Some x) None h k = absurd (alone_or_not text othe
 one_capability text key other (Some x) (Some y) h k =
     (sym (key_is text key (Some x) h) ∙ key_is text other (Some y) k, ap (λ (v : List ℕ). Some v) (sym (value_is text key x h) ∙ value_is text other y k))
 
--- a key alone has nothing behind a `=`
+-- a key alone has nothing after a `=`
 pub value_none : (text key : List ℕ) → IsCapability text key None → value_of text ≡ []
 value_none text key h = rw (key_ends text key None h, h.1) (dropped_all key)
 

@@ -73,7 +73,7 @@ peeled_attribute format text id h = record {
 unspaced_target : (name : List ℕ) → IsRefName name → All (λ c. (c == 32) ≡ false) (codes "symref-target:" ++ name)
 unspaced_target name h = All-append (λ c. (c == 32) ≡ false) (codes "symref-target:") name (tested (codes "symref-target:") refl) (lacking_is_unspaced name h.no_space)
 
--- the words behind the name
+-- the words after the name
 peeled_words : Option ObjectName → List (List ℕ)
 peeled_words None = []
 peeled_words (Some id) = (codes "peeled:" ++ hex_of id) ∷ []

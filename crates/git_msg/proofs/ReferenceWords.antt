@@ -23,7 +23,7 @@ use Rattle.git_msg.specs.References.{value_behind, values_of, last_of, IsAttribu
 use Rattle.git_msg.specs.ReferenceParts.{words_left, target_in, peeled_in, IsFound, LastValues, ReadSoFar}
 use Rattle.git_msg.proofs.LineLists.{filter_map_snoc}
 
--- a text that does not begin with the word has nothing behind it
+-- a text that does not begin with the word has nothing after it
 pub nothing_behind : (word text : List ℕ) → BeginsOtherThan word text → value_behind word text ≡ None
 nothing_behind word text h = go (bytes_eq (take (length word) text) word) refl where
   go : (b : Bool) → bytes_eq (take (length word) text) word ≡ b → (if b then Some (drop (length word) text) else None) ≡ None

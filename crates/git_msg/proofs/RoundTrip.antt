@@ -143,7 +143,7 @@ prefixes_finish offer limit before (p ∷ ps) gs ready short fits h =
     (argument_line_is offer limit before (codes "ref-prefix " ++ p) (ref_prefix p) ready (refl, short.0) (λ e. omega arith) (omega (arith, long, fits)))
     (λ others e. prefixes_finish offer limit (before ++ line ∷ []) ps others (ready_more before (ref_prefix p) (length (codes "ref-prefix " ++ p)) ready) short.1 (omega (arith, long, more, fits)) e)
 
--- the arguments behind the flag `symrefs`
+-- the arguments after the flag `symrefs`
 symrefs_arguments : Bool → List (List ℕ) → List Line
 symrefs_arguments true ps = argument symrefs 7 ∷ prefix_arguments ps
 symrefs_arguments false ps = prefix_arguments ps

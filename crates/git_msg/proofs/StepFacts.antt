@@ -285,7 +285,7 @@ module _ {A : Type 0} where
     within = λ h. (sym next.limit_is, omega (arith, empty.kept), next.kept);
   }
 
-  -- the flush behind the arguments
+  -- the flush after the arguments
   pub completed : (r new : RequestReader A) (offset : ℕ) → r.part ≡ Arguments → Passes (end_checks (asked_of r.request))
       → IsEmpty LsRefs r.offer.format (limit_in r) new.request → new ≡ restarted new.request r → StepsOn r flush offset (Ok (TakenRequest r.request)) new
   completed r new offset part passes next same = record {

@@ -20,7 +20,7 @@ use Rattle.git_msg.specs.Taking.{Takes, TakesIn, WaitsFor, WaitsIn, WaitsBehind,
 use Rattle.git_msg.specs.TakingSteps.{InLines, Advances, Offers, Completes, Leaves, Goes, LeavesStep, StepsOn}
 use Rattle.git_msg.proofs.LineLists.{lines_snoc}
 
--- the packets are lines, behind which the reader stands in its part
+-- the packets are lines, after which the reader stands in its part
 record Stood {A : Type 0} (packets : List Given) (r : RequestReader A) : Type 0 where
   lines : List Line
   taken : AreLines r.offer (limit_in r) [] packets lines

@@ -24,7 +24,7 @@ shown Symrefs = symrefs
 shown Peel = peel
 shown (RefPrefix prefix) = ref_prefix prefix.now
 
--- the command's key, as it stands behind `command=`
+-- the command's key, as it stands after `command=`
 abbrev pub name_of : Command → List ℕ
 name_of LsRefs = codes "ls-refs"
 

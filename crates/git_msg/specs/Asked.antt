@@ -36,7 +36,7 @@ abbrev pub asked_by : Command → List Arg → Asked
 asked_by LsRefs args =
     ls_refs (record { symrefs = list_any is_symrefs args; peel = list_any is_peel args; ref_prefixes = filter_map prefix_in args })
 
--- what is asked for with one more argument behind the others
+-- what is asked for with one more argument after the others
 abbrev pub with_argument : Asked → Arg → Asked
 with_argument (ls_refs q) arg =
     ls_refs (record {

@@ -48,7 +48,7 @@ module _ {A : Type 0} where
     pub format : format_of new ≡ format_of old
     pub limit : limit_of new ≡ limit_of old
 
-  -- the new request is the old one with these arguments more, one behind the other, each counted as it is written
+  -- the new request is the old one with these arguments more, one after the other, each counted as it is written
   abbrev pub AddsAll : Request A → List Arg → Request A → Type 0
   AddsAll old [] new = new ≡ old
   AddsAll old (arg ∷ args) new = (next : Request A) × Keeps old arg (length (written_text arg)) next × AddsAll next args new

@@ -1,4 +1,4 @@
--- The packets of a request as lines, each behind the lines before it, and what refuses a packet.
+-- The packets of a request as lines, each after the lines before it, and what refuses a packet.
 use Rattle.std.specs.Prelude.{◌≡◌, ◌≢◌, ℕ, ◌+◌, ◌<◌, ◌≤◌, Bool, true, false, Option, Some, None, List, [], ◌∷◌, ◌++◌, length, codes, sum_by, if◌then◌else◌}
 use Rattle.std.specs.List.{list_any, filter_map}
 use Rattle.std.specs.Str.{bytes_eq}
@@ -200,7 +200,7 @@ at_end lines = record {
   passes = (c : Command) × (commands_of lines ≡ c ∷ []) × Passes (end_checks (asked_by c (arguments_of lines)));
 }
 
--- what refuses the flush behind these lines: what is judged at the end of the capability part was judged at the
+-- what refuses the flush after these lines: what is judged at the end of the capability part was judged at the
 -- delimiter, if there was one
 abbrev pub flush_checks_in : Bool → Offer → List Line → List Check
 flush_checks_in true offer lines = at_end lines ∷ []
@@ -215,7 +215,7 @@ IsLineIn false offer limit before delim delimiter = Passes (part_checks offer (c
 IsLineIn true offer limit before (payload bytes) (argument arg long) = IsArgumentLine offer limit before (text_of bytes) arg long
 IsLineIn _ offer limit before _ _ = ⊥
 
--- the packet is this line of a request, behind the lines before it
+-- the packet is this line of a request, after the lines before it
 abbrev pub IsLine : Offer → ℕ → List Line → Pkt → Line → Type 0
 IsLine offer limit before packet line = IsLineIn (has_delimiter before) offer limit before packet line
 
@@ -228,6 +228,6 @@ HasFaultIn true offer limit before (payload bytes) kind = IsArgumentRefused offe
 HasFaultIn true offer limit before flush kind = Refuses (flush_checks_in true offer before) kind
 HasFaultIn _ offer limit before _ kind = kind ≡ UnexpectedPacket
 
--- the packet is refused by this name, behind the lines before it
+-- the packet is refused by this name, after the lines before it
 abbrev pub HasFault : Offer → ℕ → List Line → Pkt → Kind → Type 0
 HasFault offer limit before packet kind = HasFaultIn (has_delimiter before) offer limit before packet kind

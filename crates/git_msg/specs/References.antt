@@ -27,7 +27,7 @@ reference_of id name target peeled = record { id = id; name = name; target = tar
 abbrev pub shown_reference : Reference → Ref
 shown_reference r = record { id = r.id; name = r.name.now; target = option_copied r.target; peeled = r.peeled }
 
--- what stands behind the word, where the text begins with it
+-- what stands after the word, where the text begins with it
 abbrev pub value_behind : List ℕ → List ℕ → Option (List ℕ)
 value_behind word text = if bytes_eq (take (length word) text) word then Some (drop (length word) text) else None
 

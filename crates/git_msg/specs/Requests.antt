@@ -12,14 +12,14 @@ use Rattle.git_msg.specs.Asked.{Asked, asked_by}
 use Rattle.git_msg.specs.Checks.{Passes}
 use Rattle.git_msg.specs.Lines.{Line, argument, argument_in, commands_of, arguments_of, kept_in, flush_checks, IsLine, HasFault}
 
--- the packets are these lines, each behind those before it
+-- the packets are these lines, each after those before it
 abbrev pub AreLines : Offer → ℕ → List Line → List Given → List Line → Type 0
 AreLines offer limit before [] [] = Unit {0}
 AreLines offer limit before (g ∷ gs) (line ∷ lines) =
     IsLine offer limit before g.packet line × AreLines offer limit (before ++ line ∷ []) gs lines
 AreLines offer limit before _ _ = ⊥
 
--- behind these packets, the packet is a line of the request, and no argument
+-- after these packets, the packet is a line of the request, and no argument
 pub record IsPlainLine (offer : Offer) (limit : ℕ) (packets : List Given) (packet : Pkt) : Type 0 where
   pub lines : List Line
   pub line : Line

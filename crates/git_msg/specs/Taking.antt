@@ -80,7 +80,7 @@ module _ {A : Type 0} where
     pub is_text : IsArgumentText r.offer lines (text_of bytes) arg
     pub long_is : long ≡ length (text_of bytes)
 
-  -- the packets are lines, and the reader stands behind them
+  -- the packets are lines, and the reader stands after them
   pub record StandsBehind (packets : List Given) (In : List Line → RequestReader A → Type 0) (r : RequestReader A) : Type 0 where
     pub lines : List Line
     pub taken : AreLines r.offer (limit_in r) [] packets lines
@@ -105,7 +105,7 @@ module _ {A : Type 0} where
   pub record WaitsFor (packets : List Given) (arg : Arg) (r : RequestReader A) : Type 0 where
     pub waits : WaitsIn r.part packets arg r
 
-  -- what a packet brought, where the reader stood behind these packets: an argument is never passed over
+  -- what a packet brought, where the reader stood after these packets: an argument is never passed over
   abbrev pub Brings : List Given → Given → Result (Taken A) Fault → RequestReader A → Type 0
   Brings packets g (Ok More) new =
       Takes (packets ++ g ∷ []) new × IsPlainLine (offer_of new) (limit_in new) packets g.packet

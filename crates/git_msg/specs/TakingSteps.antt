@@ -21,7 +21,7 @@ module _ {A : Type 0} where
   abbrev pub is_first : RequestReader A → Bool
   is_first r = is_none (option_to_list r.command)
 
-  -- the reader behind one more line of the capability part
+  -- the reader after one more line of the capability part
   abbrev pub with_line : Line → RequestReader A → RequestReader A
   with_line (command c) r = record r { begun = true; command = Some c }
   with_line object_format r = record r { begun = true; has_format = true }

@@ -35,7 +35,7 @@ argument_lines (ls_refs q) =
 abbrev pub behind_peel : Asked → List Pkt
 behind_peel (ls_refs q) = where_set q.symrefs (text_line (codes "symrefs")) (prefix_lines q.ref_prefixes)
 
--- what stands behind the command: the agent and the object format where they were advertised, then the delimiter, always
+-- what stands after the command: the agent and the object format where they were advertised, then the delimiter, always
 abbrev pub format_lines : Bool → Format → Asked → List Pkt
 format_lines object_format format asked =
     where_set object_format (text_line (codes "object-format=" ++ format_name format)) (delim ∷ argument_lines asked)

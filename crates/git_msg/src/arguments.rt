@@ -28,7 +28,7 @@ pub enum Argument<'a> {
 pub(crate) const MOST_TEXT: usize = 32_000;
 
 impl Command {
-    /// The command's key, as it stands behind `command=`.
+    /// The command's key, as it stands after `command=`.
     pub fn name(self) -> &'static str
         ensures { result.now ≡ name_of self }
     {

@@ -13,7 +13,7 @@ use git_pkt::Kind;
 pub struct Capability<'a> {
     /// One or more ASCII letters, digits, `-` or `_`.
     pub key: &'a [u8],
-    /// What stands behind the first `=`, where there is one: any bytes but NUL and LF, also none.
+    /// What stands after the first `=`, where there is one: any bytes but NUL and LF, also none.
     pub value: Option<&'a [u8]>,
 }
 

@@ -123,7 +123,7 @@ pub fn usual_limit()
     ensures { Limits.USUAL ≡ 16777216 }
 {}
 
-/// A request that was empty, and to which these arguments were added one behind the other, asks for what the list of
+/// A request that was empty, and to which these arguments were added one after the other, asks for what the list of
 /// them says, and has kept as many bytes as the texts of their lines have.
 pub fn added_arguments_are_asked_for<A: Allocator + Copy>()
     ensures asked { (command : Command) (format : Format) (limit : ℕ) (args : List Arg) (empty request : Request A)

@@ -27,7 +27,7 @@ enum Attribute<'a> {
     Other,
 }
 
-/// Reads the text of a reference line: an object name, a space and a reference name, then attributes, each behind one
+/// Reads the text of a reference line: an object name, a space and a reference name, then attributes, each after one
 /// space. Attributes that are not known are passed over. A text without a space is `BadLine`; then from left to right
 /// `BadObjectName` and `BadRefName`.
 pub fn read_reference(format: Format, text: &[u8]) -> Result<Reference<'_>, Kind>
@@ -105,7 +105,7 @@ fn read_peeled(format: Format, text: Option<&[u8]>) -> Option<Oid>
     }
 }
 
-/// The first word of a text, and what stands behind the space that ends it.
+/// The first word of a text, and what stands after the space that ends it.
 fn split_word(text: &[u8]) -> (&[u8], Option<&[u8]>)
     ensures words { spaced_words text.now ≡ result.0.now ∷ words_left (option_copied result.1) }
     ensures shorter { MatchOption result.1 (Unit {0}) (λ rest. length rest.now < length text.now) }

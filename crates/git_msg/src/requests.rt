@@ -190,7 +190,7 @@ impl<A: Allocator + Copy> Request<A> {
         }
     }
 
-    /// Adds an argument behind the others. Refused in this order: a value that may not stand there (`BadLine` for a
+    /// Adds an argument after the others. Refused in this order: a value that may not stand there (`BadLine` for a
     /// text of more than 32,000 bytes), `TooMuchKept` where the texts of all lines, as they are written, would pass
     /// the limit, and `OutOfMemory`. Then the request stays as it was.
     pub fn add(&mut self, argument: Argument<'_>) -> Result<(), Kind>

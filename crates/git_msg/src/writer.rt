@@ -137,7 +137,7 @@ fn after_peel<A: Allocator + Copy>(request: &Request<A>) -> Next
     Next::Prefix(0)
 }
 
-/// The line of a prefix, or the flush behind the last.
+/// The line of a prefix, or the flush after the last.
 fn put_prefix<A: Allocator + Copy>(request: &Request<A>, i: usize, hold: &mut Hold) -> Next
     ensures { (agent object_format : Bool) (command : Command) (format : Format)
         → PutsFirst (lines_from (Next.Prefix i) agent object_format command format (asked_of request.now))

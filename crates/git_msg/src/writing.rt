@@ -5,7 +5,7 @@ ghost use Rattle.git_msg.specs.Writing.{text_line};
 
 use git_pkt::{Hold, append, begin};
 
-/// Makes the hold the packet of a line: a word, a value behind it, and LF.
+/// Makes the hold the packet of a line: a word, a value after it, and LF.
 pub(crate) fn put_line(hold: &mut Hold, word: &[u8], value: &[u8])
     requires { length word.now + length value.now ≤ 65515 }
     ensures { hold.new.items ≡ spelling_of (text_line (word.now ++ value.now)) }

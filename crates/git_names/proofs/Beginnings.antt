@@ -31,7 +31,7 @@ only_slash (suc j) lt = absurd (omega arith)
 refs_ends_with_slash : EndsWith (codes "refs/") (codes "/")
 refs_ends_with_slash = (omega arith, record { fits = omega arith; reads = only_slash })
 
--- behind `refs/` there is more
+-- after `refs/` there is more
 more_behind : (text rest : List ℕ) → IsRefName text → text ≡ codes "refs/" ++ rest → 0 < length rest
 more_behind text [] h is = absurd (h.no_slash_at_end (rw is refs_ends_with_slash))
 more_behind text (b ∷ rest) h is = omega arith

@@ -19,7 +19,7 @@ width_of-within : (format : Format) → width_of format ≤ 32
 width_of-within Sha1 = omega arith
 width_of-within Sha256 = omega arith
 
--- the zeros behind the width
+-- the zeros after the width
 drop-zeros : (format : Format) → drop {A = ℕ} (width_of format) (replicate 32 0) ≡ replicate (32 - width_of format) 0
 drop-zeros Sha1 = refl
 drop-zeros Sha256 = refl
@@ -28,7 +28,7 @@ drop-zeros Sha256 = refl
 pub length-room : (format : Format) (w : ℕ) → w ≡ width_of format → length (take {A = ℕ} w (replicate 32 0)) ≡ w
 length-room format w wide = let within = width_of-within format in length-take-le {A = ℕ} w (replicate 32 0) (omega arith)
 
--- pairs with zeros behind them are an object name
+-- pairs with zeros after them are an object name
 pub read_name : (format : Format) (text out : List ℕ) (w : ℕ) → w ≡ width_of format → length out ≡ w → ArePairs text out
     → IsObjectName format text (record { format = format; bytes = out ++ drop w (replicate 32 0) })
 read_name format text out w wide long pairs =
@@ -173,7 +173,7 @@ in_range-pairs (high ∷ low ∷ text) (byte ∷ bytes) h zero =
     let one = h.0.high_digit in let two = h.0.low_digit in let value = h.0.value in omega arith
 in_range-pairs (high ∷ low ∷ text) (byte ∷ bytes) h (suc i) = in_range-pairs text bytes h.1 i
 
--- bytes with zeros behind them
+-- bytes with zeros after them
 in_range-padded : (front : List ℕ) (n : ℕ) → ((i : ℕ) → slice_index front i < 256) → (i : ℕ) → slice_index (front ++ replicate n 0) i < 256
 in_range-padded [] n h i =
     elim (cases_lt i n) [

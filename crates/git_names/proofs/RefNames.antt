@@ -1,4 +1,4 @@
--- The rules of reference names, as what may stand behind what.
+-- The rules of reference names, as what may stand after what.
 use Rattle.std.proofs.Common.{◌≡◌, ℕ, ◌+◌, ◌-◌, ◌<◌, ◌≤◌, List, [], ◌∷◌, ◌++◌, ◌≢◌, length, slice_index, take, refl, sym, ap, ◌∙◌, inl, inr, arith, codes}
 use Rattle.std.proofs.lemmas.Bool.{cases_lt}
 use Rattle.std.proofs.lemmas.List.{get_or_append_left, get_or-take, length-append, length-take-le}
@@ -7,7 +7,7 @@ use Rattle.bstr.specs.Find.{OccursAt}
 use Rattle.git_names.specs.Following.{MayFollow}
 use Rattle.git_names.specs.RefName.{BeginsWith, EndsWith, IsRefName}
 
--- a byte behind a part that ends there
+-- a byte after a part that ends there
 occurs_longer : (text part : List ℕ) (c k : ℕ) → k < length text → slice_index text k ≡ c → EndsWith (take k text) part
     → OccursAt text (part ++ c ∷ []) (k - length part)
 occurs_longer text part c k lt is h =
@@ -31,7 +31,7 @@ occurs_longer text part c k lt is h =
       ];
     }
 
--- where a part with a byte behind it stands, the byte stands behind the part
+-- where a part with a byte after it stands, the byte stands after the part
 ends_before : (text part : List ℕ) (c j : ℕ) → OccursAt text (part ++ c ∷ []) j
     → (j + length part < length text) × (slice_index text (j + length part) ≡ c) × EndsWith (take (j + length part) text) part
 ends_before text part c j h =
@@ -77,7 +77,7 @@ follows_in_name text h k lt = record {
   no_at_brace = λ is ends. h.no_at_brace (_, occurs_longer text (codes "@") 123 k lt is ends);
 }
 
--- a slash may stand behind a reference name: each component is whole
+-- a slash may stand after a reference name: each component is whole
 pub slash_follows_name : (text : List ℕ) → IsRefName text → MayFollow text 47
 slash_follows_name text h = record {
   allowed = record {
@@ -99,11 +99,11 @@ slash_follows_name text h = record {
   no_at_brace = λ is. absurd (omega arith);
 }
 
--- each byte may stand behind those before it
+-- each byte may stand after those before it
 abbrev pub AllFollow : List ℕ → Type 0
 AllFollow text = (k : ℕ) → k < length text → MayFollow (take k text) (slice_index text k)
 
--- a part with a byte behind it does not stand where the byte may not follow the part
+-- a part with a byte after it does not stand where the byte may not follow the part
 lacks_part : (text part : List ℕ) (c : ℕ) → AllFollow text
     → ((front : List ℕ) (byte : ℕ) → MayFollow front byte → byte ≡ c → ¬ EndsWith front part)
     → (j : ℕ) → ¬ OccursAt text (part ++ c ∷ []) j

@@ -1,4 +1,4 @@
--- Which byte may stand behind which bytes in a reference name.
+-- Which byte may stand after which bytes in a reference name.
 use Rattle.std.specs.Prelude.{◌≡◌, ◌≢◌, ℕ, ◌≤◌, List, codes}
 use Rattle.git_names.specs.RefName.{EndsWith}
 
@@ -22,7 +22,7 @@ pub record IsPlain (byte : ℕ) : Type 0 where
   pub no_dot : byte ≢ 46
   pub no_brace : byte ≢ 123
 
--- the byte may stand behind these
+-- the byte may stand after these
 pub record MayFollow (front : List ℕ) (byte : ℕ) : Type 0 where
   pub allowed : IsAllowed byte
   pub no_empty_component : byte ≡ 47 → ¬ EndsWith front (codes "/")

@@ -60,7 +60,7 @@ hex_text (byte ∷ bytes) = lower_digit (byte / 16) ∷ lower_digit (byte % 16) 
 abbrev pub hex_of : ObjectName → List ℕ
 hex_of id = hex_text (name_bytes id)
 
--- a value that object names have: 32 bytes, and those behind the format's width are zero
+-- a value that object names have: 32 bytes, and those after the format's width are zero
 pub record IsOid (id : ObjectName) : Type 0 where
   pub size : length id.bytes ≡ 32
   pub in_range : (i : ℕ) → slice_index id.bytes i < 256

@@ -45,7 +45,7 @@ pub fn object_name_is_an_oid()
     ensures { (format : ObjectFormat) (text : List ℕ) (id : ObjectName) → IsObjectName format text id → IsOid id }
 {}
 
-/// A reference name is `HEAD`, or `refs/` with more behind it.
+/// A reference name is `HEAD`, or `refs/` with more after it.
 pub fn ref_name_begins()
     ensures { (text : List ℕ) → IsRefName text
         → (text ≡ codes "HEAD") ⊎ ((rest : List ℕ) × (text ≡ codes "refs/" ++ rest) × (0 < length rest)) }

@@ -45,7 +45,7 @@ impl Oid {
     }
 
     /// Writes the name in lower case digits to the front of `out`, and says how many there are.
-    /// The bytes of `out` behind them stay as they were.
+    /// The bytes of `out` after them stay as they were.
     pub fn write(&self, out: &mut [u8; 64]) -> usize
         ensures count { result ≡ digits_of self.now.format }
         ensures text { take result out.new ≡ hex_of self.now }

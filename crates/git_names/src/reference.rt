@@ -80,7 +80,7 @@ fn begins_well(text: &[u8]) -> bool
     text.starts_with_str(b"refs/")
 }
 
-// Whether each byte may stand behind those before it.
+// Whether each byte may stand after those before it.
 fn follows_well(text: &[u8]) -> bool
     ensures { IsTrue result ↔ ((k : ℕ) → k < length text.now → MayFollow (take k text.now) (slice_index text.now k)) }
 {
@@ -92,7 +92,7 @@ fn follows_well(text: &[u8]) -> bool
     true
 }
 
-// Whether the rules let the byte stand behind `front`.
+// Whether the rules let the byte stand after `front`.
 fn may_follow(front: &[u8], byte: u8) -> bool
     ensures { IsTrue result ↔ MayFollow front.now byte }
 {
@@ -105,7 +105,7 @@ fn may_follow(front: &[u8], byte: u8) -> bool
     }
 }
 
-// Whether the byte may stand behind any other, as most bytes of a name may.
+// Whether the byte may stand after any other, as most bytes of a name may.
 fn is_plain(byte: u8) -> bool
     ensures { IsTrue result → IsPlain byte }
 {

@@ -126,7 +126,7 @@ overwritten out four escaped escape at n within fits e f =
     ∙ ap (λ (k : ℕ). take (k + n) (take at out ++ four)) (sym long) ∙ take-append-add (take at out) four n
     ∙ ap (λ (l : List ℕ). l ++ take n four) e ∙ ap (λ (l : List ℕ). escaped ++ l) f
 
--- one more byte is escaped behind what stands before
+-- one more byte is escaped after what stands before
 pub escaped_on : (bytes out four front : List ℕ) (i end n : ℕ) → i < length bytes → end ≤ length out → n ≤ length four → take end out ≡ front ++ escaped_of (take i bytes) → take n four ≡ escape_of (slice_index bytes i)
     → take (end + n) (take end out ++ four ++ drop (end + length four) out) ≡ front ++ escaped_of (take (i + 1) bytes)
 escaped_on bytes out four front i end n below within fits so_far one =

@@ -20,7 +20,7 @@ pub fn append(hold: &mut Hold, bytes: &[u8])
     let _ = hold.try_extend_from_slice(bytes);
 }
 
-/// Puts bytes at a place of the hold, over what stands there. The hold grows where they end behind it; it is
+/// Puts bytes at a place of the hold, over what stands there. The hold grows where they end after it; it is
 /// never emptied first, since that would fill it with zeros.
 pub(crate) fn place(hold: &mut Hold, at: usize, bytes: &[u8])
     requires within { at ≤ array_vec_len hold.old }

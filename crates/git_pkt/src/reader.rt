@@ -58,7 +58,7 @@ pub(crate) struct Step {
 #[derive(Drop)]
 pub struct PacketReader {
     hold: Hold,
-    /// How many bytes of the open packet the hold has, at its front. What stands behind them is of an earlier packet.
+    /// How many bytes of the open packet the hold has, at its front. What stands after them is of an earlier packet.
     count: usize,
     /// The offset of the next byte.
     position: u64,

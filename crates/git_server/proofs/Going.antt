@@ -73,7 +73,7 @@ module _ {A : Type 0} where
   none_kept_at_end (Refusing fault) outcome h = refl
   none_kept_at_end (Ended outcome) _ h = refl
 
-  -- behind a packet the request is kept by the reader of requests, or by what answers it
+  -- after a packet the request is kept by the reader of requests, or by what answers it
   kept_behind : (brought : Brought A) (requests : RequestReader A) → IsWithin brought requests → kept_so_far requests + kept_in (phase_after brought) ≤ limit_in requests
   kept_behind Part requests h = omega (arith, h)
   kept_behind (Whole request) requests h = omega (arith, h.0, h.1)
@@ -189,7 +189,7 @@ module _ {R A : Type 0} (answers : R → Repository) (old new : Server R A) (u :
         fit = subst AllFit (all.sent_is ∙ sym (append-nil _)) h.fit;
       }
 
-  -- behind a whole packet there is no rest
+  -- after a whole packet there is no rest
   no_rest : (bytes : List ℕ) (packets : List Given) (rest : List ℕ) → fault_of new.reader ≡ None → is_open new.reader ≡ false → Reads new.reader 0 bytes packets rest → rest ≡ []
   no_rest bytes packets rest sound shut stream =
       let known = sound_rest new.reader 0 bytes packets rest sound stream in
@@ -199,7 +199,7 @@ module _ {R A : Type 0} (answers : R → Repository) (old new : Server R A) (u :
   pub owes_at : (s : Setting) (phase : Phase A) (owed : List Pkt) → new.phase ≡ phase → Owes new.offer s.repo new.phase owed → Owes new.offer s.repo phase owed
   owes_at s phase owed is owes = subst (λ (p : Phase A). Owes new.offer s.repo p owed) is owes
 
-  -- where the session goes on behind a packet
+  -- where the session goes on after a packet
   packet_serves : (s : Setting) (so_far : List ℕ) (before : List ℕ) (asked : List Asked) (packets left : List Given) (rest : List ℕ) (sent : List Pkt)
       (phase : Phase A)
       → Reads new.reader 0 (so_far ++ u) packets rest → fault_of new.reader ≡ None → Cuts s packets asked left → Takes left new.requests → new.phase ≡ phase
@@ -222,7 +222,7 @@ module _ {R A : Type 0} (answers : R → Repository) (old new : Server R A) (u :
         fit = fit;
       }
 
-  -- how a server stands behind a packet, by what the packet brought
+  -- how a server stands after a packet, by what the packet brought
   packet_stands : (s : Setting) (so_far : List ℕ) (over : Bool) (before : List ℕ) (g : Given) (brought : Brought A)
       → wants_input old ≡ true → over ≡ false → (h : Serves s so_far before old) → (rest : List ℕ) → Reads new.reader 0 (so_far ++ u) (h.packets ++ g ∷ []) rest
       → fault_of new.reader ≡ None → is_open new.reader ≡ false → offer_of new.requests ≡ s.offer → limit_in new.requests ≡ s.limit → Begins s h.left

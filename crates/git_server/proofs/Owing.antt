@@ -40,12 +40,12 @@ module _ {A : Type 0} where
   greeting_most offer repo (Some line) phase is = ap (most_owed offer repo) is
   greeting_most offer repo None phase is = ap (most_owed offer repo) is
 
-  -- behind such a line no request is kept
+  -- after such a line no request is kept
   pub none_kept_in_greeting : (o : Option Line) (phase : Phase A) → phase ≡ greeting_phase o → kept_in phase ≡ 0
   none_kept_in_greeting (Some line) phase is = ap kept_in is
   none_kept_in_greeting None phase is = ap kept_in is
 
-  -- behind a line of the advertisement the other lines are owed
+  -- after a line of the advertisement the other lines are owed
   pub line_behind : (offer : Offer) (repo : Repository) (old new : Phase A) (line : Line) (next : Option Line) (packet : Pkt) → old ≡ Greeting line
       → packet ≡ greeting_packet offer.format line
       → next ≡ greeting_after offer line → new ≡ greeting_phase next → (later : List Pkt) → Owes offer repo new later → Owes offer repo old (packet ∷ later)
@@ -110,7 +110,7 @@ module _ {A : Type 0} where
   pub left_stays : (old new : Phase A) → IsQuiet old → IsQuiet new → (left : List Given) → LeftIn old left → LeftIn new left
   left_stays old new q r left h = r.back left (q.out left h)
 
-  -- behind the packet of a fault nothing is owed
+  -- after the packet of a fault nothing is owed
   pub refusal_behind : (offer : Offer) (repo : Repository) (old : Phase A) (fault : Fault) (packet : Pkt) → old ≡ Refusing fault → packet ≡ error_packet fault
       → (later : List Pkt) → later ≡ [] → Owes offer repo old (packet ∷ later)
   refusal_behind offer repo old fault packet was is later nothing = subst (λ (p : Phase A). Owes offer repo p (packet ∷ later)) (sym was)

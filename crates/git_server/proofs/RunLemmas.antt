@@ -41,7 +41,7 @@ module _ {R A : Type 0} (answers : R → Repository) (old middle new : Server R 
       (subst (λ (l : List ℕ). Running answers s ((so_far ++ u) ++ v) over l new) (append_assoc before g h) two)
 
   module _ (held_before held held_after : Option (List ℕ)) where
-    -- what a call gave was written behind what was written before
+    -- what a call gave was written after what was written before
     pub writes_more : (u v h : List ℕ) → WritesOn answers u held_before held old middle → Appends held held_after h → Goes answers v h middle new → WritesOn answers (u ++ v) held_before held_after old new
     writes_more u v h so_far written goes =
         record {

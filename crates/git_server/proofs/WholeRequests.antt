@@ -15,7 +15,7 @@ use Rattle.git_server.specs.Sessions.{Setting, Cuts, AreAnswers, Begins}
 use Rattle.git_server.specs.Answers.{IsAnswer}
 
 module _ (s : Setting) where
-  -- further packets behind what is left
+  -- further packets after what is left
   pub cuts_more : (packets more : List Given) (asked : List Asked) (left : List Given) → Cuts s packets asked left → Cuts s (packets ++ more) asked (left ++ more)
   cuts_more packets more [] left same = ap (λ (l : List Given). l ++ more) same
   cuts_more packets more (q ∷ qs) left (front, back, kept, whole, asks, rest) =

@@ -76,7 +76,7 @@ abbrev pub refusal_by : Kind → Fault → List Pkt
 refusal_by RemoteError fault = []
 refusal_by _ fault = error_packet fault ∷ []
 
--- what is written at the end of a session, behind the answers
+-- what is written at the end of a session, after the answers
 abbrev pub tail_of : Outcome → List Pkt
 tail_of Flush = []
 tail_of Closed = []

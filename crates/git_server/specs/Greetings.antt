@@ -18,7 +18,7 @@ greeting_packet format ServerOption = text_line (codes "server-option")
 greeting_packet format ObjectFormat = text_line (codes "object-format=" ++ name_of format)
 greeting_packet format End = flush
 
--- the line behind it
+-- the line after it
 abbrev pub greeting_after : Offer → Greeting → Option Greeting
 greeting_after offer Version = Some Agent
 greeting_after offer Agent = Some LsRefs
@@ -45,7 +45,7 @@ greetings_from offer ServerOption = greeting_packet offer.format ServerOption �
 greetings_from offer ObjectFormat = format_on offer
 greetings_from offer End = flush ∷ []
 
--- the packets behind a line
+-- the packets after a line
 abbrev pub greetings_after : Offer → Option Greeting → List Pkt
 greetings_after offer (Some next) = greetings_from offer next
 greetings_after offer None = []

@@ -87,14 +87,14 @@ module _ {A : Type 0} where
   refused_by RemoteError fault = Ended (Refused fault)
   refused_by _ fault = Refusing fault
 
-  -- the phase behind a packet
+  -- the phase after a packet
   abbrev pub phase_after : Brought A → Phase A
   phase_after Part = Within
   phase_after (Whole request) = Answering request 0
   phase_after Stop = Ended Flush
   phase_after (RefusedPacket fault) = refused_by fault.kind fault
 
-  -- the phase behind a line of the advertisement
+  -- the phase after a line of the advertisement
   abbrev pub greeting_phase : Option Line → Phase A
   greeting_phase (Some next) = Greeting next
   greeting_phase None = Between

@@ -50,7 +50,7 @@ pub record Begins (s : Setting) (left : List Given) : Type 0 where
   pub taken : AreLines s.offer s.limit [] left lines
 
 -- one of the packets is refused, or memory ran out while its argument was kept; of those before the last none is
--- refused, and no byte stands behind the last
+-- refused, and no byte stands after the last
 pub record IsRefusedAtPacket (s : Setting) (left : List Given) (rest : List ℕ) (fault : Fault) : Type 0 where
   pub front : List Given
   pub last : Given
@@ -79,7 +79,7 @@ abbrev pub IsRefused : Setting → Bool → List Given → List ℕ → ℕ → 
 IsRefused s over left rest end fault =
     IsRefusedAtPacket s left rest fault ⊎ (IsRefusedAtByte s over left rest end fault ⊎ IsCutShort s over left rest end fault)
 
--- a session ends so, where this is left behind the whole requests and `end` bytes were used
+-- a session ends so, where this is left after the whole requests and `end` bytes were used
 abbrev pub EndsBy : Setting → Bool → List Given → List ℕ → ℕ → Outcome → Type 0
 EndsBy s over left rest end Flush = IsStop left × (rest ≡ [])
 EndsBy s over left rest end Closed = (over ≡ true) × (left ≡ []) × (rest ≡ [])

@@ -9,7 +9,7 @@ use Rattle.git_server.specs.declared.requests.Brought.{Brought}
 use Rattle.git_server.specs.declared.requests.Brought.TheVariants.{Part, Whole, Stop, Refused}
 
 module _ {A : Type 0} where
-  -- what was brought, where the reader stood behind these packets
+  -- what was brought, where the reader stood after these packets
   abbrev pub IsBrought : List Given → Brought A → RequestReader A → Type 0
   IsBrought packets Part new = Takes packets new
   IsBrought packets (Whole request) new =

@@ -22,7 +22,7 @@ use git_pkt::{Packet, PacketReader};
 use std::alloc::Allocator;
 
 /// Writes the next packet of the answer, from the reference at `next` on, into the reader's hold, and says where the
-/// packet behind it begins. There is none behind the flush that ends the answer.
+/// packet after it begins. There is none after the flush that ends the answer.
 pub(crate) fn answer_one<R: Repo, A: Allocator + Copy>(
     repo: &R,
     request: &Request<A>,

@@ -38,7 +38,7 @@ impl Greeting {
         }
     }
 
-    /// The line behind it. What is not offered is passed over.
+    /// The line after it. What is not offered is passed over.
     pub(crate) fn next(self, offer: &Offer) -> Option<Greeting>
         ensures { result ≡ greeting_after offer.now self }
     {

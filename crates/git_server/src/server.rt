@@ -261,7 +261,7 @@ impl<R: Repo, A: Allocator + Copy> Server<R, A> {
     }
 }
 
-// The phase behind a packet.
+// The phase after a packet.
 fn following<A: Allocator + Copy>(brought: Brought<A>) -> Phase<A>
     ensures { result ≡ phase_after brought }
 {
@@ -283,7 +283,7 @@ fn refusal<A: Allocator + Copy>(fault: Fault) -> Phase<A>
     }
 }
 
-// The phase behind a line of the advertisement.
+// The phase after a line of the advertisement.
 fn greeting<A: Allocator + Copy>(next: Option<Line>) -> Phase<A>
     ensures { result ≡ greeting_phase next }
 {

@@ -10,7 +10,7 @@ use crate::entry::RefEntry;
 use git_msg::Request;
 use std::alloc::Allocator;
 
-/// Where the first reference at `from` or behind it stands that the request asks for.
+/// Where the first reference at `from` or after it stands that the request asks for.
 pub(crate) fn next_shown<A: Allocator + Copy>(
     refs: &[RefEntry],
     request: &Request<A>,
