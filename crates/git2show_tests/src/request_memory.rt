@@ -94,3 +94,28 @@ fn a_reader_without_memory_refuses_the_first_prefix(rt: HostRuntime) -> Result<(
     assert_eq!(&rt; hear(&mut reader, Packet::Flush, 50), refused);
     Ok(())
 }
+
+#[test]
+fn a_request_of_flags_takes_no_memory(rt: HostRuntime) -> Result<(), AllocError> {
+    let heap = LocalHeap::new(rt.alloc(), 0)?;
+    let mut request = Request::new(&heap, Command::LsRefs, Format::Sha1, Limits { args: 1000 });
+    assert_eq!(&rt; request.add(Argument::Peel), Ok(()));
+    assert_eq!(&rt; request.add(Argument::Symrefs), Ok(()));
+    assert_eq!(&rt; request.kept(), 11);
+    let added = request.add(Argument::RefPrefix(b""));
+    assert_eq!(&rt; added, Err(Kind::OutOfMemory));
+    let packets = [
+        Packet::Payload(b"command=ls-refs\n"),
+        Packet::Delim,
+        Packet::Payload(b"symrefs\n"),
+        Packet::Payload(b"peel\n"),
+        Packet::Flush,
+    ];
+    let heard = hear(&heap, OFFER, Limits { args: 1000 }, &packets);
+    assert_eq!(&rt; heard.kept, 2);
+    match heard.ending {
+        Ending::Whole(request) => assert!(&rt; request.symrefs() && request.peel()),
+        _ => panic!(&rt; "not whole"),
+    }
+    Ok(())
+}
