@@ -104,18 +104,15 @@ fn a_request_of_flags_takes_no_memory(rt: HostRuntime) -> Result<(), AllocError>
     assert_eq!(&rt; request.kept(), 11);
     let added = request.add(Argument::RefPrefix(b""));
     assert_eq!(&rt; added, Err(Kind::OutOfMemory));
-    let packets = [
-        Packet::Payload(b"command=ls-refs\n"),
-        Packet::Delim,
-        Packet::Payload(b"symrefs\n"),
-        Packet::Payload(b"peel\n"),
-        Packet::Flush,
-    ];
-    let heard = hear(&heap, OFFER, Limits { args: 1000 }, &packets);
-    assert_eq!(&rt; heard.kept, 2);
-    match heard.ending {
-        Ending::Whole(request) => assert!(&rt; request.symrefs() && request.peel()),
-        _ => panic!(&rt; "not whole"),
+    let mut reader = RequestReader::new(&heap, OFFER, Limits { args: 1000 });
+    for (packet, offset) in [
+        (Packet::Payload(b"command=ls-refs\n"), 0),
+        (Packet::Delim, 20),
+        (Packet::Payload(b"symrefs\n"), 24),
+        (Packet::Payload(b"peel\n"), 36),
+        (Packet::Flush, 45),
+    ] {
+        assert_eq!(&rt; hear(&mut reader, packet, offset), Ok(()), "at {offset}");
     }
     Ok(())
 }

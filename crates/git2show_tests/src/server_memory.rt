@@ -84,3 +84,16 @@ fn without_memory_the_first_text_is_refused(rt: HostRuntime) -> Result<(), Fail>
     assert_eq!(rt; run, Ok(refusal(Kind::OutOfMemory, 67)));
     Ok(())
 }
+
+#[test]
+fn a_session_of_flags_takes_no_memory(rt: HostRuntime) -> Result<(), Fail> {
+    let input = b"0014command=ls-refs\n00010009peel\n000csymrefs\n0000";
+    let heap = LocalHeap::new(rt.alloc(), 0)?;
+    let mut server = new_server(&rt, &heap, usual())?;
+    let (given, ended) = converse(&mut server, rt.alloc(), &[input])?;
+    let mut other = new_server(&rt, rt.alloc(), usual())?;
+    let (due, _) = converse(&mut other, rt.alloc(), &[input])?;
+    assert_eq!(rt; ended, Some(Outcome::Closed));
+    assert_eq!(rt; given.as_slice(), due.as_slice());
+    Ok(())
+}

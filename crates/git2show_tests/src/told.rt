@@ -96,3 +96,38 @@ fn flushes_are_passed_on(rt: HostRuntime) -> Result<(), Fail> {
     assert_eq!(rt; sink.flushes, 2);
     Ok(())
 }
+
+#[test]
+fn many_reads_and_a_large_write_go_through(rt: HostRuntime) -> Result<(), Fail> {
+    let bytes = vec![in rt.alloc(); b'x'; 300_000]?;
+    let mut reader = Told::new(Stream::new(&bytes, 1, u32::MAX));
+    let mut piece = [0u8; 9];
+    for _ in 0..300_000 {
+        assert_eq!(rt; reader.read(&mut piece)?, 1);
+    }
+    assert_eq!(rt; reader.reads(), 300_000);
+    assert!(rt; !reader.failed() && !reader.ended());
+    let mut sink = Sink::new(Vec::new(rt.alloc()), usize::MAX, u32::MAX);
+    let mut writer = Told::new(&mut sink);
+    writer.write_all(&bytes)?;
+    assert!(rt; !writer.failed());
+    assert_eq!(rt; sink.writes, 1);
+    assert_eq!(rt; sink.taken.as_slice(), bytes.as_slice());
+    Ok(())
+}
+
+#[test]
+fn a_failed_call_is_not_made_again(rt: HostRuntime) -> Result<(), Fail> {
+    let mut stream = Stream::new(b"abcdef", 9, 0);
+    let mut reader = Told::new(&mut stream);
+    let mut piece = [0u8; 4];
+    assert!(rt; reader.read(&mut piece).is_err());
+    assert_eq!(rt; reader.read(&mut piece)?, 4);
+    assert_eq!(rt; stream.reads, 2);
+    let mut sink = Sink::new(Vec::new(rt.alloc()), 9, 0);
+    let mut writer = Told::new(&mut sink);
+    assert!(rt; writer.write(b"foobar").is_err());
+    assert!(rt; writer.write_all(b"foobar").is_ok());
+    assert_eq!(rt; sink.writes, 2);
+    Ok(())
+}
