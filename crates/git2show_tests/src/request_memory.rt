@@ -105,14 +105,16 @@ fn a_request_of_flags_takes_no_memory(rt: HostRuntime) -> Result<(), AllocError>
     let added = request.add(Argument::RefPrefix(b""));
     assert_eq!(&rt; added, Err(Kind::OutOfMemory));
     let mut reader = RequestReader::new(&heap, OFFER, Limits { args: 1000 });
-    for (packet, offset) in [
-        (Packet::Payload(b"command=ls-refs\n"), 0),
-        (Packet::Delim, 20),
-        (Packet::Payload(b"symrefs\n"), 24),
-        (Packet::Payload(b"peel\n"), 36),
-        (Packet::Flush, 45),
-    ] {
-        assert_eq!(&rt; hear(&mut reader, packet, offset), Ok(()), "at {offset}");
-    }
+    assert_eq!(&rt;
+        hear(&mut reader, Packet::Payload(b"command=ls-refs\n"), 0),
+        Ok(())
+    );
+    assert_eq!(&rt; hear(&mut reader, Packet::Delim, 20), Ok(()));
+    assert_eq!(&rt;
+        hear(&mut reader, Packet::Payload(b"symrefs\n"), 24),
+        Ok(())
+    );
+    assert_eq!(&rt; hear(&mut reader, Packet::Payload(b"peel\n"), 36), Ok(()));
+    assert_eq!(&rt; hear(&mut reader, Packet::Flush, 45), Ok(()));
     Ok(())
 }
