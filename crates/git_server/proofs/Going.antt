@@ -13,7 +13,7 @@ use Rattle.git_msg.proofs.PacketFaults.{told_of_packets}
 use Rattle.git_msg.specs.Taking.{Takes, offer_of, limit_in, kept_so_far, is_waiting, fault_of as requests_fault}
 use Rattle.git_msg.specs.declared.offers.Offer.{Offer}
 use Rattle.git_msg.specs.declared.reader.RequestReader.{RequestReader}
-use Rattle.git_server.specs.Repository.{Repository}
+use Rattle.git_server.specs.Repository.{Repository, RepoState}
 use Rattle.git_server.specs.Answers.{AllFit, IsAnswer, error_packet, tail_of, spelled}
 use Rattle.git_server.specs.Greetings.{greetings_from}
 use Rattle.git_server.specs.Sessions.{Begins, IsTail, Setting, Cuts, IsSent, IsEnding, IsRefused, EndsBy}
@@ -123,13 +123,13 @@ not_too_long {A = A} packets (RefusedPacket f) requests h fault ended too_long =
     let one : f ≡ fault = cc in
     told_of_packets (offer_of requests) (limit_in requests) packets f h (ap (λ (x : Fault). x.kind) one ∙ too_long)
 
-module _ {R A : Type 0} (answers : R → Repository) (old new : Server R A) (u : List ℕ) where
+module _ {R A : Type 0} (state : R → RepoState) (old new : Server R A) (u : List ℕ) where
   -- what a server that waits for bytes stands for
-  stands_of : (s : Setting) (so_far : List ℕ) (over : Bool) (before : List ℕ) → wants_input old ≡ true → Running answers s so_far over before old → (over ≡ false) × Serves s so_far before old
+  stands_of : (s : Setting) (so_far : List ℕ) (over : Bool) (before : List ℕ) → wants_input old ≡ true → Running state s so_far over before old → (over ≡ false) × Serves s so_far before old
   stands_of s so_far over before wants r =
       subst (λ (o : Option Outcome). StandsBy o s so_far over before old) (no_outcome old.phase wants) r.stands
 
-  pub serves_of : (s : Setting) (so_far : List ℕ) (over : Bool) (before : List ℕ) → wants_input old ≡ true → Running answers s so_far over before old → Serves s so_far before old
+  pub serves_of : (s : Setting) (so_far : List ℕ) (over : Bool) (before : List ℕ) → wants_input old ≡ true → Running state s so_far over before old → Serves s so_far before old
   serves_of s so_far over before wants r = (stands_of s so_far over before wants r).1
 
   pub all_sent_of : (s : Setting) (so_far before : List ℕ) → wants_input old ≡ true → (h : Serves s so_far before old) → IsSent s h.asked h.sent []
@@ -137,7 +137,7 @@ module _ {R A : Type 0} (answers : R → Repository) (old new : Server R A) (u :
       h.is_sent [] (owes_nothing old.offer s.repo old.phase wants)
 
   -- no packet came of the bytes
-  pub goes_open : wants_input old ≡ true → ReadsFor old u [] new → new.requests ≡ old.requests → new.phase ≡ old.phase → fault_of new.reader ≡ None → Goes answers u [] old new
+  pub goes_open : wants_input old ≡ true → ReadsFor state old u [] new → new.requests ≡ old.requests → new.phase ≡ old.phase → fault_of new.reader ≡ None → Goes state u [] old new
   goes_open wants reads same_requests same_phase sound s so_far over before r =
       let (not_over, h) = stands_of s so_far over before wants r in
       let (rest, stream) = reads.reads 0 so_far h.packets h.rest h.reads in
@@ -145,7 +145,7 @@ module _ {R A : Type 0} (answers : R → Repository) (old new : Server R A) (u :
         offer = reads.offer ∙ r.offer;
         reads_for = ap offer_of same_requests ∙ r.reads_for;
         limit = ap limit_in same_requests ∙ r.limit;
-        repo = ap answers reads.repo ∙ r.repo;
+        repo = reads.answers ∙ r.repo;
         within = omega (arith, r.within, ap kept_so_far same_requests, ap kept_in same_phase);
         stands = subst (λ (o : Option Outcome). StandsBy o s (so_far ++ u) over (before ++ []) new) (sym (ap outcome_in same_phase ∙ no_outcome old.phase wants)) (
           not_over,
@@ -259,8 +259,8 @@ module _ {R A : Type 0} (answers : R → Repository) (old new : Server R A) (u :
       (refused_owes_by A new.offer s.repo fault.kind fault owed refl (owes_at s (refused_by fault.kind fault) owed phase_is owes)))
 
   -- a packet came of the bytes
-  pub goes_packet : (g : Given) (brought : Brought A) → wants_input old ≡ true → ReadsFor old u (g ∷ []) new → Brings old.requests g brought new.requests
-      → new.phase ≡ phase_after brought → fault_of new.reader ≡ None → is_open new.reader ≡ false → Goes answers u [] old new
+  pub goes_packet : (g : Given) (brought : Brought A) → wants_input old ≡ true → ReadsFor state old u (g ∷ []) new → Brings old.requests g brought new.requests
+      → new.phase ≡ phase_after brought → fault_of new.reader ≡ None → is_open new.reader ≡ false → Goes state u [] old new
   goes_packet g brought wants reads brings phase_is sound shut s so_far over before r =
       let (not_over, h) = stands_of s so_far over before wants r in
       let (rest, stream) = reads.reads 0 so_far h.packets h.rest h.reads in
@@ -273,7 +273,7 @@ module _ {R A : Type 0} (answers : R → Repository) (old new : Server R A) (u :
         offer = reads.offer ∙ r.offer;
         reads_for = offer;
         limit = limit;
-        repo = ap answers reads.repo ∙ r.repo;
+        repo = reads.answers ∙ r.repo;
         within = omega (arith, kept_behind brought new.requests (brings.within kept), limit, ap kept_in phase_is);
         stands = subst (λ (o : Option Outcome). StandsBy o s (so_far ++ u) over (before ++ []) new) (sym (ap outcome_in phase_is))
             (packet_stands s so_far over before g brought wants not_over h rest stream sound shut offer limit begun (brings.brings h.left h.takes) phase_is);
@@ -289,8 +289,8 @@ module _ {R A : Type 0} (answers : R → Repository) (old new : Server R A) (u :
       (refused_owes_by A new.offer s.repo fault.kind fault owed refl (owes_at s (refused_by fault.kind fault) owed phase_is owes)))
 
   -- the bytes were refused
-  pub goes_refused : (fault : Fault) → wants_input old ≡ true → ReadsFor old u [] new → new.requests ≡ old.requests → requests_fault old.requests ≡ None → is_waiting old.requests ≡ false
-      → fault_of new.reader ≡ Some fault → (fault_of old.reader ≡ None → fault.kind ≢ Truncated) → new.phase ≡ refused_by fault.kind fault → Goes answers u [] old new
+  pub goes_refused : (fault : Fault) → wants_input old ≡ true → ReadsFor state old u [] new → new.requests ≡ old.requests → requests_fault old.requests ≡ None → is_waiting old.requests ≡ false
+      → fault_of new.reader ≡ Some fault → (fault_of old.reader ≡ None → fault.kind ≢ Truncated) → new.phase ≡ refused_by fault.kind fault → Goes state u [] old new
   goes_refused fault wants reads same_requests sound ready told not_the_end phase_is s so_far over before r =
       let (not_over, h) = stands_of s so_far over before wants r in
       let (rest, later) = reads.reads 0 so_far h.packets h.rest h.reads in
@@ -299,7 +299,7 @@ module _ {R A : Type 0} (answers : R → Repository) (old new : Server R A) (u :
         offer = reads.offer ∙ r.offer;
         reads_for = ap offer_of same_requests ∙ r.reads_for;
         limit = ap limit_in same_requests ∙ r.limit;
-        repo = ap answers reads.repo ∙ r.repo;
+        repo = reads.answers ∙ r.repo;
         within = omega (arith, r.within, ap kept_so_far same_requests, none_kept_at_end new.phase (Refused fault) (ap outcome_in phase_is ∙ refused_outcome_by A fault.kind fault));
         stands = ends_refused s so_far over before h.left h.packets rest fault wants h stream h.cuts
             (inr (inl (record {
@@ -310,9 +310,9 @@ module _ {R A : Type 0} (answers : R → Repository) (old new : Server R A) (u :
             }))) phase_is;
       }
 
-module _ {R A : Type 0} (answers : R → Repository) (old : Server R A) (used : ℕ) (piece : List ℕ) where
+module _ {R A : Type 0} (state : R → RepoState) (old : Server R A) (used : ℕ) (piece : List ℕ) where
   -- the session went on
-  pub open_in_time : StopsInTime answers old used piece (outcome_in old.phase)
+  pub open_in_time : StopsInTime state old used piece (outcome_in old.phase)
   open_in_time s so_far over before r wants fault ended too_long =
       let none : outcome_in old.phase ≡ None = no_outcome old.phase wants in
       absurd (cc)
@@ -320,16 +320,16 @@ module _ {R A : Type 0} (answers : R → Repository) (old : Server R A) (used : 
   -- a packet was judged
   pub packet_in_time : (g : Given) (brought : Brought A) (requests : RequestReader A) (phase : Phase A) → Brings old.requests g brought requests
       → phase ≡ phase_after brought
-      → StopsInTime answers old used piece (outcome_in phase)
+      → StopsInTime state old used piece (outcome_in phase)
   packet_in_time g brought requests phase brings phase_is s so_far over before r wants fault ended too_long =
-      let h = serves_of answers old old [] s so_far over before wants r in
+      let h = serves_of state old old [] s so_far over before wants r in
       absurd (not_too_long (h.left ++ g ∷ []) brought requests (brings.brings h.left h.takes) fault (sym (ap outcome_in phase_is) ∙ ended) too_long)
 
   -- the bytes were refused
   pub fault_in_time : (fault : Fault) (phase : Phase A) → phase ≡ refused_by fault.kind fault → (fault_of old.reader ≡ None → ShownByFeed fault used piece)
-      → StopsInTime answers old used piece (outcome_in phase)
+      → StopsInTime state old used piece (outcome_in phase)
   fault_in_time fault phase phase_is shown s so_far over before r wants other ended too_long =
-      let h = serves_of answers old old [] s so_far over before wants r in
+      let h = serves_of state old old [] s so_far over before wants r in
       let same : Some (Refused fault) ≡ Some (Refused other) = sym (refused_outcome_by A fault.kind fault) ∙ sym (ap outcome_in phase_is) ∙ ended in
       let one : fault ≡ other = cc in
       (shown h.no_fault).one_more (ap (λ (f : Fault). f.kind) one ∙ too_long)
@@ -343,12 +343,12 @@ is_within (Answering request next) h not = absurd (cc)
 is_within (Refusing fault) h not = absurd (cc)
 is_within (Ended outcome) h not = absurd (cc)
 
-module _ {R A : Type 0} (answers : R → Repository) (old middle new : Server R A) where
+module _ {R A : Type 0} (state : R → RepoState) (old middle new : Server R A) where
   -- one call after another, which give nothing
-  pub goes_twice : (u v : List ℕ) → Goes answers u [] old middle → Goes answers v [] middle new → Goes answers (u ++ v) [] old new
+  pub goes_twice : (u v : List ℕ) → Goes state u [] old middle → Goes state v [] middle new → Goes state (u ++ v) [] old new
   goes_twice u v first second s so_far over before r =
       let one = first s so_far over before r in
       let two = second s (so_far ++ u) over (before ++ []) one in
       let same_used = append_assoc so_far u v in
       let same_given : (before ++ []) ++ [] ≡ before ++ [] = append-nil (before ++ []) in
-      subst (λ (l : List ℕ). Running answers s l over (before ++ []) new) same_used (subst (λ (l : List ℕ). Running answers s ((so_far ++ u) ++ v) over l new) same_given two)
+      subst (λ (l : List ℕ). Running state s l over (before ++ []) new) same_used (subst (λ (l : List ℕ). Running state s ((so_far ++ u) ++ v) over l new) same_given two)

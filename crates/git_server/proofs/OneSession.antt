@@ -13,7 +13,7 @@ use Rattle.git_msg.specs.Holding.{asked_of}
 use Rattle.git_msg.specs.Lines.{Line, IsLine, IsLineIn, has_delimiter}
 use Rattle.git_msg.specs.Requests.{AreLines, Asks}
 use Rattle.git_msg.proofs.LineLaws.{one_request}
-use Rattle.git_server.specs.Repository.{Entry, Repository}
+use Rattle.git_server.specs.Repository.{Entry, Repository, RepoState}
 use Rattle.git_server.specs.Answers.{AllFit, offered_line, reference_packet, shown_refs, spelled, IsAnswer}
 use Rattle.git_server.specs.Greetings.{format_on, greetings_from}
 use Rattle.git_server.specs.declared.greeting.Greeting.TheVariants.{Version, Agent, LsRefs, ServerOption, ObjectFormat, End}
@@ -170,7 +170,7 @@ owes_flush offer repo (Answering request next) owed none owes zero = absurd (ans
 owes_flush offer repo (Refusing fault) owed none owes zero = absurd (cc)
 owes_flush offer repo (Ended outcome) owed none owes zero = absurd (cc)
 
-module _ {R A : Type 0} (answers : R → Repository) (server : Server R A) (s : Setting) (used : List ℕ) (over : Bool) (given : List ℕ) (r : Running answers s used over given server) where
+module _ {R A : Type 0} (state : R → RepoState) (server : Server R A) (s : Setting) (used : List ℕ) (over : Bool) (given : List ℕ) (r : Running state s used over given server) where
   -- a server without an outcome that has given all waits for bytes
   pub waits_behind_all : outcome_of server ≡ None → IsAnswered s used given → wants_input server ≡ true
   waits_behind_all none all =

@@ -5,7 +5,7 @@ use Rattle.std.proofs.KnownBytes.{Appends-kept, Appends-nil, Appends-trans, Cons
 use Rattle.git_pkt.specs.Engine.{Exchanges}
 use Rattle.git_pkt.specs.Told.{AppendsFront}
 use Rattle.git_pkt.proofs.EngineLemmas.{AppendsFront-after, Exchanges-flush, Exchanges-more}
-use Rattle.git_server.specs.Repository.{Repository}
+use Rattle.git_server.specs.Repository.{RepoState}
 use Rattle.git_server.specs.Sessions.{Setting}
 use Rattle.git_server.specs.Serving.{Running, outcome_of, wants_input}
 use Rattle.git_server.specs.Moves.{Closes, EndsAs, Goes, OwesNow, Pulls, TellsPulled, given_by}
@@ -33,16 +33,16 @@ some_not_none : (o : Option Outcome) → IsSome o → o ≡ None → ⊥
 some_not_none None some is = absurd (cc)
 some_not_none (Some outcome) some is = cc
 
-module _ {R A : Type 0} (answers : R → Repository) (old middle new : Server R A) where
-  pub goes_join : (u v g h : List ℕ) → Goes answers u g old middle → Goes answers v h middle new → Goes answers (u ++ v) (g ++ h) old new
+module _ {R A : Type 0} (state : R → RepoState) (old middle new : Server R A) where
+  pub goes_join : (u v g h : List ℕ) → Goes state u g old middle → Goes state v h middle new → Goes state (u ++ v) (g ++ h) old new
   goes_join u v g h first second s so_far over before r =
       let two = second s (so_far ++ u) over (before ++ g) (first s so_far over before r) in
-      subst (λ (l : List ℕ). Running answers s l over (before ++ (g ++ h)) new) (append_assoc so_far u v)
-      (subst (λ (l : List ℕ). Running answers s ((so_far ++ u) ++ v) over l new) (append_assoc before g h) two)
+      subst (λ (l : List ℕ). Running state s l over (before ++ (g ++ h)) new) (append_assoc so_far u v)
+      (subst (λ (l : List ℕ). Running state s ((so_far ++ u) ++ v) over l new) (append_assoc before g h) two)
 
   module _ (held_before held held_after : Option (List ℕ)) where
     -- what a call gave was written after what was written before
-    pub writes_more : (u v h : List ℕ) → WritesOn answers u held_before held old middle → Appends held held_after h → Goes answers v h middle new → WritesOn answers (u ++ v) held_before held_after old new
+    pub writes_more : (u v h : List ℕ) → WritesOn state u held_before held old middle → Appends held held_after h → Goes state v h middle new → WritesOn state (u ++ v) held_before held_after old new
     writes_more u v h so_far written goes =
         record {
           given = so_far.given ++ h;
@@ -51,15 +51,15 @@ module _ {R A : Type 0} (answers : R → Repository) (old middle new : Server R 
         }
 
   -- a packet was pulled and written
-  pub writes_packet : (held_before held held_after : Option (List ℕ)) (pulled : Pulled) (bytes : Bor (List ℕ)) → WritesOn answers [] held_before held old middle → Pulls answers middle pulled new
-      → pulled ≡ Packet bytes → Appends held held_after bytes.now → WritesOn answers [] held_before held_after old new
+  pub writes_packet : (held_before held held_after : Option (List ℕ)) (pulled : Pulled) (bytes : Bor (List ℕ)) → WritesOn state [] held_before held old middle → Pulls state middle pulled new
+      → pulled ≡ Packet bytes → Appends held held_after bytes.now → WritesOn state [] held_before held_after old new
   writes_packet held_before held held_after pulled bytes so_far pulls is written =
-      writes_more held_before held held_after [] [] bytes.now so_far written (subst (λ (p : Pulled). Goes answers [] (given_by p) middle new) is pulls.goes)
+      writes_more held_before held held_after [] [] bytes.now so_far written (subst (λ (p : Pulled). Goes state [] (given_by p) middle new) is pulls.goes)
 
   -- a packet was pulled, and a front of it written
   pub writes_front : (held_before held held_after : Option (List ℕ)) (pulled : Pulled) (bytes : Bor (List ℕ))
-      → WritesOn answers [] held_before held old middle → Pulls answers middle pulled new
-      → pulled ≡ Packet bytes → AppendsFront held held_after bytes.now → WritesFront answers [] held_before held_after old new
+      → WritesOn state [] held_before held old middle → Pulls state middle pulled new
+      → pulled ≡ Packet bytes → AppendsFront held held_after bytes.now → WritesFront state [] held_before held_after old new
   writes_front held_before held held_after pulled bytes so_far pulls is front =
       record {
         used = [];
@@ -67,76 +67,76 @@ module _ {R A : Type 0} (answers : R → Repository) (old middle new : Server R 
         given = so_far.given ++ bytes.now;
         parts = refl;
         written = AppendsFront-after held_before held held_after so_far.given bytes.now so_far.written front;
-        goes = goes_join [] [] so_far.given bytes.now so_far.goes (subst (λ (p : Pulled). Goes answers [] (given_by p) middle new) is pulls.goes);
+        goes = goes_join [] [] so_far.given bytes.now so_far.goes (subst (λ (p : Pulled). Goes state [] (given_by p) middle new) is pulls.goes);
       }
 
   -- the end was pulled
-  pub writes_end : (held_before held : Option (List ℕ)) (pulled : Pulled) (outcome : Outcome) → WritesOn answers [] held_before held old middle → Pulls answers middle pulled new
-      → pulled ≡ Finished outcome → WritesItsEnd answers [] held_before held old new outcome
+  pub writes_end : (held_before held : Option (List ℕ)) (pulled : Pulled) (outcome : Outcome) → WritesOn state [] held_before held old middle → Pulls state middle pulled new
+      → pulled ≡ Finished outcome → WritesItsEnd state [] held_before held old new outcome
   writes_end held_before held pulled outcome so_far pulls is =
-      let tells : TellsPulled answers middle (Finished outcome) new = subst (λ (p : Pulled). TellsPulled answers middle p new) is pulls.tells in
+      let tells : TellsPulled state middle (Finished outcome) new = subst (λ (p : Pulled). TellsPulled state middle p new) is pulls.tells in
       record {
         used = [];
         unused = [];
         given = so_far.given;
         parts = refl;
         written = so_far.written;
-        goes = subst (Goes answers [] so_far.given old) (sym tells.2) so_far.goes;
+        goes = subst (Goes state [] so_far.given old) (sym tells.2) so_far.goes;
         ends = pulls.outcome ∙ tells.0;
-        owes = subst (λ (server : Server R A). OwesNow answers server []) (sym tells.2) tells.1;
-        session = subst (λ (server : Server R A). EndsAs answers server outcome) (sym tells.2) tells.3;
+        owes = subst (λ (server : Server R A). OwesNow state server []) (sym tells.2) tells.1;
+        session = subst (λ (server : Server R A). EndsAs state server outcome) (sym tells.2) tells.3;
       }
 
-module _ {R A : Type 0} (answers : R → Repository) (old middle fed new : Server R A) (held_before held held_after : Option (List ℕ)) (bytes : List ℕ) (done used : ℕ) (within : done ≤ length bytes)
-    (so_far : WritesOn answers (take done bytes) held_before held old middle)
-    (feeds : Goes answers (take used (take (length bytes - done) (drop done bytes))) [] middle fed) where
-  fed_so_far : WritesOn answers (take (done + used) bytes) held_before held old fed
+module _ {R A : Type 0} (state : R → RepoState) (old middle fed new : Server R A) (held_before held held_after : Option (List ℕ)) (bytes : List ℕ) (done used : ℕ) (within : done ≤ length bytes)
+    (so_far : WritesOn state (take done bytes) held_before held old middle)
+    (feeds : Goes state (take used (take (length bytes - done) (drop done bytes))) [] middle fed) where
+  fed_so_far : WritesOn state (take (done + used) bytes) held_before held old fed
   fed_so_far =
-      subst (λ (l : List ℕ). WritesOn answers l held_before held old fed) (take_joined bytes done used within)
-      (writes_more answers old middle fed held_before held held (take done bytes) (take used (take (length bytes - done) (drop done bytes))) [] so_far (Appends-nil held) feeds)
+      subst (λ (l : List ℕ). WritesOn state l held_before held old fed) (take_joined bytes done used within)
+      (writes_more state old middle fed held_before held held (take done bytes) (take used (take (length bytes - done) (drop done bytes))) [] so_far (Appends-nil held) feeds)
 
   -- a part of a piece was used, and all that is owed for it was written
-  pub writes_piece : WritesAll answers [] held held_after fed new → WritesOn answers (take (done + used) bytes) held_before held_after old new
+  pub writes_piece : WritesAll state [] held held_after fed new → WritesOn state (take (done + used) bytes) held_before held_after old new
   writes_piece all =
-      subst (λ (l : List ℕ). WritesOn answers l held_before held_after old new) (append-nil (take (done + used) bytes))
-      (writes_more answers old fed new held_before held held_after (take (done + used) bytes) [] all.given fed_so_far all.written all.goes)
+      subst (λ (l : List ℕ). WritesOn state l held_before held_after old new) (append-nil (take (done + used) bytes))
+      (writes_more state old fed new held_before held held_after (take (done + used) bytes) [] all.given fed_so_far all.written all.goes)
 
   -- a part of a piece was used, and with it the session ended
-  pub writes_piece_end : (outcome : Outcome) → WritesItsEnd answers [] held held_after fed new outcome → WritesItsEnd answers bytes held_before held_after old new outcome
+  pub writes_piece_end : (outcome : Outcome) → WritesItsEnd state [] held held_after fed new outcome → WritesItsEnd state bytes held_before held_after old new outcome
   writes_piece_end outcome end =
       let nothing : end.used ≡ [] = front_of_nothing end.used end.unused end.parts in
-      let on = writes_more answers old fed new held_before held held_after (take (done + used) bytes) end.used end.given fed_so_far end.written end.goes in
+      let on = writes_more state old fed new held_before held held_after (take (done + used) bytes) end.used end.given fed_so_far end.written end.goes in
       record {
         used = take (done + used) bytes;
         unused = drop (done + used) bytes;
         given = on.given;
         parts = sym (take-append-drop (done + used) bytes);
         written = on.written;
-        goes = subst (λ (l : List ℕ). Goes answers l on.given old new) (ap (λ (l : List ℕ). take (done + used) bytes ++ l) nothing ∙ append-nil (take (done + used) bytes)) on.goes;
+        goes = subst (λ (l : List ℕ). Goes state l on.given old new) (ap (λ (l : List ℕ). take (done + used) bytes ++ l) nothing ∙ append-nil (take (done + used) bytes)) on.goes;
         ends = end.ends;
         owes = end.owes;
         session = end.session;
       }
 
   -- a part of a piece was used, and a front of what was given for it was written
-  pub writes_piece_front : WritesFront answers [] held held_after fed new → WritesFront answers bytes held_before held_after old new
+  pub writes_piece_front : WritesFront state [] held held_after fed new → WritesFront state bytes held_before held_after old new
   writes_piece_front front =
       let nothing : front.used ≡ [] = front_of_nothing front.used front.unused front.parts in
       let given = fed_so_far.given ++ front.given in
-      let goes = goes_join answers old fed new (take (done + used) bytes) front.used fed_so_far.given front.given fed_so_far.goes front.goes in
+      let goes = goes_join state old fed new (take (done + used) bytes) front.used fed_so_far.given front.given fed_so_far.goes front.goes in
       record {
         used = take (done + used) bytes;
         unused = drop (done + used) bytes;
         given = given;
         parts = sym (take-append-drop (done + used) bytes);
         written = AppendsFront-after held_before held held_after fed_so_far.given front.given fed_so_far.written front.written;
-        goes = subst (λ (l : List ℕ). Goes answers l given old new) (ap (λ (l : List ℕ). take (done + used) bytes ++ l) nothing
+        goes = subst (λ (l : List ℕ). Goes state l given old new) (ap (λ (l : List ℕ). take (done + used) bytes ++ l) nothing
             ∙ append-nil (take (done + used) bytes)) goes;
       }
 
-module _ {R A : Type 0} (answers : R → Repository) (old new : Server R A) where
+module _ {R A : Type 0} (state : R → RepoState) (old new : Server R A) where
   -- nothing was used or given, and a flush failed
-  pub nothing_written : (held held_after : Option (List ℕ)) → Keeps held held_after → WritesFront answers [] held held_after old old
+  pub nothing_written : (held held_after : Option (List ℕ)) → Keeps held held_after → WritesFront state [] held held_after old old
   nothing_written held held_after kept = record {
     used = [];
     unused = [];
@@ -144,14 +144,14 @@ module _ {R A : Type 0} (answers : R → Repository) (old new : Server R A) wher
     parts = refl;
     written = ([], [], refl, Appends-kept held held held_after [] (Appends-nil held) kept);
     goes = λ s so_far over before r.
-        subst (λ (l : List ℕ). Running answers s l over (before ++ []) old) (sym (append-nil so_far))
-        (subst (λ (l : List ℕ). Running answers s so_far over l old) (sym (append-nil before)) r);
+        subst (λ (l : List ℕ). Running state s l over (before ++ []) old) (sym (append-nil so_far))
+        (subst (λ (l : List ℕ). Running state s so_far over l old) (sym (append-nil before)) r);
   }
 
   -- the session ended, and the flush after it failed
   pub end_unflushed : (bytes : List ℕ) (held_before held held_after : Option (List ℕ)) (outcome : Outcome)
-      → WritesItsEnd answers bytes held_before held old new outcome
-      → Keeps held held_after → WritesFront answers bytes held_before held_after old new
+      → WritesItsEnd state bytes held_before held old new outcome
+      → Keeps held held_after → WritesFront state bytes held_before held_after old new
   end_unflushed bytes held_before held held_after outcome end kept = record {
     used = end.used;
     unused = end.unused;
@@ -166,17 +166,17 @@ pub used_some : {R A : Type 0} (fed new : Server R A) (used : ℕ) → 0 < used 
 used_some fed new used (inl some) same wants = some
 used_some fed new used (inr ended) same wants = absurd (some_not_none (outcome_of fed) ended (sym same ∙ no_outcome new.phase wants))
 
-module _ {R A : Type 0} (answers : R → Repository) (s : Setting) where
+module _ {R A : Type 0} (state : R → RepoState) (s : Setting) where
   -- the server stands to the bytes used and given while its input goes on
   abbrev pub StandsTo : Server R A → List ℕ → List ℕ → Type 0
-  StandsTo server used given = Running answers s used false given server
+  StandsTo server used given = Running state s used false given server
 
   -- how it stands, whether or not the input has ended
   abbrev pub standing : Server R A → Standing
-  standing server used over given = Running answers s used over given server
+  standing server used over given = Running state s used over given server
 
   -- a new server, which has written what it owes at first
-  pub starts : (old new : Server R A) (left held_before held_after : Option (List ℕ)) → Running answers s [] false [] old → WritesAll answers [] held_before held_after old new
+  pub starts : (old new : Server R A) (left held_before held_after : Option (List ℕ)) → Running state s [] false [] old → WritesAll state [] held_before held_after old new
       → Exchanges (StandsTo new) left left held_before held_after
   starts old new left held_before held_after r all =
       record { used = []; given = all.given; read = Consumes-nil left; written = all.written; related = all.goes s [] false [] r }
@@ -184,7 +184,7 @@ module _ {R A : Type 0} (answers : R → Repository) (s : Setting) where
   -- a turn: the writer was flushed, bytes were read, and all that was given for them was written
   pub turns_on : (old new : Server R A) (left_before left left_after held_before held flushed held_after : Option (List ℕ)) (bytes : List ℕ)
       → Exchanges (StandsTo old) left_before left held_before held → Keeps held flushed → Consumes left left_after bytes
-      → WritesAll answers bytes flushed held_after old new
+      → WritesAll state bytes flushed held_after old new
       → Exchanges (StandsTo new) left_before left_after held_before held_after
   turns_on old new left_before left left_after held_before held flushed held_after bytes so_far kept read all =
       Exchanges-more (Exchanges-flush so_far kept) read (record { given = all.given; written = all.written; carries = λ used given r. all.goes s used false given r })
@@ -198,17 +198,17 @@ module _ {R A : Type 0} (answers : R → Repository) (s : Setting) where
         given = so_far.given;
         read = so_far.read;
         written = so_far.written;
-        related = (all_answered answers server s so_far.used false so_far.given so_far.related wants, so_far.related);
+        related = (all_answered state server s so_far.used false so_far.given so_far.related wants, so_far.related);
       }
 
   -- a write failed while the input went on
   pub breaks_off : (old new : Server R A) (left_before left left_after held_before held flushed held_after : Option (List ℕ)) (bytes : List ℕ) (ended : Bool)
       → Exchanges (StandsTo old) left_before left held_before held → Keeps held flushed → Consumes left left_after bytes
-      → WritesFront answers bytes flushed held_after old new
+      → WritesFront state bytes flushed held_after old new
       → IsBroken s (standing new) left_before left_after held_before held_after ended
   breaks_off old new left_before left left_after held_before held flushed held_after bytes ended so_far kept read front =
       let on = Exchanges-flush so_far kept in
-      let stands : Running answers s (on.used ++ front.used) false (on.given ++ front.given) new = front.goes s on.used false on.given on.related in
+      let stands : Running state s (on.used ++ front.used) false (on.given ++ front.given) new = front.goes s on.used false on.given on.related in
       record {
         used = on.used ++ front.used;
         unused = front.unused;
@@ -217,18 +217,18 @@ module _ {R A : Type 0} (answers : R → Repository) (s : Setting) where
         read = subst (Consumes left_before left_after) (ap (λ (l : List ℕ). on.used ++ l) front.parts ∙ sym (append_assoc on.used front.used front.unused))
             (Consumes-trans left_before left left_after on.used bytes on.read read);
         written = AppendsFront-after held_before flushed held_after on.given front.given on.written front.written;
-        moment = every_moment answers new s (on.used ++ front.used) false (on.given ++ front.given) stands;
+        moment = every_moment state new s (on.used ++ front.used) false (on.given ++ front.given) stands;
         stands = stands;
         whole = λ e. absurd (cc);
       }
 
   -- a write failed after the input had ended
   pub breaks_closed : (old closed new : Server R A) (left_before left left_after held_before held flushed held_after : Option (List ℕ)) (ended : Bool)
-      → Exchanges (StandsTo old) left_before left held_before held → Keeps held flushed → Consumes left left_after [] → Closes answers old closed
-      → WritesFront answers [] flushed held_after closed new → ended ≡ true → IsBroken s (standing new) left_before left_after held_before held_after ended
+      → Exchanges (StandsTo old) left_before left held_before held → Keeps held flushed → Consumes left left_after [] → Closes state old closed
+      → WritesFront state [] flushed held_after closed new → ended ≡ true → IsBroken s (standing new) left_before left_after held_before held_after ended
   breaks_closed old closed new left_before left left_after held_before held flushed held_after ended so_far kept read closes front told =
       let on = Exchanges-flush so_far kept in
-      let stands : Running answers s (on.used ++ front.used) true (on.given ++ front.given) new =
+      let stands : Running state s (on.used ++ front.used) true (on.given ++ front.given) new =
       front.goes s on.used true on.given (closes s on.used false on.given on.related).0 in
       record {
         used = on.used ++ front.used;
@@ -238,7 +238,7 @@ module _ {R A : Type 0} (answers : R → Repository) (s : Setting) where
         read = subst (Consumes left_before left_after) (ap (λ (l : List ℕ). on.used ++ l) front.parts ∙ sym (append_assoc on.used front.used front.unused))
             (Consumes-trans left_before left left_after on.used [] on.read read);
         written = AppendsFront-after held_before flushed held_after on.given front.given on.written front.written;
-        moment = every_moment answers new s (on.used ++ front.used) true (on.given ++ front.given) stands;
+        moment = every_moment state new s (on.used ++ front.used) true (on.given ++ front.given) stands;
         stands = stands;
         whole = λ e. (back_of_nothing front.used front.unused front.parts, told);
       }
@@ -246,7 +246,7 @@ module _ {R A : Type 0} (answers : R → Repository) (s : Setting) where
   -- the session ended with a front of the bytes
   pub ends_with : (old new : Server R A) (left_before left left_after held_before held flushed written_all held_after : Option (List ℕ)) (bytes : List ℕ) (ended : Bool) (outcome : Outcome)
       → Exchanges (StandsTo old) left_before left held_before held → Keeps held flushed → Consumes left left_after bytes
-      → WritesItsEnd answers bytes flushed written_all old new outcome → Keeps written_all held_after
+      → WritesItsEnd state bytes flushed written_all old new outcome → Keeps written_all held_after
       → IsRun s (standing new) left_before left_after held_before held_after ended outcome
   ends_with old new left_before left left_after held_before held flushed written_all held_after bytes ended outcome so_far kept read end last =
       let on = Exchanges-flush so_far kept in
@@ -265,8 +265,8 @@ module _ {R A : Type 0} (answers : R → Repository) (s : Setting) where
 
   -- the session ended with the input
   pub ends_closed : (old closed new : Server R A) (left_before left left_after held_before held flushed held_after : Option (List ℕ)) (ended : Bool) (outcome : Outcome)
-      → Exchanges (StandsTo old) left_before left held_before held → Keeps held flushed → Consumes left left_after [] → Closes answers old closed
-      → WritesItsEnd answers [] flushed held_after closed new outcome → ended ≡ true
+      → Exchanges (StandsTo old) left_before left held_before held → Keeps held flushed → Consumes left left_after [] → Closes state old closed
+      → WritesItsEnd state [] flushed held_after closed new outcome → ended ≡ true
       → IsRun s (standing new) left_before left_after held_before held_after ended outcome
   ends_closed old closed new left_before left left_after held_before held flushed held_after ended outcome so_far kept read closes end told =
       let on = Exchanges-flush so_far kept in

@@ -1,6 +1,6 @@
 -- What a server's moments and its end are, without the server.
 use Rattle.std.proofs.Common.{◌≡◌, ℕ, Bool, true, List, [], ◌++◌, Option, Some, None, refl, sym, ap, ◌∙◌, append-nil, subst, inl, inr}
-use Rattle.git_server.specs.Repository.{Repository}
+use Rattle.git_server.specs.Repository.{Repository, RepoState}
 use Rattle.git_server.specs.Answers.{AllFit, spelled}
 use Rattle.git_server.specs.Sessions.{Setting, IsTail, IsEnding, IsAnswered, IsRunning, IsSession}
 use Rattle.git_server.specs.Phases.{Owes, outcome_in, turn_in}
@@ -17,7 +17,7 @@ use Rattle.git_server.proofs.WholeRequests.{begins}
 use Rattle.git_server.proofs.Sent.{all_sent}
 use Rattle.git_server.proofs.Going.{no_outcome, owes_nothing, owes_some}
 
-module _ {R A : Type 0} (answers : R → Repository) (server : Server R A) (s : Setting) (used : List ℕ) (over : Bool) (given : List ℕ) (r : Running answers s used over given server) where
+module _ {R A : Type 0} (state : R → RepoState) (server : Server R A) (s : Setting) (used : List ℕ) (over : Bool) (given : List ℕ) (r : Running state s used over given server) where
   moment : (o : Option Outcome) → outcome_of server ≡ o → StandsBy o s used over given server → IsRunning s used over given
   moment None none (not_over, h) =
       inl (
@@ -41,7 +41,7 @@ module _ {R A : Type 0} (answers : R → Repository) (server : Server R A) (s : 
   pub every_moment : IsRunning s used over given
   every_moment = moment (outcome_of server) refl r.stands
 
-  pub its_end : (outcome : Outcome) → outcome_of server ≡ Some outcome → OwesNow answers server [] → IsSession s used over given outcome
+  pub its_end : (outcome : Outcome) → outcome_of server ≡ Some outcome → OwesNow state server [] → IsSession s used over given outcome
   its_end outcome some none =
       let stands : StandsBy (Some outcome) s used over given server = subst (λ (o : Option Outcome). StandsBy o s used over given server) some r.stands in
       let h : IsEnding s used over given outcome [] = stands [] (subst (λ (p : Repository). Owes server.offer p server.phase []) r.repo none) in
@@ -59,7 +59,7 @@ module _ {R A : Type 0} (answers : R → Repository) (server : Server R A) (s : 
         fit = h.fit;
       }
 
-module _ {R A : Type 0} (answers : R → Repository) (server : Server R A) (s : Setting) (used : List ℕ) (over : Bool) (given : List ℕ) (r : Running answers s used over given server) (wants : wants_input server ≡ true) where
+module _ {R A : Type 0} (state : R → RepoState) (server : Server R A) (s : Setting) (used : List ℕ) (over : Bool) (given : List ℕ) (r : Running state s used over given server) (wants : wants_input server ≡ true) where
   -- a server that waits for bytes has given the advertisement and each answer whole
   pub all_answered : IsAnswered s used given
   all_answered =
@@ -89,14 +89,14 @@ turn_ends (Refusing fault) outcome h = absurd (cc)
 turn_ends (Ended o) outcome h = let same : o ≡ outcome = cc in ap Ended same
 
 -- what `pull` says at the end
-pub ends_now : {R A : Type 0} (answers : R → Repository) (server : Server R A) (outcome : Outcome) → turn_in server.phase ≡ Finished outcome
-    → Pulls answers server (FinishedNow outcome) server
-ends_now {A = A} answers server outcome turn =
+pub ends_now : {R A : Type 0} (state : R → RepoState) (server : Server R A) (outcome : Outcome) → turn_in server.phase ≡ Finished outcome
+    → Pulls state server (FinishedNow outcome) server
+ends_now {A = A} state server outcome turn =
     let is = turn_ends server.phase outcome turn in
-    let nothing : OwesNow answers server [] = subst (λ (p : Phase A). Owes server.offer (answers server.repo) p []) (sym is) refl in
+    let nothing : OwesNow state server [] = subst (λ (p : Phase A). Owes server.offer (state server.repo).answers p []) (sym is) refl in
     record {
-      goes = λ s so_far over before r. subst (λ (l : List ℕ). Running answers s l over (before ++ []) server) (sym (append-nil so_far))
-          (subst (λ (l : List ℕ). Running answers s so_far over l server) (sym (append-nil before)) r);
-      tells = (ap outcome_in is, nothing, refl, λ s used over given r. its_end answers server s used over given r outcome (ap outcome_in is) nothing);
+      goes = λ s so_far over before r. subst (λ (l : List ℕ). Running state s l over (before ++ []) server) (sym (append-nil so_far))
+          (subst (λ (l : List ℕ). Running state s so_far over l server) (sym (append-nil before)) r);
+      tells = (ap outcome_in is, nothing, refl, λ s used over given r. its_end state server s used over given r outcome (ap outcome_in is) nothing);
       outcome = refl;
     }

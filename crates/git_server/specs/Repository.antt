@@ -47,6 +47,11 @@ pub record Repository : Type 0 where
   pub format : Format
   pub refs : List Entry
 
+-- what a repository answers, and how many of its reads have failed
+pub record RepoState : Type 0 where
+  pub answers : Repository
+  pub failures : ℕ
+
 -- what holds of what a repository answers
 pub record IsSound (repo : Repository) : Type 0 where
   pub rising : IsRising repo.refs

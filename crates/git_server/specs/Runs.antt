@@ -5,19 +5,19 @@ use Rattle.git_pkt.specs.Engine.{Exchanges, HasRead}
 use Rattle.git_pkt.specs.Told.{AppendsFront}
 use Rattle.git_pkt.specs.declared.fault.RunFault.{RunFault}
 use Rattle.git_pkt.specs.declared.fault.RunFault.TheVariants.{ReadFault, WriteFault, ReadLimit, Refused}
-use Rattle.git_server.specs.Repository.{Repository}
+use Rattle.git_server.specs.Repository.{RepoState}
 use Rattle.git_server.specs.Sessions.{Setting, IsAnswered, IsRunning, IsSession}
 use Rattle.git_server.specs.Serving.{outcome_of, wants_input}
 use Rattle.git_server.specs.Moves.{EndsAs, Goes, OwesNow}
 use Rattle.git_server.specs.declared.outcome.Outcome.{Outcome}
 use Rattle.git_server.specs.declared.server.Server.{Server}
 
-module _ {R A : Type 0} (answers : R → Repository) (bytes : List ℕ) (held_before held_after : Option (List ℕ)) (old new : Server R A) where
+module _ {R A : Type 0} (state : R → RepoState) (bytes : List ℕ) (held_before held_after : Option (List ℕ)) (old new : Server R A) where
   -- all the bytes were used, and what was given for them so far was written
   pub record WritesOn : Type 0 where
     pub given : List ℕ
     pub written : Appends held_before held_after given
-    pub goes : Goes answers bytes given old new
+    pub goes : Goes state bytes given old new
 
   -- a write failed: a front of the bytes was used, and of what was given for it a front was written
   pub record WritesFront : Type 0 where
@@ -26,13 +26,13 @@ module _ {R A : Type 0} (answers : R → Repository) (bytes : List ℕ) (held_be
     pub given : List ℕ
     pub parts : bytes ≡ used ++ unused
     pub written : AppendsFront held_before held_after given
-    pub goes : Goes answers used given old new
+    pub goes : Goes state used given old new
 
   -- all the bytes were used, and all that was given for them was written
   pub record WritesAll : Type 0 where
     pub given : List ℕ
     pub written : Appends held_before held_after given
-    pub goes : Goes answers bytes given old new
+    pub goes : Goes state bytes given old new
     pub wants : wants_input new ≡ true
 
   -- a front of the bytes was used, the session ended so, and all that was given was written
@@ -42,10 +42,10 @@ module _ {R A : Type 0} (answers : R → Repository) (bytes : List ℕ) (held_be
     pub given : List ℕ
     pub parts : bytes ≡ used ++ unused
     pub written : Appends held_before held_after given
-    pub goes : Goes answers used given old new
+    pub goes : Goes state used given old new
     pub ends : outcome_of new ≡ Some outcome
-    pub owes : OwesNow answers new []
-    pub session : EndsAs answers new outcome
+    pub owes : OwesNow state new []
+    pub session : EndsAs state new outcome
 
   -- what was written, where the session goes on or ended
   abbrev pub WritesFor : Option Outcome → Type 0

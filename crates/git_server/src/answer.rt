@@ -30,7 +30,7 @@ pub(crate) fn answer_one<R: Repo, A: Allocator + Copy>(
     reader: &mut PacketReader,
 ) -> Option<usize>
     requires { is_open reader.old ≡ false }
-    ensures { AnswersOne (asked_of request.now) (R.answers repo.now).refs next reader.old result reader.new }
+    ensures { AnswersOne (asked_of request.now) (R.state repo.now).answers.refs next reader.old result reader.new }
 {
     let refs = repo.refs();
     match next_shown(refs, request, next) {

@@ -105,9 +105,9 @@ impl ListRepo {
 }
 
 impl Repo for ListRepo {
-    ghost use Rattle.git_server.specs.ListRepo.{repository_of};
+    ghost use Rattle.git_server.specs.ListRepo.{state_of};
 
-    ghost answers = { repository_of };
+    ghost state = { state_of };
 
     ghost sound = { λ repo. record { rising = repo.rising; of_format = repo.of_format } };
 

@@ -9,10 +9,10 @@ use Rattle.git_server.proofs.server.Server.give.Goals as goal
 pub returns-in-Greeting : goal.returns-in-Greeting
 returns-in-Greeting g c =
     let old = c.args.self.now in
-    let repo = g.R.Repo.answers old.repo in
+    let repo = (g.R.Repo.state old.repo).answers in
     let was = is_greeting old.phase c.in-Greeting.line c.in-Greeting.is in
     let is = is_greeted _ c.next.result c.greeting.ensures in
-    gives g.R.Repo.answers old _ (seen c.packet.result) c.write_packet.ensures (record { offer = refl; repo = refl; requests = refl })
+    gives g.R.Repo.state old _ (seen c.packet.result) c.write_packet.ensures (record { offer = refl; answers = refl; requests = refl })
     (line_behind old.offer repo old.phase c.greeting.result c.in-Greeting.line c.next.result _ c.in-Greeting.is c.packet.ensures.value c.next.ensures c.greeting.ensures)
     (fewer_lines old.offer repo old.phase c.greeting.result c.in-Greeting.line c.next.result c.in-Greeting.is c.next.ensures c.greeting.ensures)
     (same_outcome old.phase _ was is) (left_stays old.phase _ was is) (omega (arith, none_kept_in_greeting c.next.result _ c.greeting.ensures))
@@ -22,8 +22,8 @@ returns-in-Some g c =
     let old = c.args.self.now in
     let was = is_answering old.phase c.in-Answering.request c.in-Answering.next c.in-Answering.is in
     let is = is_answering _ c.in-Answering.request c.in-Some.behind refl in
-    let repo = g.R.Repo.answers old.repo in
-    gives g.R.Repo.answers old _ c.in-Some.ensures.packet c.in-Some.ensures.writes (record { offer = refl; repo = refl; requests = refl })
+    let repo = (g.R.Repo.state old.repo).answers in
+    gives g.R.Repo.state old _ c.in-Some.ensures.packet c.in-Some.ensures.writes (record { offer = refl; answers = refl; requests = refl })
     (answer_next old.offer repo old.phase (Answering c.in-Answering.request c.in-Some.behind) c.in-Answering.request c.in-Answering.next
     (Some c.in-Some.behind) _ c.in-Answering.is c.in-Some.ensures.owed (λ later owes. owes))
     (fewer_answers old.offer repo old.phase (Answering c.in-Answering.request c.in-Some.behind) c.in-Answering.request c.in-Answering.next
@@ -35,8 +35,8 @@ returns-in-None g c =
     let old = c.args.self.now in
     let was = is_answering old.phase c.in-Answering.request c.in-Answering.next c.in-Answering.is in
     let is = is_between _ refl in
-    let repo = g.R.Repo.answers old.repo in
-    gives g.R.Repo.answers old _ c.in-None.ensures.packet c.in-None.ensures.writes (record { offer = refl; repo = refl; requests = refl })
+    let repo = (g.R.Repo.state old.repo).answers in
+    gives g.R.Repo.state old _ c.in-None.ensures.packet c.in-None.ensures.writes (record { offer = refl; answers = refl; requests = refl })
     (answer_next old.offer repo old.phase Between c.in-Answering.request c.in-Answering.next None _ c.in-Answering.is c.in-None.ensures.owed
     (λ later owes. owes))
     (fewer_answers old.offer repo old.phase Between c.in-Answering.request c.in-Answering.next None _ c.in-Answering.is c.in-None.ensures.owed refl)
@@ -45,8 +45,8 @@ returns-in-None g c =
 pub returns-in-Refusing : goal.returns-in-Refusing
 returns-in-Refusing g c =
     let old = c.args.self.now in
-    let repo = g.R.Repo.answers old.repo in
-    gives g.R.Repo.answers old _ (payload c.as_slice.result.now) c.write_packet-in-Refusing.ensures (record { offer = refl; repo = refl; requests = refl })
+    let repo = (g.R.Repo.state old.repo).answers in
+    gives g.R.Repo.state old _ (payload c.as_slice.result.now) c.write_packet-in-Refusing.ensures (record { offer = refl; answers = refl; requests = refl })
     (refusal_behind old.offer repo old.phase c.in-Refusing.fault _ c.in-Refusing.is (ap payload (c.as_slice.ensures.value ∙ c.error_line.ensures)))
     (omega (arith, ap (most_owed old.offer repo) c.in-Refusing.is))
     (refusal_outcome old.phase c.in-Refusing.fault c.in-Refusing.is) (refusal_left old.phase c.in-Refusing.fault c.in-Refusing.is) (omega arith)
