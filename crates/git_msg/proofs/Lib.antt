@@ -20,3 +20,4 @@ pub mod CheckLaws
 pub mod Rows
 pub mod Values
 pub mod PacketFaults
+pub mod WholeRequests

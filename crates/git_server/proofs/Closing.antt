@@ -18,9 +18,9 @@ use Rattle.git_server.specs.declared.outcome.Outcome.TheVariants.{Closed, Refuse
 use Rattle.git_server.specs.declared.server.Phase.{Phase}
 use Rattle.git_server.specs.declared.server.Phase.TheVariants.{Between, Within, Ended}
 use Rattle.git_server.specs.declared.server.Server.{Server}
+use Rattle.git_server.proofs.Begun.{begins}
 use Rattle.git_server.proofs.Readers.{open_rest, sound_rest}
 use Rattle.git_server.proofs.Sent.{all_sent}
-use Rattle.git_server.proofs.WholeRequests.{begins}
 use Rattle.git_server.proofs.Going.{all_sent_of, owes_at, refused_outcome_by, refused_owes_by, serves_of, none_kept_at_end}
 
 none_is_left : {A : Type 0} (phase : Phase A) (left : List Given) → phase ≡ Between → LeftIn phase left → left ≡ []
@@ -52,7 +52,7 @@ module _ {R A : Type 0} (state : R → RepoState) (old new : Server R A) where
           rest = h.rest;
           answers = all.answers;
           sent = [];
-          stream = record { packets = h.packets; splits = h.reads.splits; cuts = h.cuts };
+          stream = record { packets = h.packets; splits = h.reads.splits; requests = h.requests };
           ends = ends;
           answered = all.answered;
           parts = tail owed owes;

@@ -40,7 +40,7 @@ module _ {R A : Type 0} (state : R → RepoState) (old new : Server R A) (packet
       sent = h.sent ++ packet ∷ [];
       reads = writes.reads 0 used h.packets h.rest h.reads;
       no_fault = writes.fault ∙ h.no_fault;
-      cuts = h.cuts;
+      requests = h.requests;
       takes = subst (Takes h.left) (sym keeps.requests) h.takes;
       left_is = left_stays h.left h.left_is;
       is_sent = λ later owes. sent_one s h.asked h.sent later packet (h.is_sent (packet ∷ later) (owed_here s later repo owes));

@@ -9,14 +9,16 @@ use Rattle.git_pkt.specs.declared.fault.Kind.TheVariants.{RemoteError, Truncated
 use Rattle.git_msg.specs.Asked.{Asked, ls_refs}
 use Rattle.git_msg.specs.Holding.{asked_of, kept_of}
 use Rattle.git_msg.specs.Requests.{Asks, IsTold}
+use Rattle.git_msg.specs.WholeRequests.{AreRequests}
 use Rattle.git_msg.proofs.PacketFaults.{told_of_packets}
+use Rattle.git_msg.proofs.WholeRequests.{one_more_request, requests_more}
 use Rattle.git_msg.specs.Taking.{Takes, offer_of, limit_in, kept_so_far, is_waiting, fault_of as requests_fault}
 use Rattle.git_msg.specs.declared.offers.Offer.{Offer}
 use Rattle.git_msg.specs.declared.reader.RequestReader.{RequestReader}
 use Rattle.git_server.specs.Repository.{Repository, RepoState}
 use Rattle.git_server.specs.Answers.{AllFit, IsAnswer, error_packet, tail_of, spelled}
 use Rattle.git_server.specs.Greetings.{greetings_from}
-use Rattle.git_server.specs.Sessions.{Begins, IsTail, Setting, Cuts, IsSent, IsEnding, IsRefused, EndsBy}
+use Rattle.git_server.specs.Sessions.{Begins, IsTail, Setting, IsRequest, IsSent, IsEnding, IsRefused, EndsBy}
 use Rattle.git_server.specs.Phases.{LeftIn, answer_from, IsAnswerFrom, Owes, kept_in, outcome_in, reads_in, phase_after, refused_by}
 use Rattle.git_server.specs.Taking.{Brings, IsBrought, IsWithin}
 use Rattle.git_server.specs.Serving.{Running, Serves, StandsBy, outcome_of, wants_input}
@@ -29,9 +31,9 @@ use Rattle.git_server.specs.declared.server.Phase.{Phase}
 use Rattle.git_server.specs.declared.server.Phase.TheVariants.{Greeting, Between, Within, Answering, Refusing, Ended}
 use Rattle.git_server.specs.declared.server.Server.{Server}
 use Rattle.git_pkt.proofs.ReaderMoves.{rest_of_shut}
+use Rattle.git_server.proofs.Begun.{begins}
 use Rattle.git_server.proofs.Readers.{sound_rest, stopped_by}
 use Rattle.git_server.proofs.Sent.{all_sent, one_more_asked}
-use Rattle.git_server.proofs.WholeRequests.{begins, cuts_more, cuts_whole}
 
 -- an answer from the first reference on is the answer
 whole_answer : (repo : Repository) (q : Asked) (later : List Pkt) → IsAnswerFrom repo q 0 later → IsAnswer repo q later
@@ -157,7 +159,7 @@ module _ {R A : Type 0} (state : R → RepoState) (old new : Server R A) (u : Li
             sent = h.sent;
             reads = subst (λ (l : List Given). Reads new.reader 0 (so_far ++ u) l rest) (append-nil h.packets) stream;
             no_fault = sound;
-            cuts = h.cuts;
+            requests = h.requests;
             takes = subst (Takes h.left) (sym same_requests) h.takes;
             left_is = subst (λ (p : Phase A). LeftIn p h.left) (sym same_phase) h.left_is;
             is_sent = λ owed owes. subst (λ (l : List Pkt). IsSent s h.asked h.sent l)
@@ -170,10 +172,10 @@ module _ {R A : Type 0} (state : R → RepoState) (old new : Server R A) (u : Li
 
   -- with this packet the session ends, and nothing of its end was given yet
   ended_at : (s : Setting) (so_far : List ℕ) (over : Bool) (before : List ℕ) (left : List Given) (packets : List Given) (rest : List ℕ) (outcome : Outcome)
-      → wants_input old ≡ true → (h : Serves s so_far before old) → Reads new.reader 0 (so_far ++ u) packets rest → Cuts s packets h.asked left
+      → wants_input old ≡ true → (h : Serves s so_far before old) → Reads new.reader 0 (so_far ++ u) packets rest → AreRequests (IsRequest s) packets h.asked left
       → EndsBy s over left rest (length (so_far ++ u)) outcome → (owed : List Pkt) → IsTail s left outcome owed
       → IsEnding s (so_far ++ u) over (before ++ []) outcome owed
-  ended_at s so_far over before left packets rest outcome wants h stream cuts ends owed tail =
+  ended_at s so_far over before left packets rest outcome wants h stream requests ends owed tail =
       let all = all_sent s h.asked h.sent (all_sent_of s so_far before wants h) in
       record {
         asked = h.asked;
@@ -181,7 +183,7 @@ module _ {R A : Type 0} (state : R → RepoState) (old new : Server R A) (u : Li
         rest = rest;
         answers = all.answers;
         sent = [];
-        stream = record { packets = packets; splits = stream.splits; cuts = cuts };
+        stream = record { packets = packets; splits = stream.splits; requests = requests };
         ends = ends;
         answered = all.answered;
         parts = tail;
@@ -199,13 +201,18 @@ module _ {R A : Type 0} (state : R → RepoState) (old new : Server R A) (u : Li
   pub owes_at : (s : Setting) (phase : Phase A) (owed : List Pkt) → new.phase ≡ phase → Owes new.offer s.repo new.phase owed → Owes new.offer s.repo phase owed
   owes_at s phase owed is owes = subst (λ (p : Phase A). Owes new.offer s.repo p owed) is owes
 
+  -- with one packet more, the packets are the same requests and more is left
+  with_packet : (s : Setting) (so_far before : List ℕ) (h : Serves s so_far before old) (g : Given)
+      → AreRequests (IsRequest s) (h.packets ++ g ∷ []) h.asked (h.left ++ g ∷ [])
+  with_packet s so_far before h g = requests_more (IsRequest s) h.packets (g ∷ []) h.asked h.left h.requests
+
   -- where the session goes on after a packet
   packet_serves : (s : Setting) (so_far : List ℕ) (before : List ℕ) (asked : List Asked) (packets left : List Given) (rest : List ℕ) (sent : List Pkt)
       (phase : Phase A)
-      → Reads new.reader 0 (so_far ++ u) packets rest → fault_of new.reader ≡ None → Cuts s packets asked left → Takes left new.requests → new.phase ≡ phase
+      → Reads new.reader 0 (so_far ++ u) packets rest → fault_of new.reader ≡ None → AreRequests (IsRequest s) packets asked left → Takes left new.requests → new.phase ≡ phase
       → LeftIn phase left → ((owed : List Pkt) → Owes new.offer s.repo phase owed → IsSent s asked sent owed) → before ≡ spelled sent → AllFit sent
       → Serves s (so_far ++ u) (before ++ []) new
-  packet_serves s so_far before asked packets left rest sent phase stream sound cuts takes phase_is left_is is_sent given fit =
+  packet_serves s so_far before asked packets left rest sent phase stream sound requests takes phase_is left_is is_sent given fit =
       record {
         asked = asked;
         packets = packets;
@@ -214,7 +221,7 @@ module _ {R A : Type 0} (state : R → RepoState) (old new : Server R A) (u : Li
         sent = sent;
         reads = stream;
         no_fault = sound;
-        cuts = cuts;
+        requests = requests;
         takes = takes;
         left_is = subst (λ (p : Phase A). LeftIn p left) (sym phase_is) left_is;
         is_sent = λ owed owes. is_sent owed (subst (λ (p : Phase A). Owes new.offer s.repo p owed) phase_is owes);
@@ -231,30 +238,30 @@ module _ {R A : Type 0} (state : R → RepoState) (old new : Server R A) (u : Li
   packet_stands s so_far over before g Part wants not_over h rest stream sound shut offer limit begun takes phase_is = (
     not_over,
     packet_serves s so_far before h.asked (h.packets ++ g ∷ []) (h.left ++ g ∷ []) rest h.sent Within stream sound
-        (cuts_more s h.packets (g ∷ []) h.asked h.left h.cuts) takes phase_is (one_more h.left g)
+        (with_packet s so_far before h g) takes phase_is (one_more h.left g)
         (λ owed owes. subst (λ (l : List Pkt). IsSent s h.asked h.sent l) (sym owes) (all_sent_of s so_far before wants h)) h.given_is h.fit,
   )
   packet_stands s so_far over before g (Whole request) wants not_over h rest stream sound shut offer limit begun (takes, asks) phase_is =
-      let cuts = cuts_more s h.packets (g ∷ []) h.asked h.left h.cuts in
       let asks_here : Asks s.offer s.limit (h.left ++ g ∷ []) (asked_of request) (kept_of request) =
       subst (λ (n : ℕ). Asks s.offer n (h.left ++ g ∷ []) (asked_of request) (kept_of request)) limit
       (subst (λ (o : Offer). Asks o (limit_in new.requests) (h.left ++ g ∷ []) (asked_of request) (kept_of request)) offer asks) in (
         not_over,
         packet_serves s so_far before (h.asked ++ asked_of request ∷ []) (h.packets ++ g ∷ []) [] rest h.sent (Answering request 0) stream sound
-            (cuts_whole s (h.packets ++ g ∷ []) h.asked (h.left ++ g ∷ []) (asked_of request) (kept_of request) cuts asks_here) takes phase_is refl
+            (one_more_request (IsRequest s) (h.packets ++ g ∷ []) h.asked (h.left ++ g ∷ []) (asked_of request) (with_packet s so_far before h g)
+            (kept_of request, asks_here)) takes phase_is refl
             (λ owed owes. one_more_asked s h.asked h.sent owed (asked_of request) (all_sent_of s so_far before wants h)
             (whole_answer s.repo (asked_of request) owed owes)) h.given_is h.fit,
       )
   packet_stands s so_far over before g Stop wants not_over h rest stream sound shut offer limit begun stop phase_is =
       λ owed owes. ended_at s so_far over before (h.left ++ g ∷ []) (h.packets ++ g ∷ []) rest Flush wants h stream
-      (cuts_more s h.packets (g ∷ []) h.asked h.left h.cuts)
+      (with_packet s so_far before h g)
       (stop, no_rest _ _ rest sound shut stream) owed (sym (owes_at s (Ended Flush) owed phase_is owes))
   packet_stands s so_far over before g (RefusedPacket fault) wants not_over h rest stream sound shut offer limit begun told phase_is =
       let told_here : IsTold s.offer s.limit (h.left ++ g ∷ []) fault =
       subst (λ (n : ℕ). IsTold s.offer n (h.left ++ g ∷ []) fault) limit (subst (λ (o : Offer). IsTold o (limit_in new.requests) (h.left ++ g ∷ []) fault) offer told) in
       subst (λ (o : Option Outcome). StandsBy o s (so_far ++ u) over (before ++ []) new) (sym (refused_outcome_by A fault.kind fault))
       (λ owed owes. ended_at s so_far over before (h.left ++ g ∷ []) (h.packets ++ g ∷ []) rest (Refused fault) wants h stream
-      (cuts_more s h.packets (g ∷ []) h.asked h.left h.cuts)
+      (with_packet s so_far before h g)
       (inl (record { front = h.left; last = g; whole = refl; begins = begun; told = told_here; no_rest = no_rest _ _ rest sound shut stream })) owed
       (refused_owes_by A new.offer s.repo fault.kind fault owed refl (owes_at s (refused_by fault.kind fault) owed phase_is owes)))
 
@@ -281,11 +288,11 @@ module _ {R A : Type 0} (state : R → RepoState) (old new : Server R A) (u : Li
 
   -- the session ends with this fault, of which nothing was given yet
   ends_refused : (s : Setting) (so_far : List ℕ) (over : Bool) (before : List ℕ) (left packets : List Given) (rest : List ℕ) (fault : Fault)
-      → wants_input old ≡ true → (h : Serves s so_far before old) → Reads new.reader 0 (so_far ++ u) packets rest → Cuts s packets h.asked left
+      → wants_input old ≡ true → (h : Serves s so_far before old) → Reads new.reader 0 (so_far ++ u) packets rest → AreRequests (IsRequest s) packets h.asked left
       → IsRefused s over left rest (length (so_far ++ u)) fault → new.phase ≡ refused_by fault.kind fault → StandsBy (outcome_of new) s (so_far ++ u) over (before ++ []) new
-  ends_refused s so_far over before left packets rest fault wants h stream cuts refused phase_is =
+  ends_refused s so_far over before left packets rest fault wants h stream requests refused phase_is =
       subst (λ (o : Option Outcome). StandsBy o s (so_far ++ u) over (before ++ []) new) (sym (ap outcome_in phase_is ∙ refused_outcome_by A fault.kind fault))
-      (λ owed owes. ended_at s so_far over before left packets rest (Refused fault) wants h stream cuts refused owed
+      (λ owed owes. ended_at s so_far over before left packets rest (Refused fault) wants h stream requests refused owed
       (refused_owes_by A new.offer s.repo fault.kind fault owed refl (owes_at s (refused_by fault.kind fault) owed phase_is owes)))
 
   -- the bytes were refused
@@ -301,7 +308,7 @@ module _ {R A : Type 0} (state : R → RepoState) (old new : Server R A) (u : Li
         limit = ap limit_in same_requests ∙ r.limit;
         repo = reads.answers ∙ r.repo;
         within = omega (arith, r.within, ap kept_so_far same_requests, none_kept_at_end new.phase (Refused fault) (ap outcome_in phase_is ∙ refused_outcome_by A fault.kind fault));
-        stands = ends_refused s so_far over before h.left h.packets rest fault wants h stream h.cuts
+        stands = ends_refused s so_far over before h.left h.packets rest fault wants h stream h.requests
             (inr (inl (record {
               goes_on = not_over;
               begins = begins s h.left old.requests r.reads_for r.limit sound ready h.takes;

@@ -4,7 +4,7 @@ pub mod Prefixes
 pub mod FaultTexts
 pub mod Readers
 pub mod Openings
-pub mod WholeRequests
+pub mod Begun
 pub mod Sent
 pub mod Going
 pub mod Closing

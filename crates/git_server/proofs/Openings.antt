@@ -35,7 +35,7 @@ module _ {R A : Type 0} (state : R → RepoState) (s : Setting) (repo : R) (phas
             sent = [];
             reads = fresh.reads;
             no_fault = fresh_has_no_fault server.reader fresh.reads;
-            cuts = refl;
+            requests = refl;
             takes = fresh.takes;
             left_is = subst (λ (p : Phase A). LeftIn p []) (sym fresh.phase_is) left;
             is_sent = λ l owes. inl (record { none = refl; parts = owed_now l owes });

@@ -5,7 +5,7 @@ use Rattle.git_pkt.specs.Packets.{Pkt, spelling_of, body_of}
 use Rattle.git_msg.specs.Asked.{Asked}
 use Rattle.git_server.specs.Answers.{AllFit, spelled, IsAnswer}
 use Rattle.git_server.specs.Sessions.{Setting, IsSent, AreAnswers, advertised}
-use Rattle.git_server.proofs.WholeRequests.{answers_more}
+use Rattle.git_server.specs.Repository.{Repository}
 
 pub spelled_both : (front back : List Pkt) → spelled (front ++ back) ≡ spelled front ++ spelled back
 spelled_both front back = flat_map-append spelling_of front back
@@ -16,6 +16,14 @@ spelled_one sent packet = spelled_both sent (packet ∷ []) ∙ ap (λ (l : List
 pub fit_more : (sent : List Pkt) (packet : Pkt) → AllFit sent → length (body_of packet) ≤ 65516 → AllFit (sent ++ packet ∷ [])
 fit_more [] packet h fits = (fits, tt)
 fit_more (p ∷ ps) packet h fits = (h.0, fit_more ps packet h.1 fits)
+
+-- one more answer
+pub answers_more : (repo : Repository) (asked : List Asked) (packets : List Pkt) (q : Asked) (answer : List Pkt) → AreAnswers repo asked packets → IsAnswer repo q answer
+    → AreAnswers repo (asked ++ q ∷ []) (packets ++ answer)
+answers_more repo [] packets q answer none is =
+    (answer, [], ap (λ (l : List Pkt). l ++ answer) none ∙ sym (append-nil answer), is, refl)
+answers_more repo (p ∷ ps) packets q answer (first, more, whole, is_first, rest) is =
+    (first, more ++ answer, ap (λ (l : List Pkt). l ++ answer) whole ∙ append_assoc first more answer, is_first, answers_more repo ps more q answer rest is)
 
 -- one packet of what is owed was sent
 pub sent_one : (s : Setting) (asked : List Asked) (sent owed : List Pkt) (packet : Pkt) → IsSent s asked sent (packet ∷ owed) → IsSent s asked (sent ++ packet ∷ []) owed

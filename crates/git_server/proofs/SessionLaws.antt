@@ -12,8 +12,8 @@ use Rattle.git_server.specs.Serving.{Running, Serves, StandsBy, outcome_of, want
 use Rattle.git_server.specs.Moves.{OwesNow, Pulls}
 use Rattle.git_server.specs.declared.outcome.Outcome.{Outcome}
 use Rattle.git_server.specs.declared.server.Server.{Server}
+use Rattle.git_server.proofs.Begun.{begins}
 use Rattle.git_server.proofs.Readers.{sound_rest}
-use Rattle.git_server.proofs.WholeRequests.{begins}
 use Rattle.git_server.proofs.Sent.{all_sent}
 use Rattle.git_server.proofs.Going.{no_outcome, owes_nothing, owes_some}
 
@@ -28,7 +28,7 @@ module _ {R A : Type 0} (state : R → RepoState) (server : Server R A) (s : Set
           rest = h.rest;
           sent = h.sent;
           owed = (owes_some server.offer s.repo server.phase).0;
-          stream = record { packets = h.packets; splits = h.reads.splits; cuts = h.cuts };
+          stream = record { packets = h.packets; splits = h.reads.splits; requests = h.requests };
           begins = begins s h.left server.requests r.reads_for r.limit (server.sound none) (server.ready none) h.takes;
           unrefused = (sound_rest server.reader 0 used h.packets h.rest h.no_fault h.reads).1;
           is_sent = h.is_sent (owes_some server.offer s.repo server.phase).0 (owes_some server.offer s.repo server.phase).1;
@@ -71,7 +71,7 @@ module _ {R A : Type 0} (state : R → RepoState) (server : Server R A) (s : Set
         left = h.left;
         rest = h.rest;
         answers = all.answers;
-        stream = record { packets = h.packets; splits = h.reads.splits; cuts = h.cuts };
+        stream = record { packets = h.packets; splits = h.reads.splits; requests = h.requests };
         begins = begins s h.left server.requests r.reads_for r.limit (server.sound none) (server.ready none) h.takes;
         unrefused = (sound_rest server.reader 0 used h.packets h.rest h.no_fault h.reads).1;
         answered = all.answered;
