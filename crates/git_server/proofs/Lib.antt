@@ -1,4 +1,5 @@
 pub mod Adjacent
+pub mod EachSoFar
 pub mod NameOrder
 pub mod Prefixes
 pub mod FaultTexts

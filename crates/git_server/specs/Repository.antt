@@ -55,6 +55,7 @@ pub record RepoState : Type 0 where
 -- what holds of what a repository answers
 pub record IsSound (repo : Repository) : Type 0 where
   pub rising : IsRising repo.refs
+  pub named : All (λ ref. IsNamed ref.name ref.target) repo.refs
   pub of_format : All (IsOfFormat repo.format) repo.refs
 
 -- what a repository has under a name: the object, or nothing where no reference has the name
