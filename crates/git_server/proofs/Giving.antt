@@ -7,7 +7,7 @@ use Rattle.git_server.specs.Repository.{Repository, RepoState}
 use Rattle.git_server.specs.Answers.{AllFit, spelled}
 use Rattle.git_server.specs.Sessions.{Setting, IsTail, advertised}
 use Rattle.git_server.specs.Phases.{LeftIn, kept_in, Owes}
-use Rattle.git_server.specs.Writing.{Writes}
+use Rattle.git_server.specs.WrittenPackets.{Writes}
 use Rattle.git_server.specs.Serving.{StandsBy, outcome_of}
 use Rattle.git_server.specs.Moves.{ComesFirst, Gives, Keeps, most_left}
 use Rattle.git_msg.specs.Taking.{Takes, offer_of, limit_in, kept_so_far}

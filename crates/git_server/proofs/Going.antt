@@ -17,10 +17,10 @@ use Rattle.git_msg.specs.declared.offers.Offer.{Offer}
 use Rattle.git_msg.specs.declared.reader.RequestReader.{RequestReader}
 use Rattle.git_server.specs.Repository.{Repository, RepoState}
 use Rattle.git_server.specs.Answers.{AllFit, IsAnswer, error_packet, tail_of, spelled}
-use Rattle.git_server.specs.Greetings.{greetings_from}
+use Rattle.git_server.specs.AdvertisementLines.{advertisement_from}
 use Rattle.git_server.specs.Sessions.{Begins, IsTail, Setting, IsRequest, IsSent, IsEnding, IsRefused, EndsBy}
 use Rattle.git_server.specs.Phases.{LeftIn, answer_from, IsAnswerFrom, Owes, kept_in, outcome_in, reads_in, phase_after, refused_by}
-use Rattle.git_server.specs.Taking.{Brings, IsBrought, IsWithin}
+use Rattle.git_server.specs.Brought.{Brings, IsBrought, IsWithin}
 use Rattle.git_server.specs.Serving.{Running, Serves, StandsBy, outcome_of, wants_input}
 use Rattle.git_server.specs.Moves.{Goes, ReadsFor, StopsInTime}
 use Rattle.git_server.specs.declared.outcome.Outcome.{Outcome}
@@ -28,7 +28,7 @@ use Rattle.git_server.specs.declared.outcome.Outcome.TheVariants.{Flush, Refused
 use Rattle.git_server.specs.declared.requests.Brought.{Brought}
 use Rattle.git_server.specs.declared.requests.Brought.TheVariants.{Part, Whole, Stop, Refused as RefusedPacket}
 use Rattle.git_server.specs.declared.server.Phase.{Phase}
-use Rattle.git_server.specs.declared.server.Phase.TheVariants.{Greeting, Between, Within, Answering, Refusing, Ended}
+use Rattle.git_server.specs.declared.server.Phase.TheVariants.{Advertising, Between, Within, Answering, Refusing, Ended}
 use Rattle.git_server.specs.declared.server.Server.{Server}
 use Rattle.git_pkt.proofs.ReaderMoves.{rest_of_shut}
 use Rattle.git_server.proofs.Begun.{begins}
@@ -53,7 +53,7 @@ module _ {A : Type 0} where
   pub no_outcome : (phase : Phase A) → reads_in phase ≡ true → outcome_in phase ≡ None
   no_outcome Between h = refl
   no_outcome Within h = refl
-  no_outcome (Greeting line) h = absurd (cc)
+  no_outcome (Advertising line) h = absurd (cc)
   no_outcome (Answering request next) h = absurd (cc)
   no_outcome (Refusing fault) h = absurd (cc)
   no_outcome (Ended outcome) h = absurd (cc)
@@ -62,7 +62,7 @@ module _ {A : Type 0} where
   pub none_kept : (phase : Phase A) → reads_in phase ≡ true → kept_in phase ≡ 0
   none_kept Between h = refl
   none_kept Within h = refl
-  none_kept (Greeting line) h = absurd (cc)
+  none_kept (Advertising line) h = absurd (cc)
   none_kept (Answering request next) h = absurd (cc)
   none_kept (Refusing fault) h = absurd (cc)
   none_kept (Ended outcome) h = absurd (cc)
@@ -70,7 +70,7 @@ module _ {A : Type 0} where
   pub none_kept_at_end : (phase : Phase A) (outcome : Outcome) → outcome_in phase ≡ Some outcome → kept_in phase ≡ 0
   none_kept_at_end Between outcome h = refl
   none_kept_at_end Within outcome h = refl
-  none_kept_at_end (Greeting line) outcome h = refl
+  none_kept_at_end (Advertising line) outcome h = refl
   none_kept_at_end (Answering request next) outcome h = absurd (cc)
   none_kept_at_end (Refusing fault) outcome h = refl
   none_kept_at_end (Ended outcome) _ h = refl
@@ -85,7 +85,7 @@ module _ {A : Type 0} where
   pub nothing_owed : (offer : Offer) (repo : Repository) (phase : Phase A) (owed : List Pkt) → reads_in phase ≡ true → Owes offer repo phase owed → owed ≡ []
   nothing_owed offer repo Between owed h owes = owes
   nothing_owed offer repo Within owed h owes = owes
-  nothing_owed offer repo (Greeting line) owed h owes = absurd (cc)
+  nothing_owed offer repo (Advertising line) owed h owes = absurd (cc)
   nothing_owed offer repo (Answering request next) owed h owes = absurd (cc)
   nothing_owed offer repo (Refusing fault) owed h owes = absurd (cc)
   nothing_owed offer repo (Ended outcome) owed h owes = absurd (cc)
@@ -93,13 +93,13 @@ module _ {A : Type 0} where
   pub owes_nothing : (offer : Offer) (repo : Repository) (phase : Phase A) → reads_in phase ≡ true → Owes offer repo phase []
   owes_nothing offer repo Between h = refl
   owes_nothing offer repo Within h = refl
-  owes_nothing offer repo (Greeting line) h = absurd (cc)
+  owes_nothing offer repo (Advertising line) h = absurd (cc)
   owes_nothing offer repo (Answering request next) h = absurd (cc)
   owes_nothing offer repo (Refusing fault) h = absurd (cc)
   owes_nothing offer repo (Ended outcome) h = absurd (cc)
 
 some_owed : {A : Type 0} (offer : Offer) (repo : Repository) (phase : Phase A) → (owed : List Pkt) × Owes offer repo phase owed
-some_owed offer repo (Greeting line) = (greetings_from offer line, refl)
+some_owed offer repo (Advertising line) = (advertisement_from offer line, refl)
 some_owed offer repo (Answering request next) = (answer_from (asked_of request) repo.refs next, refl)
 some_owed offer repo (Refusing fault) = (error_packet fault ∷ [], refl)
 some_owed offer repo Between = ([], refl)
@@ -345,7 +345,7 @@ module _ {R A : Type 0} (state : R → RepoState) (old : Server R A) (used : ℕ
 pub is_within : {A : Type 0} (phase : Phase A) → reads_in phase ≡ true → (phase ≡ Between → ⊥) → phase ≡ Within
 is_within Within h not = refl
 is_within Between h not = absurd (not refl)
-is_within (Greeting line) h not = absurd (cc)
+is_within (Advertising line) h not = absurd (cc)
 is_within (Answering request next) h not = absurd (cc)
 is_within (Refusing fault) h not = absurd (cc)
 is_within (Ended outcome) h not = absurd (cc)

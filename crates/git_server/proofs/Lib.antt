@@ -2,7 +2,6 @@ pub mod Adjacent
 pub mod EachSoFar
 pub mod NameOrder
 pub mod Prefixes
-pub mod FaultTexts
 pub mod Readers
 pub mod Openings
 pub mod Begun

@@ -14,15 +14,15 @@ use Rattle.git_msg.specs.WholeRequests.{AreRequests}
 use Rattle.git_msg.proofs.WholeRequests.{NoFlush, NoRequest, none_without_flush, one_list_of_requests}
 use Rattle.git_server.specs.Repository.{Entry, Repository, RepoState}
 use Rattle.git_server.specs.Answers.{AllFit, offered_line, reference_packet, shown_refs, spelled, IsAnswer}
-use Rattle.git_server.specs.Greetings.{format_on, greetings_from}
-use Rattle.git_server.specs.declared.greeting.Greeting.TheVariants.{Version, Agent, LsRefs, ServerOption, ObjectFormat, End}
+use Rattle.git_server.specs.AdvertisementLines.{format_on, advertisement_from}
+use Rattle.git_server.specs.declared.advertisement.AdvertisementLine.TheVariants.{Version, Agent, LsRefs, ServerOption, ObjectFormat, End}
 use Rattle.git_server.specs.Sessions.{Setting, IsRequest, AreAnswers, IsAnswered, IsSent, advertised}
 use Rattle.git_server.specs.Phases.{IsAnswerFrom, outcome_in, Owes, reads_in}
 use Rattle.git_server.specs.Serving.{Running, Serves, StandsBy, outcome_of, wants_input}
-use Rattle.git_server.specs.declared.greeting.Greeting.{Greeting as GreetingLine}
+use Rattle.git_server.specs.declared.advertisement.AdvertisementLine.{AdvertisementLine}
 use Rattle.git_server.specs.declared.outcome.Outcome.{Outcome}
 use Rattle.git_server.specs.declared.server.Phase.{Phase}
-use Rattle.git_server.specs.declared.server.Phase.TheVariants.{Greeting, Between, Within, Answering, Refusing, Ended}
+use Rattle.git_server.specs.declared.server.Phase.TheVariants.{Advertising, Between, Within, Answering, Refusing, Ended}
 use Rattle.git_server.specs.declared.server.Server.{Server}
 use Rattle.git_server.proofs.Begun.{begins, begun_has_no_flush}
 use Rattle.git_server.proofs.Sent.{answers_more}
@@ -92,7 +92,7 @@ option_owes : (offer : Offer) (b : Bool) → flushes (offered_line b (codes "ser
 option_owes offer true = refl
 option_owes offer false = refl
 
-line_owes : (offer : Offer) (line : GreetingLine) → flushes (greetings_from offer line) ≡ 1
+line_owes : (offer : Offer) (line : AdvertisementLine) → flushes (advertisement_from offer line) ≡ 1
 line_owes offer End = refl
 line_owes offer ObjectFormat = refl
 line_owes offer ServerOption = refl
@@ -104,7 +104,7 @@ owes_flush : {A : Type 0} (offer : Offer) (repo : Repository) (phase : Phase A) 
     → flushes owed ≡ 0 → reads_in phase ≡ true
 owes_flush offer repo Between owed none owes zero = refl
 owes_flush offer repo Within owed none owes zero = refl
-owes_flush offer repo (Greeting line) owed none owes zero = absurd (omega (arith, zero, ap flushes owes, line_owes offer line))
+owes_flush offer repo (Advertising line) owed none owes zero = absurd (omega (arith, zero, ap flushes owes, line_owes offer line))
 owes_flush offer repo (Answering request next) owed none owes zero = absurd (answer_owes (asked_of request) repo next owed owes zero)
   where
     answer_owes : (q : Asked) (repo : Repository) (next : ℕ) (owed : List Pkt) → IsAnswerFrom repo q next owed → flushes owed ≡ 0 → ⊥

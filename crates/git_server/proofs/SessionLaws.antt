@@ -5,7 +5,7 @@ use Rattle.git_server.specs.Answers.{AllFit, spelled}
 use Rattle.git_server.specs.Sessions.{Setting, IsTail, IsEnding, IsAnswered, IsRunning, IsSession}
 use Rattle.git_server.specs.Phases.{Owes, outcome_in, turn_in}
 use Rattle.git_server.specs.declared.server.Phase.{Phase}
-use Rattle.git_server.specs.declared.server.Phase.TheVariants.{Greeting, Between, Within, Answering, Refusing, Ended}
+use Rattle.git_server.specs.declared.server.Phase.TheVariants.{Advertising, Between, Within, Answering, Refusing, Ended}
 use Rattle.git_server.specs.declared.server.Turn.TheVariants.{Finished}
 use Rattle.git_server.specs.declared.server.Pulled.TheVariants.{Finished as FinishedNow}
 use Rattle.git_server.specs.Serving.{Running, Serves, StandsBy, outcome_of, wants_input}
@@ -83,7 +83,7 @@ module _ {R A : Type 0} (state : R → RepoState) (server : Server R A) (s : Set
 turn_ends : {A : Type 0} (phase : Phase A) (outcome : Outcome) → turn_in phase ≡ Finished outcome → phase ≡ Ended outcome
 turn_ends Between outcome h = absurd (cc)
 turn_ends Within outcome h = absurd (cc)
-turn_ends (Greeting line) outcome h = absurd (cc)
+turn_ends (Advertising line) outcome h = absurd (cc)
 turn_ends (Answering request next) outcome h = absurd (cc)
 turn_ends (Refusing fault) outcome h = absurd (cc)
 turn_ends (Ended o) outcome h = let same : o ≡ outcome = cc in ap Ended same

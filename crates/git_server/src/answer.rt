@@ -9,7 +9,7 @@ ghost use Rattle.git_msg.specs.Holding.{asked_of};
 ghost use Rattle.git_msg.specs.References.{IsWritable, shown_reference};
 ghost use Rattle.git_server.specs.Answering.{AnswersOne};
 ghost use Rattle.git_server.specs.Answers.{reference_packet, shown_line};
-ghost use Rattle.git_server.specs.Writing.{Writes};
+ghost use Rattle.git_server.specs.WrittenPackets.{Writes};
 ghost use Rattle.git_server.specs.Repository.{HasOneFormat};
 
 use crate::entry::RefEntry;

@@ -3,24 +3,24 @@
 ghost use Rattle.std.specs.Prelude.{◌≡◌, true, false, None};
 ghost use Rattle.git_pkt.specs.Reading.{is_open};
 ghost use Rattle.git_msg.specs.Taking.{fault_of, is_waiting};
-ghost use Rattle.git_server.specs.Phases.{greeting_phase, outcome_in, owes_in, phase_after, refusal_in, refused_by, turn_in};
+ghost use Rattle.git_server.specs.Phases.{advertising_phase, outcome_in, owes_in, phase_after, refusal_in, refused_by, turn_in};
 
+use crate::advertisement::AdvertisementLine;
 use crate::answer::answer_one;
-use crate::greeting::Greeting as Line;
 use crate::outcome::Outcome;
 use crate::packets::write_packet;
-use crate::refusal::error_line;
+use crate::refusal::write_error;
 use crate::repo::Repo;
 use crate::requests::{Brought, take_packet};
 use git_msg::{Limits, Offer, Request, RequestReader};
-use git_pkt::{Fault, Got, Kind, Packet, PacketReader};
+use git_pkt::{Fault, Got, Kind, PacketReader};
 use std::alloc::Allocator;
 
 /// Where a session stands.
 #[derive(Drop)]
 enum Phase<A: Allocator + Copy> {
     // The advertisement is owed, from this line on.
-    Greeting(Line),
+    Advertising(AdvertisementLine),
     // All is given, and no packet of a further request has come.
     Between,
     // A request has begun.
@@ -83,7 +83,13 @@ impl<R: Repo, A: Allocator + Copy> Server<R, A> {
         ensures repo { repo_of result ≡ repo }
     {
         if advertise {
-            return Self::begin(alloc, repo, offer, limits, Phase::Greeting(Line::Version));
+            return Self::begin(
+                alloc,
+                repo,
+                offer,
+                limits,
+                Phase::Advertising(AdvertisementLine::Version),
+            );
         }
         Self::begin(alloc, repo, offer, limits, Phase::Between)
     }
@@ -211,10 +217,10 @@ impl<R: Repo, A: Allocator + Copy> Server<R, A> {
         ensures { Gives R.state self.old self.new }
     {
         match &mut self.phase {
-            Phase::Greeting(line) => {
+            Phase::Advertising(line) => {
                 let line = *line;
                 write_packet(&mut self.reader, line.packet(self.offer.format));
-                self.phase = greeting(line.next(&self.offer));
+                self.phase = advertising(line.next(&self.offer));
             }
             Phase::Answering(request, next) => {
                 match answer_one(&self.repo, request, *next, &mut self.reader) {
@@ -224,10 +230,7 @@ impl<R: Repo, A: Allocator + Copy> Server<R, A> {
             }
             Phase::Refusing(fault) => {
                 let fault = *fault;
-                write_packet(
-                    &mut self.reader,
-                    Packet::Payload(error_line(fault).as_slice()),
-                );
+                write_error(&mut self.reader, fault);
                 self.phase = Phase::Ended(Outcome::Refused(fault));
             }
             _ => unreachable!(),
@@ -284,11 +287,11 @@ fn refusal<A: Allocator + Copy>(fault: Fault) -> Phase<A>
 }
 
 // The phase after a line of the advertisement.
-fn greeting<A: Allocator + Copy>(next: Option<Line>) -> Phase<A>
-    ensures { result ≡ greeting_phase next }
+fn advertising<A: Allocator + Copy>(next: Option<AdvertisementLine>) -> Phase<A>
+    ensures { result ≡ advertising_phase next }
 {
     match next {
-        Some(line) => Phase::Greeting(line),
+        Some(line) => Phase::Advertising(line),
         None => Phase::Between,
     }
 }
