@@ -49,24 +49,32 @@ refused_owes_by A offer repo RemoteError fault owed is owes = let tail : tail_of
 refused_owes_by A offer repo kind fault owed is owes = let tail : tail_of (Refused fault) ≡ error_packet fault ∷ [] = rw is refl in tail ∙ sym owes
 
 module _ {A : Type 0} where
-  -- a server that waits for bytes has no outcome, and owes nothing
+  -- a server that waits for bytes is between two requests or within one
+  waiting : (P : Phase A → Type 0) → P Between → P Within → (phase : Phase A) → reads_in phase ≡ true → P phase
+  waiting P between within Between h = between
+  waiting P between within Within h = within
+  waiting P between within (Advertising line) h = absurd (cc)
+  waiting P between within (Answering request next) h = absurd (cc)
+  waiting P between within (Refusing fault) h = absurd (cc)
+  waiting P between within (Ended outcome) h = absurd (cc)
+
+  pub is_within : (phase : Phase A) → reads_in phase ≡ true → (phase ≡ Between → ⊥) → phase ≡ Within
+  is_within = waiting (λ (p : Phase A). (p ≡ Between → ⊥) → p ≡ Within) (λ not. absurd (not refl)) (λ not. refl)
+
+  -- it has no outcome, keeps no request to answer, and owes nothing
   pub no_outcome : (phase : Phase A) → reads_in phase ≡ true → outcome_in phase ≡ None
-  no_outcome Between h = refl
-  no_outcome Within h = refl
-  no_outcome (Advertising line) h = absurd (cc)
-  no_outcome (Answering request next) h = absurd (cc)
-  no_outcome (Refusing fault) h = absurd (cc)
-  no_outcome (Ended outcome) h = absurd (cc)
+  no_outcome = waiting (λ (p : Phase A). outcome_in p ≡ None) refl refl
 
-  -- nor does it keep a request to answer, and neither does one whose session ended
   pub none_kept : (phase : Phase A) → reads_in phase ≡ true → kept_in phase ≡ 0
-  none_kept Between h = refl
-  none_kept Within h = refl
-  none_kept (Advertising line) h = absurd (cc)
-  none_kept (Answering request next) h = absurd (cc)
-  none_kept (Refusing fault) h = absurd (cc)
-  none_kept (Ended outcome) h = absurd (cc)
+  none_kept = waiting (λ (p : Phase A). kept_in p ≡ 0) refl refl
 
+  pub owes_nothing : (offer : Offer) (repo : Repository) (phase : Phase A) → reads_in phase ≡ true → Owes offer repo phase []
+  owes_nothing offer repo = waiting (λ (p : Phase A). Owes offer repo p []) refl refl
+
+  pub nothing_owed : (offer : Offer) (repo : Repository) (phase : Phase A) (owed : List Pkt) → reads_in phase ≡ true → Owes offer repo phase owed → owed ≡ []
+  nothing_owed offer repo phase owed = waiting (λ (p : Phase A). Owes offer repo p owed → owed ≡ []) (λ owes. owes) (λ owes. owes) phase
+
+  -- nor does a server keep a request whose session ended
   pub none_kept_at_end : (phase : Phase A) (outcome : Outcome) → outcome_in phase ≡ Some outcome → kept_in phase ≡ 0
   none_kept_at_end Between outcome h = refl
   none_kept_at_end Within outcome h = refl
@@ -82,33 +90,14 @@ module _ {A : Type 0} where
   kept_behind Stop requests h = omega (arith, h)
   kept_behind (RefusedPacket fault) requests h = omega (arith, h, none_kept_at_end (refused_by fault.kind fault) (Refused fault) (refused_outcome_by A fault.kind fault))
 
-  pub nothing_owed : (offer : Offer) (repo : Repository) (phase : Phase A) (owed : List Pkt) → reads_in phase ≡ true → Owes offer repo phase owed → owed ≡ []
-  nothing_owed offer repo Between owed h owes = owes
-  nothing_owed offer repo Within owed h owes = owes
-  nothing_owed offer repo (Advertising line) owed h owes = absurd (cc)
-  nothing_owed offer repo (Answering request next) owed h owes = absurd (cc)
-  nothing_owed offer repo (Refusing fault) owed h owes = absurd (cc)
-  nothing_owed offer repo (Ended outcome) owed h owes = absurd (cc)
-
-  pub owes_nothing : (offer : Offer) (repo : Repository) (phase : Phase A) → reads_in phase ≡ true → Owes offer repo phase []
-  owes_nothing offer repo Between h = refl
-  owes_nothing offer repo Within h = refl
-  owes_nothing offer repo (Advertising line) h = absurd (cc)
-  owes_nothing offer repo (Answering request next) h = absurd (cc)
-  owes_nothing offer repo (Refusing fault) h = absurd (cc)
-  owes_nothing offer repo (Ended outcome) h = absurd (cc)
-
-some_owed : {A : Type 0} (offer : Offer) (repo : Repository) (phase : Phase A) → (owed : List Pkt) × Owes offer repo phase owed
-some_owed offer repo (Advertising line) = (advertisement_from offer line, refl)
-some_owed offer repo (Answering request next) = (answer_from (asked_of request) repo.refs next, refl)
-some_owed offer repo (Refusing fault) = (error_packet fault ∷ [], refl)
-some_owed offer repo Between = ([], refl)
-some_owed offer repo Within = ([], refl)
-some_owed offer repo (Ended outcome) = ([], refl)
-
 -- in each phase some packets make an end
 pub owes_some : {A : Type 0} (offer : Offer) (repo : Repository) (phase : Phase A) → (owed : List Pkt) × Owes offer repo phase owed
-owes_some offer repo phase = some_owed offer repo phase
+owes_some offer repo (Advertising line) = (advertisement_from offer line, refl)
+owes_some offer repo (Answering request next) = (answer_from (asked_of request) repo.refs next, refl)
+owes_some offer repo (Refusing fault) = (error_packet fault ∷ [], refl)
+owes_some offer repo Between = ([], refl)
+owes_some offer repo Within = ([], refl)
+owes_some offer repo (Ended outcome) = ([], refl)
 
 one_more : {X : Type 0} (xs : List X) (x : X) → xs ++ x ∷ [] ≢ []
 one_more [] x e = cc
@@ -125,11 +114,15 @@ not_too_long {A = A} packets (RefusedPacket f) requests h fault ended too_long =
     let one : f ≡ fault = cc in
     told_of_packets (offer_of requests) (limit_in requests) packets f h (ap (λ (x : Fault). x.kind) one ∙ too_long)
 
+-- what a server without an outcome stands for
+pub goes_on : {R A : Type 0} (state : R → RepoState) (server : Server R A) (s : Setting) (used : List ℕ) (over : Bool) (given : List ℕ) → outcome_of server ≡ None
+    → Running state s used over given server → (over ≡ false) × Serves s used given server
+goes_on state server s used over given none r = subst (λ (o : Option Outcome). StandsBy o s used over given server) none r.stands
+
 module _ {R A : Type 0} (state : R → RepoState) (old new : Server R A) (u : List ℕ) where
   -- what a server that waits for bytes stands for
   stands_of : (s : Setting) (so_far : List ℕ) (over : Bool) (before : List ℕ) → wants_input old ≡ true → Running state s so_far over before old → (over ≡ false) × Serves s so_far before old
-  stands_of s so_far over before wants r =
-      subst (λ (o : Option Outcome). StandsBy o s so_far over before old) (no_outcome old.phase wants) r.stands
+  stands_of s so_far over before wants r = goes_on state old s so_far over before (no_outcome old.phase wants) r
 
   pub serves_of : (s : Setting) (so_far : List ℕ) (over : Bool) (before : List ℕ) → wants_input old ≡ true → Running state s so_far over before old → Serves s so_far before old
   serves_of s so_far over before wants r = (stands_of s so_far over before wants r).1
@@ -341,21 +334,17 @@ module _ {R A : Type 0} (state : R → RepoState) (old : Server R A) (used : ℕ
       let one : fault ≡ other = cc in
       (shown h.no_fault).one_more (ap (λ (f : Fault). f.kind) one ∙ too_long)
 
--- a server that waits for bytes, and has some packets of a request
-pub is_within : {A : Type 0} (phase : Phase A) → reads_in phase ≡ true → (phase ≡ Between → ⊥) → phase ≡ Within
-is_within Within h not = refl
-is_within Between h not = absurd (not refl)
-is_within (Advertising line) h not = absurd (cc)
-is_within (Answering request next) h not = absurd (cc)
-is_within (Refusing fault) h not = absurd (cc)
-is_within (Ended outcome) h not = absurd (cc)
+module _ {R A : Type 0} (state : R → RepoState) (server : Server R A) where
+  -- nothing was used or given
+  pub goes_nowhere : Goes state [] [] server server
+  goes_nowhere s so_far over before r =
+      subst (λ (l : List ℕ). Running state s l over (before ++ []) server) (sym (append-nil so_far))
+      (subst (λ (l : List ℕ). Running state s so_far over l server) (sym (append-nil before)) r)
 
 module _ {R A : Type 0} (state : R → RepoState) (old middle new : Server R A) where
-  -- one call after another, which give nothing
-  pub goes_twice : (u v : List ℕ) → Goes state u [] old middle → Goes state v [] middle new → Goes state (u ++ v) [] old new
-  goes_twice u v first second s so_far over before r =
-      let one = first s so_far over before r in
-      let two = second s (so_far ++ u) over (before ++ []) one in
-      let same_used = append_assoc so_far u v in
-      let same_given : (before ++ []) ++ [] ≡ before ++ [] = append-nil (before ++ []) in
-      subst (λ (l : List ℕ). Running state s l over (before ++ []) new) same_used (subst (λ (l : List ℕ). Running state s ((so_far ++ u) ++ v) over l new) same_given two)
+  -- one call after another
+  pub goes_join : (u v g h : List ℕ) → Goes state u g old middle → Goes state v h middle new → Goes state (u ++ v) (g ++ h) old new
+  goes_join u v g h first second s so_far over before r =
+      let two = second s (so_far ++ u) over (before ++ g) (first s so_far over before r) in
+      subst (λ (l : List ℕ). Running state s l over (before ++ (g ++ h)) new) (append_assoc so_far u v)
+      (subst (λ (l : List ℕ). Running state s ((so_far ++ u) ++ v) over l new) (append_assoc before g h) two)

@@ -26,13 +26,9 @@ not_nothing [] more g e = cc
 not_nothing (x ∷ xs) more g e = cc
 
 -- before the only packet stands none
-alone_first : (xs more : List Given) (l m : Given) → xs ++ l ∷ more ≡ m ∷ [] → xs ≡ []
-alone_first [] more l m e = refl
-alone_first (x ∷ xs) more l m e = absurd (not_nothing xs more l (let tails : xs ++ l ∷ more ≡ [] = cc in tails))
-
-alone_same : (xs more : List Given) (l m : Given) → xs ++ l ∷ more ≡ m ∷ [] → l ≡ m
-alone_same [] more l m e = cc
-alone_same (x ∷ xs) more l m e = absurd (not_nothing xs more l (let tails : xs ++ l ∷ more ≡ [] = cc in tails))
+alone : (xs more : List Given) (l m : Given) → xs ++ l ∷ more ≡ m ∷ [] → (xs ≡ []) × (l ≡ m)
+alone [] more l m e = (refl, cc)
+alone (x ∷ xs) more l m e = absurd (not_nothing xs more l (let tails : xs ++ l ∷ more ≡ [] = cc in tails))
 
 -- what comes up to a packet ends before the last one, or is all
 last_or_before : (xs more front : List Given) (l m : Given) → xs ++ l ∷ more ≡ front ++ m ∷ []
@@ -52,6 +48,11 @@ no_lines_of_nothing : (offer : Offer) (limit : ℕ) (lines : List Line) → AreL
 no_lines_of_nothing offer limit [] are = refl
 no_lines_of_nothing offer limit (l ∷ ls) are = absurd are
 
+no_lines_alone : (offer : Offer) (limit : ℕ) (xs more : List Given) (l m : Given) (lines : List Line) → xs ++ l ∷ more ≡ m ∷ [] → AreLines offer limit [] xs lines
+    → lines ≡ []
+no_lines_alone offer limit xs more l m lines e are =
+    no_lines_of_nothing offer limit lines (subst (λ (gs : List Given). AreLines offer limit [] gs lines) (alone xs more l m e).0 are)
+
 same_fault : (f g : Fault) → f.kind ≡ g.kind → f.offset ≡ g.offset → f ≡ g
 same_fault f g kinds offsets = ap (λ (k : Kind). let h : Fault = record { kind = k; offset = f.offset } in h) kinds
     ∙ ap (λ (n : ℕ). let h : Fault = record { kind = g.kind; offset = n } in h) offsets
@@ -68,9 +69,8 @@ bytes_once p end rest kind other m n a b h k = stops_once p end rest kind other 
 module _ (s : Setting) where
   none_in_stop : (left : List Given) → IsStop left → NoRequest (IsRequest s) left
   none_in_stop left stop front more q e (kept, asks) =
-      let nothing : asks.front ≡ [] = alone_first asks.front more asks.last stop.last (sym (whole_then s.offer s.limit front more left q kept asks e) ∙ stop.alone) in
-      let lines : asks.lines ≡ [] = no_lines_of_nothing s.offer s.limit asks.lines
-      (subst (λ (gs : List Given). AreLines s.offer s.limit [] gs asks.lines) nothing asks.taken) in
+      let lines : asks.lines ≡ [] = no_lines_alone s.offer s.limit asks.front more asks.last stop.last asks.lines
+      (sym (whole_then s.offer s.limit front more left q kept asks e) ∙ stop.alone) asks.taken in
       let once : commands_of asks.lines ≡ asks.command ∷ [] = asks.once in
       let none : commands_of asks.lines ≡ [] = ap commands_of lines in
       cc
@@ -102,15 +102,13 @@ module _ (s : Setting) where
   -- a flush alone is no fault
   stop_or_told : (left : List Given) (fault : Fault) → IsStop left → IsTold s.offer s.limit left fault → ⊥
   stop_or_told left fault stop (inl first) =
-      let nothing : first.front ≡ [] = alone_first first.front first.back first.bad stop.last (sym first.whole ∙ stop.alone) in
-      let lines : first.lines ≡ [] = no_lines_of_nothing s.offer s.limit first.lines
-      (subst (λ (gs : List Given). AreLines s.offer s.limit [] gs first.lines) nothing first.taken) in
-      let packet : first.bad.packet ≡ flush = ap (λ (g : Given). g.packet) (alone_same first.front first.back first.bad stop.last (sym first.whole
-      ∙ stop.alone)) ∙ stop.ends in
-      let here : HasFault s.offer s.limit [] flush fault.kind =
+      let here = sym first.whole ∙ stop.alone in
+      let lines : first.lines ≡ [] = no_lines_alone s.offer s.limit first.front first.back first.bad stop.last first.lines here first.taken in
+      let packet : first.bad.packet ≡ flush = ap (λ (g : Given). g.packet) (alone first.front first.back first.bad stop.last here).1 ∙ stop.ends in
+      let refused : HasFault s.offer s.limit [] flush fault.kind =
       subst (λ (ls : List Line). HasFault s.offer s.limit ls flush fault.kind) lines
       (subst (λ (p : Pkt). HasFault s.offer s.limit first.lines p fault.kind) packet first.fault) in
-      here.0 refl
+      refused.0 refl
   stop_or_told left fault stop (inr w) =
       let same : w.last ≡ stop.last = last_same w.front [] w.last stop.last (sym w.whole ∙ stop.alone) in
       flush_is_no_line s.offer s.limit w.lines w.last.packet _ w.is_line (ap (λ (g : Given). g.packet) same ∙ stop.ends)

@@ -1,6 +1,6 @@
 -- What was asked by the bytes that a server used, and how it is answered, is one thing: so a server that has given all
 -- of it owes nothing.
-use Rattle.std.proofs.Common.{◌≡◌, ℕ, ◌+◌, drop, map, codes, Bool, true, false, List, [], ◌∷◌, ◌++◌, length, length-append, Option, None, refl, sym, ap, ◌∙◌, append_assoc, append-nil, subst, inl, inr, arith}
+use Rattle.std.proofs.Common.{◌≡◌, ℕ, ◌+◌, drop, map, codes, Bool, true, false, List, [], ◌∷◌, ◌++◌, length, length-append, None, refl, sym, ap, ◌∙◌, subst, arith}
 use Rattle.git_pkt.specs.Digits.{digits_of}
 use Rattle.git_pkt.specs.Packets.{Pkt, flush, flushes, delim, resp_end, payload, body_of, length_field, spelling_of}
 use Rattle.git_pkt.proofs.Spelling.{same_start}
@@ -16,17 +16,16 @@ use Rattle.git_server.specs.Repository.{Entry, Repository, RepoState}
 use Rattle.git_server.specs.Answers.{AllFit, offered_line, reference_packet, shown_refs, spelled, IsAnswer}
 use Rattle.git_server.specs.AdvertisementLines.{format_on, advertisement_from}
 use Rattle.git_server.specs.declared.advertisement.AdvertisementLine.TheVariants.{Version, Agent, LsRefs, ServerOption, ObjectFormat, End}
-use Rattle.git_server.specs.Sessions.{Setting, IsRequest, AreAnswers, IsAnswered, IsSent, advertised}
+use Rattle.git_server.specs.Sessions.{Setting, IsRequest, AreAnswers, IsAnswered, advertised}
 use Rattle.git_server.specs.Phases.{IsAnswerFrom, outcome_in, Owes, reads_in}
-use Rattle.git_server.specs.Serving.{Running, Serves, StandsBy, outcome_of, wants_input}
+use Rattle.git_server.specs.Serving.{Running, outcome_of, wants_input}
 use Rattle.git_server.specs.declared.advertisement.AdvertisementLine.{AdvertisementLine}
-use Rattle.git_server.specs.declared.outcome.Outcome.{Outcome}
 use Rattle.git_server.specs.declared.server.Phase.{Phase}
 use Rattle.git_server.specs.declared.server.Phase.TheVariants.{Advertising, Between, Within, Answering, Refusing, Ended}
 use Rattle.git_server.specs.declared.server.Server.{Server}
 use Rattle.git_server.proofs.Begun.{begins, begun_has_no_flush}
-use Rattle.git_server.proofs.Sent.{answers_more}
-use Rattle.git_server.proofs.Going.{owes_some}
+use Rattle.git_server.proofs.Sent.{is_whole}
+use Rattle.git_server.proofs.Going.{goes_on, owes_some}
 
 module _ (s : Setting) where
   pub no_request : (left : List Given) → NoFlush left → NoRequest (IsRequest s) left
@@ -36,22 +35,6 @@ module _ (s : Setting) where
   pub one_list : (packets : List Given) (asked others : List Asked) (left rest : List Given) → NoRequest (IsRequest s) left → NoRequest (IsRequest s) rest
       → AreRequests (IsRequest s) packets asked left → AreRequests (IsRequest s) packets others rest → (asked ≡ others) × (left ≡ rest)
   one_list = one_list_of_requests s.offer s.limit (IsRequest s) (λ front q is. is)
-
--- what was sent and what is owed are the advertisement and an answer to each request
-record IsWhole (s : Setting) (asked : List Asked) (sent owed : List Pkt) : Type 0 where
-  pub answers : List Pkt
-  pub answered : AreAnswers s.repo asked answers
-  pub parts : sent ++ owed ≡ advertised s ++ answers
-
-is_whole : (s : Setting) (asked : List Asked) (sent owed : List Pkt) → IsSent s asked sent owed → IsWhole s asked sent owed
-is_whole s asked sent owed (inl h) =
-    record { answers = []; answered = subst (λ (qs : List Asked). AreAnswers s.repo qs []) (sym h.none) refl; parts = h.parts ∙ sym (append-nil (advertised s)) }
-is_whole s asked sent owed (inr h) =
-    record {
-      answers = h.answers ++ (h.front ++ owed);
-      answered = subst (λ (qs : List Asked). AreAnswers s.repo qs (h.answers ++ (h.front ++ owed))) (sym h.whole) (answers_more s.repo h.earlier h.answers h.last (h.front ++ owed) h.answered h.answer);
-      parts = ap (λ (l : List Pkt). l ++ owed) h.sent_is ∙ append_assoc (advertised s ++ h.answers) h.front owed ∙ append_assoc (advertised s) h.answers (h.front ++ owed);
-    }
 
 pub flushes-append : (front back : List Pkt) → flushes (front ++ back) ≡ flushes front + flushes back
 flushes-append [] back = omega arith
@@ -117,7 +100,7 @@ module _ {R A : Type 0} (state : R → RepoState) (server : Server R A) (s : Set
   -- a server without an outcome that has given all waits for bytes
   pub waits_behind_all : outcome_of server ≡ None → IsAnswered s used given → wants_input server ≡ true
   waits_behind_all none all =
-      let h : Serves s used given server = (subst (λ (o : Option Outcome). StandsBy o s used over given server) none r.stands).1 in
+      let h = (goes_on state server s used over given none r).1 in
       let begun = begins s h.left server.requests r.reads_for r.limit (server.sound none) (server.ready none) h.takes in
       let split = one_split 0 used h.packets all.stream.packets h.rest all.rest h.reads.splits.spelled all.stream.splits.spelled h.reads.splits.ends all.stream.splits.ends in
       let asked : h.asked ≡ all.asked =

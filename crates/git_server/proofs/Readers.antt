@@ -1,12 +1,14 @@
 -- What follows of a packet reader from what it has read.
-use Rattle.std.proofs.Common.{◌≡◌, ℕ, ◌+◌, ◌-◌, ◌<◌, true, List, [], length, Option, Some, None, refl, arith, subst, zero-add}
+use Rattle.std.proofs.Common.{◌≡◌, ℕ, ◌+◌, ◌-◌, ◌<◌, true, List, [], length, take, Option, Some, None, refl, arith, subst, zero-add}
 use Rattle.git_pkt.specs.Faults.{IsOpen, StopsBy}
 use Rattle.git_pkt.specs.Splits.{Given}
 use Rattle.git_pkt.proofs.ReaderMoves.{rest_of_open}
-use Rattle.git_pkt.specs.Reading.{Reads, StandsAt, fault_of, is_open, rest_of}
+use Rattle.git_pkt.specs.Reading.{Feeds, Reads, ReadsOn, StandsAt, Tells, fault_of, given_by, is_open, rest_of}
 use Rattle.git_pkt.specs.declared.fault.Fault.{Fault}
 use Rattle.git_pkt.specs.declared.fault.Kind.{Kind}
 use Rattle.git_pkt.specs.declared.fault.Kind.TheVariants.{BadDigit, BadLength, TooLong, Truncated, StreamTooLong}
+use Rattle.git_pkt.specs.declared.reader.Fed.{Fed}
+use Rattle.git_pkt.specs.declared.reader.Got.{Got}
 use Rattle.git_pkt.specs.declared.reader.PacketReader.{PacketReader}
 
 -- nothing refuses a stream of no bytes
@@ -44,3 +46,15 @@ stopped_by r bytes given rest f is h =
 -- a reader with a packet open has some of its bytes
 pub open_rest : (r : PacketReader) → is_open r ≡ true → 0 < length (rest_of r)
 open_rest r e = rw (rest_of_open r e) ((r.gathers e).some)
+
+-- what a call of `feed` did, by its answer
+pub record FeedsWith (old : PacketReader) (piece : List ℕ) (used : ℕ) (got : Got) (new : PacketReader) : Type 0 where
+  pub reads : ReadsOn old (take used piece) (given_by got) new
+  pub tells : Tells got used piece new
+
+pub feeds_with : (old new : PacketReader) (piece : List ℕ) (fed : Fed) (got : Got) → fed.got ≡ got → Feeds old piece fed new
+    → FeedsWith old piece fed.used got new
+feeds_with old new piece fed got is feeds = record {
+  reads = subst (λ (o : Got). ReadsOn old (take fed.used piece) (given_by o) new) is feeds.reads;
+  tells = subst (λ (o : Got). Tells o fed.used piece new) is feeds.tells;
+}

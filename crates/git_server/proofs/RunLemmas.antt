@@ -15,7 +15,7 @@ use Rattle.git_server.specs.declared.server.Pulled.{Pulled}
 use Rattle.git_server.specs.declared.server.Pulled.TheVariants.{Packet, Finished}
 use Rattle.git_server.specs.declared.server.Server.{Server}
 use Rattle.git_pkt.proofs.Pieces.{take_joined}
-use Rattle.git_server.proofs.Going.{no_outcome}
+use Rattle.git_server.proofs.Going.{goes_join, goes_nowhere, no_outcome}
 use Rattle.git_server.proofs.SessionLaws.{all_answered, every_moment}
 use Rattle.std.proofs.lemmas.Result.{err_from_is_err_and}
 use Rattle.git_pkt.specs.declared.fault.RunFault.{RunFault}
@@ -34,12 +34,6 @@ some_not_none None some is = absurd (cc)
 some_not_none (Some outcome) some is = cc
 
 module _ {R A : Type 0} (state : R → RepoState) (old middle new : Server R A) where
-  pub goes_join : (u v g h : List ℕ) → Goes state u g old middle → Goes state v h middle new → Goes state (u ++ v) (g ++ h) old new
-  goes_join u v g h first second s so_far over before r =
-      let two = second s (so_far ++ u) over (before ++ g) (first s so_far over before r) in
-      subst (λ (l : List ℕ). Running state s l over (before ++ (g ++ h)) new) (append_assoc so_far u v)
-      (subst (λ (l : List ℕ). Running state s ((so_far ++ u) ++ v) over l new) (append_assoc before g h) two)
-
   module _ (held_before held held_after : Option (List ℕ)) where
     -- what a call gave was written after what was written before
     pub writes_more : (u v h : List ℕ) → WritesOn state u held_before held old middle → Appends held held_after h → Goes state v h middle new → WritesOn state (u ++ v) held_before held_after old new
@@ -47,7 +41,7 @@ module _ {R A : Type 0} (state : R → RepoState) (old middle new : Server R A) 
         record {
           given = so_far.given ++ h;
           written = Appends-trans held_before held held_after so_far.given h so_far.written written;
-          goes = goes_join u v so_far.given h so_far.goes goes;
+          goes = goes_join state old middle new u v so_far.given h so_far.goes goes;
         }
 
   -- a packet was pulled and written
@@ -67,7 +61,8 @@ module _ {R A : Type 0} (state : R → RepoState) (old middle new : Server R A) 
         given = so_far.given ++ bytes.now;
         parts = refl;
         written = AppendsFront-after held_before held held_after so_far.given bytes.now so_far.written front;
-        goes = goes_join [] [] so_far.given bytes.now so_far.goes (subst (λ (p : Pulled). Goes state [] (given_by p) middle new) is pulls.goes);
+        goes = goes_join state old middle new [] [] so_far.given bytes.now so_far.goes
+            (subst (λ (p : Pulled). Goes state [] (given_by p) middle new) is pulls.goes);
       }
 
   -- the end was pulled
@@ -143,9 +138,7 @@ module _ {R A : Type 0} (state : R → RepoState) (old new : Server R A) where
     given = [];
     parts = refl;
     written = ([], [], refl, Appends-kept held held held_after [] (Appends-nil held) kept);
-    goes = λ s so_far over before r.
-        subst (λ (l : List ℕ). Running state s l over (before ++ []) old) (sym (append-nil so_far))
-        (subst (λ (l : List ℕ). Running state s so_far over l old) (sym (append-nil before)) r);
+    goes = goes_nowhere state old;
   }
 
   -- the session ended, and the flush after it failed
@@ -161,10 +154,21 @@ module _ {R A : Type 0} (state : R → RepoState) (old new : Server R A) where
     goes = end.goes;
   }
 
+pub keeps_same : (o : Option (List ℕ)) → Keeps o o
+keeps_same None = tt
+keeps_same (Some bytes) = refl
+
 -- a server that waits for bytes has no outcome, so it used some
 pub used_some : {R A : Type 0} (fed new : Server R A) (used : ℕ) → 0 < used ⊎ IsSome (outcome_of fed) → outcome_of new ≡ outcome_of fed → wants_input new ≡ true → 0 < used
 used_some fed new used (inl some) same wants = some
 used_some fed new used (inr ended) same wants = absurd (some_not_none (outcome_of fed) ended (sym same ∙ no_outcome new.phase wants))
+
+-- bytes were read, of which a front was used
+reads_front : (left_before left left_after : Option (List ℕ)) (used bytes front unused : List ℕ) → bytes ≡ front ++ unused
+    → Consumes left_before left used → Consumes left left_after bytes → Consumes left_before left_after ((used ++ front) ++ unused)
+reads_front left_before left left_after used bytes front unused parts before read =
+    subst (Consumes left_before left_after) (ap (λ (l : List ℕ). used ++ l) parts ∙ sym (append_assoc used front unused))
+    (Consumes-trans left_before left left_after used bytes before read)
 
 module _ {R A : Type 0} (state : R → RepoState) (s : Setting) where
   -- the server stands to the bytes used and given while its input goes on
@@ -201,46 +205,75 @@ module _ {R A : Type 0} (state : R → RepoState) (s : Setting) where
         related = (all_answered state server s so_far.used false so_far.given so_far.related wants, so_far.related);
       }
 
+  -- the input ended
+  closes_on : (old closed : Server R A) (left_before left held_before held : Option (List ℕ)) → Exchanges (StandsTo old) left_before left held_before held
+      → Closes state old closed → Exchanges (λ used given. Running state s used true given closed) left_before left held_before held
+  closes_on old closed left_before left held_before held on closes =
+      record { used = on.used; given = on.given; read = on.read; written = on.written; related = (closes s on.used false on.given on.related).0 }
+
+  -- a write failed, whether or not the input had ended
+  breaks_at : (over : Bool) (old new : Server R A) (left_before left left_after held_before held held_after : Option (List ℕ)) (bytes : List ℕ) (ended : Bool)
+      → Exchanges (λ used given. Running state s used over given old) left_before left held_before held → Consumes left left_after bytes
+      → (front : WritesFront state bytes held held_after old new) → (over ≡ true → (front.unused ≡ []) × (ended ≡ true))
+      → IsBroken s (standing new) left_before left_after held_before held_after ended
+  breaks_at over old new left_before left left_after held_before held held_after bytes ended on read front whole =
+      let stands = front.goes s on.used over on.given on.related in
+      record {
+        used = on.used ++ front.used;
+        unused = front.unused;
+        over = over;
+        given = on.given ++ front.given;
+        read = reads_front left_before left left_after on.used bytes front.used front.unused front.parts on.read read;
+        written = AppendsFront-after held_before held held_after on.given front.given on.written front.written;
+        moment = every_moment state new s (on.used ++ front.used) over (on.given ++ front.given) stands;
+        stands = stands;
+        whole = whole;
+      }
+
   -- a write failed while the input went on
   pub breaks_off : (old new : Server R A) (left_before left left_after held_before held flushed held_after : Option (List ℕ)) (bytes : List ℕ) (ended : Bool)
       → Exchanges (StandsTo old) left_before left held_before held → Keeps held flushed → Consumes left left_after bytes
       → WritesFront state bytes flushed held_after old new
       → IsBroken s (standing new) left_before left_after held_before held_after ended
   breaks_off old new left_before left left_after held_before held flushed held_after bytes ended so_far kept read front =
-      let on = Exchanges-flush so_far kept in
-      let stands : Running state s (on.used ++ front.used) false (on.given ++ front.given) new = front.goes s on.used false on.given on.related in
-      record {
-        used = on.used ++ front.used;
-        unused = front.unused;
-        over = false;
-        given = on.given ++ front.given;
-        read = subst (Consumes left_before left_after) (ap (λ (l : List ℕ). on.used ++ l) front.parts ∙ sym (append_assoc on.used front.used front.unused))
-            (Consumes-trans left_before left left_after on.used bytes on.read read);
-        written = AppendsFront-after held_before flushed held_after on.given front.given on.written front.written;
-        moment = every_moment state new s (on.used ++ front.used) false (on.given ++ front.given) stands;
-        stands = stands;
-        whole = λ e. absurd (cc);
-      }
+      breaks_at false old new left_before left left_after held_before flushed held_after bytes ended (Exchanges-flush so_far kept) read front (λ e. absurd (cc))
+
+  -- the flush before a read failed
+  pub breaks_unflushed : (server : Server R A) (left_before left held_before held held_after : Option (List ℕ)) (ended : Bool)
+      → Exchanges (StandsTo server) left_before left held_before held → Keeps held held_after
+      → IsBroken s (standing server) left_before left held_before held_after ended
+  breaks_unflushed server left_before left held_before held held_after ended so_far kept =
+      breaks_off server server left_before left left held_before held held held_after [] ended so_far (keeps_same held) (Consumes-nil left)
+      (nothing_written state server server held held_after kept)
 
   -- a write failed after the input had ended
   pub breaks_closed : (old closed new : Server R A) (left_before left left_after held_before held flushed held_after : Option (List ℕ)) (ended : Bool)
       → Exchanges (StandsTo old) left_before left held_before held → Keeps held flushed → Consumes left left_after [] → Closes state old closed
       → WritesFront state [] flushed held_after closed new → ended ≡ true → IsBroken s (standing new) left_before left_after held_before held_after ended
   breaks_closed old closed new left_before left left_after held_before held flushed held_after ended so_far kept read closes front told =
-      let on = Exchanges-flush so_far kept in
-      let stands : Running state s (on.used ++ front.used) true (on.given ++ front.given) new =
-      front.goes s on.used true on.given (closes s on.used false on.given on.related).0 in
+      breaks_at true closed new left_before left left_after held_before flushed held_after [] ended
+      (closes_on old closed left_before left held_before flushed (Exchanges-flush so_far kept) closes) read front
+      (λ e. (back_of_nothing front.used front.unused front.parts, told))
+
+  -- the session ended, whether or not the input had
+  ends_at : (over : Bool) (old new : Server R A) (left_before left left_after held_before held written_all held_after : Option (List ℕ)) (bytes : List ℕ) (ended : Bool)
+      (outcome : Outcome)
+      → Exchanges (λ used given. Running state s used over given old) left_before left held_before held → Consumes left left_after bytes
+      → (end : WritesItsEnd state bytes held written_all old new outcome) → Keeps written_all held_after → (over ≡ true → (end.unused ≡ []) × (ended ≡ true))
+      → IsRun s (standing new) left_before left_after held_before held_after ended outcome
+  ends_at over old new left_before left left_after held_before held written_all held_after bytes ended outcome on read end last whole =
+      let stands = end.goes s on.used over on.given on.related in
       record {
-        used = on.used ++ front.used;
-        unused = front.unused;
-        over = true;
-        given = on.given ++ front.given;
-        read = subst (Consumes left_before left_after) (ap (λ (l : List ℕ). on.used ++ l) front.parts ∙ sym (append_assoc on.used front.used front.unused))
-            (Consumes-trans left_before left left_after on.used [] on.read read);
-        written = AppendsFront-after held_before flushed held_after on.given front.given on.written front.written;
-        moment = every_moment state new s (on.used ++ front.used) true (on.given ++ front.given) stands;
+        used = on.used ++ end.used;
+        unused = end.unused;
+        over = over;
+        given = on.given ++ end.given;
+        read = reads_front left_before left left_after on.used bytes end.used end.unused end.parts on.read read;
+        written = Appends-kept held_before written_all held_after (on.given ++ end.given)
+            (Appends-trans held_before held written_all on.given end.given on.written end.written) last;
+        session = end.session s (on.used ++ end.used) over (on.given ++ end.given) stands;
         stands = stands;
-        whole = λ e. (back_of_nothing front.used front.unused front.parts, told);
+        whole = whole;
       }
 
   -- the session ended with a front of the bytes
@@ -249,19 +282,8 @@ module _ {R A : Type 0} (state : R → RepoState) (s : Setting) where
       → WritesItsEnd state bytes flushed written_all old new outcome → Keeps written_all held_after
       → IsRun s (standing new) left_before left_after held_before held_after ended outcome
   ends_with old new left_before left left_after held_before held flushed written_all held_after bytes ended outcome so_far kept read end last =
-      let on = Exchanges-flush so_far kept in
-      record {
-        used = on.used ++ end.used;
-        unused = end.unused;
-        over = false;
-        given = on.given ++ end.given;
-        read = subst (Consumes left_before left_after) (ap (λ (l : List ℕ). on.used ++ l) end.parts ∙ sym (append_assoc on.used end.used end.unused))
-            (Consumes-trans left_before left left_after on.used bytes on.read read);
-        written = Appends-kept held_before written_all held_after (on.given ++ end.given) (Appends-trans held_before flushed written_all on.given end.given on.written end.written) last;
-        session = end.session s (on.used ++ end.used) false (on.given ++ end.given) (end.goes s on.used false on.given on.related);
-        stands = end.goes s on.used false on.given on.related;
-        whole = λ e. absurd (cc);
-      }
+      ends_at false old new left_before left left_after held_before flushed written_all held_after bytes ended outcome (Exchanges-flush so_far kept) read end last
+      (λ e. absurd (cc))
 
   -- the session ended with the input
   pub ends_closed : (old closed new : Server R A) (left_before left left_after held_before held flushed held_after : Option (List ℕ)) (ended : Bool) (outcome : Outcome)
@@ -269,30 +291,18 @@ module _ {R A : Type 0} (state : R → RepoState) (s : Setting) where
       → WritesItsEnd state [] flushed held_after closed new outcome → ended ≡ true
       → IsRun s (standing new) left_before left_after held_before held_after ended outcome
   ends_closed old closed new left_before left left_after held_before held flushed held_after ended outcome so_far kept read closes end told =
-      let on = Exchanges-flush so_far kept in
-      let nothing : end.used ≡ [] = front_of_nothing end.used end.unused end.parts in
-      let after : end.unused ≡ [] = back_of_nothing end.used end.unused end.parts in
-      record {
-        used = on.used ++ end.used;
-        unused = end.unused;
-        over = true;
-        given = on.given ++ end.given;
-        read = subst (Consumes left_before left_after) (ap (λ (l : List ℕ). on.used ++ l) end.parts ∙ sym (append_assoc on.used end.used end.unused))
-            (Consumes-trans left_before left left_after on.used [] on.read read);
-        written = Appends-trans held_before flushed held_after on.given end.given on.written end.written;
-        session = end.session s (on.used ++ end.used) true (on.given ++ end.given) (end.goes s on.used true on.given (closes s on.used false on.given on.related).0);
-        stands = end.goes s on.used true on.given (closes s on.used false on.given on.related).0;
-        whole = λ e. (after, told);
-      }
+      ends_at true closed new left_before left left_after held_before flushed held_after held_after [] ended outcome
+      (closes_on old closed left_before left held_before flushed (Exchanges-flush so_far kept) closes) read end (keeps_same held_after)
+      (λ e. (back_of_nothing end.used end.unused end.parts, told))
 
-pub keeps_same : (o : Option (List ℕ)) → Keeps o o
-keeps_same None = tt
-keeps_same (Some bytes) = refl
-
-pub if_err_at : {T : Type 0} (r : Result T RunFault) (fault : RunFault) (P : RunFault → Type 0) → IsErrAnd r (λ e. e ≡ fault) → P fault → IfErr r P
+if_err_at : {T : Type 0} (r : Result T RunFault) (fault : RunFault) (P : RunFault → Type 0) → IsErrAnd r (λ e. e ≡ fault) → P fault → IfErr r P
 if_err_at r fault P met holds =
     let (e, is, same) = err_from_is_err_and r met in
     subst (λ x. IfErr x P) (sym is) (subst P (sym same) holds)
+
+-- what holds of the fault that is told
+pub until_at : {T : Type 0} (r : Result T RunFault) (fault told : RunFault) (P : RunFault → Type 0) → IsErrAnd r (λ e. e ≡ fault) → fault ≡ told → P told → IfErr r P
+until_at r fault told P met is holds = if_err_at r fault P met (subst P (sym is) holds)
 
 pub on_err_at : {T : Type 0} (r : Result T RunFault) (fault : RunFault) (P : Type 0) → IsErrAnd r (λ e. e ≡ fault) → P → OnErr r P
 on_err_at r fault P met holds =

@@ -1,5 +1,5 @@
 -- What a server's moments and its end are, without the server.
-use Rattle.std.proofs.Common.{◌≡◌, ℕ, Bool, true, List, [], ◌++◌, Option, Some, None, refl, sym, ap, ◌∙◌, append-nil, subst, inl, inr}
+use Rattle.std.proofs.Common.{◌≡◌, ℕ, Bool, true, List, [], Option, Some, None, refl, sym, ap, ◌∙◌, append-nil, subst, inl, inr}
 use Rattle.git_server.specs.Repository.{Repository, RepoState}
 use Rattle.git_server.specs.Answers.{AllFit, spelled}
 use Rattle.git_server.specs.Sessions.{Setting, IsTail, IsEnding, IsAnswered, IsRunning, IsSession}
@@ -8,14 +8,14 @@ use Rattle.git_server.specs.declared.server.Phase.{Phase}
 use Rattle.git_server.specs.declared.server.Phase.TheVariants.{Advertising, Between, Within, Answering, Refusing, Ended}
 use Rattle.git_server.specs.declared.server.Turn.TheVariants.{Finished}
 use Rattle.git_server.specs.declared.server.Pulled.TheVariants.{Finished as FinishedNow}
-use Rattle.git_server.specs.Serving.{Running, Serves, StandsBy, outcome_of, wants_input}
+use Rattle.git_server.specs.Serving.{Running, StandsBy, outcome_of, wants_input}
 use Rattle.git_server.specs.Moves.{OwesNow, Pulls}
 use Rattle.git_server.specs.declared.outcome.Outcome.{Outcome}
 use Rattle.git_server.specs.declared.server.Server.{Server}
 use Rattle.git_server.proofs.Begun.{begins}
 use Rattle.git_server.proofs.Readers.{sound_rest}
 use Rattle.git_server.proofs.Sent.{all_sent}
-use Rattle.git_server.proofs.Going.{no_outcome, owes_nothing, owes_some}
+use Rattle.git_server.proofs.Going.{goes_nowhere, goes_on, no_outcome, owes_nothing, owes_some}
 
 module _ {R A : Type 0} (state : R → RepoState) (server : Server R A) (s : Setting) (used : List ℕ) (over : Bool) (given : List ℕ) (r : Running state s used over given server) where
   moment : (o : Option Outcome) → outcome_of server ≡ o → StandsBy o s used over given server → IsRunning s used over given
@@ -64,7 +64,7 @@ module _ {R A : Type 0} (state : R → RepoState) (server : Server R A) (s : Set
   pub all_answered : IsAnswered s used given
   all_answered =
       let none = no_outcome server.phase wants in
-      let h : Serves s used given server = (subst (λ (o : Option Outcome). StandsBy o s used over given server) none r.stands).1 in
+      let h = (goes_on state server s used over given none r).1 in
       let all = all_sent s h.asked h.sent (h.is_sent [] (owes_nothing server.offer s.repo server.phase wants)) in
       record {
         asked = h.asked;
@@ -95,8 +95,7 @@ ends_now {A = A} state server outcome turn =
     let is = turn_ends server.phase outcome turn in
     let nothing : OwesNow state server [] = subst (λ (p : Phase A). Owes server.offer (state server.repo).answers p []) (sym is) refl in
     record {
-      goes = λ s so_far over before r. subst (λ (l : List ℕ). Running state s l over (before ++ []) server) (sym (append-nil so_far))
-          (subst (λ (l : List ℕ). Running state s so_far over l server) (sym (append-nil before)) r);
+      goes = goes_nowhere state server;
       tells = (ap outcome_in is, nothing, refl, λ s used over given r. its_end state server s used over given r outcome (ap outcome_in is) nothing);
       outcome = refl;
     }
