@@ -13,5 +13,6 @@ pub mod Giving
 pub mod Owing
 pub mod SessionLaws
 pub mod OneSession
+pub mod TooLong
 pub mod RunLemmas
 pub mod OneOutcome

@@ -1,23 +1,28 @@
 -- A run of a server, one call after another.
-use Rattle.std.proofs.Common.{◌≡◌, ◌⊎◌, ℕ, ◌+◌, ◌-◌, ◌<◌, ◌≤◌, length, take, drop, take-append-drop, IsSome, IfErr, OnErr, IsErrAnd, Result, inl, inr, Bool, true, false, List, [], ◌∷◌, ◌++◌, Option, Some, None, refl, sym, ap, ◌∙◌, append_assoc, append-nil, subst}
+use Rattle.std.proofs.Common.{arith, ◌≡◌, ◌≢◌, ◌⊎◌, ℕ, ◌+◌, ◌-◌, ◌<◌, ◌≤◌, length, length-append, length-drop, take, drop, take-append-drop, IsSome, IfErr, OnErr, IsErrAnd, Result, inl, inr, Bool, true, false, List, [], ◌∷◌, ◌++◌, Option, Some, None, refl, sym, ap, ◌∙◌, append_assoc, append-nil, subst}
 use Rattle.std.specs.Io.KnownBytes.{Appends, Consumes, Keeps}
 use Rattle.std.proofs.KnownBytes.{Appends-kept, Appends-nil, Appends-trans, Consumes-nil, Consumes-trans}
 use Rattle.git_pkt.specs.Engine.{Exchanges}
 use Rattle.git_pkt.specs.Told.{AppendsFront}
-use Rattle.git_pkt.proofs.EngineLemmas.{AppendsFront-after, Exchanges-flush, Exchanges-more}
+use Rattle.git_pkt.proofs.EngineLemmas.{AppendsFront-after, Exchanges-flush, Exchanges-more, Exchanges-nothing}
 use Rattle.git_server.specs.Repository.{RepoState}
 use Rattle.git_server.specs.Sessions.{Setting}
 use Rattle.git_server.specs.Serving.{Running, outcome_of, wants_input}
-use Rattle.git_server.specs.Moves.{Closes, EndsAs, Goes, OwesNow, Pulls, TellsPulled, given_by}
+use Rattle.git_server.specs.Moves.{Closes, EndsAs, Goes, OwesNow, Pulls, StopsInTime, TellsPulled, given_by}
 use Rattle.git_server.specs.Runs.{IsBroken, IsRun, Standing, Waits, WritesAll, WritesFront, WritesItsEnd, WritesOn}
 use Rattle.git_server.specs.declared.outcome.Outcome.{Outcome}
+use Rattle.git_server.specs.declared.outcome.Outcome.TheVariants.{Refused}
 use Rattle.git_server.specs.declared.server.Pulled.{Pulled}
 use Rattle.git_server.specs.declared.server.Pulled.TheVariants.{Packet, Finished}
 use Rattle.git_server.specs.declared.server.Server.{Server}
-use Rattle.git_pkt.proofs.Pieces.{take_joined}
+use Rattle.git_pkt.proofs.Pieces.{left_of, take_joined}
 use Rattle.git_server.proofs.Going.{goes_join, goes_nowhere, no_outcome}
 use Rattle.git_server.proofs.SessionLaws.{all_answered, every_moment}
+use Rattle.git_server.proofs.TooLong.{ends_too_long}
+use Rattle.std.proofs.lemmas.List.{length-take}
 use Rattle.std.proofs.lemmas.Result.{err_from_is_err_and}
+use Rattle.git_pkt.specs.declared.fault.Fault.{Fault}
+use Rattle.git_pkt.specs.declared.fault.Kind.TheVariants.{StreamTooLong}
 use Rattle.git_pkt.specs.declared.fault.RunFault.{RunFault}
 use denote.Ref.{Bor}
 
@@ -67,8 +72,8 @@ module _ {R A : Type 0} (state : R → RepoState) (old middle new : Server R A) 
 
   -- the end was pulled
   pub writes_end : (held_before held : Option (List ℕ)) (pulled : Pulled) (outcome : Outcome) → WritesOn state [] held_before held old middle → Pulls state middle pulled new
-      → pulled ≡ Finished outcome → WritesItsEnd state [] held_before held old new outcome
-  writes_end held_before held pulled outcome so_far pulls is =
+      → pulled ≡ Finished outcome → outcome_of middle ≡ outcome_of old → WritesItsEnd state [] held_before held old new outcome
+  writes_end held_before held pulled outcome so_far pulls is same =
       let tells : TellsPulled state middle (Finished outcome) new = subst (λ (p : Pulled). TellsPulled state middle p new) is pulls.tells in
       record {
         used = [];
@@ -80,6 +85,9 @@ module _ {R A : Type 0} (state : R → RepoState) (old middle new : Server R A) 
         ends = pulls.outcome ∙ tells.0;
         owes = subst (λ (server : Server R A). OwesNow state server []) (sym tells.2) tells.1;
         session = subst (λ (server : Server R A). EndsAs state server outcome) (sym tells.2) tells.3;
+        in_time = λ s used_before over before r wants fault told too_long.
+            let still : Some outcome ≡ None = sym tells.0 ∙ same ∙ no_outcome old.phase wants in
+            absurd (cc);
       }
 
 module _ {R A : Type 0} (state : R → RepoState) (old middle fed new : Server R A) (held_before held held_after : Option (List ℕ)) (bytes : List ℕ) (done used : ℕ) (within : done ≤ length bytes)
@@ -97,8 +105,10 @@ module _ {R A : Type 0} (state : R → RepoState) (old middle fed new : Server R
       (writes_more state old fed new held_before held held_after (take (done + used) bytes) [] all.given fed_so_far all.written all.goes)
 
   -- a part of a piece was used, and with it the session ended
-  pub writes_piece_end : (outcome : Outcome) → WritesItsEnd state [] held held_after fed new outcome → WritesItsEnd state bytes held_before held_after old new outcome
-  writes_piece_end outcome end =
+  pub writes_piece_end : (outcome : Outcome) → WritesItsEnd state [] held held_after fed new outcome → wants_input middle ≡ true
+      → StopsInTime state middle used (take (length bytes - done) (drop done bytes)) (outcome_of fed) → outcome_of new ≡ outcome_of fed
+      → WritesItsEnd state bytes held_before held_after old new outcome
+  writes_piece_end outcome end wants in_time same =
       let nothing : end.used ≡ [] = front_of_nothing end.used end.unused end.parts in
       let on = writes_more state old fed new held_before held held_after (take (done + used) bytes) end.used end.given fed_so_far end.written end.goes in
       record {
@@ -111,6 +121,10 @@ module _ {R A : Type 0} (state : R → RepoState) (old middle fed new : Server R
         ends = end.ends;
         owes = end.owes;
         session = end.session;
+        in_time = λ s used_before over before r wants_before fault told too_long.
+            let inner = so_far.goes s used_before over before r in
+            let less = in_time s (used_before ++ take done bytes) over (before ++ so_far.given) inner wants fault (sym same ∙ end.ends ∙ told) too_long in
+            omega (arith, less, ap length (left_of bytes done within), length-drop done bytes, length-take (done + used) bytes);
       }
 
   -- a part of a piece was used, and a front of what was given for it was written
@@ -260,8 +274,9 @@ module _ {R A : Type 0} (state : R → RepoState) (s : Setting) where
       (outcome : Outcome)
       → Exchanges (λ used given. Running state s used over given old) left_before left held_before held → Consumes left left_after bytes
       → (end : WritesItsEnd state bytes held written_all old new outcome) → Keeps written_all held_after → (over ≡ true → (end.unused ≡ []) × (ended ≡ true))
+      → ((fault : Fault) → outcome ≡ Refused fault → fault.kind ≡ StreamTooLong → end.unused ≢ [])
       → IsRun s (standing new) left_before left_after held_before held_after ended outcome
-  ends_at over old new left_before left left_after held_before held written_all held_after bytes ended outcome on read end last whole =
+  ends_at over old new left_before left left_after held_before held written_all held_after bytes ended outcome on read end last whole in_time =
       let stands = end.goes s on.used over on.given on.related in
       record {
         used = on.used ++ end.used;
@@ -274,16 +289,33 @@ module _ {R A : Type 0} (state : R → RepoState) (s : Setting) where
         session = end.session s (on.used ++ end.used) over (on.given ++ end.given) stands;
         stands = stands;
         whole = whole;
+        in_time = in_time;
       }
+
+  -- the session ended before a byte was read
+  pub ends_at_once : (old new : Server R A) (left held written held_after : Option (List ℕ)) (ended : Bool) (outcome : Outcome) → Running state s [] false [] old
+      → WritesItsEnd state [] held written old new outcome → Keeps written held_after
+      → IsRun s (standing new) left left held held_after ended outcome
+  ends_at_once old new left held written held_after ended outcome r end last =
+      let nothing : end.used ≡ [] = front_of_nothing end.used end.unused end.parts in
+      ends_at false old new left left left held held written held_after [] ended outcome (Exchanges-nothing left held r) (Consumes-nil left) end last
+      (λ e. absurd (cc))
+      (λ fault is too_long.
+      let session = end.session s end.used false end.given (end.goes s [] false [] r) in
+      let all : length end.used ≡ 9223372036854775807 = (ends_too_long s end.used false end.given outcome fault session is too_long).1 in
+      absurd (omega (arith, all, ap length nothing)))
 
   -- the session ended with a front of the bytes
   pub ends_with : (old new : Server R A) (left_before left left_after held_before held flushed written_all held_after : Option (List ℕ)) (bytes : List ℕ) (ended : Bool) (outcome : Outcome)
       → Exchanges (StandsTo old) left_before left held_before held → Keeps held flushed → Consumes left left_after bytes
-      → WritesItsEnd state bytes flushed written_all old new outcome → Keeps written_all held_after
+      → WritesItsEnd state bytes flushed written_all old new outcome → Keeps written_all held_after → wants_input old ≡ true
       → IsRun s (standing new) left_before left_after held_before held_after ended outcome
-  ends_with old new left_before left left_after held_before held flushed written_all held_after bytes ended outcome so_far kept read end last =
+  ends_with old new left_before left left_after held_before held flushed written_all held_after bytes ended outcome so_far kept read end last wants =
       ends_at false old new left_before left left_after held_before flushed written_all held_after bytes ended outcome (Exchanges-flush so_far kept) read end last
       (λ e. absurd (cc))
+      (λ fault is too_long none.
+      let less = end.in_time s so_far.used false so_far.given so_far.related wants fault (ap Some is) too_long in
+      omega (arith, less, ap length end.parts, length-append end.used end.unused, ap length none))
 
   -- the session ended with the input
   pub ends_closed : (old closed new : Server R A) (left_before left left_after held_before held flushed held_after : Option (List ℕ)) (ended : Bool) (outcome : Outcome)
@@ -291,9 +323,13 @@ module _ {R A : Type 0} (state : R → RepoState) (s : Setting) where
       → WritesItsEnd state [] flushed held_after closed new outcome → ended ≡ true
       → IsRun s (standing new) left_before left_after held_before held_after ended outcome
   ends_closed old closed new left_before left left_after held_before held flushed held_after ended outcome so_far kept read closes end told =
+      let on = closes_on old closed left_before left held_before flushed (Exchanges-flush so_far kept) closes in
       ends_at true closed new left_before left left_after held_before flushed held_after held_after [] ended outcome
-      (closes_on old closed left_before left held_before flushed (Exchanges-flush so_far kept) closes) read end (keeps_same held_after)
-      (λ e. (back_of_nothing end.used end.unused end.parts, told))
+      on read end (keeps_same held_after) (λ e. (back_of_nothing end.used end.unused end.parts, told))
+      (λ fault is too_long.
+      let session = end.session s (on.used ++ end.used) true (on.given ++ end.given) (end.goes s on.used true on.given on.related) in
+      let goes_on : true ≡ false = (ends_too_long s (on.used ++ end.used) true (on.given ++ end.given) outcome fault session is too_long).0 in
+      absurd (cc))
 
 if_err_at : {T : Type 0} (r : Result T RunFault) (fault : RunFault) (P : RunFault → Type 0) → IsErrAnd r (λ e. e ≡ fault) → P fault → IfErr r P
 if_err_at r fault P met holds =

@@ -1,15 +1,18 @@
 -- What a run of a server over a reader and a writer does to their bytes.
-use Rattle.std.specs.Prelude.{◌≡◌, ℕ, Bool, true, false, List, [], ◌++◌, Option, Some, None}
+use Rattle.std.specs.Prelude.{◌≡◌, ◌≢◌, ℕ, Bool, true, false, List, [], ◌++◌, length, Option, Some, None}
 use Rattle.std.specs.Io.KnownBytes.{Appends, Consumes}
 use Rattle.git_pkt.specs.Engine.{Exchanges, HasRead}
 use Rattle.git_pkt.specs.Told.{AppendsFront}
+use Rattle.git_pkt.specs.declared.fault.Fault.{Fault}
+use Rattle.git_pkt.specs.declared.fault.Kind.TheVariants.{StreamTooLong}
 use Rattle.git_pkt.specs.declared.fault.RunFault.{RunFault}
-use Rattle.git_pkt.specs.declared.fault.RunFault.TheVariants.{ReadFault, WriteFault, ReadLimit, Refused}
+use Rattle.git_pkt.specs.declared.fault.RunFault.TheVariants.{ReadFault, WriteFault, ReadLimit, Refused as RefusedRun}
 use Rattle.git_server.specs.Repository.{RepoState}
 use Rattle.git_server.specs.Sessions.{Setting, IsAnswered, IsRunning, IsSession}
 use Rattle.git_server.specs.Serving.{outcome_of, wants_input}
-use Rattle.git_server.specs.Moves.{EndsAs, Goes, OwesNow}
+use Rattle.git_server.specs.Moves.{EndsAs, Goes, OwesNow, StopsInTime}
 use Rattle.git_server.specs.declared.outcome.Outcome.{Outcome}
+use Rattle.git_server.specs.declared.outcome.Outcome.TheVariants.{Refused}
 use Rattle.git_server.specs.declared.server.Server.{Server}
 
 module _ {R A : Type 0} (state : R → RepoState) (bytes : List ℕ) (held_before held_after : Option (List ℕ)) (old new : Server R A) where
@@ -46,6 +49,7 @@ module _ {R A : Type 0} (state : R → RepoState) (bytes : List ℕ) (held_befor
     pub ends : outcome_of new ≡ Some outcome
     pub owes : OwesNow state new []
     pub session : EndsAs state new outcome
+    pub in_time : StopsInTime state old (length used) bytes (Some outcome)
 
   -- what was written, where the session goes on or ended
   abbrev pub WritesFor : Option Outcome → Type 0
@@ -57,7 +61,7 @@ abbrev pub Standing : Type 1
 Standing = List ℕ → Bool → List ℕ → Type 0
 
 -- a whole run: of what was read a front was used, and just what the session gives for it was written. Where the session
--- ended with the input, all was used, and the reader told its end.
+-- ended with the input, all was used, and the reader told its end. Where the stream is too long, one more byte was read.
 pub record IsRun (s : Setting) (P : Standing) (left_before left_after held_before held_after : Option (List ℕ)) (ended : Bool)
     (outcome : Outcome) : Type 0 where
   pub used : List ℕ
@@ -69,6 +73,7 @@ pub record IsRun (s : Setting) (P : Standing) (left_before left_after held_befor
   pub session : IsSession s used over given outcome
   pub stands : P used over given
   pub whole : over ≡ true → (unused ≡ []) × (ended ≡ true)
+  pub in_time : (fault : Fault) → outcome ≡ Refused fault → fault.kind ≡ StreamTooLong → unused ≢ []
 
 -- all that was read was used, and the advertisement and each answer were written whole
 abbrev pub Waits : Setting → Standing → Option (List ℕ) → Option (List ℕ) → Option (List ℕ) → Option (List ℕ) → Type 0
@@ -93,4 +98,4 @@ RunsUntil s P turns left_before left_after held_before held_after ended ReadFaul
 RunsUntil s P turns left_before left_after held_before held_after ended WriteFault = IsBroken s P left_before left_after held_before held_after ended
 RunsUntil s P turns left_before left_after held_before held_after ended ReadLimit =
     Waits s P left_before left_after held_before held_after × HasRead turns left_before left_after
-RunsUntil s P turns left_before left_after held_before held_after ended (Refused fault) = ⊥
+RunsUntil s P turns left_before left_after held_before held_after ended (RefusedRun fault) = ⊥

@@ -13,6 +13,7 @@ loop-bytes-preserved g c =
 pub returns-in-Finished-clause-ok : goal.returns-in-Finished-clause-ok
 returns-in-Finished-clause-ok g c =
     writes_end g.R.Repo.state _ _ _ _ _ _ c.in-Finished.outcome c.loop-bytes.invariant.writes c.pull.follows.holds-at-none c.in-Finished.is
+    c.loop-bytes.invariant.outcome
 
 pub returns-in_err-send-in-Packet-clause-front : goal.returns-in_err-send-in-Packet-clause-front
 returns-in_err-send-in-Packet-clause-front g c =

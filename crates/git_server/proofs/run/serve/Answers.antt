@@ -5,7 +5,7 @@ use Rattle.git_pkt.specs.Told.{inner_of}
 use Rattle.git_pkt.proofs.EngineLemmas.{Exchanges-flush, Exchanges-nothing, Exchanges-read_fault, one_more_read}
 use Rattle.git_server.specs.Runs.{WritesFor}
 use Rattle.git_server.specs.declared.outcome.Outcome.{Outcome}
-use Rattle.git_server.proofs.RunLemmas.{turns_on, answered, breaks_off, breaks_unflushed, breaks_closed, ends_with, ends_closed, end_unflushed, keeps_same, until_at}
+use Rattle.git_server.proofs.RunLemmas.{turns_on, answered, breaks_off, breaks_unflushed, breaks_closed, ends_at_once, ends_with, ends_closed, end_unflushed, keeps_same, until_at}
 use Rattle.git_server.proofs.run.serve.Goals as goal
 
 pub returns-clause-ends : goal.returns-clause-ends
@@ -28,8 +28,7 @@ returns-in-Some-clause-run g c =
     let held = g.W.Write.contents (inner_of c.args.writer.now) in
     let written = g.W.Write.contents (inner_of c.drain.new.writer) in
     let end = subst (λ (o : Option Outcome). WritesFor g.R.Repo.state [] held written old c.drain.new.server o) c.in-Some.is c.in_ok-outcome.ensures.ok in
-    ends_with g.R.Repo.state s old c.drain.new.server left left left held held held written _ [] _ c.in-Some.outcome
-    (Exchanges-nothing left held r) (keeps_same held) (Consumes-nil left) end c.in_ok-flush.ensures.bytes
+    ends_at_once g.R.Repo.state s old c.drain.new.server left held written _ _ c.in-Some.outcome r end c.in_ok-flush.ensures.bytes
 
 pub returns-in_err-count-clause-until : goal.returns-in_err-count-clause-until
 returns-in_err-count-clause-until g c =
@@ -54,7 +53,7 @@ returns-in-Some-2-clause-run g c =
     let written = g.W.Write.contents (inner_of c.serve_piece.new.writer) in
     let end = subst (λ (o : Option Outcome). WritesFor g.R.Repo.state bytes flushed written c.loop.server c.serve_piece.new.server o) c.in-Some-2.is c.in_ok-outcome-3.ensures.ok in
     ends_with g.R.Repo.state s c.loop.server c.serve_piece.new.server _ _ _ _ _ flushed written _ bytes _ c.in-Some-2.outcome
-    (c.loop.invariant.run s r) c.in_ok-flush-2.ensures.bytes c.in_ok-count.ensures.bytes.0 end c.in_ok-flush-3.ensures.bytes
+    (c.loop.invariant.run s r) c.in_ok-flush-2.ensures.bytes c.in_ok-count.ensures.bytes.0 end c.in_ok-flush-3.ensures.bytes c.loop.invariant.wants
 
 pub loop-preserved : goal.loop-preserved
 loop-preserved g c =

@@ -12,7 +12,8 @@ returns-in-Some-clause-ok g c =
     let held_after = g.W.Write.contents (inner_of c.drain.new.writer) in
     let end = subst (λ (o : Option Outcome). WritesFor g.R.Repo.state [] held held_after c.feed-used.new.self c.drain.new.server o) c.in-Some.is c.in_ok-outcome.ensures.ok in
     writes_piece_end g.R.Repo.state _ c.loop-used.server c.feed-used.new.self _ _ held held_after c.args.bytes.now c.loop-used.used c.feed-used.result c.loop-used.invariant.within
-    c.loop-used.invariant.writes c.feed-used.ensures.goes c.in-Some.outcome end
+    c.loop-used.invariant.writes c.feed-used.ensures.goes c.in-Some.outcome end c.loop-used.invariant.wants c.feed-used.ensures.in_time
+    c.in_ok-outcome.ensures.outcome
 
 pub loop-used-preserved : goal.loop-used-preserved
 loop-used-preserved g c =
