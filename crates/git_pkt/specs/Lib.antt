@@ -11,3 +11,4 @@ pub mod Escape
 pub mod FaultNames
 pub mod Told
 pub mod Engine
+pub mod Bands
