@@ -113,10 +113,6 @@ key_and_value text value n at within short v k e =
     let split = split_at_first (λ c. eqb c 61) text 0 there in
     (k, subst (λ (l : List ℕ). text ≡ l) (joined text value n found at v) split, e)
 
--- what the code has of the bytes after the first `=`
-pub rest_of_text : (text : List ℕ) (n : ℕ) → n ≤ length text → take (length text - n) (drop n text) ≡ drop n text
-rest_of_text text n h = grind (arith, common_steps)
-
 pub key_with_some : (b all : Bool) → b ≡ false → (not b && all) ≡ all
 key_with_some true all e = absurd (cc)
 key_with_some false all e = refl

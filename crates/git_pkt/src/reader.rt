@@ -75,7 +75,7 @@ pub struct PacketReader {
 }
 
 impl PacketReader {
-    ghost use Rattle.git_pkt.specs.Reading.{Reads, ReadsOn, Feeds, position_of, fault_of, rest_of, held_of, is_open};
+    ghost use Rattle.git_pkt.specs.Reading.{Reads, ReadsOn, Feeds, Holds, position_of, fault_of, rest_of, open_length, held_of, is_open};
     ghost use Rattle.git_pkt.specs.contracts.reader.PacketReader.{the_row};
     ghost use Rattle.git_pkt.specs.Lending.{LendsHold};
     ghost use Rattle.git_pkt.specs.ReaderSteps.{Moves, IsStopped, IsOfPacket, IsShown};
@@ -151,7 +151,7 @@ impl PacketReader {
         ensures told { IfErr result (λ f. fault_of self.new ≡ Some f) }
         ensures repeats { (f : Fault) → fault_of self.old ≡ Some f → (result ≡ Err f) × (self.new ≡ self.old) }
         ensures truncated { fault_of self.old ≡ None → IfErr result (λ f.
-            (is_open self.old ≡ true) × (f.kind ≡ Truncated) × (f.offset + length (rest_of self.old) ≡ position_of self.old)) }
+            (is_open self.old ≡ true) × (f.kind ≡ Truncated) × (f.offset + open_length self.old ≡ position_of self.old)) }
     {
         if let Some(fault) = self.fault {
             return Err(fault);
@@ -171,7 +171,7 @@ impl PacketReader {
     /// Whether a packet has begun and is not whole.
     pub fn is_open(&self) -> bool
         ensures value { result ≡ is_open self.now }
-        ensures rest { IsTrue result ↔ (rest_of self.now ≢ []) }
+        ensures rest { (rest : List ℕ) → Holds self.now rest → IsTrue result ↔ (rest ≢ []) }
         ensures stream { (start : ℕ) (bytes : List ℕ) (given : List Given) (rest : List ℕ) → Reads self.now start bytes given rest
             → IsTrue result ↔ ((fault_of self.now ≡ None) × (rest ≢ [])) }
     {
