@@ -1,5 +1,5 @@
 -- Where the key of a capability line ends.
-use Rattle.std.proofs.Common.{arith, tests, ◌≡◌, ℕ, ◌+◌, ◌-◌, ◌≢◌, ◌<◌, ◌≤◌, List, [], ◌∷◌, ◌++◌, length, true, false, Bool, ◌&&◌, not, cond, eqb, refl, ap, ◌∙◌, sym, take, drop, Option, Some, None, unwrap_or, ltb, get_or, subst, length-append, suc, Bor}
+use Rattle.std.proofs.Common.{arith, tests, ◌≡◌, ℕ, ◌+◌, ◌≢◌, ◌<◌, ◌≤◌, List, [], ◌∷◌, ◌++◌, length, true, false, Bool, ◌&&◌, not, cond, eqb, refl, ap, ◌∙◌, sym, take, drop, Option, Some, None, unwrap_or, ltb, get_or, subst, length-append, suc, Bor}
 use Rattle.std.specs.Option.{option_copied}
 use Rattle.std.specs.List.{list_all, position_or_len}
 use Rattle.std.proofs.lemmas.Grind.{common_steps}

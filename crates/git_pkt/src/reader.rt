@@ -10,10 +10,11 @@ ghost use Rattle.git_pkt.specs.Faults.{last_position};
 ghost use Rattle.git_pkt.specs.Gathering.{IsGathering, IsLengthField, IsWhole, TellsField};
 ghost use Rattle.git_pkt.specs.declared.fault.Kind.TheVariants.{Truncated};
 
-use crate::digits::{Digits, digit, read_digits};
+use crate::digits::{Digits, read_digits};
 use crate::fault::{Fault, Kind};
 use crate::hold::{Hold, place};
 use crate::packet::Packet;
+use git_names::digit_value;
 
 /// The last position of a stream.
 const LAST_POSITION: u64 = 9_223_372_036_854_775_807;
@@ -299,7 +300,7 @@ impl PacketReader {
         place(&mut self.hold, self.count, &[byte]);
         self.count += 1;
         self.position += 1;
-        if digit(byte) == 16 {
+        if digit_value(byte) > 15 {
             return self.stop(Kind::BadDigit, self.position - 1);
         }
         if self.count < 4 {

@@ -3,8 +3,9 @@ use Rattle.std.proofs.Common.{◌≡◌, ℕ, ◌<◌, Bool, true, ◌&&◌, nat
 use Rattle.std.proofs.lemmas.Bool.{and_parts, leb-true, eqb-true}
 use Rattle.git_pkt.specs.declared.escape.TheConstants.{ESCAPES, ESCAPE_LENGTHS}
 use Rattle.git_pkt.specs.Escape.{escape_of}
-use Rattle.git_pkt.specs.Digits.{digit_of}
-use Rattle.git_pkt.proofs.Escapes.{all_pass, all_pass-at, same_bytes, same_bytes-true}
+use Rattle.git_names.specs.Digits.{lower_digit}
+use Rattle.git_names.proofs.Tables.{all_pass, all_pass-at}
+use Rattle.git_pkt.proofs.Escapes.{same_bytes, same_bytes-true}
 use Rattle.git_pkt.proofs.escape.look_up.Goals as goal
 
 -- the place of a byte has its escape
@@ -14,7 +15,7 @@ is_right escapes lengths b =
     && same_bytes (take (slice_index lengths b) (slice_index_or escapes b [])) (escape_of b)
 
 all_right : all_pass (is_right ESCAPES ESCAPE_LENGTHS) 256 ≡ true
-unfolding escape_of digit_of
+unfolding escape_of lower_digit
 all_right = refl
 
 right_at : (b : ℕ) → b < 256 → is_right ESCAPES ESCAPE_LENGTHS b ≡ true
