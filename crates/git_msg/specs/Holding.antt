@@ -13,12 +13,12 @@ use Rattle.git_msg.specs.Kept.{Kept, kept_as, IsNew, KeepsArgument}
 
 module _ {A : Type 0} where
   -- what is kept of the request
-  abbrev pub as_kept : Request A → Kept Asked
-  as_kept (OfLsRefs q) = kept_as ls_refs q
+  abbrev pub holding_of : Request A → Kept Asked
+  holding_of (OfLsRefs q) = kept_as ls_refs q
 
   -- what the request asks for
   abbrev pub asked_of : Request A → Asked
-  asked_of q = (as_kept q).asked
+  asked_of q = (holding_of q).asked
 
   -- the request's command
   abbrev pub command_of : Request A → Command
@@ -26,23 +26,23 @@ module _ {A : Type 0} where
 
   -- the format of its object names
   abbrev pub format_of : Request A → Format
-  format_of q = (as_kept q).format
+  format_of q = (holding_of q).format
 
   -- how many bytes the texts of its argument lines had
   abbrev pub kept_of : Request A → ℕ
-  kept_of q = (as_kept q).kept
+  kept_of q = (holding_of q).kept
 
   -- how many they may have
   abbrev pub limit_of : Request A → ℕ
-  limit_of q = (as_kept q).limit
+  limit_of q = (holding_of q).limit
 
   -- a request without arguments
   abbrev pub IsEmpty : Command → Format → ℕ → Request A → Type 0
-  IsEmpty command format limit q = IsNew command format limit (as_kept q)
+  IsEmpty command format limit q = IsNew command format limit (holding_of q)
 
   -- the new request is the old one with an argument more, whose text has so many bytes
   abbrev pub Keeps : Request A → Arg → ℕ → Request A → Type 0
-  Keeps old arg long new = KeepsArgument (as_kept old) arg long (as_kept new)
+  Keeps old arg long new = KeepsArgument (holding_of old) arg long (holding_of new)
 
   -- the new request is the old one with these arguments more, one after the other, each counted as it is written
   abbrev pub AddsAll : Request A → List Arg → Request A → Type 0

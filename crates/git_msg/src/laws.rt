@@ -98,8 +98,8 @@ pub fn one_first_fault()
 {}
 
 /// The packets that are written of a request are a request for the same, whatever their offsets: where the format is
-/// that of the reader, each argument may stand there, and the texts of its lines are within the limit. For SHA-256 the
-/// format has to be among what was advertised.
+/// that of the reader, each argument may stand in such a request, and the texts of its lines are within the limit. For
+/// SHA-256 the format has to be among what was advertised.
 pub fn written_request_reads_back()
     ensures { (offer : Offer) (limit : ℕ) (caps : Caps) (asked : Asked) (packets : List Given)
         → IsFormatMeant offer.format caps.object_format → HasValues offer.format asked → written_bytes asked ≤ limit

@@ -45,8 +45,8 @@ impl Budget {
 
     // Counts a text of so many bytes, if there is room for it.
     fn charge(&mut self, text_length: usize) -> Result<(), Kind>
-        ensures charged { OnOk result (self.new.kept ≡ self.old.kept + text_length) }
-        ensures limit { self.new.limit ≡ self.old.limit }
+        ensures charged { OnOk result ((self.new.kept ≡ self.old.kept + text_length) × (self.new.limit ≡ self.old.limit)) }
+        ensures unchanged { OnErr result (self.new ≡ self.old) }
         ensures sides { MatchResult result (λ _. self.old.kept + text_length ≤ self.old.limit)
             (λ kind. (self.old.limit < self.old.kept + text_length) × (kind ≡ Kind.TooMuchKept)) }
     {
