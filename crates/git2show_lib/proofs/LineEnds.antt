@@ -9,10 +9,8 @@ use Rattle.std.proofs.lemmas.List.Elements.{All-from_get_or}
 use Rattle.std.proofs.lemmas.List.Sums.{fails_before_first}
 use Rattle.std.proofs.lemmas.List.Quantifiers.{position-Some}
 use Rattle.std.proofs.lemmas.List.Splits.{slice_split_at, slice_split_none}
+use Rattle.git_pkt.proofs.Pieces.{left_of}
 use Rattle.git2show_lib.specs.RepositoryLines.{ended_lines}
-
-rest_of : (text : List ℕ) (n : ℕ) → n ≤ length text → take (length text - n) (drop n text) ≡ drop n text
-rest_of text n h = grind (arith, common_steps)
 
 front_byte : (text : List ℕ) (at k : ℕ) → k < length (take at text) → get_or (take at text) k 0 ≡ get_or text k 0
 front_byte text at k h = grind (arith, common_steps)
@@ -29,7 +27,7 @@ split_at text at e =
     let p = position-Some (λ c. c == 10) text at 0 e in
     let front : All (λ c. (c == 10) ≡ false) (take at text) = All-from_get_or (λ c. (c == 10) ≡ false) (take at text) 0 (λ k within. rw (front_byte text at k within) (p.2 k (front_within text at k within))) in
     let cut : text ≡ take at text ++ get_or text at 0 ∷ drop (at + 1) text = sym (take-append-drop at text) ∙ ap (λ (xs : List ℕ). take at text ++ xs) (drop_cons text at p.0) in
-    ap ended_lines cut ∙ slice_split_at (λ c. c == 10) (take at text) (get_or text at 0) (drop (at + 1) text) front p.1 ∙ ap (λ (xs : List ℕ). take at text ∷ ended_lines xs) (sym (rest_of text (at + 1) (omega (arith, p.0))))
+    ap ended_lines cut ∙ slice_split_at (λ c. c == 10) (take at text) (get_or text at 0) (drop (at + 1) text) front p.1 ∙ ap (λ (xs : List ℕ). take at text ∷ ended_lines xs) (sym (left_of text (at + 1) (omega (arith, p.0))))
 
 position_in : (p : ℕ → Bool) (xs : List ℕ) → position p xs ≡ None → (k : ℕ) → k < length xs → p (get_or xs k 0) ≡ false
 position_in p xs e k within = go (nat_lt (position_or_len p xs) (length xs)) refl e where

@@ -15,6 +15,7 @@ use Rattle.git_names.specs.ObjectName.{ObjectName, IsObjectName, IsNoObjectName}
 use Rattle.git_names.specs.declared.object_format.Format.{Format}
 use Rattle.git_pkt.specs.declared.fault.Kind.{Kind}
 use Rattle.git_pkt.specs.declared.fault.Kind.TheVariants.{BadObjectName}
+use Rattle.git_pkt.proofs.Pieces.{left_of}
 use Rattle.git_msg.specs.declared.reference_lines.Attribute.{Attribute}
 use Rattle.git_msg.specs.declared.reference_lines.Attribute.TheVariants.{Other}
 use Rattle.git_msg.specs.Checks.{Passes, Refuses}
@@ -100,9 +101,6 @@ pub word_refused : (format : Format) (whole : List (List ℕ)) (text : List ℕ)
 word_refused format whole text next target peeled word kind h words fault =
     subst (λ (ws : List (List ℕ)). Refuses (attribute_checks format ws) kind) (sym (h.whole_is ∙ ap (λ (ws : List (List ℕ)). h.before ++ ws) words)) (refuses_at format h.before word (words_left next) kind h.values.passes fault)
 
-rest_of : (text : List ℕ) (n : ℕ) → n ≤ length text → take (length text - n) (drop n text) ≡ drop n text
-rest_of text n h = grind (arith, common_steps)
-
 front_byte : (text : List ℕ) (at k : ℕ) → k < length (take at text) → get_or (take at text) k 0 ≡ get_or text k 0
 front_byte text at k h = grind (arith, common_steps)
 
@@ -118,7 +116,7 @@ split_at text at e =
     let p = position-Some (λ c. c == 32) text at 0 e in
     let front : All (λ c. (c == 32) ≡ false) (take at text) = All-from_get_or (λ c. (c == 32) ≡ false) (take at text) 0 (λ k within. rw (front_byte text at k within) (p.2 k (front_within text at k within))) in
     let cut : text ≡ take at text ++ get_or text at 0 ∷ drop (at + 1) text = sym (take-append-drop at text) ∙ ap (λ (xs : List ℕ). take at text ++ xs) (drop_cons text at p.0) in
-    ap spaced_words cut ∙ slice_split_at (λ c. c == 32) (take at text) (get_or text at 0) (drop (at + 1) text) front p.1 ∙ ap (λ (xs : List ℕ). take at text ∷ spaced_words xs) (sym (rest_of text (at + 1) (omega (arith, p.0))))
+    ap spaced_words cut ∙ slice_split_at (λ c. c == 32) (take at text) (get_or text at 0) (drop (at + 1) text) front p.1 ∙ ap (λ (xs : List ℕ). take at text ∷ spaced_words xs) (sym (left_of text (at + 1) (omega (arith, p.0))))
 
 position_in : (p : ℕ → Bool) (xs : List ℕ) → position p xs ≡ None → (k : ℕ) → k < length xs → p (get_or xs k 0) ≡ false
 position_in p xs e k within = go (nat_lt (position_or_len p xs) (length xs)) refl e where

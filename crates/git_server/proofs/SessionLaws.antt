@@ -12,8 +12,8 @@ use Rattle.git_server.specs.Serving.{Running, StandsBy, outcome_of, wants_input}
 use Rattle.git_server.specs.Moves.{OwesNow, Pulls}
 use Rattle.git_server.specs.declared.outcome.Outcome.{Outcome}
 use Rattle.git_server.specs.declared.server.Server.{Server}
+use Rattle.git_pkt.proofs.Holding.{sound_rest}
 use Rattle.git_server.proofs.Begun.{begins}
-use Rattle.git_server.proofs.Readers.{sound_rest}
 use Rattle.git_server.proofs.Sent.{all_sent}
 use Rattle.git_server.proofs.Going.{goes_nowhere, goes_on, no_outcome, owes_nothing, owes_some}
 
