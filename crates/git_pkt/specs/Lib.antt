@@ -12,3 +12,4 @@ pub mod FaultNames
 pub mod NameFaults
 pub mod Told
 pub mod Engine
+pub mod Bands
