@@ -29,7 +29,8 @@ returns-in_err-emit_escaped-clause-err g c =
     let went : EmitsFront between after c.emit_head.new.self body =
     subst (λ (l : List ℕ). EmitsFront between after c.emit_head.new.self (escaped_of l)) c.body.ensures c.in_err-emit_escaped.ensures.err in
     let front : EmitsFront held after c.args.self.now (head ++ body ++ 10 ∷ []) =
-    front_longer held after c.args.self.now (head ++ body) (10 ∷ []) (front_after held between after c.args.self.now head c.emit_head.new.self body began went) in
+    front_longer held after c.args.self.now (head ++ body) (10 ∷ [])
+    (front_after held between after c.args.self.now head c.emit_head.new.self body began went) in
     search rules
 
 pub returns-clause-ok : goal.returns-clause-ok
@@ -45,7 +46,9 @@ returns-clause-ok g c =
     subst (λ (l : List ℕ). Emits between next c.emit_head.new.self (escaped_of l) c.emit_escaped.new.self) c.body.ensures c.in_ok-emit_escaped.ensures.ok in
     let so_far : Emits held next c.args.self.now (head ++ body) c.emit_escaped.new.self =
     emits_then held between next c.args.self.now head c.emit_head.new.self body c.emit_escaped.new.self began went in
-    on_ok-map c.emit.result (λ last. emits_then held next after c.args.self.now (head ++ body) c.emit_escaped.new.self (10 ∷ []) c.emit.new.self so_far last) c.emit.ensures.ok
+    on_ok-map c.emit.result
+    (λ last. emits_then held next after c.args.self.now (head ++ body) c.emit_escaped.new.self (10 ∷ []) c.emit.new.self so_far last)
+    c.emit.ensures.ok
 
 pub returns-clause-err : goal.returns-clause-err
 returns-clause-err g c =
@@ -60,4 +63,5 @@ returns-clause-err g c =
     subst (λ (l : List ℕ). Emits between next c.emit_head.new.self (escaped_of l) c.emit_escaped.new.self) c.body.ensures c.in_ok-emit_escaped.ensures.ok in
     let so_far : Emits held next c.args.self.now (head ++ body) c.emit_escaped.new.self =
     emits_then held between next c.args.self.now head c.emit_head.new.self body c.emit_escaped.new.self began went in
-    on_err-map c.emit.result (λ last. front_after held next after c.args.self.now (head ++ body) c.emit_escaped.new.self (10 ∷ []) so_far last) c.emit.ensures.err
+    on_err-map c.emit.result
+    (λ last. front_after held next after c.args.self.now (head ++ body) c.emit_escaped.new.self (10 ∷ []) so_far last) c.emit.ensures.err
