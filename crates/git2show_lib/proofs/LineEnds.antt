@@ -27,7 +27,8 @@ split_at text at e =
     let p = position-Some (λ c. c == 10) text at 0 e in
     let front : All (λ c. (c == 10) ≡ false) (take at text) = All-from_get_or (λ c. (c == 10) ≡ false) (take at text) 0 (λ k within. rw (front_byte text at k within) (p.2 k (front_within text at k within))) in
     let cut : text ≡ take at text ++ get_or text at 0 ∷ drop (at + 1) text = sym (take-append-drop at text) ∙ ap (λ (xs : List ℕ). take at text ++ xs) (drop_cons text at p.0) in
-    ap ended_lines cut ∙ slice_split_at (λ c. c == 10) (take at text) (get_or text at 0) (drop (at + 1) text) front p.1 ∙ ap (λ (xs : List ℕ). take at text ∷ ended_lines xs) (sym (left_of text (at + 1) (omega (arith, p.0))))
+    ap ended_lines cut ∙ slice_split_at (λ c. c == 10) (take at text) (get_or text at 0) (drop (at + 1) text) front p.1
+    ∙ ap (λ (xs : List ℕ). take at text ∷ ended_lines xs) (sym (left_of text (at + 1) (omega (arith, p.0))))
 
 position_in : (p : ℕ → Bool) (xs : List ℕ) → position p xs ≡ None → (k : ℕ) → k < length xs → p (get_or xs k 0) ≡ false
 position_in p xs e k within = go (nat_lt (position_or_len p xs) (length xs)) refl e where

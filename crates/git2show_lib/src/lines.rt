@@ -22,9 +22,6 @@ const BLOCK: usize = 32;
 /// How many bytes are tested at a time, whether each stands for itself.
 const RUN: usize = 512;
 
-/// How many bytes a line has before the payload, at the most.
-const HEAD: usize = 64;
-
 /// A buffer of lines. It lies where its owner does and never allocates.
 #[derive(Drop)]
 pub(crate) struct Lines {
@@ -91,11 +88,28 @@ impl Lines {
         ensures fault { IfErr result (λ fault. fault ≡ RunFault.WriteFault) }
         ensures failed { has_failed writer.new ≡ (has_failed writer.old || is_err result) }
     {
-        let mut head = [0; HEAD];
-        let end = write_head(packet, offset, &mut head);
-        self.emit(writer, &head[..end])?;
+        self.emit_head(writer, packet, offset)?;
         self.emit_escaped(writer, body(packet))?;
         self.emit(writer, b"\n")
+    }
+
+    /// Puts what stands in a packet's line before the payload after the others.
+    fn emit_head<W: Write>(
+        &mut self,
+        writer: &mut Told<W>,
+        packet: Packet<'_>,
+        offset: u64,
+    ) -> Result<(), RunFault>
+        ensures ok { OnOk result (Emits (W.contents (inner_of writer.old)) (W.contents (inner_of writer.new)) self.old
+            (decimal offset ++ kind_shown (seen packet.entry)) self.new) }
+        ensures err { OnErr result (EmitsFront (W.contents (inner_of writer.old)) (W.contents (inner_of writer.new)) self.old
+            (decimal offset ++ kind_shown (seen packet.entry))) }
+        ensures fault { IfErr result (λ fault. fault ≡ RunFault.WriteFault) }
+        ensures failed { has_failed writer.new ≡ (has_failed writer.old || is_err result) }
+    {
+        self.make_room(writer)?;
+        self.count = write_head(packet, offset, &mut self.bytes, self.count);
+        Ok(())
     }
 
     /// Puts a few bytes after the others.
@@ -159,7 +173,7 @@ impl Lines {
         Ok(())
     }
 
-    /// Puts the escapes of one block after the others.
+    /// Puts the escapes of one block after the others: at once where it is a whole one, each byte of which stands for itself.
     fn emit_block<W: Write>(&mut self, writer: &mut Told<W>, block: &[u8]) -> Result<(), RunFault>
         requires { length block.now ≤ 32 }
         ensures ok { OnOk result (Emits (W.contents (inner_of writer.old)) (W.contents (inner_of writer.new)) self.old (escaped_of block.now) self.new) }
@@ -168,7 +182,7 @@ impl Lines {
         ensures failed { has_failed writer.new ≡ (has_failed writer.old || is_err result) }
     {
         self.make_room(writer)?;
-        self.count = if is_plain(block) {
+        self.count = if block.len() == BLOCK && is_plain(block) {
             put_at(&mut self.bytes, self.count, block)
         } else {
             escape_into(block, &mut self.bytes, self.count)
@@ -201,14 +215,14 @@ fn body<'a>(packet: Packet<'a>) -> &'a [u8]
     }
 }
 
-/// Writes what stands in a packet's line before the payload, and answers how many bytes that are.
-fn write_head(packet: Packet<'_>, offset: u64, out: &mut [u8]) -> usize
-    requires { length out.old ≡ 64 }
-    ensures within { result ≤ 64 }
-    ensures head { take result out.new ≡ decimal offset ++ kind_shown (seen packet.entry) }
+/// Writes what stands in a packet's line before the payload at a place, over what stands there, and answers where it ends.
+fn write_head(packet: Packet<'_>, offset: u64, out: &mut [u8], at: usize) -> usize
+    requires { at + 64 ≤ length out.old }
+    ensures within { result ≤ at + 64 }
+    ensures head { take result out.new ≡ take at out.old ++ decimal offset ++ kind_shown (seen packet.entry) }
 {
     let mut digits = Buffer::new();
-    let at = put_at(out, 0, digits.format(offset).as_bytes());
+    let at = put_at(out, at, digits.format(offset).as_bytes());
     match packet {
         Packet::Flush => put_at(out, at, b" flush"),
         Packet::Delim => put_at(out, at, b" delim"),

@@ -18,12 +18,12 @@ pub record Kept (Q : Type 0) : Type 0 where
 abbrev pub kept_as : {Q : Type 0} → (Q → Asked) → Kept Q → Kept Asked
 kept_as make q = record { format = q.format; asked = make q.asked; kept = q.kept; limit = q.limit }
 
--- each argument may stand there, and their lines as they are written have no more bytes than so many
+-- each argument may stand in such a request, and the texts of their lines as they are written have no more bytes than are counted
 pub record IsCounted (format : Format) (asked : Asked) (kept : ℕ) : Type 0 where
   pub values : HasValues format asked
   pub written : written_bytes asked ≤ kept
 
--- what is counted is within the limit too
+-- and no more bytes are counted than the limit has
 pub record IsWithin (q : Kept Asked) : Type 0 where
   pub counted : IsCounted q.format q.asked q.kept
   pub room : q.kept ≤ q.limit

@@ -81,7 +81,8 @@ one_by_name r s f g start bytes given others rest other_rest h k told other name
     same_fault f g name (one_offset p rest (start + length bytes) f.kind f.offset g.offset a c)
 
 -- two readers without a fault that hold all of the rest hold one
-pub one_rest : (r s : PacketReader) (start : ℕ) (bytes : List ℕ) (given others : List Given) (rest other_rest : List ℕ) → Reads r start bytes given rest → Reads s start bytes others other_rest → fault_of r ≡ None → fault_of s ≡ None → HoldsAll r → HoldsAll s → rest_of r ≡ rest_of s
+pub one_rest : (r s : PacketReader) (start : ℕ) (bytes : List ℕ) (given others : List Given) (rest other_rest : List ℕ) → Reads r start bytes given rest
+    → Reads s start bytes others other_rest → fault_of r ≡ None → fault_of s ≡ None → HoldsAll r → HoldsAll s → rest_of r ≡ rest_of s
 one_rest r s start bytes given others rest other_rest h k sound well all others_all =
     let same = (same_split r s start bytes given others rest other_rest h k).rest_is in
     (sound_rest r start bytes given rest sound h).0.all ∙ same ∙ sym (sound_rest s start bytes others other_rest well k).0.all

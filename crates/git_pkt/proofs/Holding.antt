@@ -9,7 +9,8 @@ use Rattle.git_pkt.specs.declared.reader.PacketReader.{PacketReader}
 use Rattle.git_pkt.proofs.ReaderMoves.{rest_of_open, rest_of_shut}
 
 -- without a fault it holds it, and a packet may still come of it
-pub sound_rest : (r : PacketReader) (start : ℕ) (bytes : List ℕ) (given : List Given) (rest : List ℕ) → fault_of r ≡ None → Reads r start bytes given rest → Holds r rest × IsOpen rest
+pub sound_rest : (r : PacketReader) (start : ℕ) (bytes : List ℕ) (given : List Given) (rest : List ℕ) → fault_of r ≡ None
+    → Reads r start bytes given rest → Holds r rest × IsOpen rest
 sound_rest r start bytes given rest sound h =
     let end : ℕ = start + length bytes in
     let state : StandsAt None (end - length rest) end rest r =

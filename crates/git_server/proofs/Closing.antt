@@ -101,7 +101,9 @@ module _ {R A : Type 0} (state : R → RepoState) (old new : Server R A) where
 
   -- inside a packet
   pub closes_open : (fault : Fault) → wants_input old ≡ true → Keeps state old new → new.phase ≡ refused_by fault.kind fault → requests_fault old.requests ≡ None → is_waiting old.requests ≡ false
-      → (fault_of old.reader ≡ None → (is_open old.reader ≡ true) × (fault.kind ≡ Truncated) × (fault.offset + open_length old.reader ≡ position_of old.reader)) → Closes state old new
+      → (fault_of old.reader ≡ None
+      → (is_open old.reader ≡ true) × (fault.kind ≡ Truncated) × (fault.offset + open_length old.reader ≡ position_of old.reader))
+      → Closes state old new
   closes_open fault wants keeps is requests_sound ready truncated s so_far over before r =
       let h = serves_of state old new [] s so_far over before wants r in
       let known = sound_rest old.reader 0 so_far h.packets h.rest h.no_fault h.reads in

@@ -11,5 +11,7 @@ returns-clause-offset c =
     λ format ending bytes events given rest h splits.
     elim c.match-close.branch [
       | in-Ok w ↦ ends_between format ending bytes events c.args.self.now given rest c.match-close.fault.offset h c.requires splits w.in-Ok.ensures.between.2 (search (rules, w.fault-is, w.position.ensures.value, ap position_of w.in-Ok.ensures.between.0))
-      | in-Err w ↦ ends_inside format ending bytes events c.args.self.now given rest c.match-close.fault.offset h c.requires splits (subst (λ (f : Fault). f.offset + open_length (reader_of c.args.self.now) ≡ position_of (reader_of c.args.self.now)) (sym w.fault-is) (w.in-Err.ensures.truncated (c.args.self.now.sound c.requires)).2)
+      | in-Err w ↦ ends_inside format ending bytes events c.args.self.now given rest c.match-close.fault.offset h c.requires splits
+          (subst (λ (f : Fault). f.offset + open_length (reader_of c.args.self.now) ≡ position_of (reader_of c.args.self.now)) (sym w.fault-is)
+          (w.in-Err.ensures.truncated (c.args.self.now.sound c.requires)).2)
     ]
