@@ -7,8 +7,7 @@ ghost use Rattle.git_names.specs.ObjectName.{ObjectName};
 ghost use Rattle.git2show_lib.specs.RepositoryLines.{IsCount, IsSizedObject, Says, SaysNothing, ended_lines, format_line, lines_left, shown, without_last_end};
 
 use crate::numbers::read_number;
-use git_msg::texts::{after, find_byte};
-use git_msg::{Boundary, Reference, read_reference};
+use git_msg::{Boundary, Reference, after, find_byte, read_reference};
 use git_names::{Format, Oid};
 
 /// The most common objects that a repository may want before it is ready.

@@ -7,11 +7,12 @@ use Rattle.git_pkt.specs.declared.fault.Kind.{Kind}
 use Rattle.git_pkt.specs.declared.fault.Kind.TheVariants.{RemoteError, NotVersion2, BadCapability, WrongFormat, UnexpectedPacket}
 use Rattle.git_pkt.proofs.Streams.{one_split}
 use Rattle.git_msg.specs.Capability.{IsNoCapability}
+use Rattle.git_msg.specs.Texts.{IsErrorText}
 use Rattle.git_msg.proofs.Keys.{one_capability}
 use Rattle.git_msg.specs.Advertisement.{noted_of}
 use Rattle.git_msg.specs.declared.offers.Caps.{Caps}
 use Rattle.git_client.specs.Parts.{Part, opening, advertisement, IsPart, nearest, advertisement_of}
-use Rattle.git_client.specs.Events.{EventValue, capability, Gives, Refuses, RefusesOpening, RefusesLine, RefusesFlush, RefusesOther, IsError, IsNoError, IsVersion, speaks}
+use Rattle.git_client.specs.Events.{EventValue, capability, Gives, Refuses, RefusesOpening, RefusesLine, RefusesFlush, RefusesOther, IsVersion, speaks}
 use Rattle.git_client.specs.Conversation.{GivesAt, RefusesAt, GiveAll, IsStop, FirstFault, Sounds, HasEvents, HasNoted}
 
 -- a packet has one part
@@ -42,9 +43,9 @@ same_line : (line other : List ℕ) → payload line ≡ payload other → line 
 same_line line other e = cc
 
 -- the one refusal of each table
-opening_refused : (p : Pkt) (kind : Kind) → RefusesOpening p kind → ((kind ≡ RemoteError) × ((line : List ℕ) × (p ≡ payload line) × IsError (text_of line))) ⊎ ((kind ≡ NotVersion2) × ((line : List ℕ) → p ≡ payload line → IsNoError (text_of line)) × ¬ IsVersion p)
+opening_refused : (p : Pkt) (kind : Kind) → RefusesOpening p kind → ((kind ≡ RemoteError) × ((line : List ℕ) × (p ≡ payload line) × IsErrorText (text_of line))) ⊎ ((kind ≡ NotVersion2) × ((line : List ℕ) → p ≡ payload line → ¬ IsErrorText (text_of line)) × ¬ IsVersion p)
 opening_refused (payload line) RemoteError r = inl (refl, (line, refl, r))
-opening_refused (payload line) NotVersion2 r = inr (refl, (λ other e. subst (λ (l : List ℕ). IsNoError (text_of l)) (same_line line other e) r.0), r.1)
+opening_refused (payload line) NotVersion2 r = inr (refl, (λ other e. subst (λ (l : List ℕ). ¬ IsErrorText (text_of l)) (same_line line other e) r.0), r.1)
 opening_refused (payload line) _ r = absurd r
 opening_refused flush NotVersion2 r = inr (refl, (λ line e. absurd (cc)), λ v. v)
 opening_refused flush _ r = absurd r
@@ -53,7 +54,7 @@ opening_refused delim _ r = absurd r
 opening_refused resp_end NotVersion2 r = inr (refl, (λ line e. absurd (cc)), λ v. v)
 opening_refused resp_end _ r = absurd r
 
-line_refused : (text : List ℕ) (kind : Kind) → RefusesLine text kind → ((kind ≡ RemoteError) × IsError text) ⊎ ((kind ≡ BadCapability) × IsNoError text × IsNoCapability text)
+line_refused : (text : List ℕ) (kind : Kind) → RefusesLine text kind → ((kind ≡ RemoteError) × IsErrorText text) ⊎ ((kind ≡ BadCapability) × (¬ IsErrorText text) × IsNoCapability text)
 line_refused text RemoteError r = inl (refl, r)
 line_refused text BadCapability r = inr (refl, r.0, r.1)
 line_refused text _ r = absurd r
@@ -69,15 +70,15 @@ other_refused _ r = absurd r
 same_line_kind : (text : List ℕ) (kind other : Kind) → RefusesLine text kind → RefusesLine text other → kind ≡ other
 same_line_kind text kind other r s =
     elim (line_refused text kind r) [
-      | inl a ↦ elim (line_refused text other s) [ inl b ↦ a.0 ∙ sym b.0 | inr b ↦ absurd (b.1 a.1.0 a.1.1) ]
-      | inr a ↦ elim (line_refused text other s) [ inl b ↦ absurd (a.1 b.1.0 b.1.1) | inr b ↦ a.0 ∙ sym b.0 ]
+      | inl a ↦ elim (line_refused text other s) [ inl b ↦ a.0 ∙ sym b.0 | inr b ↦ absurd (b.1 a.1) ]
+      | inr a ↦ elim (line_refused text other s) [ inl b ↦ absurd (a.1 b.1) | inr b ↦ a.0 ∙ sym b.0 ]
     ]
 
 same_opening_kind : (p : Pkt) (kind other : Kind) → RefusesOpening p kind → RefusesOpening p other → kind ≡ other
 same_opening_kind p kind other r s =
     elim (opening_refused p kind r) [
-      | inl a ↦ elim (opening_refused p other s) [ inl b ↦ a.0 ∙ sym b.0 | inr b ↦ absurd (b.1 a.1.0 a.1.1 a.1.2.0 a.1.2.1) ]
-      | inr a ↦ elim (opening_refused p other s) [ inl b ↦ absurd (a.1 b.1.0 b.1.1 b.1.2.0 b.1.2.1) | inr b ↦ a.0 ∙ sym b.0 ]
+      | inl a ↦ elim (opening_refused p other s) [ inl b ↦ a.0 ∙ sym b.0 | inr b ↦ absurd (b.1 a.1.0 a.1.1 a.1.2) ]
+      | inr a ↦ elim (opening_refused p other s) [ inl b ↦ absurd (a.1 b.1.0 b.1.1 b.1.2) | inr b ↦ a.0 ∙ sym b.0 ]
     ]
 
 refusal_of_part : (part : Part) (format : Format) (before : List Pkt) (p : Pkt) (kind other : Kind) → Refuses part format before p kind → Refuses part format before p other → kind ≡ other
@@ -92,23 +93,22 @@ one_refusal format before p kind other h k =
     let same = same_part before k.part h.part k.is_part h.is_part in
     refusal_of_part h.part format before p kind other h.refuses (subst (λ (part : Part). Refuses part format before p other) same k.refuses)
 
-version_no_error : (p : Pkt) (line message : List ℕ) → p ≡ payload line → text_of line ≡ codes "ERR " ++ message → IsVersion p → ⊥
-version_no_error (payload other) line message e error version =
+version_no_error : (p : Pkt) (line : List ℕ) → p ≡ payload line → IsErrorText (text_of line) → IsVersion p → ⊥
+version_no_error (payload other) line e error version =
     let same : text_of other ≡ text_of line = ap text_of (same_line other line e) in
-    let both : codes "version 2" ≡ codes "ERR " ++ message = sym version ∙ same ∙ error in
-    omega (arith, ap (λ (l : List ℕ). get_or l 0 0) both)
-version_no_error flush line message e error version = version
-version_no_error delim line message e error version = version
-version_no_error resp_end line message e error version = version
+    omega (arith, ap (λ (l : List ℕ). get_or l 0 0) (sym version ∙ same ∙ error.spelled))
+version_no_error flush line e error version = version
+version_no_error delim line e error version = version
+version_no_error resp_end line e error version = version
 
 exclude_in_part : (part : Part) (format : Format) (before : List Pkt) (p : Pkt) (events : List EventValue) (kind : Kind) → Gives part format before p events → Refuses part format before p kind → ⊥
 exclude_in_part opening format before p events kind g r =
     elim (opening_refused p kind r) [
-      | inl a ↦ version_no_error p a.1.0 a.1.2.0 a.1.1 a.1.2.1 g.0
+      | inl a ↦ version_no_error p a.1.0 a.1.1 a.1.2 g.0
       | inr a ↦ a.2 g.0
     ]
 exclude_in_part advertisement format before (payload line) events kind g r =
-    elim (line_refused (text_of line) kind r) [ inl a ↦ g.0 a.1.0 a.1.1 | inr a ↦ a.2 g.1.0 g.1.1 g.1.2 ]
+    elim (line_refused (text_of line) kind r) [ inl a ↦ g.0 a.1 | inr a ↦ a.2 g.1.0 g.1.1 g.1.2 ]
 exclude_in_part advertisement format before flush events WrongFormat g r = let spoken = g.0 in cc
 exclude_in_part advertisement format before flush events _ g r = r
 exclude_in_part advertisement format before delim events kind g r = g

@@ -10,10 +10,11 @@ use Rattle.git_pkt.specs.declared.fault.Kind.{Kind}
 use Rattle.git_pkt.specs.declared.fault.Kind.TheVariants.{RemoteError}
 use Rattle.git_pkt.proofs.Pieces.{left_of}
 use Rattle.git_msg.specs.Capability.{IsCapability}
+use Rattle.git_msg.specs.Texts.{IsErrorOf, IsErrorText}
 use Rattle.git_msg.proofs.Keys.{one_capability}
 use Rattle.git_client.specs.Conversation.{RefusesAt}
 use Rattle.git_client.specs.Parts.{nearest, Part, opening, advertisement}
-use Rattle.git_client.specs.Events.{EventValue, IsError, Refuses}
+use Rattle.git_client.specs.Events.{EventValue, Refuses}
 use Rattle.git_client.specs.Hearing.{Hears, StandsIn, RefusedPacket, HoldsCapability, EndsWithError, EndsWithoutError, phase_of, reader_of}
 use Rattle.git_client.specs.declared.phase.Phase.{Phase}
 use Rattle.git_client.specs.declared.phase.Phase.TheVariants.{Failed}
@@ -31,7 +32,7 @@ held_capability held text key value k v e is h =
     one_capability (text_of h.line) k key v value (subst (λ (t : List ℕ). IsCapability t k v) same is) h.is_line
 
 -- a packet that is refused as a remote error is an error packet
-error_line : (part : Part) (format : Format) (before : List Pkt) (p : Pkt) → Refuses part format before p RemoteError → (line : List ℕ) × (p ≡ payload line) × IsError (text_of line)
+error_line : (part : Part) (format : Format) (before : List Pkt) (p : Pkt) → Refuses part format before p RemoteError → (line : List ℕ) × (p ≡ payload line) × IsErrorText (text_of line)
 error_line opening format before (payload line) r = (line, refl, r)
 error_line opening format before flush r = absurd r
 error_line opening format before delim r = absurd r
@@ -64,7 +65,7 @@ pub record ErrorPacket (format : Format) (bytes : List ℕ) (client : Client) : 
   pub splits : Splits 0 bytes (clean ++ bad ∷ []) rest
   pub refused : RefusesAt format (nearest clean []) bad.packet RemoteError
   pub packet : bad.packet ≡ payload line
-  pub error : IsError (text_of line)
+  pub error : IsErrorText (text_of line)
   pub held : Spells (payload line) (held_of (reader_of client))
 
 error_packet : (format : Format) (ending : Ending) (bytes : List ℕ) (events : List EventValue) (client : Client) (fault : Fault) → Hears format ending client bytes events → phase_of client ≡ Failed fault → fault.kind ≡ RemoteError → ErrorPacket format bytes client
@@ -85,8 +86,8 @@ error_packet format ending bytes events client fault h failed kind =
       held = subst (λ (p : Pkt). Spells p (held_of (reader_of client))) error.1 packet.held;
     }
 
-message_found : (format : Format) (bytes : List ℕ) (client : Client) (found : List ℕ) (r : Option (Bor (List ℕ))) (p : ErrorPacket format bytes client) → found ≡ text_of p.line → MatchOption r ((message : List ℕ) → found ≢ codes "ERR " ++ message) (λ m. found ≡ codes "ERR " ++ m.now) → MatchOption r (EndsWithoutError client) (λ m. EndsWithError format bytes m.now)
-message_found format bytes client found None p e none = absurd (none p.error.0 (e ∙ p.error.1))
+message_found : (format : Format) (bytes : List ℕ) (client : Client) (found : List ℕ) (r : Option (Bor (List ℕ))) (p : ErrorPacket format bytes client) → found ≡ text_of p.line → MatchOption r (¬ IsErrorText found) (λ m. IsErrorOf found m.now) → MatchOption r (EndsWithoutError client) (λ m. EndsWithError format bytes m.now)
+message_found format bytes client found None p e none = absurd (none (subst IsErrorText (sym e) p.error))
 message_found format bytes client found (Some m) p e some = record {
   clean = p.clean;
   bad = p.bad;
@@ -99,7 +100,7 @@ message_found format bytes client found (Some m) p e some = record {
 }
 
 -- what was found after `ERR ` in the hold is the message
-pub message_is : (format : Format) (ending : Ending) (bytes : List ℕ) (events : List EventValue) (client : Client) (fault : Fault) (found : List ℕ) (r : Option (Bor (List ℕ))) → Hears format ending client bytes events → phase_of client ≡ Failed fault → fault.kind ≡ RemoteError → found ≡ text_of (take (length (held_of (reader_of client)) - 4) (drop 4 (held_of (reader_of client)))) → MatchOption r ((message : List ℕ) → found ≢ codes "ERR " ++ message) (λ m. found ≡ codes "ERR " ++ m.now) → MatchOption r (EndsWithoutError client) (λ m. EndsWithError format bytes m.now)
+pub message_is : (format : Format) (ending : Ending) (bytes : List ℕ) (events : List EventValue) (client : Client) (fault : Fault) (found : List ℕ) (r : Option (Bor (List ℕ))) → Hears format ending client bytes events → phase_of client ≡ Failed fault → fault.kind ≡ RemoteError → found ≡ text_of (take (length (held_of (reader_of client)) - 4) (drop 4 (held_of (reader_of client)))) → MatchOption r (¬ IsErrorText found) (λ m. IsErrorOf found m.now) → MatchOption r (EndsWithoutError client) (λ m. EndsWithError format bytes m.now)
 message_is format ending bytes events client fault found r h failed kind e m =
     let packet = error_packet format ending bytes events client fault h failed kind in
     message_found format bytes client found r packet (e ∙ ap text_of (held_payload (held_of (reader_of client)) packet.line packet.held)) m

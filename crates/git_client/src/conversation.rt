@@ -14,7 +14,7 @@ ghost use Rattle.git_client.specs.declared.events.Ending.{Ending};
 
 use crate::events::{Ending, Event, Heard, HeardGot, Sent};
 use crate::phase::{Phase, Turn, judge};
-use git_msg::{Capability, Caps, read_capability};
+use git_msg::{Capability, Caps, error_message, read_capability};
 use git_names::Format;
 use git_pkt::{Fault, Got, Kind, PacketReader, text};
 
@@ -121,7 +121,7 @@ impl Client {
             return None;
         };
         let payload = self.reader.hold().as_slice().get(4..)?;
-        text(payload).strip_prefix(b"ERR ")
+        error_message(text(payload))
     }
 
     /// Reads on. It returns after one event, or with the whole piece used, or at the first fault. A client that

@@ -26,6 +26,11 @@ abbrev pub BeginsWithNone : List (List ℕ) → List ℕ → Type 0
 BeginsWithNone [] text = Unit {0}
 BeginsWithNone (word ∷ words) text = BeginsOtherThan word text × BeginsWithNone words text
 
--- the text is that of an error packet, which either end may send (gitprotocol-pack(5))
-abbrev pub IsErrorText : List ℕ → Type 0
-IsErrorText = Follows (codes "ERR ") (λ _. Unit {0})
+-- the text is that of an error packet with this message, which either end may send (gitprotocol-pack(5))
+abbrev pub IsErrorOf : List ℕ → List ℕ → Type 0
+IsErrorOf text message = text ≡ codes "ERR " ++ message
+
+-- the text is that of an error packet
+pub record IsErrorText (text : List ℕ) : Type 0 where
+  pub message : List ℕ
+  pub spelled : IsErrorOf text message

@@ -1,7 +1,7 @@
 //! Words of lines, and where they end.
 ghost use Rattle.std.specs.Prelude.{◌≡◌, ◌↔◌, ◌++◌, ◌==◌, IsTrue, MatchOption, codes, position};
 ghost use Rattle.std.specs.Str.{bytes_eq};
-ghost use Rattle.git_msg.specs.Texts.{BeginsOtherThan, IsErrorText};
+ghost use Rattle.git_msg.specs.Texts.{BeginsOtherThan, IsErrorOf, IsErrorText};
 
 use bstr::ByteSlice;
 
@@ -27,9 +27,16 @@ pub fn find_byte(text: &[u8], byte: u8) -> Option<usize>
     text.find_byte(byte)
 }
 
-/// Whether the text is that of an error packet, gitprotocol-pack(5).
-pub(crate) fn is_error(text: &[u8]) -> bool
+/// The message of an error packet that has this text, gitprotocol-pack(5): what stands after `ERR `.
+pub fn error_message(text: &[u8]) -> Option<&[u8]>
+    ensures { MatchOption result (¬ IsErrorText text.now) (λ message. IsErrorOf text.now message.now) }
+{
+    after(text, b"ERR ")
+}
+
+/// Whether the text is that of an error packet.
+pub fn is_error(text: &[u8]) -> bool
     ensures { IsTrue result ↔ IsErrorText text.now }
 {
-    after(text, b"ERR ").is_some()
+    error_message(text).is_some()
 }
