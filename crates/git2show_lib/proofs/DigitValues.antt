@@ -2,6 +2,7 @@
 use Rattle.std.proofs.Common.{arith, ◌≡◌, ℕ, ◌+◌, ◌-◌, ◌*◌, ◌^◌, ◌<◌, ◌≤◌, List, [], ◌∷◌, sym, ap, ◌∙◌, length, drop, get_or}
 use Rattle.std.proofs.lemmas.Grind.{common_steps}
 use Rattle.std.proofs.lemmas.List.Elements.{All-get_or, All-from_get_or}
+use Rattle.git_msg.proofs.TextParts.{drop_cons}
 use Rattle.git2show_lib.specs.Numbers.{IsDigit, IsNumber, decimal_value}
 use native.Mathlib.Nat.{add-mul, mul_assoc, mul-one, zero-mul, pow-succ'}
 
@@ -19,9 +20,6 @@ behind_is front (d ∷ ds) =
 
 from_nothing : (text : List ℕ) → value_behind 0 text ≡ decimal_value text
 from_nothing text = behind_is 0 text ∙ omega (arith, zero-mul (10 ^ length text))
-
-drop_cons : (text : List ℕ) (at : ℕ) → at < length text → drop at text ≡ get_or text at 0 ∷ drop (at + 1) text
-drop_cons text at h = grind (arith, common_steps)
 
 -- one more digit
 pub value_step : (text : List ℕ) (at front : ℕ) → at < length text → value_behind front (drop at text) ≡ value_behind (front * 10 + (get_or text at 0 - 48)) (drop (at + 1) text)

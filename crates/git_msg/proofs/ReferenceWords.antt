@@ -18,9 +18,9 @@ use Rattle.git_pkt.specs.declared.fault.Kind.TheVariants.{BadObjectName}
 use Rattle.git_msg.specs.declared.reference_lines.Attribute.{Attribute}
 use Rattle.git_msg.specs.declared.reference_lines.Attribute.TheVariants.{Other}
 use Rattle.git_msg.specs.Checks.{Passes, Refuses}
-use Rattle.git_msg.specs.Texts.{BeginsOtherThan, spaced_words}
+use Rattle.git_msg.specs.Texts.{BeginsOtherThan, parts_left, spaced_words}
 use Rattle.git_msg.specs.References.{value_behind, values_of, last_of, IsAttribute, IsAttributeFault, IsReferenceFault, attribute_checks, reference_checks}
-use Rattle.git_msg.specs.ReferenceParts.{words_left, target_in, peeled_in, IsFound, LastValues, ReadSoFar}
+use Rattle.git_msg.specs.ReferenceParts.{target_in, peeled_in, IsFound, LastValues, ReadSoFar}
 use Rattle.git_msg.proofs.LineLists.{filter_map_snoc}
 
 -- a text that does not begin with the word has nothing after it
@@ -67,10 +67,10 @@ values_more key words word value e =
     ap last_of (filter_map_snoc (value_behind key) words word ∙ ap (λ (o : Option (List ℕ)). values_of key words ++ option_to_list o) e) ∙ last_more (values_of key words) value
 
 -- one more word was read
-step : (format : Format) (whole : List (List ℕ)) (text : List ℕ) (next target peeled : Option (List ℕ)) (word : List ℕ) (found : Attribute) → ReadSoFar format whole (Some text) target peeled → spaced_words text ≡ word ∷ words_left next → IsFound format word found → ReadSoFar format whole next (later (target_in found) target) (later (peeled_in found) peeled)
+step : (format : Format) (whole : List (List ℕ)) (text : List ℕ) (next target peeled : Option (List ℕ)) (word : List ℕ) (found : Attribute) → ReadSoFar format whole (Some text) target peeled → spaced_words text ≡ word ∷ parts_left 32 next → IsFound format word found → ReadSoFar format whole next (later (target_in found) target) (later (peeled_in found) peeled)
 step format whole text next target peeled word found h words is = record {
   before = h.before ++ word ∷ [];
-  whole_is = h.whole_is ∙ ap (λ (ws : List (List ℕ)). h.before ++ ws) words ∙ sym (append_assoc h.before (word ∷ []) (words_left next));
+  whole_is = h.whole_is ∙ ap (λ (ws : List (List ℕ)). h.before ++ ws) words ∙ sym (append_assoc h.before (word ∷ []) (parts_left 32 next));
   values = record {
     passes = passes_snoc format h.before word h.values.passes is.is_attribute;
     target_is = ap (λ (t : Option (List ℕ)). later (target_in found) t) h.values.target_is ∙ sym (values_more (codes "symref-target:") h.before word (target_in found) is.target);
@@ -78,17 +78,17 @@ step format whole text next target peeled word found h words is = record {
   };
 }
 
-pub step_target : (format : Format) (whole : List (List ℕ)) (text : List ℕ) (next target peeled : Option (List ℕ)) (word : List ℕ) (found : Attribute) (name : List ℕ) → target_in found ≡ Some name → peeled_in found ≡ None → ReadSoFar format whole (Some text) target peeled → spaced_words text ≡ word ∷ words_left next → IsFound format word found → ReadSoFar format whole next (Some name) peeled
+pub step_target : (format : Format) (whole : List (List ℕ)) (text : List ℕ) (next target peeled : Option (List ℕ)) (word : List ℕ) (found : Attribute) (name : List ℕ) → target_in found ≡ Some name → peeled_in found ≡ None → ReadSoFar format whole (Some text) target peeled → spaced_words text ≡ word ∷ parts_left 32 next → IsFound format word found → ReadSoFar format whole next (Some name) peeled
 unfolding later
 step_target format whole text next target peeled word found name e f h words is =
     subst (λ (o : Option (List ℕ)). ReadSoFar format whole next (later o target) peeled) e (subst (λ (o : Option (List ℕ)). ReadSoFar format whole next (later (target_in found) target) (later o peeled)) f (step format whole text next target peeled word found h words is))
 
-pub step_peeled : (format : Format) (whole : List (List ℕ)) (text : List ℕ) (next target peeled : Option (List ℕ)) (word : List ℕ) (found : Attribute) (value : List ℕ) → target_in found ≡ None → peeled_in found ≡ Some value → ReadSoFar format whole (Some text) target peeled → spaced_words text ≡ word ∷ words_left next → IsFound format word found → ReadSoFar format whole next target (Some value)
+pub step_peeled : (format : Format) (whole : List (List ℕ)) (text : List ℕ) (next target peeled : Option (List ℕ)) (word : List ℕ) (found : Attribute) (value : List ℕ) → target_in found ≡ None → peeled_in found ≡ Some value → ReadSoFar format whole (Some text) target peeled → spaced_words text ≡ word ∷ parts_left 32 next → IsFound format word found → ReadSoFar format whole next target (Some value)
 unfolding later
 step_peeled format whole text next target peeled word found value e f h words is =
     subst (λ (o : Option (List ℕ)). ReadSoFar format whole next (later o target) (Some value)) e (subst (λ (o : Option (List ℕ)). ReadSoFar format whole next (later (target_in found) target) (later o peeled)) f (step format whole text next target peeled word found h words is))
 
-pub step_other : (format : Format) (whole : List (List ℕ)) (text : List ℕ) (next target peeled : Option (List ℕ)) (word : List ℕ) (found : Attribute) → target_in found ≡ None → peeled_in found ≡ None → ReadSoFar format whole (Some text) target peeled → spaced_words text ≡ word ∷ words_left next → IsFound format word found → ReadSoFar format whole next target peeled
+pub step_other : (format : Format) (whole : List (List ℕ)) (text : List ℕ) (next target peeled : Option (List ℕ)) (word : List ℕ) (found : Attribute) → target_in found ≡ None → peeled_in found ≡ None → ReadSoFar format whole (Some text) target peeled → spaced_words text ≡ word ∷ parts_left 32 next → IsFound format word found → ReadSoFar format whole next target peeled
 unfolding later
 step_other format whole text next target peeled word found e f h words is =
     subst (λ (o : Option (List ℕ)). ReadSoFar format whole next (later o target) peeled) e (subst (λ (o : Option (List ℕ)). ReadSoFar format whole next (later (target_in found) target) (later o peeled)) f (step format whole text next target peeled word found h words is))
@@ -96,39 +96,9 @@ step_other format whole text next target peeled word found e f h words is =
 pub no_more_words : (format : Format) (whole : List (List ℕ)) (target peeled : Option (List ℕ)) → ReadSoFar format whole None target peeled → LastValues format whole target peeled
 no_more_words format whole target peeled h = subst (λ (ws : List (List ℕ)). LastValues format ws target peeled) (sym (h.whole_is ∙ append-nil h.before)) h.values
 
-pub word_refused : (format : Format) (whole : List (List ℕ)) (text : List ℕ) (next target peeled : Option (List ℕ)) (word : List ℕ) (kind : Kind) → ReadSoFar format whole (Some text) target peeled → spaced_words text ≡ word ∷ words_left next → IsAttributeFault format word kind → Refuses (attribute_checks format whole) kind
+pub word_refused : (format : Format) (whole : List (List ℕ)) (text : List ℕ) (next target peeled : Option (List ℕ)) (word : List ℕ) (kind : Kind) → ReadSoFar format whole (Some text) target peeled → spaced_words text ≡ word ∷ parts_left 32 next → IsAttributeFault format word kind → Refuses (attribute_checks format whole) kind
 word_refused format whole text next target peeled word kind h words fault =
-    subst (λ (ws : List (List ℕ)). Refuses (attribute_checks format ws) kind) (sym (h.whole_is ∙ ap (λ (ws : List (List ℕ)). h.before ++ ws) words)) (refuses_at format h.before word (words_left next) kind h.values.passes fault)
-
-rest_of : (text : List ℕ) (n : ℕ) → n ≤ length text → take (length text - n) (drop n text) ≡ drop n text
-rest_of text n h = grind (arith, common_steps)
-
-front_byte : (text : List ℕ) (at k : ℕ) → k < length (take at text) → get_or (take at text) k 0 ≡ get_or text k 0
-front_byte text at k h = grind (arith, common_steps)
-
-front_within : (text : List ℕ) (at k : ℕ) → k < length (take at text) → k < at
-front_within text at k h = grind (arith, common_steps)
-
-drop_cons : (text : List ℕ) (at : ℕ) → at < length text → drop at text ≡ get_or text at 0 ∷ drop (at + 1) text
-drop_cons text at h = grind (arith, common_steps)
-
--- the words at a first space
-pub split_at : (text : List ℕ) (at : ℕ) → position (λ c. c == 32) text ≡ Some at → spaced_words text ≡ take at text ∷ spaced_words (take (length text - (at + 1)) (drop (at + 1) text))
-split_at text at e =
-    let p = position-Some (λ c. c == 32) text at 0 e in
-    let front : All (λ c. (c == 32) ≡ false) (take at text) = All-from_get_or (λ c. (c == 32) ≡ false) (take at text) 0 (λ k within. rw (front_byte text at k within) (p.2 k (front_within text at k within))) in
-    let cut : text ≡ take at text ++ get_or text at 0 ∷ drop (at + 1) text = sym (take-append-drop at text) ∙ ap (λ (xs : List ℕ). take at text ++ xs) (drop_cons text at p.0) in
-    ap spaced_words cut ∙ slice_split_at (λ c. c == 32) (take at text) (get_or text at 0) (drop (at + 1) text) front p.1 ∙ ap (λ (xs : List ℕ). take at text ∷ spaced_words xs) (sym (rest_of text (at + 1) (omega (arith, p.0))))
-
-position_in : (p : ℕ → Bool) (xs : List ℕ) → position p xs ≡ None → (k : ℕ) → k < length xs → p (get_or xs k 0) ≡ false
-position_in p xs e k within = go (nat_lt (position_or_len p xs) (length xs)) refl e where
-  go : (b : Bool) → nat_lt (position_or_len p xs) (length xs) ≡ b → (if b then Some (position_or_len p xs) else None) ≡ None → p (get_or xs k 0) ≡ false
-  go true h none = cc
-  go false h none = let past : length xs ≤ position_or_len p xs = grind (arith, nat_tests) in fails_before_first p xs k 0 (omega (arith, past, within))
-
--- no space at all
-pub split_none : (text : List ℕ) → position (λ c. c == 32) text ≡ None → spaced_words text ≡ text ∷ []
-split_none text e = slice_split_none (λ c. c == 32) text (All-from_get_or (λ c. (c == 32) ≡ false) text 0 (λ k within. position_in (λ c. c == 32) text e k within))
+    subst (λ (ws : List (List ℕ)). Refuses (attribute_checks format ws) kind) (sym (h.whole_is ∙ ap (λ (ws : List (List ℕ)). h.before ++ ws) words)) (refuses_at format h.before word (parts_left 32 next) kind h.values.passes fault)
 
 -- a text has a word
 onto_some : (x : ℕ) (ws : List (List ℕ)) → (w : List ℕ) × (rest : List (List ℕ)) × (onto_first x ws ≡ w ∷ rest)

@@ -23,5 +23,5 @@ pub use crate::reader::{RequestReader, Taken};
 pub use crate::reference_lines::read_reference;
 pub use crate::references::{Boundary, Reference, put_reference};
 pub use crate::requests::{Limits, LsRefs, Request};
-pub use crate::texts::{after, error_message, find_byte, is_error};
+pub use crate::texts::{after, error_message, is_error, split_at_first};
 pub use crate::writer::RequestWriter;
