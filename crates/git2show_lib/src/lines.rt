@@ -28,7 +28,7 @@ const HEAD: usize = 64;
 /// A buffer of lines. It lies where its owner does and never allocates.
 #[derive(Drop)]
 pub(crate) struct Lines {
-    bytes: [u8; 65_536],
+    bytes: [u8; CAPACITY],
     count: usize,
 }
 
@@ -39,7 +39,7 @@ impl Model for Lines {
 
     ghost view = { λ lines. take lines.count lines.bytes };
 
-    ghost invariant = { λ lines. lines.count ≤ 65536 };
+    ghost invariant = { λ lines. lines.count ≤ CAPACITY };
 }
 
 impl Lines {
@@ -47,7 +47,7 @@ impl Lines {
         ensures { result ≡ [] }
     {
         Lines {
-            bytes: [0; 65_536],
+            bytes: [0; CAPACITY],
             count: 0,
         }
     }
@@ -100,7 +100,7 @@ impl Lines {
 
     /// Puts a few bytes after the others.
     fn emit<W: Write>(&mut self, writer: &mut Told<W>, bytes: &[u8]) -> Result<(), RunFault>
-        requires { length bytes.now ≤ 512 }
+        requires { length bytes.now ≤ RUN }
         ensures ok { OnOk result (Emits (W.contents (inner_of writer.old)) (W.contents (inner_of writer.new)) self.old bytes.now self.new) }
         ensures err { OnErr result (EmitsFront (W.contents (inner_of writer.old)) (W.contents (inner_of writer.new)) self.old bytes.now) }
         ensures fault { IfErr result (λ fault. fault ≡ RunFault.WriteFault) }
@@ -130,7 +130,7 @@ impl Lines {
 
     /// Puts the escapes of a run after the others: at once where each byte stands for itself.
     fn emit_run<W: Write>(&mut self, writer: &mut Told<W>, bytes: &[u8]) -> Result<(), RunFault>
-        requires { length bytes.now ≤ 512 }
+        requires { length bytes.now ≤ RUN }
         ensures ok { OnOk result (Emits (W.contents (inner_of writer.old)) (W.contents (inner_of writer.new)) self.old (escaped_of bytes.now) self.new) }
         ensures err { OnErr result (EmitsFront (W.contents (inner_of writer.old)) (W.contents (inner_of writer.new)) self.old (escaped_of bytes.now)) }
         ensures fault { IfErr result (λ fault. fault ≡ RunFault.WriteFault) }
@@ -161,7 +161,7 @@ impl Lines {
 
     /// Puts the escapes of one block after the others.
     fn emit_block<W: Write>(&mut self, writer: &mut Told<W>, block: &[u8]) -> Result<(), RunFault>
-        requires { length block.now ≤ 32 }
+        requires { length block.now ≤ BLOCK }
         ensures ok { OnOk result (Emits (W.contents (inner_of writer.old)) (W.contents (inner_of writer.new)) self.old (escaped_of block.now) self.new) }
         ensures err { OnErr result (EmitsFront (W.contents (inner_of writer.old)) (W.contents (inner_of writer.new)) self.old (escaped_of block.now)) }
         ensures fault { IfErr result (λ fault. fault ≡ RunFault.WriteFault) }
@@ -179,7 +179,7 @@ impl Lines {
     /// Makes room for a run.
     fn make_room<W: Write>(&mut self, writer: &mut Told<W>) -> Result<(), RunFault>
         ensures ok { OnOk result (Emits (W.contents (inner_of writer.old)) (W.contents (inner_of writer.new)) self.old [] self.new) }
-        ensures room { OnOk result (length self.new + 512 ≤ 65536) }
+        ensures room { OnOk result (length self.new + RUN ≤ CAPACITY) }
         ensures err { OnErr result (AppendsFront (W.contents (inner_of writer.old)) (W.contents (inner_of writer.new)) self.old) }
         ensures fault { IfErr result (λ fault. fault ≡ RunFault.WriteFault) }
         ensures failed { has_failed writer.new ≡ (has_failed writer.old || is_err result) }
@@ -203,8 +203,8 @@ fn body<'a>(packet: Packet<'a>) -> &'a [u8]
 
 /// Writes what stands in a packet's line before the payload, and answers how many bytes that are.
 fn write_head(packet: Packet<'_>, offset: u64, out: &mut [u8]) -> usize
-    requires { length out.old ≡ 64 }
-    ensures within { result ≤ 64 }
+    requires { length out.old ≡ HEAD }
+    ensures within { result ≤ HEAD }
     ensures head { take result out.new ≡ decimal offset ++ kind_shown (seen packet.entry) }
 {
     let mut digits = Buffer::new();

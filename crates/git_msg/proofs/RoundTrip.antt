@@ -15,6 +15,7 @@ use Rattle.git_msg.specs.declared.offers.Offer.{Offer}
 use Rattle.git_msg.specs.declared.arguments.Command.{Command}
 use Rattle.git_msg.specs.declared.arguments.Command.TheVariants.{LsRefs}
 use Rattle.git_msg.specs.declared.capability_key.Key.TheVariants.{CommandKey, AgentKey, ObjectFormatKey}
+use Rattle.git_msg.specs.Capability.{agent_text}
 use Rattle.git_msg.specs.Texts.{IsErrorText}
 use Rattle.git_msg.specs.Arguments.{Arg, symrefs, peel, ref_prefix, IsArgument, IsOffered, most_text}
 use Rattle.git_msg.specs.Asked.{Asked, ls_refs, LsRefsAsked, asked_by, is_symrefs, is_peel, prefix_in, prefix_bytes, flag_bytes, written_bytes, HasShortTexts}
@@ -196,9 +197,9 @@ command_written offer = record {
   line_is = refl;
 }
 
-agent_written : (offer : Offer) → IsCapabilityLine offer false (codes "agent=git2/1") agent
+agent_written : (offer : Offer) → IsCapabilityLine offer false agent_text agent
 agent_written offer = record {
-  no_error = not_error (codes "agent=git2/1") (λ e. omega arith);
+  no_error = not_error agent_text (λ e. omega arith);
   key = AgentKey;
   value = Some (codes "git2/1");
   has_key = record { word = codes "agent"; is_capability = (refl, refl, refl); is_word = refl };
@@ -243,16 +244,16 @@ unfolding head_lines
 heads_finish offer limit true true q gs meant short fits h =
     cons_line offer limit [] gs (text_line (codes "command=ls-refs")) (agent_lines true true offer.format (ls_refs q)) (command LsRefs) _ h
     (capability_written offer limit [] (codes "command=ls-refs") (command LsRefs) refl (command_written offer))
-    (λ gs1 h1. cons_line offer limit (command LsRefs ∷ []) gs1 (text_line (codes "agent=git2/1")) (format_lines true offer.format (ls_refs q)) agent _ h1
-    (capability_written offer limit (command LsRefs ∷ []) (codes "agent=git2/1") agent refl (agent_written offer))
+    (λ gs1 h1. cons_line offer limit (command LsRefs ∷ []) gs1 (text_line agent_text) (format_lines true offer.format (ls_refs q)) agent _ h1
+    (capability_written offer limit (command LsRefs ∷ []) agent_text agent refl (agent_written offer))
     (λ gs2 h2. cons_line offer limit (command LsRefs ∷ agent ∷ []) gs2 (text_line (codes "object-format=" ++ format_name offer.format)) (delim ∷ argument_lines (ls_refs q)) object_format _ h2
     (capability_written offer limit (command LsRefs ∷ agent ∷ []) (codes "object-format=" ++ format_name offer.format) object_format refl (format_written offer))
     (λ gs3 h3. delimiter_finish offer limit (command LsRefs ∷ agent ∷ object_format ∷ []) q gs3 refl refl (meant_when_said offer.format) refl short fits h3)))
 heads_finish offer limit true false q gs meant short fits h =
     cons_line offer limit [] gs (text_line (codes "command=ls-refs")) (agent_lines true false offer.format (ls_refs q)) (command LsRefs) _ h
     (capability_written offer limit [] (codes "command=ls-refs") (command LsRefs) refl (command_written offer))
-    (λ gs1 h1. cons_line offer limit (command LsRefs ∷ []) gs1 (text_line (codes "agent=git2/1")) (format_lines false offer.format (ls_refs q)) agent _ h1
-    (capability_written offer limit (command LsRefs ∷ []) (codes "agent=git2/1") agent refl (agent_written offer))
+    (λ gs1 h1. cons_line offer limit (command LsRefs ∷ []) gs1 (text_line agent_text) (format_lines false offer.format (ls_refs q)) agent _ h1
+    (capability_written offer limit (command LsRefs ∷ []) agent_text agent refl (agent_written offer))
     (λ gs2 h2. delimiter_finish offer limit (command LsRefs ∷ agent ∷ []) q gs2 refl refl meant refl short fits h2))
 heads_finish offer limit false true q gs meant short fits h =
     cons_line offer limit [] gs (text_line (codes "command=ls-refs")) (agent_lines false true offer.format (ls_refs q)) (command LsRefs) _ h

@@ -10,6 +10,7 @@ use Rattle.git_msg.specs.declared.writer.Next.{Next}
 use Rattle.git_msg.specs.declared.writer.Next.TheVariants.{CommandLine, Agent, ObjectFormat, Delimiter, Peel, Symrefs, Prefix, Done}
 use Rattle.git_msg.specs.declared.writer.RequestWriter.{RequestWriter}
 use Rattle.git_msg.specs.Arguments.{name_of}
+use Rattle.git_msg.specs.Capability.{agent_text}
 use Rattle.git_msg.specs.Asked.{Asked, ls_refs}
 use Rattle.git_msg.specs.Holding.{asked_of, command_of, format_of}
 
@@ -41,7 +42,7 @@ format_lines object_format format asked =
     where_set object_format (text_line (codes "object-format=" ++ format_name format)) (delim ∷ argument_lines asked)
 
 abbrev pub agent_lines : Bool → Bool → Format → Asked → List Pkt
-agent_lines agent object_format format asked = where_set agent (text_line (codes "agent=git2/1")) (format_lines object_format format asked)
+agent_lines agent object_format format asked = where_set agent (text_line agent_text) (format_lines object_format format asked)
 
 abbrev pub lines_written : Bool → Bool → Command → Format → Asked → List Pkt
 lines_written agent object_format command format asked =
@@ -50,7 +51,7 @@ lines_written agent object_format command format asked =
 -- what is left from this line on
 abbrev pub lines_from : Next → Bool → Bool → Command → Format → Asked → List Pkt
 lines_from CommandLine agent object_format command format asked = lines_written agent object_format command format asked
-lines_from Agent agent object_format command format asked = text_line (codes "agent=git2/1") ∷ format_lines object_format format asked
+lines_from Agent agent object_format command format asked = text_line agent_text ∷ format_lines object_format format asked
 lines_from ObjectFormat agent object_format command format asked =
     text_line (codes "object-format=" ++ format_name format) ∷ delim ∷ argument_lines asked
 lines_from Delimiter agent object_format command format asked = delim ∷ argument_lines asked

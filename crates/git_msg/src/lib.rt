@@ -17,7 +17,7 @@ mod writer;
 mod writing;
 
 pub use crate::arguments::{Argument, Command, read_argument};
-pub use crate::capabilities::{Capability, read_capability};
+pub use crate::capabilities::{AGENT_LINE, Capability, read_capability};
 pub use crate::offers::{Caps, Offer};
 pub use crate::reader::{RequestReader, Taken};
 pub use crate::reference_lines::read_reference;

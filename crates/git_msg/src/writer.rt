@@ -7,6 +7,7 @@ ghost use Rattle.git_msg.specs.Asked.{Asked};
 ghost use Rattle.git_msg.specs.Holding.{asked_of};
 ghost use Rattle.git_msg.specs.Writing.{agent_lines, format_lines, argument_lines, behind_peel, lines_from, left_at, left_to_write, written_of, PutsFirst};
 
+use crate::capabilities::AGENT_LINE;
 use crate::offers::Caps;
 use crate::requests::Request;
 use crate::writing::put_line;
@@ -72,7 +73,7 @@ impl RequestWriter {
                 Some(self.after_command())
             }
             Next::Agent => {
-                put_line(hold, b"agent=git2/1", b"");
+                put(hold, Packet::Payload(AGENT_LINE));
                 Some(self.after_agent())
             }
             Next::ObjectFormat => {
