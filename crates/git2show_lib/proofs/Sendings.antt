@@ -1,5 +1,5 @@
 -- One thing after another goes through a buffer.
-use Rattle.std.proofs.Common.{length, ◌≤◌, ◌≡◌, ℕ, List, [], ◌++◌, Option, ap, sym, ◌∙◌, subst, append_assoc, append-nil, ◌+◌, ◌-◌, take, drop, Result, Ok, Err, OnOk, OnErr, take-append-drop}
+use Rattle.std.proofs.Common.{length, ◌≤◌, ◌≡◌, ℕ, List, [], ◌++◌, Option, ap, sym, ◌∙◌, subst, append_assoc, append-nil, ◌+◌, ◌-◌, take, drop, take-append-drop}
 use Rattle.std.proofs.lemmas.Grind.{flat_map-append}
 use Rattle.std.proofs.KnownBytes.{Appends-nil, Appends-trans}
 use Rattle.git_pkt.specs.Told.{AppendsFront}
@@ -33,15 +33,6 @@ front_longer a b x bytes more one =
 -- a failed write of what waited is a failure of what was to come
 pub front_before : (a b : Option (List ℕ)) (x more : List ℕ) → AppendsFront a b x → EmitsFront a b x more
 front_before a b x more one = AppendsFront-longer a b x more one
-
--- what follows from what a call ensures, whichever way it ended
-pub on_ok-map : {T E P Q : Type 0} → (r : Result T E) → (P → Q) → OnOk r P → OnOk r Q
-on_ok-map (Ok x) f p = f p
-on_ok-map (Err e) f p = p
-
-pub on_err-map : {T E P Q : Type 0} → (r : Result T E) → (P → Q) → OnErr r P → OnErr r Q
-on_err-map (Ok x) f p = p
-on_err-map (Err e) f p = f p
 
 -- the escapes of two parts
 pub escaped-append : (front back : List ℕ) → escaped_of (front ++ back) ≡ escaped_of front ++ escaped_of back

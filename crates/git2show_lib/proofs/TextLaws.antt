@@ -3,18 +3,17 @@ use Rattle.std.proofs.Common.{arith, ◌≡◌, ℕ, ◌+◌, ◌<◌, ◌≤◌
 use Rattle.std.specs.List.{AllAdjacentBelow}
 use Rattle.std.proofs.lemmas.Grind.{common_steps}
 use Rattle.std.proofs.lemmas.Bool.{cases_lt}
+use Rattle.std.proofs.lemmas.List.{append-nil}
 use Rattle.git_names.specs.declared.object_format.Format.{Format}
 use Rattle.git_names.specs.declared.object_format.Format.TheVariants.{Sha1, Sha256}
 use Rattle.git_names.specs.ObjectName.{ObjectName}
 use Rattle.git_server.specs.Repository.{Entry, IsRising, comes_before}
 use Rattle.git_server.specs.Objects.{AreRising, precedes}
 use Rattle.git_server.specs.Lists.{Lists}
+use Rattle.git_msg.proofs.ReferenceLaws.{same_heads}
 use Rattle.git2show_lib.specs.RepositoryLines.{Said, reference, object, ready, boundary, Says, format_line, lines_of}
 use Rattle.git2show_lib.specs.RepositoryText.{Begins, HasBadLine, HasNoFormat, IsFirstBad, IsRepositoryText, MayStand, SayAll, counts_in, entry_of, lists_said, objects_in, refs_in}
 use Rattle.git2show_lib.proofs.Saying.{one_said}
-
-same_heads : (a b : List ℕ) (more others : List (List ℕ)) → a ∷ more ≡ b ∷ others → (a ≡ b) × (more ≡ others)
-same_heads a b more others e = (cc, cc)
 
 one_format : (f g : Format) → format_line f ≡ format_line g → f ≡ g
 one_format Sha1 Sha1 e = refl
@@ -121,12 +120,8 @@ begins_or_no_format : (format : Format) (lines more whole : List (List ℕ)) (sa
 begins_or_no_format format lines more whole said number h is bad =
     bad.no_format format (same_heads bad.first (format_line format) bad.others (h.others ++ more) (sym bad.whole ∙ is ∙ ap (λ (ls : List (List ℕ)). ls ++ more) h.spelled)).0
 
-append_none : {X : Type 0} (xs : List X) → xs ≡ xs ++ []
-append_none [] = refl
-append_none {X} (x ∷ xs) = ap (λ (ys : List X). x ∷ ys) (append_none xs)
-
 pub repository_or_bad : (text pack : List ℕ) (lists : Lists) (number : ℕ) → IsRepositoryText text pack lists → IsFirstBad text number → ⊥
-repository_or_bad text pack lists number h (inl bad) = begins_or_no_format h.format (lines_of text) [] (lines_of text) h.said number h.begins (append_none (lines_of text)) bad
+repository_or_bad text pack lists number h (inl bad) = begins_or_no_format h.format (lines_of text) [] (lines_of text) h.said number h.begins (sym (append-nil (lines_of text))) bad
 repository_or_bad text pack lists number h (inr bad) = begins_or_bad h.format (lines_of text) h.said number h.begins bad
 
 -- of two cuts of one list, the earlier lies in the front of the later

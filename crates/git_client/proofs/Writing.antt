@@ -1,5 +1,5 @@
 -- A line that is written part after part.
-use Rattle.std.proofs.Common.{Bool, true, false, ◌||◌, ◌≡◌, ℕ, ◌+◌, ◌-◌, List, ◌++◌, take, drop, Option, Result, Ok, Err, OnOk, OnErr, ap, sym, ◌∙◌, subst, take-append-drop}
+use Rattle.std.proofs.Common.{Bool, true, false, ◌||◌, ◌≡◌, ℕ, ◌+◌, ◌-◌, List, ◌++◌, take, drop, Option, Result, Ok, Err, OnErr, ap, sym, ◌∙◌, subst, take-append-drop}
 use Rattle.std.proofs.lemmas.Grind.{flat_map-append}
 use Rattle.std.proofs.KnownBytes.{Appends-trans}
 use Rattle.std.specs.Io.KnownBytes.{Appends}
@@ -10,14 +10,6 @@ use Rattle.git_pkt.proofs.EngineLemmas.{AppendsFront-after, AppendsFront-longer,
 pub on_err : {T E P : Type 0} → (r : Result T E) → P → OnErr r P
 on_err (Ok x) p = tt
 on_err (Err e) p = p
-
-pub on_ok-map : {T E P Q : Type 0} → (r : Result T E) → (P → Q) → OnOk r P → OnOk r Q
-on_ok-map (Ok x) f p = f p
-on_ok-map (Err e) f p = p
-
-pub on_err-map : {T E P Q : Type 0} → (r : Result T E) → (P → Q) → OnErr r P → OnErr r Q
-on_err-map (Ok x) f p = p
-on_err-map (Err e) f p = f p
 
 pub no_failure : (now was first : Bool) → now ≡ (was || false) → was ≡ first → now ≡ first
 no_failure now true first e h = e ∙ h

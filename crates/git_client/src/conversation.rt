@@ -1,12 +1,12 @@
 //! The client: it reads what a server says, in pieces of any size, and hands out events.
 
-ghost use Rattle.std.specs.Prelude.{◌≡◌, ◌≢◌, ◌+◌, ◌≤◌, ◌<◌, ◌↔◌, IsTrue, ℕ, List, [], ◌∷◌, ◌++◌, Option, Some, None, true, false, length, take, MatchOption};
+ghost use Rattle.std.specs.Prelude.{◌≡◌, ◌+◌, ◌≤◌, ◌<◌, ◌↔◌, IsTrue, ℕ, List, [], Option, Some, None, true, false, length, take, MatchOption};
 ghost use Rattle.std.specs.Option.{option_copied};
 ghost use Rattle.std.specs.Borrow.{sem};
 ghost use Rattle.std.specs.Io.BufRead.{Rests};
 ghost use Rattle.git_names.specs.declared.object_format.Format.{Format};
 ghost use Rattle.git_pkt.specs.Splits.{Given, Splits};
-ghost use Rattle.git_pkt.specs.Reading.{fault_of as reader_fault_of, is_open, held_of, ShownByFeed};
+ghost use Rattle.git_pkt.specs.Reading.{fault_of as reader_fault_of, held_of};
 ghost use Rattle.git_client.specs.Turns.{takes_packets};
 ghost use Rattle.git_client.specs.Events.{EventValue, turns_of};
 ghost use Rattle.git_client.specs.Conversation.{HasNoted};
@@ -49,7 +49,7 @@ pub struct Client {
 }
 
 impl Client {
-    ghost use Rattle.git_client.specs.Hearing.{Hears, HearsOn, Feeds, Pulls, Comes, HoldsCapability, EndsWithError, EndsWithoutError, fault_of, can_ask, wants_input, bytes_used, caps_of, reader_of, Takes, Settles};
+    ghost use Rattle.git_client.specs.Hearing.{Hears, HearsOn, Feeds, Pulls, HoldsCapability, EndsWithError, EndsWithoutError, fault_of, can_ask, wants_input, bytes_used, caps_of, reader_of, Takes, Settles};
     ghost use Rattle.git_client.specs.contracts.conversation.Client.{the_row};
 
     /// A client of this object format, before the first byte of the advertisement.

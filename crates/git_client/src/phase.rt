@@ -1,8 +1,7 @@
 //! Where a conversation stands, and what each packet says there.
 
-ghost use Rattle.std.specs.Prelude.{◌≡◌, MatchResult};
+ghost use Rattle.std.specs.Prelude.{MatchResult};
 ghost use Rattle.git_pkt.specs.Packets.{seen, text_of};
-ghost use Rattle.git_msg.specs.Advertisement.{is_spoken};
 ghost use Rattle.git_client.specs.Events.{RefusesLine};
 ghost use Rattle.git_client.specs.Turns.{Judges, JudgesAdvertised, JudgesOpening, NotesLine};
 

@@ -9,7 +9,8 @@ same_maybe : (format : Format) (text : Option (List ℕ)) (a b : Option ObjectNa
 same_maybe format None a b h k = h ∙ sym k
 same_maybe format (Some text) a b h k = h.2 ∙ ap Some (one_object_name format text h.0 k.0 h.1 k.1) ∙ sym k.2
 
-same_heads : (a b : List ℕ) (more others : List (List ℕ)) → a ∷ more ≡ b ∷ others → (a ≡ b) × (more ≡ others)
+-- the first words and the others of one list
+pub same_heads : (a b : List ℕ) (more others : List (List ℕ)) → a ∷ more ≡ b ∷ others → (a ≡ b) × (more ≡ others)
 same_heads a b more others e = (cc, cc)
 
 same_parts : (a b : Ref) → a.id ≡ b.id → a.name ≡ b.name → a.target ≡ b.target → a.peeled ≡ b.peeled → a ≡ b

@@ -1,15 +1,9 @@
 -- The words of reference lines, one by one.
-use Rattle.std.proofs.Common.{arith, ◌≡◌, ℕ, ◌+◌, ◌-◌, ◌<◌, ◌≤◌, ◌==◌, Bool, true, false, Option, Some, None, option_to_list, List, [], ◌∷◌, ◌++◌, refl, ap, sym, ◌∙◌, subst, append_assoc, length, take, drop, get_or, codes, inl, inr}
-use Rattle.std.specs.Prelude.{All, position, nat_lt, if◌then◌else◌}
-use Rattle.std.specs.List.{cons_option, onto_first, position_or_len}
+use Rattle.std.proofs.Common.{◌≡◌, ℕ, ◌==◌, Bool, true, false, Option, Some, None, option_to_list, List, [], ◌∷◌, ◌++◌, refl, ap, sym, ◌∙◌, subst, append_assoc, length, take, drop, codes, inl, inr}
+use Rattle.std.specs.Prelude.{if◌then◌else◌}
+use Rattle.std.specs.List.{cons_option, onto_first}
 use Rattle.std.specs.Str.{bytes_eq}
-use Rattle.std.proofs.lemmas.Grind.{common_steps}
-use Rattle.std.proofs.lemmas.Bool.Decides.{nat_tests}
 use Rattle.std.proofs.lemmas.List.{append-nil, take-append-drop}
-use Rattle.std.proofs.lemmas.List.Elements.{All-from_get_or}
-use Rattle.std.proofs.lemmas.List.Sums.{fails_before_first}
-use Rattle.std.proofs.lemmas.List.Quantifiers.{position-Some}
-use Rattle.std.proofs.lemmas.List.Splits.{slice_split_at, slice_split_none}
 use Rattle.std.proofs.lemmas.Slice.Eq.{bytes_eq-Decides}
 use Rattle.git_names.specs.ObjectName.{ObjectName, IsObjectName, IsNoObjectName}
 use Rattle.git_names.specs.declared.object_format.Format.{Format}
@@ -128,27 +122,33 @@ value_spelled word text value = go (bytes_eq (take (length word) text) word) ref
       let rest : drop (length word) text ≡ value = cc in
       sym (take-append-drop (length word) text) ∙ ap (λ (xs : List ℕ). xs ++ drop (length word) text) same ∙ ap (λ (xs : List ℕ). word ++ xs) rest
 
-AllNamed : Format → List (List ℕ) → Type 0
-AllNamed format [] = Unit {0}
-AllNamed format (v ∷ vs) = ((id : ObjectName) × IsObjectName format v id) × AllNamed format vs
+AllMeet : (List ℕ → Type 0) → List (List ℕ) → Type 0
+AllMeet P [] = Unit {0}
+AllMeet P (v ∷ vs) = P v × AllMeet P vs
 
-last_named : (format : Format) (vs : List (List ℕ)) (x : List ℕ) → AllNamed format vs → last_of vs ≡ Some x → (id : ObjectName) × IsObjectName format x id
-unfolding AllNamed
-last_named format [] x h e = cc
-last_named format (v ∷ []) x h e =
-    let same : v ≡ x = cc in subst (λ (y : List ℕ). (id : ObjectName) × IsObjectName format y id) same h.0
-last_named format (v ∷ w ∷ vs) x h e = last_named format (w ∷ vs) x h.1 e
+last_meets : (P : List ℕ → Type 0) (vs : List (List ℕ)) (x : List ℕ) → AllMeet P vs → last_of vs ≡ Some x → P x
+unfolding AllMeet
+last_meets P [] x h e = cc
+last_meets P (v ∷ []) x h e = let same : v ≡ x = cc in subst P same h.0
+last_meets P (v ∷ w ∷ vs) x h e = last_meets P (w ∷ vs) x h.1 e
 
-named_more : (format : Format) (w : List ℕ) (o : Option (List ℕ)) (vs : List (List ℕ)) → value_behind (codes "peeled:") w ≡ o → IsAttribute format w → AllNamed format vs → AllNamed format (cons_option o vs)
-unfolding AllNamed
-named_more format w None vs e is h = h
-named_more format w (Some v) vs e is h = (is.peeled v (value_spelled (codes "peeled:") w v e), h)
+module _ (format : Format) (key : List ℕ) (P : List ℕ → Type 0) (demands : (word value : List ℕ) → IsAttribute format word → word ≡ key ++ value → P value) where
+  one_more : (w : List ℕ) (o : Option (List ℕ)) (vs : List (List ℕ)) → value_behind key w ≡ o → IsAttribute format w → AllMeet P vs → AllMeet P (cons_option o vs)
+  unfolding AllMeet
+  one_more w None vs e is h = h
+  one_more w (Some v) vs e is h = (demands w v is (value_spelled key w v e), h)
 
-all_named : (format : Format) (words : List (List ℕ)) → Passes (attribute_checks format words) → AllNamed format (values_of (codes "peeled:") words)
-unfolding AllNamed
-all_named format [] h = tt
-all_named format (w ∷ ws) h = named_more format w (value_behind (codes "peeled:") w) (values_of (codes "peeled:") ws) refl h.0 (all_named format ws h.1)
+  all_meet : (words : List (List ℕ)) → Passes (attribute_checks format words) → AllMeet P (values_of key words)
+  unfolding AllMeet
+  all_meet [] h = tt
+  all_meet (w ∷ ws) h = one_more w (value_behind key w) (values_of key ws) refl h.0 (all_meet ws h.1)
+
+  -- the last value of a key is what an attribute of this key has to be
+  pub last_value : (words : List (List ℕ)) (x : List ℕ) → Passes (attribute_checks format words) → last_of (values_of key words) ≡ Some x → P x
+  last_value words x h e = last_meets P (values_of key words) x (all_meet words h) e
 
 -- the last peeled text is an object name
 pub peeled_named : (format : Format) (words : List (List ℕ)) (target peeled : Option (List ℕ)) → LastValues format words target peeled → (x : List ℕ) → peeled ≡ Some x → (id : ObjectName) × IsObjectName format x id
-peeled_named format words target peeled h x e = last_named format (values_of (codes "peeled:") words) x (all_named format words h.passes) (sym h.peeled_is ∙ e)
+peeled_named format words target peeled h x e =
+    last_value format (codes "peeled:") (λ value. (id : ObjectName) × IsObjectName format value id) (λ word value is spelled. is.peeled value spelled) words x
+    h.passes (sym h.peeled_is ∙ e)

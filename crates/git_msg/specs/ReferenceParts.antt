@@ -1,5 +1,5 @@
 -- What the parts of the reader of reference lines find.
-use Rattle.std.specs.Prelude.{◌≡◌, ℕ, Option, Some, None, List, [], ◌++◌, codes}
+use Rattle.std.specs.Prelude.{◌≡◌, ℕ, Option, Some, None, List, ◌++◌, codes}
 use Rattle.git_names.specs.declared.object_format.Format.{Format}
 use Rattle.git_msg.specs.declared.reference_lines.Attribute.{Attribute}
 use Rattle.git_msg.specs.declared.reference_lines.Attribute.TheVariants.{Target, Peeled, Other}

@@ -1,5 +1,5 @@
 //! Reference lines, read.
-ghost use Rattle.std.specs.Prelude.{◌≡◌, List, ℕ, MatchResult};
+ghost use Rattle.std.specs.Prelude.{MatchResult};
 ghost use Rattle.std.specs.Option.{ForSome, option_copied};
 ghost use Rattle.git_names.specs.ObjectName.{ObjectName, IsObjectName};
 ghost use Rattle.git_msg.specs.Checks.{Refuses};

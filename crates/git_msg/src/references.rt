@@ -1,11 +1,11 @@
 //! Reference lines, as answers to ls-refs have them: gitprotocol-v2(5).
-ghost use Rattle.std.specs.Prelude.{◌≡◌, ◌+◌, ◌<◌, ◌≤◌, [], ◌∷◌, ◌++◌, length, MatchResult};
+ghost use Rattle.std.specs.Prelude.{◌≡◌, ◌+◌, ◌<◌, ◌≤◌, [], ◌∷◌, ◌++◌, length};
 ghost use Rattle.std.specs.Option.{option_copied};
 ghost use Rattle.arrayvec.specs.ArrayVec.{array_vec_len};
 ghost use Rattle.git_names.specs.ObjectFormat.{digits_of};
 ghost use Rattle.git_names.specs.ObjectName.{ObjectName, IsObjectName, hex_of};
 ghost use Rattle.git_pkt.specs.Packets.{longest_payload, payload, spelling_of};
-ghost use Rattle.git_msg.specs.References.{IsReferenceFault, IsReferenceLine, IsWritable, peeled_count, peeled_text, reference_of, reference_text, shown_reference, target_text};
+ghost use Rattle.git_msg.specs.References.{IsReferenceLine, IsWritable, peeled_count, peeled_text, reference_of, reference_text, shown_reference, target_text};
 
 use git_names::Oid;
 use git_pkt::{Hold, append, begin};

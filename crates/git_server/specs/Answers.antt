@@ -2,7 +2,7 @@
 use Rattle.std.specs.Prelude.{◌≡◌, ◌≤◌, ◌+◌, length, ℕ, Bool, ◌||◌, if◌then◌else◌, None, List, [], ◌∷◌, ◌++◌, true, false, codes, filter, map, nat_eq}
 use Rattle.std.specs.List.{list_any, flat_map, starts_with}
 use Rattle.git_names.specs.ObjectFormat.{name_of}
-use Rattle.git_pkt.specs.Packets.{Pkt, flush, payload, spelling_of, body_of, longest_payload}
+use Rattle.git_pkt.specs.Packets.{Pkt, flush, spelling_of, body_of, longest_payload}
 use Rattle.git_pkt.specs.FaultNames.{fault_text}
 use Rattle.git_pkt.specs.declared.fault.Fault.{Fault}
 use Rattle.git_pkt.specs.declared.fault.Kind.{Kind}

@@ -2,11 +2,12 @@ use Rattle.std.proofs.Common.{◌++◌, codes}
 use Rattle.std.proofs.KnownBytes.{Appends-trans}
 use Rattle.std.specs.Io.KnownBytes.{Appends}
 use Rattle.std.specs.Option.{option_copied}
+use Rattle.std.proofs.lemmas.Result.{on_ok_weaker, on_err_weaker}
 use Rattle.git_pkt.specs.Told.{inner_of, AppendsFront}
 use Rattle.git_pkt.specs.Escape.{escaped_of}
 use Rattle.git_pkt.proofs.EngineLemmas.{AppendsFront-after, AppendsFront-longer}
 use Rattle.git_client.specs.Transcript.{value_shown}
-use Rattle.git_client.proofs.Writing.{on_err, on_ok-map, on_err-map}
+use Rattle.git_client.proofs.Writing.{on_err}
 use Rattle.git_client.proofs.transcript.write_capability.Goals as goal
 
 pub returns-in_err-send-clause-err : goal.returns-in_err-send-clause-err
@@ -41,7 +42,7 @@ returns-clause-ok g c =
     let e = g.W.Write.contents (inner_of c.send-2.new.writer) in
     let so_far : Appends a d (codes "capability " ++ key ++ value) =
     Appends-trans _ _ _ (codes "capability " ++ key) value (Appends-trans _ _ _ (codes "capability ") key c.in_ok-send.ensures.ok c.in_ok-write_escaped.ensures.ok) c.in_ok-write_value.ensures.ok in
-    on_ok-map c.send-2.result (λ (last : Appends d e (codes "\n")). Appends-trans a d e (codes "capability " ++ key ++ value) (codes "\n") so_far last) c.send-2.ensures.ok
+    on_ok_weaker c.send-2.result (λ (last : Appends d e (codes "\n")). Appends-trans a d e (codes "capability " ++ key ++ value) (codes "\n") so_far last) c.send-2.ensures.ok
 
 pub returns-clause-err : goal.returns-clause-err
 returns-clause-err g c =
@@ -52,4 +53,4 @@ returns-clause-err g c =
     let e = g.W.Write.contents (inner_of c.send-2.new.writer) in
     let so_far : Appends a d (codes "capability " ++ key ++ value) =
     Appends-trans _ _ _ (codes "capability " ++ key) value (Appends-trans _ _ _ (codes "capability ") key c.in_ok-send.ensures.ok c.in_ok-write_escaped.ensures.ok) c.in_ok-write_value.ensures.ok in
-    on_err-map c.send-2.result (λ (last : AppendsFront d e (codes "\n")). AppendsFront-after a d e (codes "capability " ++ key ++ value) (codes "\n") so_far last) c.send-2.ensures.err
+    on_err_weaker c.send-2.result (λ (last : AppendsFront d e (codes "\n")). AppendsFront-after a d e (codes "capability " ++ key ++ value) (codes "\n") so_far last) c.send-2.ensures.err
