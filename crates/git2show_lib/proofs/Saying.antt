@@ -24,16 +24,19 @@ same_rest_object : (a b : List ℕ) → codes "object " ++ a ≡ codes "object "
 same_rest_object a b e = cc
 
 -- a reference line that is refused
-pub no_reference : (format : Format) (line text : List ℕ) (kind : Kind) → line ≡ codes "ref " ++ text → IsReferenceFault format text kind → SaysNothing format line
+pub no_reference : (format : Format) (line text : List ℕ) (kind : Kind) → line ≡ codes "ref " ++ text → IsReferenceFault format text kind
+    → SaysNothing format line
 no_reference format line text kind e fault (reference ref) is =
-    reference_or_fault format text ref kind (subst (λ (t : List ℕ). IsReferenceLine format t ref) (same_rest_ref is.value text (sym is.spelled ∙ e)) is.holds) fault
+    reference_or_fault format text ref kind (subst (λ (t : List ℕ). IsReferenceLine format t ref)
+    (same_rest_ref is.value text (sym is.spelled ∙ e)) is.holds) fault
 no_reference format line text kind e fault (object id size) is = let h = byte_at 0 _ _ (sym is.spelled ∙ e) in omega (arith, h)
 no_reference format line text kind e fault (ready count) is = let h = byte_at 2 _ _ (sym is.spelled ∙ e) in omega (arith, h)
 no_reference format line text kind e fault (boundary (Shallow id)) is = let h = byte_at 0 _ _ (sym is.spelled ∙ e) in omega (arith, h)
 no_reference format line text kind e fault (boundary (Unshallow id)) is = let h = byte_at 0 _ _ (sym is.spelled ∙ e) in omega (arith, h)
 
 -- an object line that is refused
-pub no_object : (format : Format) (line text : List ℕ) → line ≡ codes "object " ++ text → ((id : ObjectName) (size : ℕ) → IsSizedObject format id size text → ⊥) → SaysNothing format line
+pub no_object : (format : Format) (line text : List ℕ) → line ≡ codes "object " ++ text
+    → ((id : ObjectName) (size : ℕ) → IsSizedObject format id size text → ⊥) → SaysNothing format line
 no_object format line text e fault (object id size) is =
     fault id size (subst (λ (t : List ℕ). IsSizedObject format id size t) (same_rest_object is.value text (sym is.spelled ∙ e)) is.holds)
 no_object format line text e fault (reference ref) is = let h = byte_at 0 _ _ (sym is.spelled ∙ e) in omega (arith, h)
@@ -82,7 +85,8 @@ same_split (c ∷ a) [] x y l e = absurd (omega (arith, l))
 one_number : (text : List ℕ) (a b : ℕ) → IsNumber text a → IsNumber text b → a ≡ b
 one_number text a b h k = h.value ∙ sym k.value
 
-one_object : (format : Format) (text : List ℕ) (id other : ObjectName) (size count : ℕ) → IsSizedObject format id size text → IsSizedObject format other count text → (id ≡ other) × (size ≡ count)
+one_object : (format : Format) (text : List ℕ) (id other : ObjectName) (size count : ℕ) → IsSizedObject format id size text
+    → IsSizedObject format other count text → (id ≡ other) × (size ≡ count)
 one_object format text id other size count h k =
     let same = same_split h.name k.name h.number k.number (h.name_is.count ∙ sym k.name_is.count) (sym h.spelled ∙ k.spelled) in (
       one_object_name format k.name id other (subst (λ (t : List ℕ). IsObjectName format t id) same.0 h.name_is) k.name_is,
@@ -93,16 +97,22 @@ one_object format text id other size count h k =
 one_of_mark : (format : Format) (line : List ℕ) (a b : Said) → mark a ≡ mark b → Says format line a → Says format line b → a ≡ b
 unfolding mark
 one_of_mark format line (reference a) (reference b) e h k =
-    ap reference (one_reference format k.value a b (subst (λ (t : List ℕ). IsReferenceLine format t a) (same_rest_ref h.value k.value (sym h.spelled ∙ k.spelled)) h.holds) k.holds)
+    ap reference (one_reference format k.value a b (subst (λ (t : List ℕ). IsReferenceLine format t a)
+    (same_rest_ref h.value k.value (sym h.spelled ∙ k.spelled)) h.holds) k.holds)
 one_of_mark format line (object id size) (object other count) e h k =
-    let same = one_object format k.value id other size count (subst (IsSizedObject format id size) (same_rest_object h.value k.value (sym h.spelled ∙ k.spelled)) h.holds) k.holds in
+    let same =
+    one_object format k.value id other size count (subst (IsSizedObject format id size)
+    (same_rest_object h.value k.value (sym h.spelled ∙ k.spelled)) h.holds) k.holds in
     ap (λ (x : ObjectName). object x size) same.0 ∙ ap (object other) same.1
 one_of_mark format line (ready a) (ready b) e h k =
-    ap ready (one_number k.value a b (subst (λ (t : List ℕ). IsNumber t a) (same_rest_ready h.value k.value (sym h.spelled ∙ k.spelled)) h.holds.number_is) k.holds.number_is)
+    ap ready (one_number k.value a b (subst (λ (t : List ℕ). IsNumber t a) (same_rest_ready h.value k.value (sym h.spelled ∙ k.spelled)) h.holds.number_is)
+    k.holds.number_is)
 one_of_mark format line (boundary (Shallow a)) (boundary (Shallow b)) e h k =
-    ap (λ (x : ObjectName). boundary (Shallow x)) (one_object_name format k.value a b (subst (λ (t : List ℕ). IsObjectName format t a) (same_rest_shallow h.value k.value (sym h.spelled ∙ k.spelled)) h.holds) k.holds)
+    ap (λ (x : ObjectName). boundary (Shallow x)) (one_object_name format k.value a b
+    (subst (λ (t : List ℕ). IsObjectName format t a) (same_rest_shallow h.value k.value (sym h.spelled ∙ k.spelled)) h.holds) k.holds)
 one_of_mark format line (boundary (Unshallow a)) (boundary (Unshallow b)) e h k =
-    ap (λ (x : ObjectName). boundary (Unshallow x)) (one_object_name format k.value a b (subst (λ (t : List ℕ). IsObjectName format t a) (same_rest_unshallow h.value k.value (sym h.spelled ∙ k.spelled)) h.holds) k.holds)
+    ap (λ (x : ObjectName). boundary (Unshallow x)) (one_object_name format k.value a b
+    (subst (λ (t : List ℕ). IsObjectName format t a) (same_rest_unshallow h.value k.value (sym h.spelled ∙ k.spelled)) h.holds) k.holds)
 one_of_mark format line (reference a) (object id size) e h k = absurd (omega (arith, e))
 one_of_mark format line (reference a) (ready n) e h k = absurd (omega (arith, e))
 one_of_mark format line (reference a) (boundary (Shallow b)) e h k = absurd (omega (arith, e))
@@ -127,7 +137,8 @@ one_of_mark format line (boundary (Unshallow a)) (boundary (Shallow b)) e h k = 
 pub one_said : (format : Format) (line : List ℕ) (a b : Said) → Says format line a → Says format line b → a ≡ b
 one_said format line a b h k = one_of_mark format line a b (sym (marked format line a h) ∙ marked format line b k) h k
 
-maybe_format : (format : Format) (text : Option (List ℕ)) (id : Option ObjectName) → IsMaybeObjectName format text id → (x : ObjectName) → id ≡ Some x → x.format ≡ format
+maybe_format : (format : Format) (text : Option (List ℕ)) (id : Option ObjectName) → IsMaybeObjectName format text id → (x : ObjectName) → id ≡ Some x
+    → x.format ≡ format
 maybe_format format None id h x e = absurd (cc)
 maybe_format format (Some text) id h x e = let same : h.0 ≡ x = cc in subst (λ (o : ObjectName). o.format ≡ format) same h.1.of_format
 
@@ -135,8 +146,16 @@ maybe_format format (Some text) id h x e = let same : h.0 ≡ x = cc in subst (�
 pub fit_of_says : (format : Format) (line : List ℕ) (said : Said) → Says format line said → IsFit format said
 fit_of_says format line (reference ref) is =
     let parts = is.holds.attributes_are in (
-      record { by_id = is.holds.id_is.of_format; by_peeled = λ x e. maybe_format format (last_of (values_of (codes "peeled:") is.holds.attributes)) ref.peeled parts.peeled_is x e },
-      record { by_name = is.holds.name_is; by_target = λ x e. last_value format (codes "symref-target:") IsRefName (λ word value is spelled. is.target value spelled) is.holds.attributes x parts.passes (sym parts.target_is ∙ e) },
+      record {
+        by_id = is.holds.id_is.of_format;
+        by_peeled = λ x e. maybe_format format
+            (last_of (values_of (codes "peeled:") is.holds.attributes)) ref.peeled parts.peeled_is x e;
+      },
+      record {
+        by_name = is.holds.name_is;
+        by_target = λ x e. last_value format (codes "symref-target:") IsRefName
+            (λ word value is spelled. is.target value spelled) is.holds.attributes x parts.passes (sym parts.target_is ∙ e);
+      },
     )
 fit_of_says format line (object id size) is = is.holds.name_is.of_format
 fit_of_says format line (ready count) is = tt

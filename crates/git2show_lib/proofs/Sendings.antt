@@ -48,7 +48,8 @@ front_of_taken a b x bytes n front =
 -- ---- a loop over bytes: `done` of them are escaped, and the next come from what is left, as a slice shows it
 
 module _ (a b c : Option (List ℕ)) (x y bytes : List ℕ) (done : ℕ) (within : done ≤ length bytes) (so_far : Emits a b x (escaped_of (take done bytes)) y) where
-  pub escapes_on : (n : ℕ) (z : List ℕ) → Emits b c y (escaped_of (take n (take (length bytes - done) (drop done bytes)))) z → Emits a c x (escaped_of (take (done + n) bytes)) z
+  pub escapes_on : (n : ℕ) (z : List ℕ) → Emits b c y (escaped_of (take n (take (length bytes - done) (drop done bytes)))) z
+      → Emits a c x (escaped_of (take (done + n) bytes)) z
   escapes_on n z next =
       let same : escaped_of (take done bytes) ++ escaped_of (take n (take (length bytes - done) (drop done bytes))) ≡ escaped_of (take (done + n) bytes) =
       sym (escaped-append (take done bytes) (take n (take (length bytes - done) (drop done bytes)))) ∙ ap escaped_of (take_joined bytes done n within) in

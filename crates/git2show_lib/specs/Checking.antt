@@ -194,7 +194,8 @@ pub record TranscribedAll (old new : Client) (left_before left_after held_before
 -- how far the responses were heard when this fault ended them
 abbrev pub TranscribedUntil : CheckFault → Bool → Client → Client → Option (List ℕ) → Option (List ℕ) → Option (List ℕ) → Option (List ℕ) → Type 0
 TranscribedUntil (Requests f) ended old new left_before left_after held_before held_after = ⊥
-TranscribedUntil (Responses f) ended old new left_before left_after held_before held_after = TranscribedUpTo f ended old new left_before left_after held_before held_after
+TranscribedUntil (Responses f) ended old new left_before left_after held_before held_after =
+    TranscribedUpTo f ended old new left_before left_after held_before held_after
 TranscribedUntil ReadFault ended old new left_before left_after held_before held_after = TranscribedAll old new left_before left_after held_before held_after
 TranscribedUntil WriteFault ended old new left_before left_after held_before held_after = TranscribedFront old new left_before left_after held_before held_after
 TranscribedUntil ReadLimit ended old new left_before left_after held_before held_after = TranscribedAll old new left_before left_after held_before held_after

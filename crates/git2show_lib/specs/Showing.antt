@@ -58,7 +58,8 @@ pub record PrintsFront (old : PacketReader) (bytes : List ℕ) (held_before held
   pub emits : EmitsFront held_before held_after [] (lines_of packets)
 
 -- a front of the piece was used up to a fault, and printed
-pub record PrintsUpTo (f : Fault) (old : PacketReader) (piece : List ℕ) (held_before held_after : Option (List ℕ)) (waiting : List ℕ) (new : PacketReader) : Type 0 where
+pub record PrintsUpTo (f : Fault) (old : PacketReader) (piece : List ℕ) (held_before held_after : Option (List ℕ)) (waiting : List ℕ)
+    (new : PacketReader) : Type 0 where
   pub used : ℕ
   pub prints : Prints old (take used piece) held_before held_after waiting new
   pub told : fault_of new ≡ Some f

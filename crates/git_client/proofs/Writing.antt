@@ -16,7 +16,8 @@ no_failure now true first e h = e ∙ h
 no_failure now false first e h = e ∙ h
 
 -- the escapes of the bytes so far, and of the next
-next_escaped : (bytes : List ℕ) (done count : ℕ) → escaped_of (take done bytes) ++ escaped_of (take (done + count - done) (drop done bytes)) ≡ escaped_of (take (done + count) bytes)
+next_escaped : (bytes : List ℕ) (done count : ℕ)
+    → escaped_of (take done bytes) ++ escaped_of (take (done + count - done) (drop done bytes)) ≡ escaped_of (take (done + count) bytes)
 next_escaped bytes done count =
     sym (flat_map-append escape_of (take done bytes) (take (done + count - done) (drop done bytes))) ∙ ap escaped_of (sym (take-next done count bytes))
 
@@ -24,12 +25,15 @@ all_escaped : (bytes : List ℕ) (n : ℕ) → escaped_of (take n bytes) ++ esca
 all_escaped bytes n = sym (flat_map-append escape_of (take n bytes) (drop n bytes)) ∙ ap escaped_of (take-append-drop n bytes)
 
 -- a block more
-pub block_written : (a b c : Option (List ℕ)) (bytes : List ℕ) (done count : ℕ) → Appends a b (escaped_of (take done bytes)) → Appends b c (escaped_of (take (done + count - done) (drop done bytes))) → Appends a c (escaped_of (take (done + count) bytes))
+pub block_written : (a b c : Option (List ℕ)) (bytes : List ℕ) (done count : ℕ) → Appends a b (escaped_of (take done bytes))
+    → Appends b c (escaped_of (take (done + count - done) (drop done bytes))) → Appends a c (escaped_of (take (done + count) bytes))
 block_written a b c bytes done count one two =
     subst (λ (l : List ℕ). Appends a c l) (next_escaped bytes done count) (Appends-trans a b c _ _ one two)
 
 -- a block that failed
-pub block_failed : (a b c : Option (List ℕ)) (bytes : List ℕ) (done count : ℕ) → Appends a b (escaped_of (take done bytes)) → AppendsFront b c (escaped_of (take (done + count - done) (drop done bytes))) → AppendsFront a c (escaped_of bytes)
+pub block_failed : (a b c : Option (List ℕ)) (bytes : List ℕ) (done count : ℕ) → Appends a b (escaped_of (take done bytes))
+    → AppendsFront b c (escaped_of (take (done + count - done) (drop done bytes))) → AppendsFront a c (escaped_of bytes)
 block_failed a b c bytes done count one two =
-    let front : AppendsFront a c (escaped_of (take (done + count) bytes)) = subst (λ (l : List ℕ). AppendsFront a c l) (next_escaped bytes done count) (AppendsFront-after a b c _ _ one two) in
+    let front : AppendsFront a c (escaped_of (take (done + count) bytes)) =
+    subst (λ (l : List ℕ). AppendsFront a c l) (next_escaped bytes done count) (AppendsFront-after a b c _ _ one two) in
     subst (λ (l : List ℕ). AppendsFront a c l) (all_escaped bytes (done + count)) (AppendsFront-longer a c _ (escaped_of (drop (done + count) bytes)) front)

@@ -27,7 +27,8 @@ nothing_behind word text h = go (bytes_eq (take (length word) text) word) refl w
       absurd (h (drop (length word) text) (sym (take-append-drop (length word) text) ∙ ap (λ (xs : List ℕ). xs ++ drop (length word) text) same))
 
 -- no attribute that is known
-pub other_found : (format : Format) (word : List ℕ) → BeginsOtherThan (codes "symref-target:") word → BeginsOtherThan (codes "peeled:") word → IsFound format word Other
+pub other_found : (format : Format) (word : List ℕ) → BeginsOtherThan (codes "symref-target:") word → BeginsOtherThan (codes "peeled:") word
+    → IsFound format word Other
 other_found format word no_target no_peeled = record {
   is_attribute = record { target = λ value e. absurd (no_target value e); peeled = λ value e. absurd (no_peeled value e) };
   target = nothing_behind (codes "symref-target:") word no_target;
@@ -48,51 +49,76 @@ unfolding later
 last_more xs None = ap last_of (append-nil xs)
 last_more xs (Some x) = last_snoc xs x
 
-passes_snoc : (format : Format) (words : List (List ℕ)) (word : List ℕ) → Passes (attribute_checks format words) → IsAttribute format word → Passes (attribute_checks format (words ++ word ∷ []))
+passes_snoc : (format : Format) (words : List (List ℕ)) (word : List ℕ) → Passes (attribute_checks format words) → IsAttribute format word
+    → Passes (attribute_checks format (words ++ word ∷ []))
 passes_snoc format [] word h is = (is, tt)
 passes_snoc format (w ∷ ws) word h is = (h.0, passes_snoc format ws word h.1 is)
 
-pub refuses_at : (format : Format) (before : List (List ℕ)) (word : List ℕ) (behind : List (List ℕ)) (kind : Kind) → Passes (attribute_checks format before) → IsAttributeFault format word kind → Refuses (attribute_checks format (before ++ word ∷ behind)) kind
+pub refuses_at : (format : Format) (before : List (List ℕ)) (word : List ℕ) (behind : List (List ℕ)) (kind : Kind) → Passes (attribute_checks format before)
+    → IsAttributeFault format word kind → Refuses (attribute_checks format (before ++ word ∷ behind)) kind
 refuses_at format [] word behind kind h fault = inl fault
 refuses_at format (w ∷ ws) word behind kind h fault = inr (h.0, refuses_at format ws word behind kind h.1 fault)
 
-values_more : (key : List ℕ) (words : List (List ℕ)) (word : List ℕ) (value : Option (List ℕ)) → value_behind key word ≡ value → last_of (values_of key (words ++ word ∷ [])) ≡ later value (last_of (values_of key words))
+values_more : (key : List ℕ) (words : List (List ℕ)) (word : List ℕ) (value : Option (List ℕ)) → value_behind key word ≡ value
+    → last_of (values_of key (words ++ word ∷ [])) ≡ later value (last_of (values_of key words))
 values_more key words word value e =
-    ap last_of (filter_map_snoc (value_behind key) words word ∙ ap (λ (o : Option (List ℕ)). values_of key words ++ option_to_list o) e) ∙ last_more (values_of key words) value
+    ap last_of (filter_map_snoc (value_behind key) words word ∙ ap (λ (o : Option (List ℕ)). values_of key words ++ option_to_list o) e)
+    ∙ last_more (values_of key words) value
 
 -- one more word was read
-step : (format : Format) (whole : List (List ℕ)) (text : List ℕ) (next target peeled : Option (List ℕ)) (word : List ℕ) (found : Attribute) → ReadSoFar format whole (Some text) target peeled → spaced_words text ≡ word ∷ parts_left 32 next → IsFound format word found → ReadSoFar format whole next (later (target_in found) target) (later (peeled_in found) peeled)
+step : (format : Format) (whole : List (List ℕ)) (text : List ℕ) (next target peeled : Option (List ℕ)) (word : List ℕ) (found : Attribute)
+    → ReadSoFar format whole (Some text) target peeled → spaced_words text ≡ word ∷ parts_left 32 next → IsFound format word found
+    → ReadSoFar format whole next (later (target_in found) target) (later (peeled_in found) peeled)
 step format whole text next target peeled word found h words is = record {
   before = h.before ++ word ∷ [];
   whole_is = h.whole_is ∙ ap (λ (ws : List (List ℕ)). h.before ++ ws) words ∙ sym (append_assoc h.before (word ∷ []) (parts_left 32 next));
   values = record {
     passes = passes_snoc format h.before word h.values.passes is.is_attribute;
-    target_is = ap (λ (t : Option (List ℕ)). later (target_in found) t) h.values.target_is ∙ sym (values_more (codes "symref-target:") h.before word (target_in found) is.target);
-    peeled_is = ap (λ (t : Option (List ℕ)). later (peeled_in found) t) h.values.peeled_is ∙ sym (values_more (codes "peeled:") h.before word (peeled_in found) is.peeled);
+    target_is = ap (λ (t : Option (List ℕ)). later (target_in found) t) h.values.target_is
+        ∙ sym (values_more (codes "symref-target:") h.before word (target_in found) is.target);
+    peeled_is = ap (λ (t : Option (List ℕ)). later (peeled_in found) t) h.values.peeled_is
+        ∙ sym (values_more (codes "peeled:") h.before word (peeled_in found) is.peeled);
   };
 }
 
-pub step_target : (format : Format) (whole : List (List ℕ)) (text : List ℕ) (next target peeled : Option (List ℕ)) (word : List ℕ) (found : Attribute) (name : List ℕ) → target_in found ≡ Some name → peeled_in found ≡ None → ReadSoFar format whole (Some text) target peeled → spaced_words text ≡ word ∷ parts_left 32 next → IsFound format word found → ReadSoFar format whole next (Some name) peeled
+pub step_target : (format : Format) (whole : List (List ℕ)) (text : List ℕ) (next target peeled : Option (List ℕ)) (word : List ℕ) (found : Attribute)
+    (name : List ℕ) → target_in found ≡ Some name → peeled_in found ≡ None → ReadSoFar format whole (Some text) target peeled
+    → spaced_words text ≡ word ∷ parts_left 32 next → IsFound format word found → ReadSoFar format whole next (Some name) peeled
 unfolding later
 step_target format whole text next target peeled word found name e f h words is =
-    subst (λ (o : Option (List ℕ)). ReadSoFar format whole next (later o target) peeled) e (subst (λ (o : Option (List ℕ)). ReadSoFar format whole next (later (target_in found) target) (later o peeled)) f (step format whole text next target peeled word found h words is))
+    subst (λ (o : Option (List ℕ)). ReadSoFar format whole next (later o target) peeled) e
+    (subst (λ (o : Option (List ℕ)). ReadSoFar format whole next (later (target_in found) target) (later o peeled)) f
+    (step format whole text next target peeled word found h words is))
 
-pub step_peeled : (format : Format) (whole : List (List ℕ)) (text : List ℕ) (next target peeled : Option (List ℕ)) (word : List ℕ) (found : Attribute) (value : List ℕ) → target_in found ≡ None → peeled_in found ≡ Some value → ReadSoFar format whole (Some text) target peeled → spaced_words text ≡ word ∷ parts_left 32 next → IsFound format word found → ReadSoFar format whole next target (Some value)
+pub step_peeled : (format : Format) (whole : List (List ℕ)) (text : List ℕ) (next target peeled : Option (List ℕ)) (word : List ℕ) (found : Attribute)
+    (value : List ℕ) → target_in found ≡ None → peeled_in found ≡ Some value → ReadSoFar format whole (Some text) target peeled
+    → spaced_words text ≡ word ∷ parts_left 32 next → IsFound format word found → ReadSoFar format whole next target (Some value)
 unfolding later
 step_peeled format whole text next target peeled word found value e f h words is =
-    subst (λ (o : Option (List ℕ)). ReadSoFar format whole next (later o target) (Some value)) e (subst (λ (o : Option (List ℕ)). ReadSoFar format whole next (later (target_in found) target) (later o peeled)) f (step format whole text next target peeled word found h words is))
+    subst (λ (o : Option (List ℕ)). ReadSoFar format whole next (later o target) (Some value)) e
+    (subst (λ (o : Option (List ℕ)). ReadSoFar format whole next (later (target_in found) target) (later o peeled)) f
+    (step format whole text next target peeled word found h words is))
 
-pub step_other : (format : Format) (whole : List (List ℕ)) (text : List ℕ) (next target peeled : Option (List ℕ)) (word : List ℕ) (found : Attribute) → target_in found ≡ None → peeled_in found ≡ None → ReadSoFar format whole (Some text) target peeled → spaced_words text ≡ word ∷ parts_left 32 next → IsFound format word found → ReadSoFar format whole next target peeled
+pub step_other : (format : Format) (whole : List (List ℕ)) (text : List ℕ) (next target peeled : Option (List ℕ)) (word : List ℕ) (found : Attribute)
+    → target_in found ≡ None → peeled_in found ≡ None → ReadSoFar format whole (Some text) target peeled → spaced_words text ≡ word ∷ parts_left 32 next
+    → IsFound format word found → ReadSoFar format whole next target peeled
 unfolding later
 step_other format whole text next target peeled word found e f h words is =
-    subst (λ (o : Option (List ℕ)). ReadSoFar format whole next (later o target) peeled) e (subst (λ (o : Option (List ℕ)). ReadSoFar format whole next (later (target_in found) target) (later o peeled)) f (step format whole text next target peeled word found h words is))
+    subst (λ (o : Option (List ℕ)). ReadSoFar format whole next (later o target) peeled) e
+    (subst (λ (o : Option (List ℕ)). ReadSoFar format whole next (later (target_in found) target) (later o peeled)) f
+    (step format whole text next target peeled word found h words is))
 
-pub no_more_words : (format : Format) (whole : List (List ℕ)) (target peeled : Option (List ℕ)) → ReadSoFar format whole None target peeled → LastValues format whole target peeled
-no_more_words format whole target peeled h = subst (λ (ws : List (List ℕ)). LastValues format ws target peeled) (sym (h.whole_is ∙ append-nil h.before)) h.values
+pub no_more_words : (format : Format) (whole : List (List ℕ)) (target peeled : Option (List ℕ)) → ReadSoFar format whole None target peeled
+    → LastValues format whole target peeled
+no_more_words format whole target peeled h =
+    subst (λ (ws : List (List ℕ)). LastValues format ws target peeled) (sym (h.whole_is ∙ append-nil h.before)) h.values
 
-pub word_refused : (format : Format) (whole : List (List ℕ)) (text : List ℕ) (next target peeled : Option (List ℕ)) (word : List ℕ) (kind : Kind) → ReadSoFar format whole (Some text) target peeled → spaced_words text ≡ word ∷ parts_left 32 next → IsAttributeFault format word kind → Refuses (attribute_checks format whole) kind
+pub word_refused : (format : Format) (whole : List (List ℕ)) (text : List ℕ) (next target peeled : Option (List ℕ)) (word : List ℕ) (kind : Kind)
+    → ReadSoFar format whole (Some text) target peeled → spaced_words text ≡ word ∷ parts_left 32 next → IsAttributeFault format word kind
+    → Refuses (attribute_checks format whole) kind
 word_refused format whole text next target peeled word kind h words fault =
-    subst (λ (ws : List (List ℕ)). Refuses (attribute_checks format ws) kind) (sym (h.whole_is ∙ ap (λ (ws : List (List ℕ)). h.before ++ ws) words)) (refuses_at format h.before word (parts_left 32 next) kind h.values.passes fault)
+    subst (λ (ws : List (List ℕ)). Refuses (attribute_checks format ws) kind) (sym (h.whole_is ∙ ap (λ (ws : List (List ℕ)). h.before ++ ws) words))
+    (refuses_at format h.before word (parts_left 32 next) kind h.values.passes fault)
 
 -- a text has a word
 onto_some : (x : ℕ) (ws : List (List ℕ)) → (w : List ℕ) × (rest : List (List ℕ)) × (onto_first x ws ≡ w ∷ rest)
@@ -107,7 +133,8 @@ some_word (x ∷ xs) = go (x == 32) where
   go false = onto_some x (spaced_words xs)
 
 -- the first word is no object name
-pub id_refused : (format : Format) (text id rest : List ℕ) → spaced_words text ≡ id ∷ spaced_words rest → IsNoObjectName format id → IsReferenceFault format text BadObjectName
+pub id_refused : (format : Format) (text id rest : List ℕ) → spaced_words text ≡ id ∷ spaced_words rest → IsNoObjectName format id
+    → IsReferenceFault format text BadObjectName
 id_refused format text id rest words h =
     let s = some_word rest in
     let all : spaced_words text ≡ id ∷ s.0 ∷ s.1 = words ∙ ap (λ (ws : List (List ℕ)). id ∷ ws) s.2 in
@@ -132,8 +159,10 @@ last_meets P [] x h e = cc
 last_meets P (v ∷ []) x h e = let same : v ≡ x = cc in subst P same h.0
 last_meets P (v ∷ w ∷ vs) x h e = last_meets P (w ∷ vs) x h.1 e
 
-module _ (format : Format) (key : List ℕ) (P : List ℕ → Type 0) (demands : (word value : List ℕ) → IsAttribute format word → word ≡ key ++ value → P value) where
-  one_more : (w : List ℕ) (o : Option (List ℕ)) (vs : List (List ℕ)) → value_behind key w ≡ o → IsAttribute format w → AllMeet P vs → AllMeet P (cons_option o vs)
+module _ (format : Format) (key : List ℕ) (P : List ℕ → Type 0)
+    (demands : (word value : List ℕ) → IsAttribute format word → word ≡ key ++ value → P value) where
+  one_more : (w : List ℕ) (o : Option (List ℕ)) (vs : List (List ℕ)) → value_behind key w ≡ o → IsAttribute format w → AllMeet P vs
+      → AllMeet P (cons_option o vs)
   unfolding AllMeet
   one_more w None vs e is h = h
   one_more w (Some v) vs e is h = (demands w v is (value_spelled key w v e), h)
@@ -148,7 +177,8 @@ module _ (format : Format) (key : List ℕ) (P : List ℕ → Type 0) (demands :
   last_value words x h e = last_meets P (values_of key words) x (all_meet words h) e
 
 -- the last peeled text is an object name
-pub peeled_named : (format : Format) (words : List (List ℕ)) (target peeled : Option (List ℕ)) → LastValues format words target peeled → (x : List ℕ) → peeled ≡ Some x → (id : ObjectName) × IsObjectName format x id
+pub peeled_named : (format : Format) (words : List (List ℕ)) (target peeled : Option (List ℕ)) → LastValues format words target peeled → (x : List ℕ)
+    → peeled ≡ Some x → (id : ObjectName) × IsObjectName format x id
 peeled_named format words target peeled h x e =
     last_value format (codes "peeled:") (λ value. (id : ObjectName) × IsObjectName format value id) (λ word value is spelled. is.peeled value spelled) words x
     h.passes (sym h.peeled_is ∙ e)

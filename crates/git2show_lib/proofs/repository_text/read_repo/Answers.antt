@@ -23,8 +23,10 @@ pub returns-in-Err-Refused : goal.returns-in-Err-Refused
 returns-in-Err-Refused c =
     let h = rw c.in-Some-rest.is at c.lines.invariant in
     let said =
-    may_not_stand_at c.args.text.now c.in-Some.format (drafted c.lines.draft) c.lines.line c.in-Some-rest.left.now c.split_at_first-in-Some-rest.result.0.now (option_copied c.split_at_first-in-Some-rest.result.1)
-    (shown c.in-Some-read_item.item) h.reading c.split_at_first-in-Some-rest.ensures.parts c.in-Some-read_item.ensures (rw c.in-Err-Refused.field-0-is at c.in-Err-Refused.ensures) in
+    may_not_stand_at c.args.text.now c.in-Some.format (drafted c.lines.draft) c.lines.line c.in-Some-rest.left.now
+    c.split_at_first-in-Some-rest.result.0.now (option_copied c.split_at_first-in-Some-rest.result.1)
+    (shown c.in-Some-read_item.item) h.reading c.split_at_first-in-Some-rest.ensures.parts c.in-Some-read_item.ensures
+    (rw c.in-Err-Refused.field-0-is at c.in-Err-Refused.ensures) in
     search (rules, said)
 
 pub returns-in-Err-OutOfMemory : goal.returns-in-Err-OutOfMemory
@@ -39,7 +41,11 @@ pub lines-preserved : goal.lines-preserved
 lines-preserved c =
     let h = rw c.in-Some-rest.is at c.lines.invariant in
     record {
-      reading = stepped c.args.text.now c.in-Some.format (drafted c.lines.draft) (drafted c.keep.new.self) c.lines.line c.in-Some-rest.left.now c.split_at_first-in-Some-rest.result.0.now (option_copied c.split_at_first-in-Some-rest.result.1)
+      reading =
+          stepped c.args.text.now c.in-Some.format (drafted c.lines.draft)
+          (drafted c.keep.new.self) c.lines.line c.in-Some-rest.left.now c.split_at_first-in-Some-rest.result.0.now
+          (option_copied c.split_at_first-in-Some-rest.result.1)
           (shown c.in-Some-read_item.item) h.reading c.split_at_first-in-Some-rest.ensures.parts c.in-Some-read_item.ensures c.in-Ok.ensures;
-      room = room_behind (length c.args.text.now) c.lines.line c.in-Some-rest.left.now c.split_at_first-in-Some-rest.result.1 h.room c.split_at_first-in-Some-rest.ensures.shorter;
+      room = room_behind (length c.args.text.now) c.lines.line c.in-Some-rest.left.now c.split_at_first-in-Some-rest.result.1 h.room
+          c.split_at_first-in-Some-rest.ensures.shorter;
     }

@@ -49,7 +49,8 @@ returns-clause-ok g c =
     subst (λ (l : List ℕ). Emits between next c.emit.new.self (escaped_of l) c.emit_escaped.new.self) c.body.ensures c.in_ok-emit_escaped.ensures.ok in
     let so_far : Emits held next c.args.self.now (head ++ body) c.emit_escaped.new.self =
     emits_then held between next c.args.self.now head c.emit.new.self body c.emit_escaped.new.self began went in
-    on_ok_weaker c.emit-2.result (λ last. emits_then held next after c.args.self.now (head ++ body) c.emit_escaped.new.self (10 ∷ []) c.emit-2.new.self so_far last) c.emit-2.ensures.ok
+    on_ok_weaker c.emit-2.result (λ last. emits_then held next after c.args.self.now (head ++ body) c.emit_escaped.new.self
+    (10 ∷ []) c.emit-2.new.self so_far last) c.emit-2.ensures.ok
 
 pub returns-clause-err : goal.returns-clause-err
 returns-clause-err g c =
@@ -65,4 +66,5 @@ returns-clause-err g c =
     subst (λ (l : List ℕ). Emits between next c.emit.new.self (escaped_of l) c.emit_escaped.new.self) c.body.ensures c.in_ok-emit_escaped.ensures.ok in
     let so_far : Emits held next c.args.self.now (head ++ body) c.emit_escaped.new.self =
     emits_then held between next c.args.self.now head c.emit.new.self body c.emit_escaped.new.self began went in
-    on_err_weaker c.emit-2.result (λ last. front_after held next after c.args.self.now (head ++ body) c.emit_escaped.new.self (10 ∷ []) so_far last) c.emit-2.ensures.err
+    on_err_weaker c.emit-2.result (λ last. front_after held next after c.args.self.now (head ++ body) c.emit_escaped.new.self (10 ∷ []) so_far last)
+    c.emit-2.ensures.err
