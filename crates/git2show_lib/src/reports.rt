@@ -24,10 +24,10 @@ const STATUS: u8 = 1;
 pub enum ProgramFault {
     /// A run over a reader and a writer ended early.
     #[error("{0}")]
-    Run(RunFault),
+    Run(#[from] RunFault),
     /// A check of two streams ended early.
     #[error("{0}")]
-    Check(CheckFault),
+    Check(#[from] CheckFault),
     /// A repository's text is bad from this line on, counted from 1.
     #[error("BadRepo at {0}")]
     Repo(u64),
