@@ -34,6 +34,7 @@ pub(crate) struct Lines {
 
 impl Model for Lines {
     ghost use Rattle.std.specs.Prelude.{◌≡◌, ◌≤◌, ℕ, List, length, take};
+    ghost use Rattle.git2show_lib.specs.declared.lines.TheConstants.{CAPACITY};
 
     ghost Value = { List ℕ };
 
