@@ -8,8 +8,7 @@ use Rattle.git_pkt.specs.Faults.{StopsBy}
 use Rattle.git_pkt.specs.Reading.{Reads, ReadsOn, StandsAt, is_open, held_of, fault_of as reader_fault_of}
 use Rattle.git_pkt.specs.declared.fault.Fault.{Fault}
 use Rattle.git_pkt.specs.declared.reader.PacketReader.{PacketReader}
-use Rattle.git_pkt.proofs.ReaderMoves.{rest_of_shut}
-use Rattle.git_pkt.proofs.Carries.{rest_stands}
+use Rattle.git_pkt.proofs.Holding.{sound_rest, none_between}
 use Rattle.git_msg.specs.Advertisement.{noted_of}
 use Rattle.git_client.specs.Parts.{nearest, advertisement_of}
 use Rattle.git_client.specs.Events.{EventValue, turns_of}
@@ -45,7 +44,7 @@ takes_no_fault (Failed fault) e = absurd (cc)
 -- after a packet nothing is left
 nothing_left : (reader : PacketReader) (bytes : List ℕ) (given : List Given) (rest : List ℕ) → reader_fault_of reader ≡ None → is_open reader ≡ false
     → Reads reader 0 bytes given rest → rest ≡ []
-nothing_left reader bytes given rest sound shut reads = sym (rest_stands reader 0 bytes given rest sound reads) ∙ rest_of_shut reader shut
+nothing_left reader bytes given rest sound shut reads = none_between reader rest (sound_rest reader 0 bytes given rest sound reads).0 shut
 
 -- what a packet without a fault says, of whatever was before it
 pub record Adds (old new : Client) (p : Pkt) (now : List EventValue) (before : List Pkt) : Type 0 where

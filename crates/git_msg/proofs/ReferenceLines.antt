@@ -1,5 +1,5 @@
 -- Reference lines, as they are written.
-use Rattle.std.proofs.Common.{arith, ◌≡◌, ◌≢◌, ℕ, ◌+◌, ◌<◌, ◌≤◌, ◌==◌, Bool, true, false, not, ◌&&◌, Option, Some, None, List, [], ◌∷◌, ◌++◌, refl, ap, ◌∙◌, subst, append_assoc, length, drop, slice_index, codes, length-append, lit≤}
+use Rattle.std.proofs.Common.{arith, ◌≡◌, ◌≢◌, ℕ, ◌+◌, ◌≤◌, ◌==◌, Bool, true, false, not, ◌&&◌, Option, Some, None, List, [], ◌∷◌, ◌++◌, refl, ap, ◌∙◌, subst, append_assoc, length, drop, slice_index, codes, length-append, lit≤}
 use Rattle.std.specs.Prelude.{All}
 use Rattle.std.specs.List.{list_all}
 use Rattle.std.proofs.lemmas.Bool.Decides.{nat_tests}
@@ -7,7 +7,8 @@ use Rattle.std.proofs.lemmas.List.{append-nil}
 use Rattle.std.proofs.lemmas.List.Elements.{All-append, All-cons, All-nil, All-from_get_or}
 use Rattle.std.proofs.lemmas.List.Splits.{slice_split_at, slice_split_none}
 use Rattle.git_names.specs.ObjectFormat.{digits_of}
-use Rattle.git_names.specs.ObjectName.{ObjectName, IsObjectName, digit_value, hex_of}
+use Rattle.git_names.specs.Digits.{IsHexDigit, digit_value}
+use Rattle.git_names.specs.ObjectName.{ObjectName, IsObjectName, hex_of}
 use Rattle.git_names.specs.RefName.{IsRefName, Lacks}
 use Rattle.git_names.specs.declared.object_format.Format.{Format}
 use Rattle.git_names.specs.declared.object_format.Format.TheVariants.{Sha1, Sha256}
@@ -22,9 +23,10 @@ eq_false c h = grind (arith, nat_tests)
 lacking_is_unspaced : (text : List ℕ) → Lacks text 32 → All (λ c. (c == 32) ≡ false) text
 lacking_is_unspaced text h = All-from_get_or (λ c. (c == 32) ≡ false) text 0 (λ k within. eq_false (slice_index text k) (h k within))
 
-no_digit : (c : ℕ) → digit_value c < 16 → c ≢ 32
+no_digit : (c : ℕ) → IsHexDigit c → c ≢ 32
+unfolding digit_value
 no_digit c h same =
-    let at : digit_value 32 < 16 = subst (λ (n : ℕ). digit_value n < 16) same h in
+    let at : IsHexDigit 32 = subst IsHexDigit same h in
     omega arith
 
 digits_are_unspaced : (format : Format) (text : List ℕ) (id : ObjectName) → IsObjectName format text id → All (λ c. (c == 32) ≡ false) text

@@ -9,15 +9,13 @@ use Rattle.std.proofs.lemmas.List.Elements.{All-from_get_or}
 use Rattle.std.proofs.lemmas.List.Sums.{fails_before_first}
 use Rattle.std.proofs.lemmas.List.Quantifiers.{position-Some}
 use Rattle.std.proofs.lemmas.List.Splits.{slice_split_at, slice_split_none}
+use Rattle.git_pkt.proofs.Pieces.{left_of}
 use Rattle.git_msg.specs.Texts.{parts_of}
 
 -- how many bytes are left, and one more, if something is left
 abbrev pub bytes_left : Option (List ℕ) → ℕ
 bytes_left None = 0
 bytes_left (Some text) = length text + 1
-
-rest_of : (text : List ℕ) (n : ℕ) → n ≤ length text → take (length text - n) (drop n text) ≡ drop n text
-rest_of text n h = grind (arith, common_steps)
 
 front_byte : (text : List ℕ) (at k : ℕ) → k < length (take at text) → get_or (take at text) k 0 ≡ get_or text k 0
 front_byte text at k h = grind (arith, common_steps)
@@ -39,7 +37,7 @@ parts_at byte text at e =
     sym (take-append-drop at text) ∙ ap (λ (xs : List ℕ). take at text ++ xs) (drop_cons text at p.0) in
     ap (parts_of byte) cut
     ∙ slice_split_at (λ c. c == byte) (take at text) (get_or text at 0) (drop (at + 1) text) front p.1
-    ∙ ap (λ (xs : List ℕ). take at text ∷ parts_of byte xs) (sym (rest_of text (at + 1) (omega (arith, p.0))))
+    ∙ ap (λ (xs : List ℕ). take at text ∷ parts_of byte xs) (sym (left_of text (at + 1) (omega (arith, p.0))))
 
 position_in : (p : ℕ → Bool) (xs : List ℕ) → position p xs ≡ None → (k : ℕ) → k < length xs → p (get_or xs k 0) ≡ false
 position_in p xs e k within = go (nat_lt (position_or_len p xs) (length xs)) refl e where

@@ -1,5 +1,5 @@
 -- Capability lines: `key` or `key=value`.
-use Rattle.std.specs.Prelude.{◌≡◌, ℕ, ◌==◌, IsTrue, Bool, not, ◌&&◌, ◌||◌, List, ◌∷◌, ◌++◌, length, Option, Some, None, codes}
+use Rattle.std.specs.Prelude.{◌≡◌, ℕ, ◌==◌, IsTrue, Bool, not, ◌&&◌, ◌||◌, List, ◌∷◌, ◌++◌, length, Option, Some, None}
 use Rattle.std.specs.List.{list_all}
 use Rattle.std.specs.Char.{is_ascii_alphanumeric}
 
@@ -26,7 +26,3 @@ IsCapability text key (Some value) = IsTrue (is_key key) × (text ≡ key ++ 61 
 -- the text is no capability
 abbrev pub IsNoCapability : List ℕ → Type 0
 IsNoCapability text = (key : List ℕ) (value : Option (List ℕ)) → IsCapability text key value → ⊥
-
--- the line by which each end names itself
-abbrev pub agent_text : List ℕ
-agent_text = codes "agent=git2/1"

@@ -37,13 +37,9 @@ pub fn read_reference(format: Format, text: &[u8]) -> Result<Reference<'_>, Kind
     let (id, Some(rest)) = split_at_first(text, b' ') else {
         return Err(Kind::BadLine);
     };
-    let Ok(id) = Oid::read(format, id) else {
-        return Err(Kind::BadObjectName);
-    };
+    let id = Oid::read(format, id)?;
     let (name, rest) = split_at_first(rest, b' ');
-    if RefName::read(name).is_err() {
-        return Err(Kind::BadRefName);
-    }
+    RefName::read(name)?;
     let found = read_attributes(format, rest)?;
     let peeled = read_peeled(format, found.peeled);
     Ok(Reference {
@@ -80,15 +76,11 @@ fn read_attribute<'a>(format: Format, word: &'a [u8]) -> Result<Attribute<'a>, K
     ensures { MatchResult result (IsFound format word.now) (IsAttributeFault format word.now) }
 {
     if let Some(name) = after(word, b"symref-target:") {
-        if RefName::read(name).is_err() {
-            return Err(Kind::BadRefName);
-        }
+        RefName::read(name)?;
         return Ok(Attribute::Target(name));
     }
     if let Some(text) = after(word, b"peeled:") {
-        if Oid::read(format, text).is_err() {
-            return Err(Kind::BadObjectName);
-        }
+        Oid::read(format, text)?;
         return Ok(Attribute::Peeled(text));
     }
     Ok(Attribute::Other)

@@ -1,8 +1,10 @@
 //! What can be refused, each by a name and a number of its own, and where.
 ghost use Rattle.std.specs.Prelude.{◌≡◌, Some};
 ghost use Rattle.git_pkt.specs.FaultNames.{kind_name, kind_number, fault_text, run_fault_text};
+ghost use Rattle.git_pkt.specs.NameFaults.{kind_of};
 
 use arrayvec::ArrayString;
+use git_names::NameFault;
 use itoa::Buffer;
 use std::fmt;
 
@@ -176,6 +178,17 @@ impl fmt::Display for Kind {
 
     fn fmt<W: fmt::Write>(&self, f: &mut fmt::Formatter<W>) -> fmt::Result {
         f.write_str(self.name())
+    }
+}
+
+impl From<NameFault> for Kind {
+    ghost from_gives = { λ fault kind. kind ≡ kind_of fault };
+
+    fn from(fault: NameFault) -> Kind {
+        match fault {
+            NameFault::BadObjectName => Kind::BadObjectName,
+            NameFault::BadRefName => Kind::BadRefName,
+        }
     }
 }
 

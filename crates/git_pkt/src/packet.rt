@@ -1,10 +1,11 @@
 //! Packets of the wire, as gitprotocol-common(5) has them, and how they are written.
 
 ghost use Rattle.std.specs.Prelude.{◌≡◌, ◌+◌, ◌≤◌, ◌<◌, ◌++◌, length};
-ghost use Rattle.git_pkt.specs.Digits.{digits_of, digit_of};
+ghost use Rattle.git_pkt.specs.Digits.{digits_of};
 ghost use Rattle.git_pkt.specs.Packets.{body_of, seen, spelling_of, text_of, longest_payload};
 
 use crate::hold::{Hold, append};
+use git_names::lower_digit;
 
 /// A packet, whose payload is lent.
 #[derive(Clone, Copy, Debug)]
@@ -67,18 +68,4 @@ fn spell(hold: &mut Hold, field: usize, body: &[u8])
         ],
     );
     append(hold, body);
-}
-
-/// The digit, in lower case, of a number below 16.
-#[tactic(auto, unfolding(crate::specs::Digits::digit_of))]
-fn lower_digit(number: usize) -> u8
-    requires { number < 16 }
-    ensures { result ≡ digit_of number }
-{
-    let number = number as u8;
-    if number < 10 {
-        b'0' + number
-    } else {
-        b'a' - 10 + number
-    }
 }

@@ -1,5 +1,5 @@
-use Rattle.std.proofs.Common.{rules, ◌≡◌, ◌+◌, length, ap, sym, subst}
-use Rattle.git_pkt.specs.Reading.{position_of, rest_of}
+use Rattle.std.proofs.Common.{rules, ◌≡◌, ◌+◌, ap, sym, subst}
+use Rattle.git_pkt.specs.Reading.{position_of, open_length}
 use Rattle.git_pkt.specs.declared.fault.Fault.{Fault}
 use Rattle.git_client.specs.Hearing.{reader_of}
 use Rattle.git_client.proofs.Closed.{ends_between, ends_inside}
@@ -13,6 +13,6 @@ returns-clause-offset c =
       | in-Ok w ↦ ends_between format ending bytes events c.args.self.now given rest c.match-close.fault.offset h c.requires splits
           w.in-Ok.ensures.between.2 (search (rules, w.fault-is, w.position.ensures.value, ap position_of w.in-Ok.ensures.between.0))
       | in-Err w ↦ ends_inside format ending bytes events c.args.self.now given rest c.match-close.fault.offset h c.requires splits
-          (subst (λ (f : Fault). f.offset + length (rest_of (reader_of c.args.self.now)) ≡ position_of (reader_of c.args.self.now)) (sym w.fault-is)
+          (subst (λ (f : Fault). f.offset + open_length (reader_of c.args.self.now) ≡ position_of (reader_of c.args.self.now)) (sym w.fault-is)
           (w.in-Err.ensures.truncated (c.args.self.now.sound c.requires)).2)
     ]
