@@ -17,7 +17,7 @@ use Rattle.git_pkt.specs.declared.reader.Got.{Got}
 use Rattle.git_pkt.specs.declared.reader.Got.TheVariants.{More, Failed, Packet as GotPacket}
 use Rattle.git_pkt.specs.declared.reader.PacketReader.{PacketReader}
 use Rattle.git2show_lib.specs.declared.checking.CheckFault.{CheckFault}
-use Rattle.git2show_lib.specs.Checking.{FailsInCheck, BeginsWith, Judges, unread, refused, judgement_of, AsksSoFar, IsFirst, IsShownInRequests}
+use Rattle.git2show_lib.specs.CheckedStreams.{FailsInCheck, BeginsWith, Judges, unread, refused, judgement_of, AsksSoFar, IsFirst, IsShownInRequests}
 use Rattle.git2show_lib.proofs.Printing.{timely}
 
 -- a fault at the first packet

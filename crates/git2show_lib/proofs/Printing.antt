@@ -23,9 +23,9 @@ use Rattle.git_pkt.specs.declared.fault.RunFault.{RunFault}
 use Rattle.git_pkt.specs.declared.fault.RunFault.TheVariants.{ReadFault, WriteFault, Refused}
 use Rattle.git_pkt.specs.declared.reader.PacketReader.{PacketReader}
 use Rattle.git_pkt.proofs.EngineLemmas.{AppendsFront-after}
-use Rattle.git2show_lib.specs.Lines.{line_of, lines_of}
-use Rattle.git2show_lib.specs.Sending.{Emits, EmitsFront}
-use Rattle.git2show_lib.specs.Showing.{Prints, PrintsFront, PrintsUpTo, PrintsInto, PrintsPiece, ShowsSoFar, Shows, IsTimely}
+use Rattle.git2show_lib.specs.PacketLines.{line_of, lines_of}
+use Rattle.git2show_lib.specs.LineBuffer.{Emits, EmitsFront}
+use Rattle.git2show_lib.specs.ShownStream.{Prints, PrintsFront, PrintsUpTo, PrintsInto, PrintsPiece, ShowsSoFar, Shows, IsTimely}
 use Rattle.git2show_lib.proofs.Sendings.{emits_nothing, emits_then, front_after}
 
 pub lines-append : (gs hs : List Given) → lines_of (gs ++ hs) ≡ lines_of gs ++ lines_of hs

@@ -6,7 +6,7 @@ use Rattle.git_pkt.proofs.EngineLemmas.{AppendsFront-after, AppendsFront-longer}
 use Rattle.git_pkt.proofs.Escapes.{escaped-append, escaped-parts}
 use Rattle.git_pkt.proofs.Pieces.{left_of, take_joined}
 use Rattle.git_pkt.specs.Escape.{escaped_of}
-use Rattle.git2show_lib.specs.Sending.{Emits, EmitsFront}
+use Rattle.git2show_lib.specs.LineBuffer.{Emits, EmitsFront}
 
 pub emits_nothing : (held : Option (List ℕ)) (before : List ℕ) → Emits held held before [] before
 emits_nothing held before = record { sent = []; written = Appends-nil held; all = append-nil before }

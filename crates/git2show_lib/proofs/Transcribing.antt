@@ -17,7 +17,7 @@ use Rattle.git_pkt.proofs.Pieces.{take_joined, left_of}
 use Rattle.git_client.specs.Events.{EventValue}
 use Rattle.git_client.specs.Transcript.{line_of}
 use Rattle.git_client.specs.Conversation.{IsAdvertisement}
-use Rattle.git_client.specs.Hearing.{Hears, HearsOn, Feeds, Tells, fault_of, can_ask, bytes_used, phase_of, events_of, value_of, LeavesAfter, is_ready, fault_in}
+use Rattle.git_client.specs.Client.{Hears, HearsOn, Feeds, Tells, fault_of, can_ask, bytes_used, phase_of, events_of, value_of, LeavesAfter, is_ready, fault_in}
 use Rattle.git_client.specs.declared.phase.Phase.{Phase}
 use Rattle.git_client.specs.declared.phase.Phase.TheVariants.{Opening, Advertisement, Ready, Failed as FailedPhase}
 use Rattle.git_client.specs.declared.events.Ending.{Ending}
@@ -32,8 +32,8 @@ use Rattle.git_client.proofs.Faults.{first_fault}
 use Rattle.git_client.proofs.EventsHeard.{has_events, goes_well, goes_on_asking, is_whole, is_due, position_is}
 use Rattle.git2show_lib.specs.declared.checking.CheckFault.{CheckFault}
 use Rattle.git2show_lib.specs.declared.checking.CheckFault.TheVariants.{Requests, Responses, ReadFault, WriteFault, ReadLimit}
-use Rattle.git2show_lib.specs.Showing.{IsTimely}
-use Rattle.git2show_lib.specs.Checking.{Judgement, unread, nothing_asked, judgement_of, IsCutOffAt, IsCutOff, transcript_of, Transcribes, TranscribesFront, TranscribesUpTo, TranscribesInto, TranscribesUntil, Transcribed, TranscribedFront, TranscribedUpTo, TranscribedAll, TranscribedUntil, Checks, EndsAs, EndsCheck, IsShownInRequests, broken, unfinished}
+use Rattle.git2show_lib.specs.ShownStream.{IsTimely}
+use Rattle.git2show_lib.specs.CheckedStreams.{Judgement, unread, nothing_asked, judgement_of, IsCutOffAt, IsCutOff, transcript_of, Transcribes, TranscribesFront, TranscribesUpTo, TranscribesInto, TranscribesUntil, Transcribed, TranscribedFront, TranscribedUpTo, TranscribedAll, TranscribedUntil, Checks, EndsAs, EndsCheck, IsShownInRequests, broken, unfinished}
 use Rattle.git2show_lib.proofs.Printing.{left, timely}
 
 transcript-append : (es fs : List EventValue) → transcript_of (es ++ fs) ≡ transcript_of es ++ transcript_of fs

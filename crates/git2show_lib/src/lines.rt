@@ -5,8 +5,8 @@ ghost use Rattle.std.specs.Io.KnownBytes.{Appends};
 ghost use Rattle.git_pkt.specs.Told.{inner_of, has_failed, AppendsFront};
 ghost use Rattle.git_pkt.specs.Packets.{body_of, seen};
 ghost use Rattle.git_pkt.specs.Escape.{escaped_of};
-ghost use Rattle.git2show_lib.specs.Lines.{kind_shown, line_of};
-ghost use Rattle.git2show_lib.specs.Sending.{Emits, EmitsFront};
+ghost use Rattle.git2show_lib.specs.PacketLines.{kind_shown, line_of};
+ghost use Rattle.git2show_lib.specs.LineBuffer.{Emits, EmitsFront};
 
 use git_pkt::{Packet, RunFault, Told, escape_into, flush, is_plain, send};
 use itoa::Buffer;

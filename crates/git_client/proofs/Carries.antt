@@ -14,7 +14,7 @@ use Rattle.git_client.specs.Parts.{nearest, advertisement_of}
 use Rattle.git_client.specs.Events.{EventValue, turns_of}
 use Rattle.git_client.specs.Conversation.{GivesAt, GiveAll, RefusesAt}
 use Rattle.git_client.specs.Turns.{takes_packets}
-use Rattle.git_client.specs.Hearing.{Hears, HearsOn, StandsIn, Goes, Behind, RefusedPacket, RefusedBytes, fault_in, is_ready, phase_of, reader_of, format_of, ending_of, caps_of, wants_input, fault_of}
+use Rattle.git_client.specs.Client.{Hears, HearsOn, StandsIn, Goes, Behind, RefusedPacket, RefusedBytes, fault_in, is_ready, phase_of, reader_of, format_of, ending_of, caps_of, wants_input, fault_of}
 use Rattle.git_client.specs.declared.phase.Phase.{Phase}
 use Rattle.git_client.specs.declared.phase.Phase.TheVariants.{Opening, Advertisement, Ready, Failed}
 use Rattle.git_client.specs.declared.conversation.Client.{Client}

@@ -6,7 +6,7 @@ use Rattle.git_pkt.specs.Reading.{Holds, is_open, open_length, position_of}
 use Rattle.git_pkt.proofs.Holding.{sound_rest, none_between, rest_length}
 use Rattle.git_pkt.proofs.Streams.{one_split}
 use Rattle.git_client.specs.Events.{EventValue}
-use Rattle.git_client.specs.Hearing.{Hears, phase_of, reader_of, wants_input}
+use Rattle.git_client.specs.Client.{Hears, phase_of, reader_of, wants_input}
 use Rattle.git_client.specs.declared.events.Ending.{Ending}
 use Rattle.git_client.specs.declared.conversation.Client.{Client}
 use Rattle.git_client.proofs.Carries.{goes_in, takes_no_fault}

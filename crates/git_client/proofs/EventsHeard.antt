@@ -9,7 +9,7 @@ use Rattle.git_client.specs.Events.{EventValue, turns_of}
 use Rattle.git_pkt.specs.Packets.{flushes}
 use Rattle.git_client.specs.Parts.{nearest}
 use Rattle.git_client.specs.Conversation.{GiveAll, Sounds, HasEvents, GoesWell, IsAdvertisement}
-use Rattle.git_client.specs.Hearing.{Hears, StandsIn, is_ready, fault_of, can_ask, wants_input, bytes_used, phase_of, reader_of}
+use Rattle.git_client.specs.Client.{Hears, StandsIn, is_ready, fault_of, can_ask, wants_input, bytes_used, phase_of, reader_of}
 use Rattle.git_client.specs.declared.phase.Phase.{Phase}
 use Rattle.git_client.specs.declared.phase.Phase.TheVariants.{Opening, Advertisement, Ready, Failed as FailedPhase}
 use Rattle.git_client.specs.declared.events.Ending.{Ending}

@@ -10,7 +10,7 @@ use Rattle.git_pkt.specs.Packets.{flushes}
 use Rattle.git_client.specs.Parts.{nearest}
 use Rattle.git_client.specs.Events.{EventValue}
 use Rattle.git_client.specs.Conversation.{GiveAll, FirstMalformed}
-use Rattle.git_client.specs.Hearing.{Hears, StandsIn, RefusedPacket, RefusedBytes, EndedEarly, fault_in, fault_of, phase_of, reader_of}
+use Rattle.git_client.specs.Client.{Hears, StandsIn, RefusedPacket, RefusedBytes, EndedEarly, fault_in, fault_of, phase_of, reader_of}
 use Rattle.git_client.specs.declared.phase.Phase.{Phase}
 use Rattle.git_client.specs.declared.phase.Phase.TheVariants.{Opening, Advertisement, Ready, Failed}
 use Rattle.git_client.specs.declared.events.Ending.{Ending}

@@ -15,7 +15,7 @@ use Rattle.git_msg.proofs.Keys.{one_capability}
 use Rattle.git_client.specs.Conversation.{RefusesAt}
 use Rattle.git_client.specs.Parts.{nearest, Part, opening, advertisement}
 use Rattle.git_client.specs.Events.{EventValue, Refuses}
-use Rattle.git_client.specs.Hearing.{Hears, StandsIn, RefusedPacket, HoldsCapability, EndsWithError, EndsWithoutError, phase_of, reader_of}
+use Rattle.git_client.specs.Client.{Hears, StandsIn, RefusedPacket, HoldsCapability, EndsWithError, EndsWithoutError, phase_of, reader_of}
 use Rattle.git_client.specs.declared.phase.Phase.{Phase}
 use Rattle.git_client.specs.declared.phase.Phase.TheVariants.{Failed}
 use Rattle.git_client.specs.declared.events.Ending.{Ending}

@@ -10,7 +10,7 @@ use Rattle.git_client.specs.Parts.{opening, advertisement, advertisement_of}
 use Rattle.git_client.specs.Events.{capability, offered, IsVersion, RefusesFlush}
 use Rattle.git_client.specs.Conversation.{GivesAt, RefusesAt}
 use Rattle.git_client.specs.Turns.{takes_packets, Judges, NotesLine}
-use Rattle.git_client.specs.Hearing.{Behind}
+use Rattle.git_client.specs.Client.{Behind}
 use Rattle.git_client.specs.declared.phase.Phase.{Phase}
 use Rattle.git_client.specs.declared.phase.Phase.TheVariants.{Opening, Advertisement, Ready, Failed}
 use Rattle.git_client.proofs.Sequences.{advertisement_more}

@@ -10,7 +10,7 @@ use Rattle.git_msg.specs.Advertisement.{is_spoken}
 use Rattle.git_msg.specs.declared.offers.Caps.{Caps}
 use Rattle.git_client.specs.Events.{capability, offered, IsVersion}
 use Rattle.git_client.specs.Turns.{takes_packets, Judges, NotesLine}
-use Rattle.git_client.specs.Hearing.{Behind, Takes, fault_in, is_ready, phase_after, caps_after, outcome_of, phase_of, reader_of, format_of, ending_of, caps_of, wants_input}
+use Rattle.git_client.specs.Client.{Behind, Takes, fault_in, is_ready, phase_after, caps_after, outcome_of, phase_of, reader_of, format_of, ending_of, caps_of, wants_input}
 use Rattle.git_client.specs.declared.phase.Phase.{Phase}
 use Rattle.git_client.specs.declared.phase.Phase.TheVariants.{Opening, Advertisement, Ready, Failed}
 use Rattle.git_client.specs.declared.phase.Turn.{Turn}

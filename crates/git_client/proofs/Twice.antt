@@ -3,7 +3,7 @@ use Rattle.std.proofs.Common.{arith, ◌≡◌, ◌≢◌, ℕ, ◌+◌, ◌-◌
 use Rattle.std.proofs.lemmas.Grind.{common_steps}
 use Rattle.git_pkt.proofs.Pieces.{take_joined}
 use Rattle.git_client.specs.Events.{EventValue}
-use Rattle.git_client.specs.Hearing.{HearsOn, Leaves}
+use Rattle.git_client.specs.Client.{HearsOn, Leaves}
 use Rattle.git_client.specs.declared.conversation.Client.{Client}
 use Rattle.git_client.specs.declared.conversation.Outcome.{Outcome}
 use Rattle.git_client.specs.declared.conversation.Outcome.TheVariants.{More, Capability, Offered, Failed}

@@ -49,7 +49,7 @@ pub struct Client {
 }
 
 impl Client {
-    ghost use Rattle.git_client.specs.Hearing.{Hears, HearsOn, Feeds, Pulls, HoldsCapability, EndsWithError, EndsWithoutError, fault_of, can_ask, wants_input, bytes_used, caps_of, reader_of, Takes, Settles};
+    ghost use Rattle.git_client.specs.Client.{Hears, HearsOn, Feeds, Pulls, HoldsCapability, EndsWithError, EndsWithoutError, fault_of, can_ask, wants_input, bytes_used, caps_of, reader_of, Takes, Settles};
     ghost use Rattle.git_client.specs.contracts.conversation.Client.{the_row};
 
     /// A client of this object format, before the first byte of the advertisement.

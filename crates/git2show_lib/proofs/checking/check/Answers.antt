@@ -1,7 +1,7 @@
 use Rattle.std.proofs.Common.{rules, arith, ◌≡◌, ◌-◌, ◌≤◌, ◌<◌, true, take, drop, length, [], refl}
 use Rattle.std.specs.Io.KnownBytes.{Consumes, Keeps}
 use Rattle.git_pkt.specs.Told.{inner_of, has_ended, has_failed}
-use Rattle.git2show_lib.specs.Checking.{Judges, nothing_asked}
+use Rattle.git2show_lib.specs.CheckedStreams.{Judges, nothing_asked}
 use Rattle.git2show_lib.specs.declared.checking.Left.{Left}
 use Rattle.git2show_lib.specs.declared.checking.CheckFault.TheVariants.{WriteFault}
 use Rattle.git2show_lib.proofs.Asking.{unread_yet}

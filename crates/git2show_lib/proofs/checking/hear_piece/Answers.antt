@@ -1,8 +1,8 @@
 use Rattle.std.proofs.Common.{rules, arith, ◌≡◌, sym, subst}
 use Rattle.git_pkt.specs.Told.{inner_of, AppendsFront}
 use Rattle.git_client.specs.Transcript.{line_of}
-use Rattle.git_client.specs.Hearing.{value_of}
-use Rattle.git2show_lib.specs.Checking.{TranscribesUntil}
+use Rattle.git_client.specs.Client.{value_of}
+use Rattle.git2show_lib.specs.CheckedStreams.{TranscribesUntil}
 use Rattle.git2show_lib.specs.declared.checking.CheckFault.{CheckFault}
 use Rattle.git2show_lib.specs.declared.checking.CheckFault.TheVariants.{WriteFault}
 use Rattle.git2show_lib.proofs.Transcribing.{transcribes_nothing, heard_failed, heard_event, heard_event_front, heard_sound, rest_length, until_fault}

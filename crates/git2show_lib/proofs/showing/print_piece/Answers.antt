@@ -1,6 +1,6 @@
 use Rattle.std.proofs.Common.{rules, arith}
 use Rattle.git_pkt.specs.Told.{inner_of}
-use Rattle.git2show_lib.specs.Showing.{PrintsInto}
+use Rattle.git2show_lib.specs.ShownStream.{PrintsInto}
 use Rattle.git2show_lib.proofs.Printing.{fed_failed, fed_packet, fed_packet_front, left_length, tells_by}
 use Rattle.git2show_lib.proofs.showing.print_piece.Goals as goal
 

@@ -4,7 +4,7 @@ use Rattle.git_pkt.specs.Engine.{GivesFront, GivesUntil}
 use Rattle.git_pkt.specs.declared.fault.Fault.{Fault}
 use Rattle.git_pkt.specs.declared.fault.RunFault.{RunFault}
 use Rattle.git_pkt.specs.declared.fault.RunFault.TheVariants.{WriteFault}
-use Rattle.git2show_lib.specs.Showing.{Shows, ShowsSoFar, PrintsPiece, PrintsUpTo}
+use Rattle.git2show_lib.specs.ShownStream.{Shows, ShowsSoFar, PrintsPiece, PrintsUpTo}
 use Rattle.git2show_lib.proofs.Printing.{gives_shown, gives_refused, gives_front, drained_into, until_write_fault}
 use Rattle.git2show_lib.proofs.showing.show_piece.Goals as goal
 

@@ -1,7 +1,7 @@
 use Rattle.std.proofs.Common.{rules}
 use Rattle.git_pkt.specs.Told.{inner_of}
 use Rattle.git_pkt.specs.Escape.{escaped_of}
-use Rattle.git2show_lib.specs.Sending.{EmitsFront}
+use Rattle.git2show_lib.specs.LineBuffer.{EmitsFront}
 use Rattle.git2show_lib.proofs.Sendings.{escapes_on, escapes_front, next_within}
 use Rattle.git2show_lib.proofs.lines.Lines.emit_escaped.Goals as goal
 

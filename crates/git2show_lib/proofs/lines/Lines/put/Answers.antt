@@ -3,8 +3,8 @@ use Rattle.std.proofs.lemmas.Result.{on_ok_weaker, on_err_weaker}
 use Rattle.git_pkt.specs.Told.{inner_of}
 use Rattle.git_pkt.specs.Packets.{seen, body_of}
 use Rattle.git_pkt.specs.Escape.{escaped_of}
-use Rattle.git2show_lib.specs.Lines.{kind_shown}
-use Rattle.git2show_lib.specs.Sending.{Emits, EmitsFront}
+use Rattle.git2show_lib.specs.PacketLines.{kind_shown}
+use Rattle.git2show_lib.specs.LineBuffer.{Emits, EmitsFront}
 use Rattle.git2show_lib.proofs.Sendings.{emits_then, front_after, front_longer}
 use Rattle.git2show_lib.proofs.lines.Lines.put.Goals as goal
 

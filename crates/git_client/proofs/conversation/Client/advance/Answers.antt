@@ -1,6 +1,6 @@
 use Rattle.std.proofs.Common.{arith, ◌≡◌, [], List, subst, take, drop, length, ◌-◌}
 use Rattle.git_client.specs.Events.{EventValue}
-use Rattle.git_client.specs.Hearing.{Comes, HearsOn, Leaves}
+use Rattle.git_client.specs.Client.{Comes, HearsOn, Leaves}
 use Rattle.git_client.specs.declared.conversation.Outcome.{Outcome}
 use Rattle.git_client.specs.declared.conversation.Outcome.TheVariants.{More}
 use Rattle.git_client.proofs.Twice.{hears_then, leaves_then}

@@ -1,7 +1,7 @@
 use Rattle.std.proofs.Common.{rules, ◌≡◌, ◌+◌, ap, sym, subst}
 use Rattle.git_pkt.specs.Reading.{position_of, open_length}
 use Rattle.git_pkt.specs.declared.fault.Fault.{Fault}
-use Rattle.git_client.specs.Hearing.{reader_of}
+use Rattle.git_client.specs.Client.{reader_of}
 use Rattle.git_client.proofs.Closed.{ends_between, ends_inside}
 use Rattle.git_client.proofs.conversation.Client.close.Goals as goal
 use Rattle.git_client.proofs.conversation.Client.close.Goals.{in-Ok, in-Err}

@@ -4,7 +4,7 @@ use Rattle.git_pkt.specs.Splits.{Given}
 use Rattle.git_pkt.specs.Reading.{ReadsOn, Tells, given_by, fault_of as reader_fault_of}
 use Rattle.git_pkt.specs.declared.reader.Got.{Got}
 use Rattle.git_pkt.specs.declared.reader.Got.TheVariants.{Packet}
-use Rattle.git_client.specs.Hearing.{Takes, phase_of, reader_of}
+use Rattle.git_client.specs.Client.{Takes, phase_of, reader_of}
 use Rattle.git_client.specs.declared.conversation.Outcome.{Outcome}
 use Rattle.git_client.proofs.Taken.{taken, taken_failed, packet_read, ReadsPacket}
 use Rattle.git_client.proofs.conversation.Client.take.Goals as goal

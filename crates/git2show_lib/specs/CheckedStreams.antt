@@ -17,11 +17,11 @@ use Rattle.git_pkt.specs.declared.fault.Kind.TheVariants.{UnexpectedPacket}
 use Rattle.git_client.specs.Events.{EventValue, turns_of}
 use Rattle.git_client.specs.Conversation.{HasEvents, FirstMalformed, GoesWell, IsAdvertisement}
 use Rattle.git_client.specs.Transcript.{line_of}
-use Rattle.git_client.specs.Hearing.{HearsOn, fault_of, wants_input}
+use Rattle.git_client.specs.Client.{HearsOn, fault_of, wants_input}
 use Rattle.git_client.specs.declared.conversation.Client.{Client}
 use Rattle.git2show_lib.specs.declared.checking.CheckFault.{CheckFault}
 use Rattle.git2show_lib.specs.declared.checking.CheckFault.TheVariants.{Requests, Responses, ReadFault, WriteFault, ReadLimit}
-use Rattle.git2show_lib.specs.Showing.{IsTimely}
+use Rattle.git2show_lib.specs.ShownStream.{IsTimely}
 
 -- what shows each fault that is no refusal: a reader failed, the writer failed, the reads of both streams are spent
 abbrev pub IsShownInCheck : {Q A : Type 0} → Told Q → Told A → Bool → ℕ → CheckFault → Type 0

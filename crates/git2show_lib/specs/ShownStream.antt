@@ -9,8 +9,8 @@ use Rattle.git_pkt.specs.declared.fault.Kind.TheVariants.{Truncated, StreamTooLo
 use Rattle.git_pkt.specs.declared.fault.RunFault.{RunFault}
 use Rattle.git_pkt.specs.declared.fault.RunFault.TheVariants.{ReadFault, WriteFault, ReadLimit, Refused}
 use Rattle.git_pkt.specs.declared.reader.PacketReader.{PacketReader}
-use Rattle.git2show_lib.specs.Lines.{lines_of}
-use Rattle.git2show_lib.specs.Sending.{Emits, EmitsFront}
+use Rattle.git2show_lib.specs.PacketLines.{lines_of}
+use Rattle.git2show_lib.specs.LineBuffer.{Emits, EmitsFront}
 
 -- a stream is truncated only where the input has ended, and too long only where there is one more byte
 abbrev pub IsTimely : Kind → Bool → List ℕ → Type 0
