@@ -5,8 +5,8 @@ ghost use Rattle.std.specs.Io.KnownBytes.{Appends};
 ghost use Rattle.git_pkt.specs.Told.{inner_of, has_failed, AppendsFront};
 ghost use Rattle.git_pkt.specs.Packets.{body_of, seen};
 ghost use Rattle.git_pkt.specs.Escape.{escaped_of};
-ghost use Rattle.git2show_lib.specs.Lines.{kind_shown, line_of};
-ghost use Rattle.git2show_lib.specs.Sending.{Emits, EmitsFront};
+ghost use Rattle.git2show_lib.specs.PacketLines.{kind_shown, line_of};
+ghost use Rattle.git2show_lib.specs.LineBuffer.{Emits, EmitsFront};
 
 use git_pkt::{Packet, RunFault, Told, escape_into, flush, is_plain, send};
 use itoa::Buffer;
@@ -22,21 +22,25 @@ const BLOCK: usize = 32;
 /// How many bytes are tested at a time, whether each stands for itself.
 const RUN: usize = 512;
 
+/// How many bytes stand in a packet's line before the payload, at the most.
+const HEAD: usize = 64;
+
 /// A buffer of lines. It lies where its owner does and never allocates.
 #[derive(Drop)]
 pub(crate) struct Lines {
-    bytes: [u8; 65_536],
+    bytes: [u8; CAPACITY],
     count: usize,
 }
 
 impl Model for Lines {
     ghost use Rattle.std.specs.Prelude.{◌≡◌, ◌≤◌, ℕ, List, length, take};
+    ghost use Rattle.git2show_lib.specs.declared.lines.TheConstants.{CAPACITY};
 
     ghost Value = { List ℕ };
 
     ghost view = { λ lines. take lines.count lines.bytes };
 
-    ghost invariant = { λ lines. lines.count ≤ 65536 };
+    ghost invariant = { λ lines. lines.count ≤ CAPACITY };
 }
 
 impl Lines {
@@ -44,7 +48,7 @@ impl Lines {
         ensures { result ≡ [] }
     {
         Lines {
-            bytes: [0; 65_536],
+            bytes: [0; CAPACITY],
             count: 0,
         }
     }
@@ -114,7 +118,7 @@ impl Lines {
 
     /// Puts a few bytes after the others.
     fn emit<W: Write>(&mut self, writer: &mut Told<W>, bytes: &[u8]) -> Result<(), RunFault>
-        requires { length bytes.now ≤ 512 }
+        requires { length bytes.now ≤ RUN }
         ensures ok { OnOk result (Emits (W.contents (inner_of writer.old)) (W.contents (inner_of writer.new)) self.old bytes.now self.new) }
         ensures err { OnErr result (EmitsFront (W.contents (inner_of writer.old)) (W.contents (inner_of writer.new)) self.old bytes.now) }
         ensures fault { IfErr result (λ fault. fault ≡ RunFault.WriteFault) }
@@ -144,7 +148,7 @@ impl Lines {
 
     /// Puts the escapes of a run after the others: at once where each byte stands for itself.
     fn emit_run<W: Write>(&mut self, writer: &mut Told<W>, bytes: &[u8]) -> Result<(), RunFault>
-        requires { length bytes.now ≤ 512 }
+        requires { length bytes.now ≤ RUN }
         ensures ok { OnOk result (Emits (W.contents (inner_of writer.old)) (W.contents (inner_of writer.new)) self.old (escaped_of bytes.now) self.new) }
         ensures err { OnErr result (EmitsFront (W.contents (inner_of writer.old)) (W.contents (inner_of writer.new)) self.old (escaped_of bytes.now)) }
         ensures fault { IfErr result (λ fault. fault ≡ RunFault.WriteFault) }
@@ -175,7 +179,7 @@ impl Lines {
 
     /// Puts the escapes of one block after the others: at once where it is a whole one, each byte of which stands for itself.
     fn emit_block<W: Write>(&mut self, writer: &mut Told<W>, block: &[u8]) -> Result<(), RunFault>
-        requires { length block.now ≤ 32 }
+        requires { length block.now ≤ BLOCK }
         ensures ok { OnOk result (Emits (W.contents (inner_of writer.old)) (W.contents (inner_of writer.new)) self.old (escaped_of block.now) self.new) }
         ensures err { OnErr result (EmitsFront (W.contents (inner_of writer.old)) (W.contents (inner_of writer.new)) self.old (escaped_of block.now)) }
         ensures fault { IfErr result (λ fault. fault ≡ RunFault.WriteFault) }
@@ -193,7 +197,7 @@ impl Lines {
     /// Makes room for a run.
     fn make_room<W: Write>(&mut self, writer: &mut Told<W>) -> Result<(), RunFault>
         ensures ok { OnOk result (Emits (W.contents (inner_of writer.old)) (W.contents (inner_of writer.new)) self.old [] self.new) }
-        ensures room { OnOk result (length self.new + 512 ≤ 65536) }
+        ensures room { OnOk result (length self.new + RUN ≤ CAPACITY) }
         ensures err { OnErr result (AppendsFront (W.contents (inner_of writer.old)) (W.contents (inner_of writer.new)) self.old) }
         ensures fault { IfErr result (λ fault. fault ≡ RunFault.WriteFault) }
         ensures failed { has_failed writer.new ≡ (has_failed writer.old || is_err result) }
@@ -217,8 +221,8 @@ fn body<'a>(packet: Packet<'a>) -> &'a [u8]
 
 /// Writes what stands in a packet's line before the payload at a place, over what stands there, and answers where it ends.
 fn write_head(packet: Packet<'_>, offset: u64, out: &mut [u8], at: usize) -> usize
-    requires { at + 64 ≤ length out.old }
-    ensures within { result ≤ at + 64 }
+    requires { at + HEAD ≤ length out.old }
+    ensures within { result ≤ at + HEAD }
     ensures head { take result out.new ≡ take at out.old ++ decimal offset ++ kind_shown (seen packet.entry) }
 {
     let mut digits = Buffer::new();

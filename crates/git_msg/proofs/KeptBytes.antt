@@ -8,6 +8,7 @@ use Rattle.std.proofs.lemmas.List.Elements.{All-append, All-cons, All-take, All-
 use Rattle.std.proofs.lemmas.List.Sums.{sum_by-append, sum_by-cons}
 use Rattle.std.proofs.lemmas.Option.{slice_get-map, slice_get_within, get_or_from_slice_get}
 use Rattle.git_names.specs.declared.object_format.Format.{Format}
+use Rattle.git_pkt.specs.Packets.{longest_payload}
 use Rattle.git_msg.specs.declared.arguments.Argument.{Argument}
 use Rattle.git_msg.specs.declared.arguments.Command.{Command}
 use Rattle.git_msg.specs.declared.arguments.Command.TheVariants.{LsRefs}
@@ -97,7 +98,7 @@ count_at_most [] = omega arith
 count_at_most (arg ∷ args) = omega (arith, has_text arg, count_at_most args, sum_by-cons (λ a. length (written_text a)) arg args)
 
 -- an argument that may stand in a request fits into a packet
-value_fits : (c : Command) (format : Format) (arg : Arg) → IsValue c format arg → length (written_text arg) ≤ 65515
+value_fits : (c : Command) (format : Format) (arg : Arg) → IsValue c format arg → length (written_text arg) < longest_payload
 value_fits LsRefs format symrefs value = omega arith
 value_fits LsRefs format peel value = omega arith
 value_fits LsRefs format (ref_prefix prefix) value = omega (arith, value, length-append (codes "ref-prefix ") prefix)
@@ -120,7 +121,7 @@ all_at : {X : Type 0} (P : X → Type 0) (xs : List X) (i : ℕ) (x : X) → All
 all_at P xs i x h at = subst P (get_or_from_slice_get xs i x x at) (h i x (slice_get_within xs i x at))
 
 pub line_fits : (q : Kept Asked) (i : ℕ) (result : Option Argument) → IsWithin q → option_map shown result ≡ slice_get (arguments_in q.asked) i
-    → IfSome result (λ argument. length (written_text (shown argument)) ≤ 65515)
+    → IfSome result (λ argument. length (written_text (shown argument)) < longest_payload)
 line_fits q i None h same = tt
 line_fits q i (Some argument) h same =
     value_fits (command_asked q.asked) q.format (shown argument)

@@ -1,6 +1,7 @@
 //! Requests as they are kept.
 ghost use Rattle.std.specs.Prelude.{◌≡◌, ◌+◌, ◌^◌, ◌≤◌, ◌<◌, [], ◌∷◌, ◌++◌, List, Some, length, OnOk, OnSome, OnErr, IfErr, IfSome, MatchOption, MatchResult, slice_get};
 ghost use Rattle.std.specs.Option.{option_copied, option_map};
+ghost use Rattle.git_pkt.specs.Packets.{longest_payload};
 ghost use Rattle.git_msg.specs.Arguments.{Arg, most_limit, shown, written_text};
 ghost use Rattle.git_msg.specs.Asked.{where_asked};
 
@@ -354,7 +355,7 @@ impl<A: Allocator + Copy> Request<A> {
     pub(crate) fn argument(&self, i: usize) -> Option<Argument<'_>>
         ensures value { option_map shown result ≡ slice_get (arguments_in (asked_of self.now)) i }
         ensures bound { OnSome result (i + 1 < 2 ^ 64) }
-        ensures fits { IfSome result (λ argument. length (written_text (shown argument)) ≤ 65515) }
+        ensures fits { IfSome result (λ argument. length (written_text (shown argument)) < longest_payload) }
     {
         match self {
             Request::LsRefs(request) => request.argument(i),

@@ -6,6 +6,7 @@ ghost use Rattle.git_msg.specs.Asked.{Asked};
 ghost use Rattle.git_msg.specs.Holding.{asked_of};
 ghost use Rattle.git_msg.specs.Writing.{agent_line, argument_part, format_line, lines_from, left_at, left_to_write, where_set, written_of, PutsFirst};
 
+use crate::capabilities::AGENT_LINE;
 use crate::offers::Caps;
 use crate::requests::Request;
 use crate::writing::{put_argument, put_line};
@@ -70,7 +71,7 @@ impl RequestWriter {
                 Some(self.after_command())
             }
             Next::Agent => {
-                put_line(hold, b"agent=git2/1", b"");
+                put(hold, Packet::Payload(AGENT_LINE));
                 Some(self.after_agent())
             }
             Next::ObjectFormat => {

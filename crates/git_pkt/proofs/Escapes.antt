@@ -1,6 +1,6 @@
 -- The table of escapes, and what a block of bytes comes to.
 use Rattle.std.proofs.Common.{append_assoc, ◌≡◌, ℕ, ◌+◌, ◌<◌, ◌≤◌, Bool, true, false, IsTrue, ◌↔◌, ◌&&◌, ◌||◌, not, nat_eq, nat_le, List, [], ◌∷◌, ◌++◌, length, take, drop, slice_index, refl, sym, ◌∙◌, ap, arith, length-append}
-use Rattle.std.proofs.lemmas.List.{take_more, take-append-le, length-take-le, append-nil}
+use Rattle.std.proofs.lemmas.List.{take_more, take-append-drop, take-append-le, length-take-le, append-nil}
 use Rattle.std.proofs.lemmas.Slice.{drop-append-drop}
 use Rattle.std.proofs.Math.Seq.{take-append-add, take-length}
 use Rattle.std.proofs.lemmas.Grind.{common_steps, flat_map-append}
@@ -98,3 +98,11 @@ escaped_on bytes out four front i end n below within fits so_far one =
     overwritten out four (front ++ escaped_of (take i bytes)) (escape_of (slice_index bytes i)) end n within fits so_far one
     ∙ append_assoc front (escaped_of (take i bytes)) (escape_of (slice_index bytes i))
     ∙ ap (λ (l : List ℕ). front ++ l) (sym (escaped_more bytes i below))
+
+-- the escapes of two parts
+pub escaped-append : (front back : List ℕ) → escaped_of (front ++ back) ≡ escaped_of front ++ escaped_of back
+escaped-append front back = flat_map-append escape_of front back
+
+-- the escapes of a front and of the others
+pub escaped-parts : (bytes : List ℕ) (n : ℕ) → escaped_of (take n bytes) ++ escaped_of (drop n bytes) ≡ escaped_of bytes
+escaped-parts bytes n = sym (escaped-append (take n bytes) (drop n bytes)) ∙ ap escaped_of (take-append-drop n bytes)

@@ -1,3 +1,4 @@
+pub mod FaultTexts
 pub mod DigitFacts
 pub mod Spelling
 pub mod Streams

@@ -3,7 +3,7 @@ use Rattle.std.proofs.Common.{◌≡◌, ℕ, ◌/◌, ◌%◌, ◌<◌, ◌≤�
 use Rattle.git_names.specs.Digits.{digit_value, lower_digit}
 use Rattle.git_names.proofs.HexDigits.{digit_value-lower_digit}
 use Rattle.git_pkt.specs.Digits.{HasDigits, digits_value, digits_of}
-use Rattle.git_pkt.specs.Packets.{Pkt, flush, delim, resp_end, payload, Spells, length_field, body_of, spelling_of}
+use Rattle.git_pkt.specs.Packets.{Pkt, flush, delim, resp_end, payload, Spells, length_field, body_of, spelling_of, longest_payload}
 use Rattle.git_pkt.proofs.DigitFacts.{digits_below-four}
 
 -- the written digits of a number are read as that number
@@ -27,13 +27,13 @@ has_digits_written n more h =
           (rw (digit_value-lower_digit (n % 16) (omega arith)) (omega arith));
     }
 
-field_fits : (p : Pkt) → length (body_of p) ≤ 65516 → length_field p < 65536
+field_fits : (p : Pkt) → length (body_of p) ≤ longest_payload → length_field p < 65536
 field_fits flush h = omega arith
 field_fits delim h = omega arith
 field_fits resp_end h = omega arith
 field_fits (payload x) h = omega arith
 
-pub spells_written : (p : Pkt) → length (body_of p) ≤ 65516 → Spells p (spelling_of p)
+pub spells_written : (p : Pkt) → length (body_of p) ≤ longest_payload → Spells p (spelling_of p)
 spells_written p h =
     let fits = field_fits p h in
     record {

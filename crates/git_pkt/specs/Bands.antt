@@ -1,6 +1,6 @@
 -- The side bands of a packfile section, by gitprotocol-v2(5).
-use Rattle.std.specs.Prelude.{◌≡◌, ℕ, ◌<◌, ◌≤◌, List, [], ◌∷◌, ◌++◌, length}
-use Rattle.git_pkt.specs.Packets.{Pkt, payload}
+use Rattle.std.specs.Prelude.{◌≡◌, ℕ, ◌<◌, List, [], ◌∷◌, ◌++◌, length}
+use Rattle.git_pkt.specs.Packets.{Pkt, payload, longest_payload}
 use Rattle.git_pkt.specs.declared.band.Band.{Band}
 use Rattle.git_pkt.specs.declared.band.Band.TheVariants.{Pack, Progress, Fatal}
 
@@ -18,5 +18,5 @@ band_packet band bytes = payload (byte_of band ∷ bytes)
 abbrev pub AreBands : Band → List ℕ → List Pkt → Type 0
 AreBands band bytes [] = bytes ≡ []
 AreBands band bytes (packet ∷ packets) =
-    (part : List ℕ) × (more : List ℕ) × (bytes ≡ part ++ more) × (0 < length part) × (length part ≤ 65515)
+    (part : List ℕ) × (more : List ℕ) × (bytes ≡ part ++ more) × (0 < length part) × (length part < longest_payload)
     × (packet ≡ band_packet band part) × AreBands band more packets

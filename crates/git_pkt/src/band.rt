@@ -1,8 +1,8 @@
 //! The side bands of a packfile section, gitprotocol-v2(5): the first byte of a payload says what the others are.
 
-ghost use Rattle.std.specs.Prelude.{◌≡◌, ◌≤◌, length};
+ghost use Rattle.std.specs.Prelude.{◌≡◌, ◌<◌, length};
 ghost use Rattle.git_pkt.specs.Bands.{band_packet, byte_of};
-ghost use Rattle.git_pkt.specs.Packets.{spelling_of};
+ghost use Rattle.git_pkt.specs.Packets.{spelling_of, longest_payload};
 
 use crate::hold::{Hold, append};
 use crate::packet::begin;
@@ -33,7 +33,7 @@ impl Band {
 
 /// Makes the hold the packet of these bytes on a band: 65,515 at most, for the band takes one of a payload's.
 pub fn put_band(hold: &mut Hold, band: Band, bytes: &[u8])
-    requires { length bytes.now ≤ 65515 }
+    requires { length bytes.now < longest_payload }
     ensures { hold.new.items ≡ spelling_of (band_packet band bytes.now) }
 {
     begin(hold, bytes.len() + 1);

@@ -1,7 +1,7 @@
 //! What follows from the definitions alone: each law is the contract of a function without parameters.
 
 ghost use Rattle.std.specs.Prelude.{◌≡◌, ◌≢◌, ◌⊎◌, ◌≤◌, ◌∷◌, ◌++◌, ℕ, List, [], Some, None, false, length, take, true};
-ghost use Rattle.git_pkt.specs.Packets.{Pkt, Spells, body_of, spelling_of, text_of};
+ghost use Rattle.git_pkt.specs.Packets.{Pkt, Spells, body_of, spelling_of, text_of, longest_payload};
 ghost use Rattle.git_pkt.specs.Splits.{Given, NoneBegins, Splits};
 ghost use Rattle.git_pkt.specs.Faults.{IsOpen, RestFault, ShowsAtEnd};
 ghost use Rattle.git_pkt.specs.Reading.{Holds, HoldsAll, Reads, fault_of, is_open, open_length, position_of, rest_of};
@@ -22,7 +22,7 @@ pub fn one_split()
 
 /// What is written is a spelling of the packet.
 pub fn written_form_is_a_spelling()
-    ensures { (p : Pkt) → length (body_of p) ≤ 65516 → Spells p (spelling_of p) }
+    ensures { (p : Pkt) → length (body_of p) ≤ longest_payload → Spells p (spelling_of p) }
 {}
 
 /// A spelling is that of one packet.

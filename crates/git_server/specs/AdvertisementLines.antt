@@ -1,10 +1,9 @@
 -- The lines of an advertisement, one after another.
 use Rattle.std.specs.Prelude.{if◌then◌else◌, Option, Some, None, List, [], ◌∷◌, ◌++◌, codes}
 use Rattle.git_names.specs.declared.object_format.Format.{Format}
-use Rattle.git_names.specs.ObjectFormat.{name_of}
 use Rattle.git_pkt.specs.Packets.{Pkt, flush}
 use Rattle.git_msg.specs.declared.offers.Offer.{Offer}
-use Rattle.git_msg.specs.Writing.{text_line}
+use Rattle.git_msg.specs.Writing.{text_line, agent_line, format_line}
 use Rattle.git_server.specs.Answers.{offered_line, advertisement_of}
 use Rattle.git_server.specs.declared.advertisement.AdvertisementLine.{AdvertisementLine}
 use Rattle.git_server.specs.declared.advertisement.AdvertisementLine.TheVariants.{Version, Agent, LsRefs, ServerOption, ObjectFormat, End}
@@ -12,10 +11,10 @@ use Rattle.git_server.specs.declared.advertisement.AdvertisementLine.TheVariants
 -- the packet of a line
 abbrev pub advertisement_packet : Format → AdvertisementLine → Pkt
 advertisement_packet format Version = text_line (codes "version 2")
-advertisement_packet format Agent = text_line (codes "agent=git2/1")
+advertisement_packet format Agent = agent_line
 advertisement_packet format LsRefs = text_line (codes "ls-refs")
 advertisement_packet format ServerOption = text_line (codes "server-option")
-advertisement_packet format ObjectFormat = text_line (codes "object-format=" ++ name_of format)
+advertisement_packet format ObjectFormat = format_line format
 advertisement_packet format End = flush
 
 -- the line after it

@@ -1,10 +1,10 @@
 //! The capability advertisement, a line at a time.
 
 ghost use Rattle.std.specs.Prelude.{◌≡◌, ◌≤◌, length};
-ghost use Rattle.git_pkt.specs.Packets.{body_of, seen};
+ghost use Rattle.git_pkt.specs.Packets.{body_of, seen, longest_payload};
 ghost use Rattle.git_server.specs.AdvertisementLines.{advertisement_line_after, advertisement_packet};
 
-use git_msg::Offer;
+use git_msg::{AGENT_LINE, Offer};
 use git_names::Format;
 use git_pkt::Packet;
 
@@ -23,11 +23,11 @@ impl AdvertisementLine {
     /// The packet of the line, in a repository of this format.
     pub(crate) fn packet(self, format: Format) -> Packet<'static>
         ensures value { seen result ≡ advertisement_packet format self }
-        ensures fits { length (body_of (seen result)) ≤ 65516 }
+        ensures fits { length (body_of (seen result)) ≤ longest_payload }
     {
         match self {
             AdvertisementLine::Version => Packet::Payload(b"version 2\n"),
-            AdvertisementLine::Agent => Packet::Payload(b"agent=git2/1\n"),
+            AdvertisementLine::Agent => Packet::Payload(AGENT_LINE),
             AdvertisementLine::LsRefs => Packet::Payload(b"ls-refs\n"),
             AdvertisementLine::ServerOption => Packet::Payload(b"server-option\n"),
             AdvertisementLine::ObjectFormat => match format {

@@ -1,13 +1,12 @@
 //! The packet that tells a fault to the other end.
 
 ghost use Rattle.std.specs.Prelude.{◌≡◌, ◌≤◌, length, false};
-ghost use Rattle.git_pkt.specs.Packets.{body_of, spelling_of};
+ghost use Rattle.git_pkt.specs.Packets.{body_of, longest_payload, spelling_of};
 ghost use Rattle.git_pkt.specs.Reading.{is_open};
 ghost use Rattle.git_server.specs.Answers.{error_packet};
 ghost use Rattle.git_server.specs.WrittenPackets.{Writes};
 
 use git_pkt::{Fault, Hold, PacketReader, append, begin};
-use itoa::Buffer;
 
 /// Makes the hold the error packet of a fault, between two packets that are read.
 pub(crate) fn write_error(reader: &mut PacketReader, fault: Fault)
@@ -20,15 +19,12 @@ pub(crate) fn write_error(reader: &mut PacketReader, fault: Fault)
 // Makes the hold the error packet, gitprotocol-pack(5), that tells this fault by its name and offset.
 fn put_error(hold: &mut Hold, fault: Fault)
     ensures written { hold.new.items ≡ spelling_of (error_packet fault) }
-    ensures fits { length (body_of (error_packet fault)) ≤ 65516 }
+    ensures fits { length (body_of (error_packet fault)) ≤ longest_payload }
 {
-    let name = fault.kind.name().as_bytes();
-    let mut digits = Buffer::new();
-    let offset = digits.format(fault.offset).as_bytes();
-    begin(hold, 4 + name.len() + 4 + offset.len() + 1);
+    let text = fault.text();
+    let bytes = text.as_str().as_bytes();
+    begin(hold, 4 + bytes.len() + 1);
     append(hold, b"ERR ");
-    append(hold, name);
-    append(hold, b" at ");
-    append(hold, offset);
+    append(hold, bytes);
     append(hold, b"\n");
 }

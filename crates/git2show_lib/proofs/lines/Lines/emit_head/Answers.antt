@@ -1,6 +1,6 @@
 use Rattle.std.proofs.Common.{rules, ◌++◌, decimal}
 use Rattle.git_pkt.specs.Packets.{seen}
-use Rattle.git2show_lib.specs.Lines.{kind_shown}
+use Rattle.git2show_lib.specs.PacketLines.{kind_shown}
 use Rattle.git2show_lib.proofs.Sendings.{front_before}
 use Rattle.git2show_lib.proofs.lines.Lines.emit_head.Goals as goal
 

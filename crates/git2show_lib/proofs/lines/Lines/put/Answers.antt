@@ -1,10 +1,11 @@
 use Rattle.std.proofs.Common.{rules, List, ℕ, ◌++◌, [], ◌∷◌, subst, decimal, Option}
+use Rattle.std.proofs.lemmas.Result.{on_ok_weaker, on_err_weaker}
 use Rattle.git_pkt.specs.Told.{inner_of}
 use Rattle.git_pkt.specs.Packets.{seen, body_of}
 use Rattle.git_pkt.specs.Escape.{escaped_of}
-use Rattle.git2show_lib.specs.Lines.{kind_shown}
-use Rattle.git2show_lib.specs.Sending.{Emits, EmitsFront}
-use Rattle.git2show_lib.proofs.Sendings.{emits_then, front_after, front_longer, on_ok-map, on_err-map}
+use Rattle.git2show_lib.specs.PacketLines.{kind_shown}
+use Rattle.git2show_lib.specs.LineBuffer.{Emits, EmitsFront}
+use Rattle.git2show_lib.proofs.Sendings.{emits_then, front_after, front_longer}
 use Rattle.git2show_lib.proofs.lines.Lines.put.Goals as goal
 
 pub returns-in_err-emit_head-clause-err : goal.returns-in_err-emit_head-clause-err
@@ -46,7 +47,7 @@ returns-clause-ok g c =
     subst (λ (l : List ℕ). Emits between next c.emit_head.new.self (escaped_of l) c.emit_escaped.new.self) c.body.ensures c.in_ok-emit_escaped.ensures.ok in
     let so_far : Emits held next c.args.self.now (head ++ body) c.emit_escaped.new.self =
     emits_then held between next c.args.self.now head c.emit_head.new.self body c.emit_escaped.new.self began went in
-    on_ok-map c.emit.result
+    on_ok_weaker c.emit.result
     (λ last. emits_then held next after c.args.self.now (head ++ body) c.emit_escaped.new.self (10 ∷ []) c.emit.new.self so_far last)
     c.emit.ensures.ok
 
@@ -63,5 +64,5 @@ returns-clause-err g c =
     subst (λ (l : List ℕ). Emits between next c.emit_head.new.self (escaped_of l) c.emit_escaped.new.self) c.body.ensures c.in_ok-emit_escaped.ensures.ok in
     let so_far : Emits held next c.args.self.now (head ++ body) c.emit_escaped.new.self =
     emits_then held between next c.args.self.now head c.emit_head.new.self body c.emit_escaped.new.self began went in
-    on_err-map c.emit.result
+    on_err_weaker c.emit.result
     (λ last. front_after held next after c.args.self.now (head ++ body) c.emit_escaped.new.self (10 ∷ []) so_far last) c.emit.ensures.err
