@@ -111,7 +111,7 @@ fn run_show(rt: &HostRuntime) -> Result<(), ProgramFault> {
     let mut reader = Told::new(rt.stdin());
     let mut writer = Told::new(rt.stdout());
     let mut piece = [0; PIECE];
-    show(&mut reader, &mut writer, &mut piece, TURNS).map_err(ProgramFault::Run)
+    Ok(show(&mut reader, &mut writer, &mut piece, TURNS)?)
 }
 
 /// Checks the two files that are named, and writes the transcript to standard output.
@@ -129,7 +129,7 @@ fn run_check(rt: &HostRuntime, matches: &ArgMatches<'_>) -> Result<(), ProgramFa
     let mut out = Told::new(buffered_output(rt)?);
     let mut piece = [0; PIECE];
     let mut other_piece = [0; PIECE];
-    check(
+    Ok(check(
         &mut requests,
         &mut responses,
         format,
@@ -138,8 +138,7 @@ fn run_check(rt: &HostRuntime, matches: &ArgMatches<'_>) -> Result<(), ProgramFa
         &mut other_piece,
         &mut out,
         TURNS,
-    )
-    .map_err(ProgramFault::Check)
+    )?)
 }
 
 /// Opens the file that an argument names.
@@ -173,10 +172,9 @@ fn run_serve(rt: &HostRuntime, matches: &ArgMatches<'_>) -> Result<(), ProgramFa
     let mut reader = Told::new(rt.stdin());
     let mut writer = Told::new(buffered_output(rt)?);
     let mut piece = [0; PIECE];
-    match serve(&mut reader, &mut writer, &mut piece, &mut server, TURNS) {
-        Ok(Outcome::Flush | Outcome::Closed) => Ok(()),
-        Ok(Outcome::Refused(fault)) => Err(ProgramFault::Run(RunFault::Refused(fault))),
-        Err(fault) => Err(ProgramFault::Run(fault)),
+    match serve(&mut reader, &mut writer, &mut piece, &mut server, TURNS)? {
+        Outcome::Flush | Outcome::Closed => Ok(()),
+        Outcome::Refused(fault) => Err(RunFault::Refused(fault).into()),
     }
 }
 

@@ -17,11 +17,12 @@ use Rattle.git_pkt.specs.declared.reader.Got.{Got}
 use Rattle.git_pkt.specs.declared.reader.Got.TheVariants.{More, Failed, Packet as GotPacket}
 use Rattle.git_pkt.specs.declared.reader.PacketReader.{PacketReader}
 use Rattle.git2show_lib.specs.declared.checking.CheckFault.{CheckFault}
-use Rattle.git2show_lib.specs.Checking.{FailsInCheck, BeginsWith, Judges, unread, refused, judgement_of, AsksSoFar, IsFirst, IsShownInRequests}
+use Rattle.git2show_lib.specs.CheckedStreams.{FailsInCheck, BeginsWith, Judges, unread, refused, judgement_of, AsksSoFar, IsFirst, IsShownInRequests}
 use Rattle.git2show_lib.proofs.Printing.{timely}
 
 -- a fault at the first packet
-stops_at : (reader : PacketReader) (read rest : List ℕ) (f : Fault) → fault_of reader ≡ Some f → Reads reader 0 read [] rest → StopsBy 0 read (length read) f.kind f.offset
+stops_at : (reader : PacketReader) (read rest : List ℕ) (f : Fault) → fault_of reader ≡ Some f → Reads reader 0 read [] rest
+    → StopsBy 0 read (length read) f.kind f.offset
 stops_at reader read rest f told reads =
     let state : StandsAt (Some f) (0 + length read - length rest) (0 + length read) rest reader =
     subst (λ (o : Option Fault). StandsAt o (0 + length read - length rest) (0 + length read) rest reader) told reads.state in
@@ -33,7 +34,8 @@ stops_at reader read rest f told reads =
 
 -- ---- a piece is fed
 
-module _ (old new : PacketReader) (piece : List ℕ) (fed : Fed) (left_before at left_after : Option (List ℕ)) (so_far : AsksSoFar old left_before at) (read : Consumes at left_after piece) (feeds : Feeds old piece fed new) where
+module _ (old new : PacketReader) (piece : List ℕ) (fed : Fed) (left_before at left_after : Option (List ℕ)) (so_far : AsksSoFar old left_before at)
+    (read : Consumes at left_after piece) (feeds : Feeds old piece fed new) where
   abbrev all : List ℕ
   all = so_far.read ++ take fed.used piece
 
@@ -47,7 +49,9 @@ module _ (old new : PacketReader) (piece : List ℕ) (fed : Fed) (left_before at
   consumed = Consumes-trans left_before at left_after so_far.read piece so_far.consumed read
 
   whole : so_far.read ++ piece ≡ all ++ drop fed.used piece
-  whole = ap (λ (l : List ℕ). so_far.read ++ l) (sym (take-append-drop fed.used piece)) ∙ sym (append_assoc so_far.read (take fed.used piece) (drop fed.used piece))
+  whole =
+      ap (λ (l : List ℕ). so_far.read ++ l) (sym (take-append-drop fed.used piece))
+      ∙ sym (append_assoc so_far.read (take fed.used piece) (drop fed.used piece))
 
   pub more_sound : fed.got ≡ More → fault_of new ≡ None
   more_sound is = (tells More is).1
@@ -114,7 +118,8 @@ module _ (old new : PacketReader) (piece : List ℕ) (fed : Fed) (left_before at
       })
 
 -- a fault at the first packet needs no more to be shown
-pub first_shown : {Q : Type 0} (requests : Told Q) (turns : ℕ) (p : Packet) (offset : ℕ) (result : Result (Unit {0}) CheckFault) → IsFirst p offset result → IfErr result (IsShownInRequests requests turns)
+pub first_shown : {Q : Type 0} (requests : Told Q) (turns : ℕ) (p : Packet) (offset : ℕ) (result : Result (Unit {0}) CheckFault) → IsFirst p offset result
+    → IfErr result (IsShownInRequests requests turns)
 first_shown requests turns p offset (Ok done) first = tt
 first_shown requests turns p offset (Err fault) first = subst (λ (x : CheckFault). IsShownInRequests requests turns x) (sym first.1) tt
 
@@ -126,6 +131,7 @@ pub unread_yet : (ended failed : Bool) (at : Option (List ℕ)) → Judges ended
 unread_yet ended failed at = record { read = []; consumed = Consumes-nil at; judged = refl }
 
 -- what is wrong with the first packet is no fault of a stream
-pub first_fails : (p : Packet) (offset : ℕ) (failed : Bool) (result : Result (Unit {0}) CheckFault) → IsFirst p offset result → failed ≡ false → FailsInCheck result failed false
+pub first_fails : (p : Packet) (offset : ℕ) (failed : Bool) (result : Result (Unit {0}) CheckFault) → IsFirst p offset result → failed ≡ false
+    → FailsInCheck result failed false
 first_fails p offset failed (Ok done) first sound = (sound, refl)
 first_fails p offset failed (Err fault) first sound = subst (λ (x : CheckFault). FailsInCheck {T = Unit {0}} (Err x) failed false) (sym first.1) (sound, refl)

@@ -46,14 +46,23 @@ boundaries_more (boundary line ∷ more) next = ap (λ (xs : List Boundary). lin
 
 -- lists, by their parts
 lists_from : Format → List Entry → List (ObjectName × ℕ) → Option ℕ → List Boundary → Lists
-lists_from format refs objects ready_after boundaries = record { format = format; refs = refs; objects = objects; ready_after = ready_after; boundaries = boundaries; pack = [] }
+lists_from format refs objects ready_after boundaries = record {
+  format = format;
+  refs = refs;
+  objects = objects;
+  ready_after = ready_after;
+  boundaries = boundaries;
+  pack = [];
+}
 
-same_lists : (format : Format) (refs others : List Entry) (objects those : List (ObjectName × ℕ)) (a b : Option ℕ) (lines more : List Boundary) → refs ≡ others → objects ≡ those → a ≡ b → lines ≡ more → lists_from format refs objects a lines ≡ lists_from format others those b more
+same_lists : (format : Format) (refs others : List Entry) (objects those : List (ObjectName × ℕ)) (a b : Option ℕ) (lines more : List Boundary)
+    → refs ≡ others → objects ≡ those → a ≡ b → lines ≡ more → lists_from format refs objects a lines ≡ lists_from format others those b more
 same_lists format refs others objects those a b lines more e f g h =
     ap (λ (x : List Entry). lists_from format x objects a lines) e ∙ ap (λ (x : List (ObjectName × ℕ)). lists_from format others x a lines) f
     ∙ ap (λ (x : Option ℕ). lists_from format others those x lines) g ∙ ap (λ (x : List Boundary). lists_from format others those b x) h
 
-stand_more : (said : List Said) (next : Said) → IsRising (refs_in said ++ refs_in (next ∷ [])) → AreRising (objects_in said ++ objects_in (next ∷ [])) → length (counts_in said ++ counts_in (next ∷ [])) ≤ 1 → MayStand (said ++ next ∷ [])
+stand_more : (said : List Said) (next : Said) → IsRising (refs_in said ++ refs_in (next ∷ [])) → AreRising (objects_in said ++ objects_in (next ∷ []))
+    → length (counts_in said ++ counts_in (next ∷ [])) ≤ 1 → MayStand (said ++ next ∷ [])
 stand_more said next refs objects count = record {
   rising_refs = subst IsRising (sym (refs_more said next)) refs;
   rising_objects = subst AreRising (sym (objects_more said next)) objects;
@@ -85,15 +94,22 @@ pack_of_draft : (said : List Said) (lists : Lists) → Holds said lists → list
 pack_of_draft said lists h = ap (λ (l : Lists). l.pack) h.lists_are
 
 -- lists of these parts are what was said
-lists_more : (said : List Said) (next : Said) (format : Format) (refs : List Entry) (objects : List (ObjectName × ℕ)) (a : Option ℕ) (lines : List Boundary) → refs ≡ refs_in said ++ refs_in (next ∷ []) → objects ≡ objects_in said ++ objects_in (next ∷ []) → a ≡ first_of (counts_in said ++ counts_in (next ∷ [])) → lines ≡ boundaries_in said ++ boundaries_in (next ∷ []) → lists_from format refs objects a lines ≡ lists_said format (said ++ next ∷ []) []
+lists_more : (said : List Said) (next : Said) (format : Format) (refs : List Entry) (objects : List (ObjectName × ℕ)) (a : Option ℕ) (lines : List Boundary)
+    → refs ≡ refs_in said ++ refs_in (next ∷ []) → objects ≡ objects_in said ++ objects_in (next ∷ [])
+    → a ≡ first_of (counts_in said ++ counts_in (next ∷ [])) → lines ≡ boundaries_in said ++ boundaries_in (next ∷ [])
+    → lists_from format refs objects a lines ≡ lists_said format (said ++ next ∷ []) []
 unfolding lists_from
 lists_more said next format refs objects a lines e f g h =
-    same_lists format refs (refs_in (said ++ next ∷ [])) objects (objects_in (said ++ next ∷ [])) a (first_of (counts_in (said ++ next ∷ []))) lines (boundaries_in (said ++ next ∷ []))
+    same_lists format refs (refs_in (said ++ next ∷ [])) objects (objects_in (said ++ next ∷ [])) a (first_of (counts_in (said ++ next ∷ []))) lines
+    (boundaries_in (said ++ next ∷ []))
     (e ∙ sym (refs_more said next)) (f ∙ sym (objects_more said next)) (g ∙ ap first_of (sym (counts_more said next))) (h ∙ sym (boundaries_more said next))
 
-packless : (lists : Lists) (format : Format) (refs : List Entry) (objects : List (ObjectName × ℕ)) (a : Option ℕ) (lines : List Boundary) (pack : List ℕ) → pack ≡ [] → lists ≡ record { format = format; refs = refs; objects = objects; ready_after = a; boundaries = lines; pack = pack } → lists ≡ lists_from format refs objects a lines
+packless : (lists : Lists) (format : Format) (refs : List Entry) (objects : List (ObjectName × ℕ)) (a : Option ℕ) (lines : List Boundary) (pack : List ℕ)
+    → pack ≡ [] → lists ≡ record { format = format; refs = refs; objects = objects; ready_after = a; boundaries = lines; pack = pack }
+    → lists ≡ lists_from format refs objects a lines
 unfolding lists_from
-packless lists format refs objects a lines pack e is = is ∙ ap (λ (p : List ℕ). record { format = format; refs = refs; objects = objects; ready_after = a; boundaries = lines; pack = p }) e
+packless lists format refs objects a lines pack e is =
+    is ∙ ap (λ (p : List ℕ). record { format = format; refs = refs; objects = objects; ready_after = a; boundaries = lines; pack = p }) e
 
 first_more : (counts : List ℕ) → first_of (counts ++ []) ≡ first_of counts
 first_more counts = ap first_of (append-nil counts)
@@ -108,37 +124,53 @@ some_yet (x ∷ []) count h = absurd (omega (arith, h))
 some_yet (x ∷ y ∷ xs) count h = absurd (omega (arith, h))
 
 -- a reference more
-pub adds_reference : (old new : Lists) (ref : Ref) → IsFit old.format (reference ref) → new ≡ with_ref old (entry_of ref) → ComesLast old.refs ref.name → Adds old (reference ref) new
+pub adds_reference : (old new : Lists) (ref : Ref) → IsFit old.format (reference ref) → new ≡ with_ref old (entry_of ref) → ComesLast old.refs ref.name
+    → Adds old (reference ref) new
 adds_reference old new ref fit is last = subst (Adds old (reference ref)) (sym is) (record {
   same_format = refl;
   holds = λ said h. record {
-    lists_are = packless (with_ref old (entry_of ref)) old.format (old.refs ++ entry_of ref ∷ []) old.objects old.ready_after old.boundaries old.pack (pack_of_draft said old h) refl
+    lists_are =
+        packless (with_ref old (entry_of ref)) old.format (old.refs ++ entry_of ref ∷ []) old.objects old.ready_after old.boundaries old.pack
+        (pack_of_draft said old h) refl
         ∙ lists_more said (reference ref) old.format (old.refs ++ entry_of ref ∷ []) old.objects old.ready_after old.boundaries
         (ap (λ (xs : List Entry). xs ++ entry_of ref ∷ []) (refs_of_draft said old h))
         (objects_of_draft said old h ∙ sym (append-nil (objects_in said)))
         (ready_of_draft said old h ∙ sym (first_more (counts_in said)))
         (boundaries_of_draft said old h ∙ sym (append-nil (boundaries_in said)));
     may_stand = stand_more said (reference ref)
-        (rising_more (λ a b. comes_before a.name b.name ≡ true) (refs_in said) (entry_of ref) h.may_stand.rising_refs (subst (λ (xs : List Entry). ComesLast xs ref.name) (refs_of_draft said old h) last))
+        (rising_more (λ a b. comes_before a.name b.name ≡ true) (refs_in said) (entry_of ref) h.may_stand.rising_refs
+        (subst (λ (xs : List Entry). ComesLast xs ref.name) (refs_of_draft said old h) last))
         (no_objects said h.may_stand) (no_counts said h.may_stand);
-    of_format = record { by_refs = All-push (IsOfFormat old.format) old.refs (entry_of ref) h.of_format.by_refs fit.0; by_objects = h.of_format.by_objects; by_boundaries = h.of_format.by_boundaries };
+    of_format = record {
+      by_refs = All-push (IsOfFormat old.format) old.refs (entry_of ref) h.of_format.by_refs fit.0;
+      by_objects = h.of_format.by_objects;
+      by_boundaries = h.of_format.by_boundaries;
+    };
   };
 })
 
-pub adds_object : (old new : Lists) (id : ObjectName) (size : ℕ) → IsFit old.format (object id size) → new ≡ with_object old (id, size) → ComesLastObject old.objects id → Adds old (object id size) new
+pub adds_object : (old new : Lists) (id : ObjectName) (size : ℕ) → IsFit old.format (object id size) → new ≡ with_object old (id, size)
+    → ComesLastObject old.objects id → Adds old (object id size) new
 adds_object old new id size fit is last = subst (Adds old (object id size)) (sym is) (record {
   same_format = refl;
   holds = λ said h. record {
-    lists_are = packless (with_object old (id, size)) old.format old.refs (old.objects ++ (id, size) ∷ []) old.ready_after old.boundaries old.pack (pack_of_draft said old h) refl
+    lists_are =
+        packless (with_object old (id, size)) old.format old.refs (old.objects ++ (id, size) ∷ []) old.ready_after old.boundaries old.pack
+        (pack_of_draft said old h) refl
         ∙ lists_more said (object id size) old.format old.refs (old.objects ++ (id, size) ∷ []) old.ready_after old.boundaries
         (refs_of_draft said old h ∙ sym (append-nil (refs_in said)))
         (ap (λ (xs : List (ObjectName × ℕ)). xs ++ (id, size) ∷ []) (objects_of_draft said old h))
         (ready_of_draft said old h ∙ sym (first_more (counts_in said)))
         (boundaries_of_draft said old h ∙ sym (append-nil (boundaries_in said)));
     may_stand = stand_more said (object id size) (no_refs said h.may_stand)
-        (rising_more (λ a b. precedes a.0 b.0 ≡ true) (objects_in said) (id, size) h.may_stand.rising_objects (subst (λ (xs : List (ObjectName × ℕ)). ComesLastObject xs id) (objects_of_draft said old h) last))
+        (rising_more (λ a b. precedes a.0 b.0 ≡ true) (objects_in said) (id, size) h.may_stand.rising_objects
+        (subst (λ (xs : List (ObjectName × ℕ)). ComesLastObject xs id) (objects_of_draft said old h) last))
         (no_counts said h.may_stand);
-    of_format = record { by_refs = h.of_format.by_refs; by_objects = All-push (λ sized. sized.0.format ≡ old.format) old.objects (id, size) h.of_format.by_objects fit; by_boundaries = h.of_format.by_boundaries };
+    of_format = record {
+      by_refs = h.of_format.by_refs;
+      by_objects = All-push (λ sized. sized.0.format ≡ old.format) old.objects (id, size) h.of_format.by_objects fit;
+      by_boundaries = h.of_format.by_boundaries;
+    };
   };
 })
 
@@ -167,14 +199,20 @@ pub adds_boundary : (old new : Lists) (line : Boundary) → IsFit old.format (bo
 adds_boundary old new line fit is = subst (Adds old (boundary line)) (sym is) (record {
   same_format = refl;
   holds = λ said h. record {
-    lists_are = packless (with_boundary old line) old.format old.refs old.objects old.ready_after (old.boundaries ++ line ∷ []) old.pack (pack_of_draft said old h) refl
+    lists_are =
+        packless (with_boundary old line) old.format old.refs old.objects old.ready_after (old.boundaries ++ line ∷ []) old.pack
+        (pack_of_draft said old h) refl
         ∙ lists_more said (boundary line) old.format old.refs old.objects old.ready_after (old.boundaries ++ line ∷ [])
         (refs_of_draft said old h ∙ sym (append-nil (refs_in said)))
         (objects_of_draft said old h ∙ sym (append-nil (objects_in said)))
         (ready_of_draft said old h ∙ sym (first_more (counts_in said)))
         (ap (λ (xs : List Boundary). xs ++ line ∷ []) (boundaries_of_draft said old h));
     may_stand = stand_more said (boundary line) (no_refs said h.may_stand) (no_objects said h.may_stand) (no_counts said h.may_stand);
-    of_format = record { by_refs = h.of_format.by_refs; by_objects = h.of_format.by_objects; by_boundaries = All-push (λ l. (object_of l).format ≡ old.format) old.boundaries line h.of_format.by_boundaries fit };
+    of_format = record {
+      by_refs = h.of_format.by_refs;
+      by_objects = h.of_format.by_objects;
+      by_boundaries = All-push (λ l. (object_of l).format ≡ old.format) old.boundaries line h.of_format.by_boundaries fit;
+    };
   };
 })
 
@@ -193,13 +231,15 @@ refused_count old count never said h may =
     never (ready_of_draft said old h ∙ some_yet (counts_in said) count (subst (λ (xs : List ℕ). length xs ≤ 1) (counts_more said (ready count)) may.one_count))
 
 -- the answers of the parts, as answers of the whole
-pub said_reference : (old new : Lists) (ref : Ref) (result : Result (Unit {0}) LineFault) → IsFit old.format (reference ref) → AddsReference old (entry_of ref) new result → AddsSaid old (reference ref) new result
+pub said_reference : (old new : Lists) (ref : Ref) (result : Result (Unit {0}) LineFault) → IsFit old.format (reference ref)
+    → AddsReference old (entry_of ref) new result → AddsSaid old (reference ref) new result
 said_reference old new ref (Ok u) fit h = adds_reference old new ref fit h.0 h.1
 said_reference old new ref (Err Refused) fit h = refused_reference old ref h
 said_reference old new ref (Err OutOfMemory) fit h =
     (tt, λ said holds. ((adds_reference old (with_ref old (entry_of ref)) ref fit refl h).holds said holds).may_stand)
 
-pub said_object : (old new : Lists) (id : ObjectName) (size : ℕ) (result : Result (Unit {0}) LineFault) → IsFit old.format (object id size) → AddsObject old (id, size) new result → AddsSaid old (object id size) new result
+pub said_object : (old new : Lists) (id : ObjectName) (size : ℕ) (result : Result (Unit {0}) LineFault) → IsFit old.format (object id size)
+    → AddsObject old (id, size) new result → AddsSaid old (object id size) new result
 said_object old new id size (Ok u) fit h = adds_object old new id size fit h.0 h.1
 said_object old new id size (Err Refused) fit h = refused_object old id size h
 said_object old new id size (Err OutOfMemory) fit h =
@@ -210,7 +250,8 @@ said_count old new count (Ok u) h = adds_count old new count h.0 h.1
 said_count old new count (Err Refused) h = refused_count old count h.1
 said_count old new count (Err OutOfMemory) h = let e = h.0 in absurd (cc)
 
-pub said_boundary : (old new : Lists) (line : Boundary) (result : Result (Unit {0}) LineFault) → IsFit old.format (boundary line) → AddsBoundary old line new result → AddsSaid old (boundary line) new result
+pub said_boundary : (old new : Lists) (line : Boundary) (result : Result (Unit {0}) LineFault) → IsFit old.format (boundary line)
+    → AddsBoundary old line new result → AddsSaid old (boundary line) new result
 said_boundary old new line (Ok u) fit h = adds_boundary old new line fit h
 said_boundary old new line (Err Refused) fit h = absurd (cc)
 said_boundary old new line (Err OutOfMemory) fit h =

@@ -3,7 +3,6 @@ pub mod Printing
 pub mod Transcribing
 pub mod Asking
 pub mod DigitValues
-pub mod LineEnds
 pub mod Saying
 pub mod Rising
 pub mod Drafting

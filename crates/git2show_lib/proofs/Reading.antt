@@ -1,15 +1,19 @@
 -- The lines of a repository's text, read one by one.
-use Rattle.std.specs.Prelude.{◌==◌, slice_index, MatchOption, if◌then◌else◌}
+use Rattle.std.specs.Prelude.{MatchOption}
 use Rattle.std.specs.Option.{option_copied}
-use Rattle.std.proofs.Common.{arith, ◌≡◌, ℕ, ◌+◌, ◌-◌, ◌<◌, ◌≤◌, Bor, Bool, true, false, take, Option, Some, None, List, [], ◌∷◌, ◌++◌, refl, ap, sym, ◌∙◌, subst, append_assoc, length, inl, inr}
+use Rattle.std.proofs.Common.{arith, ◌≡◌, ℕ, ◌+◌, ◌<◌, ◌≤◌, Bor, Option, Some, None, List, [], ◌∷◌, ◌++◌, refl, ap, sym, ◌∙◌, subst, append_assoc, length, length-append, inl, inr}
 use Rattle.std.proofs.lemmas.Grind.{common_steps}
 use Rattle.std.proofs.lemmas.List.{append-nil}
 use Rattle.std.proofs.lemmas.List.Elements.{All-nil}
 use Rattle.git_names.specs.declared.object_format.Format.{Format}
+use Rattle.git_pkt.specs.Packets.{text_of}
+use Rattle.git_pkt.proofs.Texts.{text_loses_a_line_end}
+use Rattle.git_msg.specs.Texts.{parts_left, parts_of}
+use Rattle.git_msg.proofs.TextParts.{bytes_left}
 use Rattle.git_server.specs.Lists.{Lists, IsRepository}
 use Rattle.git_server.specs.Repository.{IsRising}
 use Rattle.git_server.specs.Objects.{AreRising}
-use Rattle.git2show_lib.specs.RepositoryLines.{Said, Says, SaysNothing, ended_lines, format_line, lines_left, lines_of, without_last_end}
+use Rattle.git2show_lib.specs.RepositoryLines.{Said, Says, SaysNothing, format_line, lines_of}
 use Rattle.git2show_lib.specs.RepositoryText.{Begins, IsFirstBad, IsRepositoryText, MayStand, SayAll, lists_said, WantsMemory}
 use Rattle.git2show_lib.specs.Drafts.{Adds, Holds, IsLineFault, empty_lists, with_pack}
 use Rattle.git2show_lib.specs.declared.drafts.LineFault.TheVariants.{Refused, OutOfMemory}
@@ -18,24 +22,29 @@ use Rattle.git2show_lib.proofs.Saying.{one_said}
 -- some lines were read, and this is left
 pub record Reading (text : List ℕ) (format : Format) (lists : Lists) (line : ℕ) (rest : Option (List ℕ)) : Type 0 where
   pub before : List (List ℕ)
-  pub whole : lines_of text ≡ before ++ lines_left rest
+  pub whole : lines_of text ≡ before ++ parts_left 10 rest
   pub count : line ≡ length before
   pub said : List Said
   pub begins : Begins format before said
   pub holds : Holds said lists
   pub format_is : lists.format ≡ format
 
-abbrev pub bytes_left : Option (List ℕ) → ℕ
-bytes_left None = 0
-bytes_left (Some text) = length text + 1
-
 nothing_stands : MayStand []
-nothing_stands = record { rising_refs = λ k d below. absurd (omega (arith, below)); rising_objects = λ k d below. absurd (omega (arith, below)); one_count = omega arith }
+nothing_stands = record {
+  rising_refs = λ k d below. absurd (omega (arith, below));
+  rising_objects = λ k d below. absurd (omega (arith, below));
+  one_count = omega arith;
+}
 
 nothing_holds : (format : Format) → Holds [] (empty_lists format)
-nothing_holds format = record { lists_are = refl; may_stand = nothing_stands; of_format = record { by_refs = All-nil _; by_objects = All-nil _; by_boundaries = All-nil _ } }
+nothing_holds format = record {
+  lists_are = refl;
+  may_stand = nothing_stands;
+  of_format = record { by_refs = All-nil _; by_objects = All-nil _; by_boundaries = All-nil _ };
+}
 
-pub started : (text first : List ℕ) (rest : Option (List ℕ)) (format : Format) (lists : Lists) → ended_lines (without_last_end text) ≡ first ∷ lines_left rest → first ≡ format_line format → lists ≡ empty_lists format → Reading text format lists 1 rest
+pub started : (text first : List ℕ) (rest : Option (List ℕ)) (format : Format) (lists : Lists) → lines_of text ≡ first ∷ parts_left 10 rest
+    → first ≡ format_line format → lists ≡ empty_lists format → Reading text format lists 1 rest
 started text first rest format lists lines is empty = record {
   before = first ∷ [];
   whole = lines;
@@ -46,7 +55,8 @@ started text first rest format lists lines is empty = record {
   format_is = ap (λ (l : Lists). l.format) empty;
 }
 
-say_more : (format : Format) (lines : List (List ℕ)) (said : List Said) (line : List ℕ) (next : Said) → SayAll format lines said → Says format line next → SayAll format (lines ++ line ∷ []) (said ++ next ∷ [])
+say_more : (format : Format) (lines : List (List ℕ)) (said : List Said) (line : List ℕ) (next : Said) → SayAll format lines said → Says format line next
+    → SayAll format (lines ++ line ∷ []) (said ++ next ∷ [])
 say_more format [] [] line next h is = (is, tt)
 say_more format (l ∷ ls) (s ∷ ss) line next h is = (h.0, say_more format ls ss line next h.1 is)
 say_more format [] (s ∷ ss) line next h is = absurd h
@@ -55,12 +65,14 @@ say_more format (l ∷ ls) [] line next h is = absurd h
 length_more : (lines : List (List ℕ)) (line : List ℕ) → length (lines ++ line ∷ []) ≡ length lines + 1
 length_more lines line = grind (arith, common_steps)
 
-pub stepped : (text : List ℕ) (format : Format) (old new : Lists) (line : ℕ) (left this : List ℕ) (next : Option (List ℕ)) (says : Said) → Reading text format old line (Some left) → ended_lines left ≡ this ∷ lines_left next → Says format this says → Adds old says new → Reading text format new (line + 1) next
+pub stepped : (text : List ℕ) (format : Format) (old new : Lists) (line : ℕ) (left this : List ℕ) (next : Option (List ℕ)) (says : Said)
+    → Reading text format old line (Some left) → parts_of 10 left ≡ this ∷ parts_left 10 next → Says format this says → Adds old says new
+    → Reading text format new (line + 1) next
 stepped text format old new line left this next says h lines is adds =
     let held = adds.holds h.said h.holds in
     record {
       before = h.before ++ this ∷ [];
-      whole = h.whole ∙ ap (λ (ls : List (List ℕ)). h.before ++ ls) lines ∙ sym (append_assoc h.before (this ∷ []) (lines_left next));
+      whole = h.whole ∙ ap (λ (ls : List (List ℕ)). h.before ++ ls) lines ∙ sym (append_assoc h.before (this ∷ []) (parts_left 10 next));
       count = ap (λ (n : ℕ). n + 1) h.count ∙ sym (length_more h.before this);
       said = h.said ++ says ∷ [];
       begins = record {
@@ -73,12 +85,14 @@ stepped text format old new line left this next says h lines is adds =
       format_is = adds.same_format ∙ h.format_is;
     }
 
-refused_at : (text : List ℕ) (format : Format) (lists : Lists) (line : ℕ) (left this : List ℕ) (next : Option (List ℕ)) → (h : Reading text format lists line (Some left)) → ended_lines left ≡ this ∷ lines_left next → ((more : Said) → Says format this more → MayStand (h.said ++ more ∷ []) → ⊥) → IsFirstBad text (line + 1)
+refused_at : (text : List ℕ) (format : Format) (lists : Lists) (line : ℕ) (left this : List ℕ) (next : Option (List ℕ))
+    → (h : Reading text format lists line (Some left)) → parts_of 10 left ≡ this ∷ parts_left 10 next
+    → ((more : Said) → Says format this more → MayStand (h.said ++ more ∷ []) → ⊥) → IsFirstBad text (line + 1)
 refused_at text format lists line left this next h lines refused = inr (record {
   format = format;
   before = h.before;
   line = this;
-  behind = lines_left next;
+  behind = parts_left 10 next;
   whole = h.whole ∙ ap (λ (ls : List (List ℕ)). h.before ++ ls) lines;
   at_number = ap (λ (n : ℕ). n + 1) h.count;
   said = h.said;
@@ -86,21 +100,25 @@ refused_at text format lists line left this next h lines refused = inr (record {
   refused = refused;
 })
 
-pub says_nothing_at : (text : List ℕ) (format : Format) (lists : Lists) (line : ℕ) (left this : List ℕ) (next : Option (List ℕ)) → Reading text format lists line (Some left) → ended_lines left ≡ this ∷ lines_left next → SaysNothing format this → IsFirstBad text (line + 1)
-says_nothing_at text format lists line left this next h lines nothing = refused_at text format lists line left this next h lines (λ more is may. nothing more is)
+pub says_nothing_at : (text : List ℕ) (format : Format) (lists : Lists) (line : ℕ) (left this : List ℕ) (next : Option (List ℕ))
+    → Reading text format lists line (Some left) → parts_of 10 left ≡ this ∷ parts_left 10 next → SaysNothing format this → IsFirstBad text (line + 1)
+says_nothing_at text format lists line left this next h lines nothing =
+    refused_at text format lists line left this next h lines (λ more is may. nothing more is)
 
-pub may_not_stand_at : (text : List ℕ) (format : Format) (lists : Lists) (line : ℕ) (left this : List ℕ) (next : Option (List ℕ)) (says : Said) → Reading text format lists line (Some left) → ended_lines left ≡ this ∷ lines_left next → Says format this says → IsLineFault lists says Refused → IsFirstBad text (line + 1)
+pub may_not_stand_at : (text : List ℕ) (format : Format) (lists : Lists) (line : ℕ) (left this : List ℕ) (next : Option (List ℕ)) (says : Said)
+    → Reading text format lists line (Some left) → parts_of 10 left ≡ this ∷ parts_left 10 next → Says format this says → IsLineFault lists says Refused
+    → IsFirstBad text (line + 1)
 may_not_stand_at text format lists line left this next says h lines is fault = refused_at text format lists line left this next h lines
     (λ more also may. fault h.said h.holds (subst (λ (s : Said). MayStand (h.said ++ s ∷ [])) (one_said format this more says also is) may))
 
 pub memory_ran_out_at : (text : List ℕ) (format : Format) (lists : Lists) (line : ℕ) (left this : List ℕ) (next : Option (List ℕ)) (says : Said)
-    → Reading text format lists line (Some left) → ended_lines left ≡ this ∷ lines_left next → Says format this says → IsLineFault lists says OutOfMemory
+    → Reading text format lists line (Some left) → parts_of 10 left ≡ this ∷ parts_left 10 next → Says format this says → IsLineFault lists says OutOfMemory
     → WantsMemory (lines_of text)
 memory_ran_out_at text format lists line left this next says h lines is fault = record {
   format = format;
   before = h.before;
   line = this;
-  after = lines_left next;
+  after = parts_left 10 next;
   whole = h.whole ∙ ap (λ (ls : List (List ℕ)). h.before ++ ls) lines;
   said = h.said;
   begins = h.begins;
@@ -110,8 +128,9 @@ memory_ran_out_at text format lists line left this next says h lines is fault = 
   takes_memory = fault.0;
 }
 
-pub no_format_at : (text first : List ℕ) (rest : Option (List ℕ)) → ended_lines (without_last_end text) ≡ first ∷ lines_left rest → ((format : Format) → first ≡ format_line format → ⊥) → IsFirstBad text 1
-no_format_at text first rest lines none = inl (record { at_first = refl; first = first; others = lines_left rest; whole = lines; no_format = none })
+pub no_format_at : (text first : List ℕ) (rest : Option (List ℕ)) → lines_of text ≡ first ∷ parts_left 10 rest
+    → ((format : Format) → first ≡ format_line format → ⊥) → IsFirstBad text 1
+no_format_at text first rest lines none = inl (record { at_first = refl; first = first; others = parts_left 10 rest; whole = lines; no_format = none })
 
 pub whole_repository : (text : List ℕ) (format : Format) (lists : Lists) (line : ℕ) → Reading text format lists line None → IsRepository lists
 whole_repository text format lists line h = record {
@@ -120,7 +139,8 @@ whole_repository text format lists line h = record {
   of_format = h.holds.of_format;
 }
 
-pub whole_text : (text pack : List ℕ) (format : Format) (lists made : Lists) (line : ℕ) → Reading text format lists line None → made ≡ with_pack lists pack → IsRepositoryText text pack made
+pub whole_text : (text pack : List ℕ) (format : Format) (lists made : Lists) (line : ℕ) → Reading text format lists line None → made ≡ with_pack lists pack
+    → IsRepositoryText text pack made
 whole_text text pack format lists made line h is = record {
   format = format;
   said = h.said;
@@ -128,20 +148,22 @@ whole_text text pack format lists made line h is = record {
   lists_are = is ∙ ap (λ (l : Lists). with_pack l pack) h.holds.lists_are ∙ ap (λ (f : Format). lists_said f h.said pack) h.format_is;
 }
 
-cut_shorter : (text : List ℕ) → length (without_last_end text) ≤ length text
-cut_shorter text = go (slice_index text (length text - 1) == 10) where
-  go : (b : Bool) → length (if b then take (length text - 1) text else text) ≤ length text
-  go true = grind (arith, common_steps)
-  go false = omega arith
+cut_shorter : (text : List ℕ) → length (text_of text) ≤ length text
+cut_shorter text = elim (text_loses_a_line_end text) [
+  | inl same ↦ omega (arith, ap length same)
+  | inr less ↦ omega (arith, ap length less, length-append (text_of text) (10 ∷ []))
+]
 
 -- a line takes a byte at least
-pub room_at_start : (text cut : List ℕ) (rest : Option (Bor (List ℕ))) → cut ≡ without_last_end text → MatchOption rest (Unit {0}) (λ r. length r.now < length cut) → 1 + bytes_left (option_copied rest) ≤ length text + 1
+pub room_at_start : (text cut : List ℕ) (rest : Option (Bor (List ℕ))) → cut ≡ text_of text → MatchOption rest (Unit {0}) (λ r. length r.now < length cut)
+    → 1 + bytes_left (option_copied rest) ≤ length text + 1
 room_at_start text cut None is h = omega arith
 room_at_start text cut (Some r) is h =
     let short = cut_shorter text in
-    let same : length cut ≡ length (without_last_end text) = ap (λ (t : List ℕ). length t) is in
+    let same : length cut ≡ length (text_of text) = ap (λ (t : List ℕ). length t) is in
     omega (arith, h, short, same)
 
-pub room_behind : (most line : ℕ) (left : List ℕ) (rest : Option (Bor (List ℕ))) → line + (length left + 1) ≤ most + 1 → MatchOption rest (Unit {0}) (λ r. length r.now < length left) → line + 1 + bytes_left (option_copied rest) ≤ most + 1
+pub room_behind : (most line : ℕ) (left : List ℕ) (rest : Option (Bor (List ℕ))) → line + (length left + 1) ≤ most + 1
+    → MatchOption rest (Unit {0}) (λ r. length r.now < length left) → line + 1 + bytes_left (option_copied rest) ≤ most + 1
 room_behind most line left None room h = omega (arith, room)
 room_behind most line left (Some r) room h = omega (arith, room, h)

@@ -32,5 +32,6 @@ module _ {X : Type 0} where
       let count = length_more xs x in
       let end : length xs - 1 + 1 ≡ length xs = omega (arith, some) in
       let h = rising (length xs - 1) d (omega (arith, some, count)) in
-      let there : R (get_or xs (length xs - 1) d) (get_or (xs ++ x ∷ []) (length xs - 1 + 1) d) = subst (λ (y : X). R y (get_or (xs ++ x ∷ []) (length xs - 1 + 1) d)) (front_same xs x (length xs - 1) d (omega (arith, some))) h in
+      let there : R (get_or xs (length xs - 1) d) (get_or (xs ++ x ∷ []) (length xs - 1 + 1) d) =
+      subst (λ (y : X). R y (get_or (xs ++ x ∷ []) (length xs - 1 + 1) d)) (front_same xs x (length xs - 1) d (omega (arith, some))) h in
       subst (λ (y : X). R (get_or xs (length xs - 1) d) y) (last_is xs x (length xs - 1 + 1) d end) there

@@ -1,42 +1,18 @@
 -- What lines say: one thing at the most.
-use Rattle.std.proofs.Common.{arith, ◌≡◌, ℕ, ◌+◌, ◌*◌, Bool, true, false, Option, Some, None, List, [], ◌∷◌, ◌++◌, refl, ap, sym, ◌∙◌, subst, get_or, length, take, drop, codes, inl, inr}
-use Rattle.std.specs.Prelude.{if◌then◌else◌}
-use Rattle.std.specs.List.{cons_option}
-use Rattle.std.specs.Str.{bytes_eq}
-use Rattle.std.proofs.lemmas.List.{take-append-drop}
-use Rattle.std.proofs.lemmas.Slice.Eq.{bytes_eq-Decides}
+use Rattle.std.proofs.Common.{arith, ◌≡◌, ℕ, ◌+◌, ◌*◌, Option, Some, None, List, [], ◌∷◌, ◌++◌, refl, ap, sym, ◌∙◌, subst, get_or, length, codes}
 use Rattle.git_names.proofs.ObjectNames.{one_object_name}
+use Rattle.git_msg.proofs.ReferenceFaults.{reference_or_fault}
 use Rattle.git_msg.proofs.ReferenceLaws.{one_reference}
+use Rattle.git_msg.proofs.ReferenceWords.{last_value}
 use Rattle.git2show_lib.specs.Numbers.{IsNumber}
 use Rattle.git2show_lib.specs.Drafts.{IsFit}
 use Rattle.git_names.specs.declared.object_format.Format.{Format}
 use Rattle.git_names.specs.ObjectName.{ObjectName, IsObjectName}
 use Rattle.git_names.specs.RefName.{IsRefName}
 use Rattle.git_pkt.specs.declared.fault.Kind.{Kind}
-use Rattle.git_pkt.specs.declared.fault.Kind.TheVariants.{BadObjectName, BadRefName}
 use Rattle.git_msg.specs.declared.references.Boundary.TheVariants.{Shallow, Unshallow}
-use Rattle.git_msg.specs.Checks.{Passes, Refuses}
-use Rattle.git_msg.specs.References.{Ref, IsAttribute, IsAttributeFault, IsReferenceFault, IsMaybeObjectName, IsReferenceLine, attribute_checks, last_of, reference_checks, value_behind, values_of}
+use Rattle.git_msg.specs.References.{IsReferenceFault, IsMaybeObjectName, IsReferenceLine, last_of, values_of}
 use Rattle.git2show_lib.specs.RepositoryLines.{Said, reference, object, ready, boundary, IsSizedObject, Says, SaysNothing}
-
-attribute_or_fault : (format : Format) (word : List ℕ) (kind : Kind) → IsAttribute format word → IsAttributeFault format word kind → ⊥
-attribute_or_fault format word BadRefName is fault = fault.holds (is.target fault.value fault.spelled)
-attribute_or_fault format word BadObjectName is fault = let named = is.peeled fault.value fault.spelled in fault.holds named.0 named.1
-attribute_or_fault format word _ is fault = fault
-
-attributes_or_fault : (format : Format) (words : List (List ℕ)) (kind : Kind) → Passes (attribute_checks format words) → Refuses (attribute_checks format words) kind → ⊥
-attributes_or_fault format [] kind passes refused = refused
-attributes_or_fault format (w ∷ ws) kind passes (inl fault) = attribute_or_fault format w kind passes.0 fault
-attributes_or_fault format (w ∷ ws) kind passes (inr more) = attributes_or_fault format ws kind passes.1 more.1
-
-words_or_fault : (format : Format) (id name : List ℕ) (attributes : List (List ℕ)) (kind : Kind) → (named : ObjectName) → IsObjectName format id named → IsRefName name → Passes (attribute_checks format attributes) → Refuses (reference_checks format (id ∷ name ∷ attributes)) kind → ⊥
-words_or_fault format id name attributes kind named id_is name_is passes (inl fault) = fault.0 named id_is
-words_or_fault format id name attributes kind named id_is name_is passes (inr (first, inl fault)) = fault.0 name_is
-words_or_fault format id name attributes kind named id_is name_is passes (inr (first, inr (second, fault))) = attributes_or_fault format attributes kind passes fault
-
-pub reference_or_fault : (format : Format) (text : List ℕ) (ref : Ref) (kind : Kind) → IsReferenceLine format text ref → IsReferenceFault format text kind → ⊥
-reference_or_fault format text ref kind is fault =
-    words_or_fault format is.id ref.name is.attributes kind ref.id is.id_is is.name_is is.attributes_are.passes (subst (λ (ws : List (List ℕ)). Refuses (reference_checks format ws) kind) is.words fault)
 
 byte_at : (k : ℕ) (a b : List ℕ) → a ≡ b → get_or a k 0 ≡ get_or b k 0
 byte_at k a b e = ap (λ (xs : List ℕ). get_or xs k 0) e
@@ -48,16 +24,19 @@ same_rest_object : (a b : List ℕ) → codes "object " ++ a ≡ codes "object "
 same_rest_object a b e = cc
 
 -- a reference line that is refused
-pub no_reference : (format : Format) (line text : List ℕ) (kind : Kind) → line ≡ codes "ref " ++ text → IsReferenceFault format text kind → SaysNothing format line
+pub no_reference : (format : Format) (line text : List ℕ) (kind : Kind) → line ≡ codes "ref " ++ text → IsReferenceFault format text kind
+    → SaysNothing format line
 no_reference format line text kind e fault (reference ref) is =
-    reference_or_fault format text ref kind (subst (λ (t : List ℕ). IsReferenceLine format t ref) (same_rest_ref is.value text (sym is.spelled ∙ e)) is.holds) fault
+    reference_or_fault format text ref kind (subst (λ (t : List ℕ). IsReferenceLine format t ref)
+    (same_rest_ref is.value text (sym is.spelled ∙ e)) is.holds) fault
 no_reference format line text kind e fault (object id size) is = let h = byte_at 0 _ _ (sym is.spelled ∙ e) in omega (arith, h)
 no_reference format line text kind e fault (ready count) is = let h = byte_at 2 _ _ (sym is.spelled ∙ e) in omega (arith, h)
 no_reference format line text kind e fault (boundary (Shallow id)) is = let h = byte_at 0 _ _ (sym is.spelled ∙ e) in omega (arith, h)
 no_reference format line text kind e fault (boundary (Unshallow id)) is = let h = byte_at 0 _ _ (sym is.spelled ∙ e) in omega (arith, h)
 
 -- an object line that is refused
-pub no_object : (format : Format) (line text : List ℕ) → line ≡ codes "object " ++ text → ((id : ObjectName) (size : ℕ) → IsSizedObject format id size text → ⊥) → SaysNothing format line
+pub no_object : (format : Format) (line text : List ℕ) → line ≡ codes "object " ++ text
+    → ((id : ObjectName) (size : ℕ) → IsSizedObject format id size text → ⊥) → SaysNothing format line
 no_object format line text e fault (object id size) is =
     fault id size (subst (λ (t : List ℕ). IsSizedObject format id size t) (same_rest_object is.value text (sym is.spelled ∙ e)) is.holds)
 no_object format line text e fault (reference ref) is = let h = byte_at 0 _ _ (sym is.spelled ∙ e) in omega (arith, h)
@@ -106,7 +85,8 @@ same_split (c ∷ a) [] x y l e = absurd (omega (arith, l))
 one_number : (text : List ℕ) (a b : ℕ) → IsNumber text a → IsNumber text b → a ≡ b
 one_number text a b h k = h.value ∙ sym k.value
 
-one_object : (format : Format) (text : List ℕ) (id other : ObjectName) (size count : ℕ) → IsSizedObject format id size text → IsSizedObject format other count text → (id ≡ other) × (size ≡ count)
+one_object : (format : Format) (text : List ℕ) (id other : ObjectName) (size count : ℕ) → IsSizedObject format id size text
+    → IsSizedObject format other count text → (id ≡ other) × (size ≡ count)
 one_object format text id other size count h k =
     let same = same_split h.name k.name h.number k.number (h.name_is.count ∙ sym k.name_is.count) (sym h.spelled ∙ k.spelled) in (
       one_object_name format k.name id other (subst (λ (t : List ℕ). IsObjectName format t id) same.0 h.name_is) k.name_is,
@@ -117,16 +97,22 @@ one_object format text id other size count h k =
 one_of_mark : (format : Format) (line : List ℕ) (a b : Said) → mark a ≡ mark b → Says format line a → Says format line b → a ≡ b
 unfolding mark
 one_of_mark format line (reference a) (reference b) e h k =
-    ap reference (one_reference format k.value a b (subst (λ (t : List ℕ). IsReferenceLine format t a) (same_rest_ref h.value k.value (sym h.spelled ∙ k.spelled)) h.holds) k.holds)
+    ap reference (one_reference format k.value a b (subst (λ (t : List ℕ). IsReferenceLine format t a)
+    (same_rest_ref h.value k.value (sym h.spelled ∙ k.spelled)) h.holds) k.holds)
 one_of_mark format line (object id size) (object other count) e h k =
-    let same = one_object format k.value id other size count (subst (IsSizedObject format id size) (same_rest_object h.value k.value (sym h.spelled ∙ k.spelled)) h.holds) k.holds in
+    let same =
+    one_object format k.value id other size count (subst (IsSizedObject format id size)
+    (same_rest_object h.value k.value (sym h.spelled ∙ k.spelled)) h.holds) k.holds in
     ap (λ (x : ObjectName). object x size) same.0 ∙ ap (object other) same.1
 one_of_mark format line (ready a) (ready b) e h k =
-    ap ready (one_number k.value a b (subst (λ (t : List ℕ). IsNumber t a) (same_rest_ready h.value k.value (sym h.spelled ∙ k.spelled)) h.holds.number_is) k.holds.number_is)
+    ap ready (one_number k.value a b (subst (λ (t : List ℕ). IsNumber t a) (same_rest_ready h.value k.value (sym h.spelled ∙ k.spelled)) h.holds.number_is)
+    k.holds.number_is)
 one_of_mark format line (boundary (Shallow a)) (boundary (Shallow b)) e h k =
-    ap (λ (x : ObjectName). boundary (Shallow x)) (one_object_name format k.value a b (subst (λ (t : List ℕ). IsObjectName format t a) (same_rest_shallow h.value k.value (sym h.spelled ∙ k.spelled)) h.holds) k.holds)
+    ap (λ (x : ObjectName). boundary (Shallow x)) (one_object_name format k.value a b
+    (subst (λ (t : List ℕ). IsObjectName format t a) (same_rest_shallow h.value k.value (sym h.spelled ∙ k.spelled)) h.holds) k.holds)
 one_of_mark format line (boundary (Unshallow a)) (boundary (Unshallow b)) e h k =
-    ap (λ (x : ObjectName). boundary (Unshallow x)) (one_object_name format k.value a b (subst (λ (t : List ℕ). IsObjectName format t a) (same_rest_unshallow h.value k.value (sym h.spelled ∙ k.spelled)) h.holds) k.holds)
+    ap (λ (x : ObjectName). boundary (Unshallow x)) (one_object_name format k.value a b
+    (subst (λ (t : List ℕ). IsObjectName format t a) (same_rest_unshallow h.value k.value (sym h.spelled ∙ k.spelled)) h.holds) k.holds)
 one_of_mark format line (reference a) (object id size) e h k = absurd (omega (arith, e))
 one_of_mark format line (reference a) (ready n) e h k = absurd (omega (arith, e))
 one_of_mark format line (reference a) (boundary (Shallow b)) e h k = absurd (omega (arith, e))
@@ -151,45 +137,25 @@ one_of_mark format line (boundary (Unshallow a)) (boundary (Shallow b)) e h k = 
 pub one_said : (format : Format) (line : List ℕ) (a b : Said) → Says format line a → Says format line b → a ≡ b
 one_said format line a b h k = one_of_mark format line a b (sym (marked format line a h) ∙ marked format line b k) h k
 
-maybe_format : (format : Format) (text : Option (List ℕ)) (id : Option ObjectName) → IsMaybeObjectName format text id → (x : ObjectName) → id ≡ Some x → x.format ≡ format
+maybe_format : (format : Format) (text : Option (List ℕ)) (id : Option ObjectName) → IsMaybeObjectName format text id → (x : ObjectName) → id ≡ Some x
+    → x.format ≡ format
 maybe_format format None id h x e = absurd (cc)
 maybe_format format (Some text) id h x e = let same : h.0 ≡ x = cc in subst (λ (o : ObjectName). o.format ≡ format) same h.1.of_format
-
-value_spelled : (word text value : List ℕ) → value_behind word text ≡ Some value → text ≡ word ++ value
-value_spelled word text value = go (bytes_eq (take (length word) text) word) refl where
-  go : (b : Bool) → bytes_eq (take (length word) text) word ≡ b → (if b then Some (drop (length word) text) else None) ≡ Some value → text ≡ word ++ value
-  go false e h = cc
-  go true e h =
-      let same : take (length word) text ≡ word = (bytes_eq-Decides (take (length word) text) word).0 e in
-      let rest : drop (length word) text ≡ value = cc in
-      sym (take-append-drop (length word) text) ∙ ap (λ (xs : List ℕ). xs ++ drop (length word) text) same ∙ ap (λ (xs : List ℕ). word ++ xs) rest
-
-AreNames : List (List ℕ) → Type 0
-AreNames [] = Unit {0}
-AreNames (v ∷ vs) = IsRefName v × AreNames vs
-
-last_name : (vs : List (List ℕ)) (x : List ℕ) → AreNames vs → last_of vs ≡ Some x → IsRefName x
-unfolding AreNames
-last_name [] x h e = cc
-last_name (v ∷ []) x h e = let same : v ≡ x = cc in subst IsRefName same h.0
-last_name (v ∷ w ∷ vs) x h e = last_name (w ∷ vs) x h.1 e
-
-names_more : (format : Format) (w : List ℕ) (o : Option (List ℕ)) (vs : List (List ℕ)) → value_behind (codes "symref-target:") w ≡ o → IsAttribute format w → AreNames vs → AreNames (cons_option o vs)
-unfolding AreNames
-names_more format w None vs e is h = h
-names_more format w (Some v) vs e is h = (is.target v (value_spelled (codes "symref-target:") w v e), h)
-
-are_names : (format : Format) (words : List (List ℕ)) → Passes (attribute_checks format words) → AreNames (values_of (codes "symref-target:") words)
-unfolding AreNames
-are_names format [] h = tt
-are_names format (w ∷ ws) h = names_more format w (value_behind (codes "symref-target:") w) (values_of (codes "symref-target:") ws) refl h.0 (are_names format ws h.1)
 
 -- what a line says is of the format
 pub fit_of_says : (format : Format) (line : List ℕ) (said : Said) → Says format line said → IsFit format said
 fit_of_says format line (reference ref) is =
     let parts = is.holds.attributes_are in (
-      record { by_id = is.holds.id_is.of_format; by_peeled = λ x e. maybe_format format (last_of (values_of (codes "peeled:") is.holds.attributes)) ref.peeled parts.peeled_is x e },
-      record { by_name = is.holds.name_is; by_target = λ x e. last_name (values_of (codes "symref-target:") is.holds.attributes) x (are_names format is.holds.attributes parts.passes) (sym parts.target_is ∙ e) },
+      record {
+        by_id = is.holds.id_is.of_format;
+        by_peeled = λ x e. maybe_format format
+            (last_of (values_of (codes "peeled:") is.holds.attributes)) ref.peeled parts.peeled_is x e;
+      },
+      record {
+        by_name = is.holds.name_is;
+        by_target = λ x e. last_value format (codes "symref-target:") IsRefName
+            (λ word value is spelled. is.target value spelled) is.holds.attributes x parts.passes (sym parts.target_is ∙ e);
+      },
     )
 fit_of_says format line (object id size) is = is.holds.name_is.of_format
 fit_of_says format line (ready count) is = tt

@@ -1,12 +1,12 @@
 -- One thing after another goes through a buffer.
-use Rattle.std.proofs.Common.{length, ◌≤◌, ◌≡◌, ℕ, List, [], ◌++◌, Option, ap, sym, ◌∙◌, subst, append_assoc, append-nil, ◌+◌, ◌-◌, take, drop, Result, Ok, Err, OnOk, OnErr, take-append-drop}
-use Rattle.std.proofs.lemmas.Grind.{flat_map-append}
+use Rattle.std.proofs.Common.{arith, length, length-drop, min, ◌≤◌, ◌≡◌, ℕ, List, [], ◌++◌, Option, ap, sym, ◌∙◌, subst, append_assoc, append-nil, ◌+◌, ◌-◌, take, drop}
 use Rattle.std.proofs.KnownBytes.{Appends-nil, Appends-trans}
 use Rattle.git_pkt.specs.Told.{AppendsFront}
 use Rattle.git_pkt.proofs.EngineLemmas.{AppendsFront-after, AppendsFront-longer}
+use Rattle.git_pkt.proofs.Escapes.{escaped-append, escaped-parts}
 use Rattle.git_pkt.proofs.Pieces.{left_of, take_joined}
-use Rattle.git_pkt.specs.Escape.{escape_of, escaped_of}
-use Rattle.git2show_lib.specs.Sending.{Emits, EmitsFront}
+use Rattle.git_pkt.specs.Escape.{escaped_of}
+use Rattle.git2show_lib.specs.LineBuffer.{Emits, EmitsFront}
 
 pub emits_nothing : (held : Option (List ℕ)) (before : List ℕ) → Emits held held before [] before
 emits_nothing held before = record { sent = []; written = Appends-nil held; all = append-nil before }
@@ -34,38 +34,27 @@ front_longer a b x bytes more one =
 pub front_before : (a b : Option (List ℕ)) (x more : List ℕ) → AppendsFront a b x → EmitsFront a b x more
 front_before a b x more one = AppendsFront-longer a b x more one
 
--- what follows from what a call ensures, whichever way it ended
-pub on_ok-map : {T E P Q : Type 0} → (r : Result T E) → (P → Q) → OnOk r P → OnOk r Q
-on_ok-map (Ok x) f p = f p
-on_ok-map (Err e) f p = p
-
-pub on_err-map : {T E P Q : Type 0} → (r : Result T E) → (P → Q) → OnErr r P → OnErr r Q
-on_err-map (Ok x) f p = p
-on_err-map (Err e) f p = f p
-
--- the escapes of two parts
-pub escaped-append : (front back : List ℕ) → escaped_of (front ++ back) ≡ escaped_of front ++ escaped_of back
-escaped-append front back = flat_map-append escape_of front back
-
 -- a front of the escapes of a front
-pub front_of_taken : (a b : Option (List ℕ)) (x bytes : List ℕ) (n : ℕ) → EmitsFront a b x (escaped_of (take n bytes)) → EmitsFront a b x (escaped_of bytes)
+front_of_taken : (a b : Option (List ℕ)) (x bytes : List ℕ) (n : ℕ) → EmitsFront a b x (escaped_of (take n bytes)) → EmitsFront a b x (escaped_of bytes)
 front_of_taken a b x bytes n front =
-    let all : escaped_of (take n bytes) ++ escaped_of (drop n bytes) ≡ escaped_of bytes =
-    sym (escaped-append (take n bytes) (drop n bytes)) ∙ ap escaped_of (take-append-drop n bytes) in
-    subst (λ (l : List ℕ). EmitsFront a b x l) all (front_longer a b x (escaped_of (take n bytes)) (escaped_of (drop n bytes)) front)
+    subst (λ (l : List ℕ). EmitsFront a b x l) (escaped-parts bytes n) (front_longer a b x (escaped_of (take n bytes)) (escaped_of (drop n bytes)) front)
 
--- ---- a loop over bytes: `done` of them are escaped, and the next come from what is left, as a slice shows it
+-- ---- a loop over bytes: `done` of them are escaped, and `n` more come from what is left, as a slice shows it
 
-module _ (a b c : Option (List ℕ)) (x y bytes : List ℕ) (done : ℕ) (within : done ≤ length bytes) (so_far : Emits a b x (escaped_of (take done bytes)) y) where
-  pub escapes_on : (n : ℕ) (z : List ℕ) → Emits b c y (escaped_of (take n (take (length bytes - done) (drop done bytes)))) z → Emits a c x (escaped_of (take (done + n) bytes)) z
-  escapes_on n z next =
-      let same : escaped_of (take done bytes) ++ escaped_of (take n (take (length bytes - done) (drop done bytes))) ≡ escaped_of (take (done + n) bytes) =
-      sym (escaped-append (take done bytes) (take n (take (length bytes - done) (drop done bytes)))) ∙ ap escaped_of (take_joined bytes done n within) in
-      subst (λ (l : List ℕ). Emits a c x l z) same (emits_then a b c x (escaped_of (take done bytes)) y _ z so_far next)
+module _ (bytes : List ℕ) (done n : ℕ) (within : done ≤ length bytes) where
+  pub next_within : (most : ℕ) → n ≡ min most (length (take (length bytes - done) (drop done bytes))) → done + n ≤ length bytes
+  next_within most next = omega (arith, ap length (left_of bytes done within), length-drop done bytes)
 
-  pub escapes_front : EmitsFront b c y (escaped_of (take (length bytes - done) (drop done bytes))) → EmitsFront a c x (escaped_of bytes)
-  escapes_front next =
-      let same : escaped_of (take done bytes) ++ escaped_of (take (length bytes - done) (drop done bytes)) ≡ escaped_of bytes =
-      sym (escaped-append (take done bytes) (take (length bytes - done) (drop done bytes)))
-      ∙ ap escaped_of (ap (λ (l : List ℕ). take done bytes ++ l) (left_of bytes done within) ∙ take-append-drop done bytes) in
-      subst (λ (l : List ℕ). EmitsFront a c x l) same (front_after a b c x (escaped_of (take done bytes)) y _ so_far next)
+  next_escaped : escaped_of (take done bytes) ++ escaped_of (take n (take (length bytes - done) (drop done bytes))) ≡ escaped_of (take (done + n) bytes)
+  next_escaped =
+      sym (escaped-append (take done bytes) (take n (take (length bytes - done) (drop done bytes)))) ∙ ap escaped_of (take_joined bytes done n within)
+
+  module _ (a b c : Option (List ℕ)) (x y : List ℕ) (so_far : Emits a b x (escaped_of (take done bytes)) y) where
+    pub escapes_on : (z : List ℕ) → Emits b c y (escaped_of (take n (take (length bytes - done) (drop done bytes)))) z
+        → Emits a c x (escaped_of (take (done + n) bytes)) z
+    escapes_on z next = subst (λ (l : List ℕ). Emits a c x l z) next_escaped (emits_then a b c x (escaped_of (take done bytes)) y _ z so_far next)
+
+    pub escapes_front : EmitsFront b c y (escaped_of (take n (take (length bytes - done) (drop done bytes)))) → EmitsFront a c x (escaped_of bytes)
+    escapes_front next =
+        front_of_taken a c x bytes (done + n)
+        (subst (λ (l : List ℕ). EmitsFront a c x l) next_escaped (front_after a b c x (escaped_of (take done bytes)) y _ so_far next))

@@ -3,18 +3,17 @@ use Rattle.std.proofs.Common.{arith, ◌≡◌, ℕ, ◌+◌, ◌<◌, ◌≤◌
 use Rattle.std.specs.List.{AllAdjacentBelow}
 use Rattle.std.proofs.lemmas.Grind.{common_steps}
 use Rattle.std.proofs.lemmas.Bool.{cases_lt}
+use Rattle.std.proofs.lemmas.List.{append-nil}
 use Rattle.git_names.specs.declared.object_format.Format.{Format}
 use Rattle.git_names.specs.declared.object_format.Format.TheVariants.{Sha1, Sha256}
 use Rattle.git_names.specs.ObjectName.{ObjectName}
 use Rattle.git_server.specs.Repository.{Entry, IsRising, comes_before}
 use Rattle.git_server.specs.Objects.{AreRising, precedes}
 use Rattle.git_server.specs.Lists.{Lists}
+use Rattle.git_msg.proofs.ReferenceLaws.{same_heads}
 use Rattle.git2show_lib.specs.RepositoryLines.{Said, reference, object, ready, boundary, Says, format_line, lines_of}
 use Rattle.git2show_lib.specs.RepositoryText.{Begins, HasBadLine, HasNoFormat, IsFirstBad, IsRepositoryText, MayStand, SayAll, counts_in, entry_of, lists_said, objects_in, refs_in}
 use Rattle.git2show_lib.proofs.Saying.{one_said}
-
-same_heads : (a b : List ℕ) (more others : List (List ℕ)) → a ∷ more ≡ b ∷ others → (a ≡ b) × (more ≡ others)
-same_heads a b more others e = (cc, cc)
 
 one_format : (f g : Format) → format_line f ≡ format_line g → f ≡ g
 one_format Sha1 Sha1 e = refl
@@ -24,7 +23,8 @@ one_format Sha256 Sha1 e = let h : length (format_line Sha256) ≡ length (forma
 
 one_of_all : (format : Format) (lines : List (List ℕ)) (a b : List Said) → SayAll format lines a → SayAll format lines b → a ≡ b
 one_of_all format [] [] [] h k = refl
-one_of_all format (l ∷ ls) (s ∷ ss) (t ∷ ts) h k = ap (λ (x : Said). x ∷ ss) (one_said format l s t h.0 k.0) ∙ ap (λ (xs : List Said). t ∷ xs) (one_of_all format ls ss ts h.1 k.1)
+one_of_all format (l ∷ ls) (s ∷ ss) (t ∷ ts) h k =
+    ap (λ (x : Said). x ∷ ss) (one_said format l s t h.0 k.0) ∙ ap (λ (xs : List Said). t ∷ xs) (one_of_all format ls ss ts h.1 k.1)
 one_of_all format [] (s ∷ ss) b h k = absurd h
 one_of_all format [] [] (t ∷ ts) h k = absurd k
 one_of_all format (l ∷ ls) [] b h k = absurd h
@@ -53,7 +53,8 @@ module _ {X : Type 0} where
   rising_front R xs ys rising k d below =
       let long = longer xs ys in
       let h = rising k d (omega (arith, below, long)) in
-      let there : R (get_or xs k d) (get_or (xs ++ ys) (k + 1) d) = subst (λ (y : X). R y (get_or (xs ++ ys) (k + 1) d)) (front_of xs ys k d (omega (arith, below))) h in
+      let there : R (get_or xs k d) (get_or (xs ++ ys) (k + 1) d) =
+      subst (λ (y : X). R y (get_or (xs ++ ys) (k + 1) d)) (front_of xs ys k d (omega (arith, below))) h in
       subst (λ (y : X). R (get_or xs k d) y) (front_of xs ys (k + 1) d below) there
 
 refs_joined : (a b : List Said) → refs_in (a ++ b) ≡ refs_in a ++ refs_in b
@@ -97,40 +98,52 @@ record Cut (format : Format) (before : List (List ℕ)) (line : List ℕ) (said 
   front_said : SayAll format before front
   next_said : Says format line next
 
-cut_at : (format : Format) (before : List (List ℕ)) (line : List ℕ) (behind : List (List ℕ)) (said : List Said) → SayAll format (before ++ line ∷ behind) said → Cut format before line said
+cut_at : (format : Format) (before : List (List ℕ)) (line : List ℕ) (behind : List (List ℕ)) (said : List Said)
+    → SayAll format (before ++ line ∷ behind) said → Cut format before line said
 cut_at format [] line behind (s ∷ ss) h = record { front = []; next = s; back = ss; whole = refl; front_said = tt; next_said = h.0 }
 cut_at format (l ∷ ls) line behind (s ∷ ss) h =
     let more = cut_at format ls line behind ss h.1 in
-    record { front = s ∷ more.front; next = more.next; back = more.back; whole = ap (λ (xs : List Said). s ∷ xs) more.whole; front_said = (h.0, more.front_said); next_said = more.next_said }
+    record {
+      front = s ∷ more.front;
+      next = more.next;
+      back = more.back;
+      whole = ap (λ (xs : List Said). s ∷ xs) more.whole;
+      front_said = (h.0, more.front_said);
+      next_said = more.next_said;
+    }
 cut_at format [] line behind [] h = absurd h
 cut_at format (l ∷ ls) line behind [] h = absurd h
 
 -- lines that begin a text have no bad line among them
 begins_or_bad : (format : Format) (lines : List (List ℕ)) (said : List Said) (number : ℕ) → Begins format lines said → HasBadLine lines number → ⊥
 begins_or_bad format lines said number h bad =
-    let split : lines ≡ format_line bad.format ∷ (bad.begins.others ++ bad.line ∷ bad.behind) = bad.whole ∙ ap (λ (ls : List (List ℕ)). ls ++ bad.line ∷ bad.behind) bad.begins.spelled in
+    let split : lines ≡ format_line bad.format ∷ (bad.begins.others ++ bad.line ∷ bad.behind) =
+    bad.whole ∙ ap (λ (ls : List (List ℕ)). ls ++ bad.line ∷ bad.behind) bad.begins.spelled in
     let same = same_heads (format_line format) (format_line bad.format) h.others (bad.begins.others ++ bad.line ∷ bad.behind) (sym h.spelled ∙ split) in
     let there : SayAll bad.format (bad.begins.others ++ bad.line ∷ bad.behind) said =
-    subst (λ (f : Format). SayAll f (bad.begins.others ++ bad.line ∷ bad.behind) said) (one_format format bad.format same.0) (subst (λ (ls : List (List ℕ)). SayAll format ls said) same.1 h.say_all) in
+    subst (λ (f : Format). SayAll f (bad.begins.others ++ bad.line ∷ bad.behind) said) (one_format format bad.format same.0)
+    (subst (λ (ls : List (List ℕ)). SayAll format ls said) same.1 h.say_all) in
     let cut = cut_at bad.format bad.begins.others bad.line bad.behind said there in
     let front : cut.front ≡ bad.said = one_of_all bad.format bad.begins.others cut.front bad.said cut.front_said bad.begins.say_all in
-    let stands : MayStand ((cut.front ++ cut.next ∷ []) ++ cut.back) = subst MayStand (cut.whole ∙ sym (append_assoc cut.front (cut.next ∷ []) cut.back)) h.may_stand in
-    bad.refused cut.next cut.next_said (subst (λ (xs : List Said). MayStand (xs ++ cut.next ∷ [])) front (stand_front (cut.front ++ cut.next ∷ []) cut.back stands))
+    let stands : MayStand ((cut.front ++ cut.next ∷ []) ++ cut.back) =
+    subst MayStand (cut.whole ∙ sym (append_assoc cut.front (cut.next ∷ []) cut.back)) h.may_stand in
+    bad.refused cut.next cut.next_said (subst (λ (xs : List Said). MayStand (xs ++ cut.next ∷ [])) front
+    (stand_front (cut.front ++ cut.next ∷ []) cut.back stands))
 
-begins_or_no_format : (format : Format) (lines more whole : List (List ℕ)) (said : List Said) (number : ℕ) → Begins format lines said → whole ≡ lines ++ more → HasNoFormat whole number → ⊥
+begins_or_no_format : (format : Format) (lines more whole : List (List ℕ)) (said : List Said) (number : ℕ) → Begins format lines said
+    → whole ≡ lines ++ more → HasNoFormat whole number → ⊥
 begins_or_no_format format lines more whole said number h is bad =
-    bad.no_format format (same_heads bad.first (format_line format) bad.others (h.others ++ more) (sym bad.whole ∙ is ∙ ap (λ (ls : List (List ℕ)). ls ++ more) h.spelled)).0
-
-append_none : {X : Type 0} (xs : List X) → xs ≡ xs ++ []
-append_none [] = refl
-append_none {X} (x ∷ xs) = ap (λ (ys : List X). x ∷ ys) (append_none xs)
+    bad.no_format format (same_heads bad.first (format_line format) bad.others (h.others ++ more)
+    (sym bad.whole ∙ is ∙ ap (λ (ls : List (List ℕ)). ls ++ more) h.spelled)).0
 
 pub repository_or_bad : (text pack : List ℕ) (lists : Lists) (number : ℕ) → IsRepositoryText text pack lists → IsFirstBad text number → ⊥
-repository_or_bad text pack lists number h (inl bad) = begins_or_no_format h.format (lines_of text) [] (lines_of text) h.said number h.begins (append_none (lines_of text)) bad
+repository_or_bad text pack lists number h (inl bad) =
+    begins_or_no_format h.format (lines_of text) [] (lines_of text) h.said number h.begins (sym (append-nil (lines_of text))) bad
 repository_or_bad text pack lists number h (inr bad) = begins_or_bad h.format (lines_of text) h.said number h.begins bad
 
 -- of two cuts of one list, the earlier lies in the front of the later
-earlier_in : (a : List (List ℕ)) (x : List ℕ) (xs b : List (List ℕ)) (y : List ℕ) (ys : List (List ℕ)) → a ++ x ∷ xs ≡ b ++ y ∷ ys → length a < length b → (rest : List (List ℕ)) × (b ≡ a ++ x ∷ rest)
+earlier_in : (a : List (List ℕ)) (x : List ℕ) (xs b : List (List ℕ)) (y : List ℕ) (ys : List (List ℕ)) → a ++ x ∷ xs ≡ b ++ y ∷ ys → length a < length b
+    → (rest : List (List ℕ)) × (b ≡ a ++ x ∷ rest)
 earlier_in [] x xs [] y ys e l = absurd (omega (arith, l))
 earlier_in [] x xs (c ∷ b) y ys e l = (b, ap (λ (z : List ℕ). z ∷ b) (sym (same_heads x c xs (b ++ y ∷ ys) e).0))
 earlier_in (d ∷ a) x xs [] y ys e l = absurd (omega (arith, l))

@@ -17,7 +17,7 @@ use Rattle.git_pkt.proofs.Pieces.{take_joined, left_of}
 use Rattle.git_client.specs.Events.{EventValue}
 use Rattle.git_client.specs.Transcript.{line_of}
 use Rattle.git_client.specs.Conversation.{IsAdvertisement}
-use Rattle.git_client.specs.Hearing.{Hears, HearsOn, Feeds, Tells, fault_of, can_ask, bytes_used, phase_of, events_of, value_of, LeavesAfter, is_ready, fault_in}
+use Rattle.git_client.specs.Client.{Hears, HearsOn, Feeds, Tells, fault_of, can_ask, bytes_used, phase_of, events_of, value_of, LeavesAfter, is_ready, fault_in}
 use Rattle.git_client.specs.declared.phase.Phase.{Phase}
 use Rattle.git_client.specs.declared.phase.Phase.TheVariants.{Opening, Advertisement, Ready, Failed as FailedPhase}
 use Rattle.git_client.specs.declared.events.Ending.{Ending}
@@ -32,8 +32,8 @@ use Rattle.git_client.proofs.Faults.{first_fault}
 use Rattle.git_client.proofs.EventsHeard.{has_events, goes_well, goes_on_asking, is_whole, is_due, position_is}
 use Rattle.git2show_lib.specs.declared.checking.CheckFault.{CheckFault}
 use Rattle.git2show_lib.specs.declared.checking.CheckFault.TheVariants.{Requests, Responses, ReadFault, WriteFault, ReadLimit}
-use Rattle.git2show_lib.specs.Showing.{IsTimely}
-use Rattle.git2show_lib.specs.Checking.{Judgement, unread, nothing_asked, judgement_of, IsCutOffAt, IsCutOff, transcript_of, Transcribes, TranscribesFront, TranscribesUpTo, TranscribesInto, TranscribesUntil, Transcribed, TranscribedFront, TranscribedUpTo, TranscribedAll, TranscribedUntil, Checks, EndsAs, EndsCheck, IsShownInRequests, broken, unfinished}
+use Rattle.git2show_lib.specs.ShownStream.{IsTimely}
+use Rattle.git2show_lib.specs.CheckedStreams.{Judgement, unread, nothing_asked, judgement_of, IsCutOffAt, IsCutOff, transcript_of, Transcribes, TranscribesFront, TranscribesUpTo, TranscribesInto, TranscribesUntil, Transcribed, TranscribedFront, TranscribedUpTo, TranscribedAll, TranscribedUntil, Checks, EndsAs, EndsCheck, IsShownInRequests, broken, unfinished}
 use Rattle.git2show_lib.proofs.Printing.{left, timely}
 
 transcript-append : (es fs : List EventValue) → transcript_of (es ++ fs) ≡ transcript_of es ++ transcript_of fs
@@ -44,12 +44,14 @@ transcript-one e = append-nil (line_of e 0 0)
 
 hears_nothing : (c : Client) → HearsOn c [] [] c
 hears_nothing c format ending bytes events h =
-    subst (λ (l : List ℕ). Hears format ending c l (events ++ [])) (sym (append-nil bytes)) (subst (λ (l : List EventValue). Hears format ending c bytes l) (sym (append-nil events)) h)
+    subst (λ (l : List ℕ). Hears format ending c l (events ++ [])) (sym (append-nil bytes))
+    (subst (λ (l : List EventValue). Hears format ending c bytes l) (sym (append-nil events)) h)
 
 pub transcribes_nothing : (c : Client) (held : Option (List ℕ)) → Transcribes c [] held held c
 transcribes_nothing c held = record { events = []; hears = hears_nothing c; written = Appends-nil held }
 
-transcribes_then : (a b c : Client) (u v : List ℕ) (before held after : Option (List ℕ)) → Transcribes a u before held b → Transcribes b v held after c → Transcribes a (u ++ v) before after c
+transcribes_then : (a b c : Client) (u v : List ℕ) (before held after : Option (List ℕ)) → Transcribes a u before held b → Transcribes b v held after c
+    → Transcribes a (u ++ v) before after c
 transcribes_then a b c u v before held after one two = record {
   events = one.events ++ two.events;
   hears = hears_twice a b c u v one.events two.events one.hears two.hears;
@@ -57,7 +59,8 @@ transcribes_then a b c u v before held after one two = record {
       (Appends-trans before held after (transcript_of one.events) (transcript_of two.events) one.written two.written);
 }
 
-front_then : (a b c : Client) (u v : List ℕ) (before held after : Option (List ℕ)) → Transcribes a u before held b → TranscribesFront b v held after c → TranscribesFront a (u ++ v) before after c
+front_then : (a b c : Client) (u v : List ℕ) (before held after : Option (List ℕ)) → Transcribes a u before held b → TranscribesFront b v held after c
+    → TranscribesFront a (u ++ v) before after c
 front_then a b c u v before held after one two = record {
   events = one.events ++ two.events;
   hears = hears_twice a b c u v one.events two.events one.hears two.hears;
@@ -107,7 +110,8 @@ module _ (old b c : Client) (piece : List ℕ) (done : ℕ) (before held : Optio
   pub heard_sound : (e : Event) → heard.got ≡ EventGot e → fault_of c ≡ None
   heard_sound e is = sound_after e c (tells_by (EventGot e) is).2
 
-  pub heard_event : (e : Event) (after : Option (List ℕ)) → heard.got ≡ EventGot e → Appends held after (line_of (value_of e) 0 0) → Transcribes old (take (done + heard.used) piece) before after c
+  pub heard_event : (e : Event) (after : Option (List ℕ)) → heard.got ≡ EventGot e → Appends held after (line_of (value_of e) 0 0)
+      → Transcribes old (take (done + heard.used) piece) before after c
   heard_event e after is line =
       let step : Transcribes b (take heard.used (left piece done)) held after c =
       record {
@@ -118,7 +122,8 @@ module _ (old b c : Client) (piece : List ℕ) (done : ℕ) (before held : Optio
       subst (λ (l : List ℕ). Transcribes old l before after c) (take_joined piece done heard.used within)
       (transcribes_then old b c (take done piece) (take heard.used (left piece done)) before held after so_far step)
 
-  pub heard_event_front : (e : Event) (after : Option (List ℕ)) → heard.got ≡ EventGot e → AppendsFront held after (line_of (value_of e) 0 0) → TranscribesInto old piece before after c
+  pub heard_event_front : (e : Event) (after : Option (List ℕ)) → heard.got ≡ EventGot e → AppendsFront held after (line_of (value_of e) 0 0)
+      → TranscribesInto old piece before after c
   heard_event_front e after is line =
       let step : TranscribesFront b (take heard.used (left piece done)) held after c =
       record {
@@ -165,11 +170,13 @@ rest_is piece n used within =
     let same : used + (n - used) ≡ n = omega (arith, within) in
     subst (λ (k : ℕ). drop used (take k piece) ≡ take (n - used) (drop used piece)) same (drop-take used (n - used) piece)
 
-module _ (a b c : Client) (p : List ℕ) (used : ℕ) (left_before at left_after held_before held held_after : Option (List ℕ)) (so_far : Transcribed a b [] left_before at held_before held) (read : Consumes at left_after p) where
+module _ (a b c : Client) (p : List ℕ) (used : ℕ) (left_before at left_after held_before held held_after : Option (List ℕ))
+    (so_far : Transcribed a b [] left_before at held_before held) (read : Consumes at left_after p) where
   read_on : Consumes left_before left_after ((so_far.used ++ take used p) ++ drop used p)
   read_on =
       let same : (so_far.used ++ []) ++ p ≡ (so_far.used ++ take used p) ++ drop used p =
-      ap (λ (l : List ℕ). l ++ p) (append-nil so_far.used) ∙ ap (λ (l : List ℕ). so_far.used ++ l) (sym (take-append-drop used p)) ∙ sym (append_assoc so_far.used (take used p) (drop used p)) in
+      ap (λ (l : List ℕ). l ++ p) (append-nil so_far.used) ∙ ap (λ (l : List ℕ). so_far.used ++ l) (sym (take-append-drop used p))
+      ∙ sym (append_assoc so_far.used (take used p) (drop used p)) in
       subst (λ (l : List ℕ). Consumes left_before left_after l) same (Consumes-trans left_before at left_after (so_far.used ++ []) p so_far.read read)
 
   pub transcribed_on : Transcribes b (take used p) held held_after c → Transcribed a c (drop used p) left_before left_after held_before held_after
@@ -188,7 +195,9 @@ module _ (a b c : Client) (p : List ℕ) (used : ℕ) (left_before at left_after
   }
 
 -- a fault ended a piece
-pub transcribed_until : (fault : CheckFault) (ended : Bool) (a b c : Client) (p : List ℕ) (left_before at left_after held_before held held_after : Option (List ℕ)) → Transcribed a b [] left_before at held_before held → Consumes at left_after p
+pub transcribed_until : (fault : CheckFault) (ended : Bool) (a b c : Client) (p : List ℕ)
+    (left_before at left_after held_before held held_after : Option (List ℕ)) → Transcribed a b [] left_before at held_before held
+    → Consumes at left_after p
     → TranscribesUntil fault b p held held_after c → TranscribedUntil fault ended a c left_before left_after held_before held_after
 transcribed_until (Requests f) ended a b c p left_before at left_after held_before held held_after so_far read step = absurd step
 transcribed_until (Responses f) ended a b c p left_before at left_after held_before held held_after so_far read step = record {
@@ -203,13 +212,16 @@ transcribed_until WriteFault ended a b c p left_before at left_after held_before
 transcribed_until ReadLimit ended a b c p left_before at left_after held_before held held_after so_far read step = absurd step
 
 -- the responses ended where more was due
-pub transcribed_end : (f : Fault) (ended : Bool) (a b c : Client) (piece : List ℕ) (n : ℕ) (left_before at left_after held_before held : Option (List ℕ)) → n ≡ 0 → ended ≡ true → f.kind ≡ Truncated → fault_of c ≡ Some f
-    → Transcribed a b [] left_before at held_before held → Consumes at left_after (take n piece) → HearsOn b [] [] c → TranscribedUpTo f ended a c left_before left_after held_before held
+pub transcribed_end : (f : Fault) (ended : Bool) (a b c : Client) (piece : List ℕ) (n : ℕ) (left_before at left_after held_before held : Option (List ℕ))
+    → n ≡ 0 → ended ≡ true → f.kind ≡ Truncated → fault_of c ≡ Some f
+    → Transcribed a b [] left_before at held_before held → Consumes at left_after (take n piece) → HearsOn b [] [] c
+    → TranscribedUpTo f ended a c left_before left_after held_before held
 transcribed_end f ended a b c piece n left_before at left_after held_before held none at_end kind told so_far read carries =
     let nothing : Consumes at left_after [] = subst (λ (k : ℕ). Consumes at left_after (take k piece)) none read in
     record {
       unused = [];
-      writes = transcribed_on a b c [] 0 left_before at left_after held_before held held so_far nothing (record { events = []; hears = carries; written = Appends-nil held });
+      writes = transcribed_on a b c [] 0 left_before at left_after held_before held held so_far nothing
+          (record { events = []; hears = carries; written = Appends-nil held });
       told = told;
       timely = subst (λ (k : Kind). IsTimely k ended []) (sym kind) (refl, at_end);
     }
@@ -222,7 +234,8 @@ appends-kept_front a b c bytes written kept = (bytes, [], sym (append-nil bytes)
 front-kept : (a b c : Option (List ℕ)) (bytes : List ℕ) → AppendsFront a b bytes → Keeps b c → AppendsFront a c bytes
 front-kept a b c bytes (front, rest, split, written) kept = (front, rest, split, Appends-kept a b c front written kept)
 
-module _ (format : Format) (ending : Ending) (old new : Client) (begun : Hears format ending old [] []) (judged : Judgement → Type 0) (ended : Bool) (left_before left_after held_before held held_after : Option (List ℕ)) (kept : Keeps held held_after) where
+module _ (format : Format) (ending : Ending) (old new : Client) (begun : Hears format ending old [] []) (judged : Judgement → Type 0) (ended : Bool)
+    (left_before left_after held_before held held_after : Option (List ℕ)) (kept : Keeps held held_after) where
   checks : (result : Result (Unit {0}) CheckFault) (unused : List ℕ) → Transcribed old new unused left_before left_after held_before held
       → ((used : List ℕ) (events : List EventValue) → Hears format ending new used events → EndsAs format result judged ended used unused events)
       → Exchanges (Checks format result judged ended) left_before left_after held_before held_after
@@ -244,7 +257,8 @@ module _ (format : Format) (ending : Ending) (old new : Client) (begun : Hears f
         };
       }
 
-  checks_front : judged unread → TranscribedFront old new left_before left_after held_before held → ExchangesFront (Checks format (Err WriteFault) judged ended) left_before left_after held_before held_after
+  checks_front : judged unread → TranscribedFront old new left_before left_after held_before held
+      → ExchangesFront (Checks format (Err WriteFault) judged ended) left_before left_after held_before held_after
   checks_front none t =
       let h : Hears format ending new t.used t.writes.events = t.writes.hears format ending [] [] begun in
       record {
@@ -263,7 +277,8 @@ module _ (format : Format) (ending : Ending) (old new : Client) (begun : Hears f
         };
       }
 
-  whole_front : (unused : List ℕ) → Transcribed old new unused left_before left_after held_before held → TranscribedFront old new left_before left_after held_before held
+  whole_front : (unused : List ℕ) → Transcribed old new unused left_before left_after held_before held
+      → TranscribedFront old new left_before left_after held_before held
   whole_front unused t = record {
     used = t.used;
     unused = unused;
@@ -275,7 +290,8 @@ module _ (format : Format) (ending : Ending) (old new : Client) (begun : Hears f
     };
   }
 
-  front_until : (fault : CheckFault) → TranscribedUntil fault ended old new left_before left_after held_before held → TranscribedFront old new left_before left_after held_before held
+  front_until : (fault : CheckFault) → TranscribedUntil fault ended old new left_before left_after held_before held
+      → TranscribedFront old new left_before left_after held_before held
   front_until (Requests f) t = absurd t
   front_until (Responses f) t = whole_front t.unused t.writes
   front_until ReadFault t = whole_front [] t.writes
@@ -283,8 +299,10 @@ module _ (format : Format) (ending : Ending) (old new : Client) (begun : Hears f
   front_until ReadLimit t = whole_front [] t.writes
 
   -- the flush failed, however the responses had ended
-  pub flush_failed : judged unread → {T : Type 0} (r : Result T CheckFault) (unused_of : T → List ℕ) → IfOk r (λ x. Transcribed old new (unused_of x) left_before left_after held_before held)
-      → IfErr r (λ fault. TranscribedUntil fault ended old new left_before left_after held_before held) → ExchangesFront (Checks format (Err WriteFault) judged ended) left_before left_after held_before held_after
+  pub flush_failed : judged unread → {T : Type 0} (r : Result T CheckFault) (unused_of : T → List ℕ)
+      → IfOk r (λ x. Transcribed old new (unused_of x) left_before left_after held_before held)
+      → IfErr r (λ fault. TranscribedUntil fault ended old new left_before left_after held_before held)
+      → ExchangesFront (Checks format (Err WriteFault) judged ended) left_before left_after held_before held_after
   flush_failed none (Ok x) unused_of ok err = checks_front none (whole_front (unused_of x) ok)
   flush_failed none (Err fault) unused_of ok err = checks_front none (front_until fault err)
 
@@ -296,10 +314,12 @@ module _ (format : Format) (ending : Ending) (old new : Client) (begun : Hears f
   }
 
   -- a fault ended the responses
-  pub responses_stopped : judged unread → (fault : CheckFault) → TranscribedUntil fault ended old new left_before left_after held_before held → EndsCheck (Checks format (Err fault) judged ended) left_before left_after held_before held_after (Err fault)
+  pub responses_stopped : judged unread → (fault : CheckFault) → TranscribedUntil fault ended old new left_before left_after held_before held
+      → EndsCheck (Checks format (Err fault) judged ended) left_before left_after held_before held_after (Err fault)
   responses_stopped none (Requests f) t = absurd t
   responses_stopped none (Responses f) t =
-      checks (Err (Responses f)) t.unused t.writes (λ used events h. inl (record { first = first_fault format ending new used events f h t.told; timely = t.timely }, none))
+      checks (Err (Responses f)) t.unused t.writes (λ used events h. inl
+      (record { first = first_fault format ending new used events f h t.told; timely = t.timely }, none))
   responses_stopped none ReadFault t = checks (Err ReadFault) [] t.writes (still_due broken none t)
   responses_stopped none WriteFault t = checks_front none t
   responses_stopped none ReadLimit t = checks (Err ReadLimit) [] t.writes (still_due unfinished none t)
@@ -349,7 +369,8 @@ module _ (format : Format) (ending : Ending) (old new : Client) (begun : Hears f
           )))
 
 -- one more read, where nothing was left
-pub read_more : (old new : Client) (unused v : List ℕ) (left_before at left_after held_before held : Option (List ℕ)) → unused ≡ [] → Transcribed old new unused left_before at held_before held → Consumes at left_after v → Transcribed old new v left_before left_after held_before held
+pub read_more : (old new : Client) (unused v : List ℕ) (left_before at left_after held_before held : Option (List ℕ)) → unused ≡ []
+    → Transcribed old new unused left_before at held_before held → Consumes at left_after v → Transcribed old new v left_before left_after held_before held
 read_more old new unused v left_before at left_after held_before held nothing t read =
     let same : (t.used ++ unused) ++ v ≡ t.used ++ v = ap (λ (l : List ℕ). (t.used ++ l) ++ v) nothing ∙ ap (λ (l : List ℕ). l ++ v) (append-nil t.used) in
     record {
@@ -358,18 +379,28 @@ read_more old new unused v left_before at left_after held_before held nothing t 
       writes = t.writes;
     }
 
-pub read_kept : (old new : Client) (unused : List ℕ) (left_before at left_after held_before held : Option (List ℕ)) → Transcribed old new unused left_before at held_before held → Keeps at left_after → Transcribed old new unused left_before left_after held_before held
-read_kept old new unused left_before at left_after held_before held t kept = record { used = t.used; read = Consumes-kept left_before at left_after (t.used ++ unused) t.read kept; writes = t.writes }
+pub read_kept : (old new : Client) (unused : List ℕ) (left_before at left_after held_before held : Option (List ℕ))
+    → Transcribed old new unused left_before at held_before held → Keeps at left_after → Transcribed old new unused left_before left_after held_before held
+read_kept old new unused left_before at left_after held_before held t kept = record {
+  used = t.used;
+  read = Consumes-kept left_before at left_after (t.used ++ unused) t.read kept;
+  writes = t.writes;
+}
 
 -- what a `?` answers is the fault that it met
-pub ends_at : (r : Result (Unit {0}) CheckFault) (fault : CheckFault) (format : Format) (judged : Judgement → Type 0) (ended : Bool) (left_before left_after held_before held_after : Option (List ℕ)) → IsErrAnd r (λ e. e ≡ fault)
-    → EndsCheck (Checks format (Err fault) judged ended) left_before left_after held_before held_after (Err fault) → EndsCheck (Checks format r judged ended) left_before left_after held_before held_after r
+pub ends_at : (r : Result (Unit {0}) CheckFault) (fault : CheckFault) (format : Format) (judged : Judgement → Type 0) (ended : Bool)
+    (left_before left_after held_before held_after : Option (List ℕ)) → IsErrAnd r (λ e. e ≡ fault)
+    → EndsCheck (Checks format (Err fault) judged ended) left_before left_after held_before held_after (Err fault)
+    → EndsCheck (Checks format r judged ended) left_before left_after held_before held_after r
 ends_at r fault format judged ended left_before left_after held_before held_after met at =
     let (e, is, same) = err_from_is_err_and r met in
-    subst (λ (x : Result (Unit {0}) CheckFault). EndsCheck (Checks format x judged ended) left_before left_after held_before held_after x) (sym (is ∙ ap Err same)) at
+    subst (λ (x : Result (Unit {0}) CheckFault). EndsCheck (Checks format x judged ended) left_before left_after held_before held_after x)
+    (sym (is ∙ ap Err same)) at
 
-pub ends_at_write : (r : Result (Unit {0}) CheckFault) (fault : CheckFault) (format : Format) (judged : Judgement → Type 0) (ended : Bool) (left_before left_after held_before held_after : Option (List ℕ)) → IsErrAnd r (λ e. e ≡ fault) → fault ≡ WriteFault
-    → ExchangesFront (Checks format (Err WriteFault) judged ended) left_before left_after held_before held_after → EndsCheck (Checks format r judged ended) left_before left_after held_before held_after r
+pub ends_at_write : (r : Result (Unit {0}) CheckFault) (fault : CheckFault) (format : Format) (judged : Judgement → Type 0) (ended : Bool)
+    (left_before left_after held_before held_after : Option (List ℕ)) → IsErrAnd r (λ e. e ≡ fault) → fault ≡ WriteFault
+    → ExchangesFront (Checks format (Err WriteFault) judged ended) left_before left_after held_before held_after
+    → EndsCheck (Checks format r judged ended) left_before left_after held_before held_after r
 ends_at_write r fault format judged ended left_before left_after held_before held_after met named at =
     ends_at r fault format judged ended left_before left_after held_before held_after met
     (subst (λ (x : CheckFault). EndsCheck (Checks format (Err x) judged ended) left_before left_after held_before held_after (Err x)) (sym named) at)

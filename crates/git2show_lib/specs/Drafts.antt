@@ -89,10 +89,12 @@ IsFaultOf P Refused = ¬ P
 IsFaultOf P OutOfMemory = P
 
 abbrev pub AddsReference : Lists → Entry → Lists → Result (Unit {0}) LineFault → Type 0
-AddsReference old entry new result = MatchResult result (λ _. (new ≡ with_ref old entry) × ComesLast old.refs entry.name) (IsFaultOf (ComesLast old.refs entry.name))
+AddsReference old entry new result =
+    MatchResult result (λ _. (new ≡ with_ref old entry) × ComesLast old.refs entry.name) (IsFaultOf (ComesLast old.refs entry.name))
 
 abbrev pub AddsObject : Lists → ObjectName × ℕ → Lists → Result (Unit {0}) LineFault → Type 0
-AddsObject old sized new result = MatchResult result (λ _. (new ≡ with_object old sized) × ComesLastObject old.objects sized.0) (IsFaultOf (ComesLastObject old.objects sized.0))
+AddsObject old sized new result =
+    MatchResult result (λ _. (new ≡ with_object old sized) × ComesLastObject old.objects sized.0) (IsFaultOf (ComesLastObject old.objects sized.0))
 
 abbrev pub AddsCount : Lists → ℕ → Lists → Result (Unit {0}) LineFault → Type 0
 AddsCount old count new result = MatchResult result (λ _. (new ≡ with_count old count) × (old.ready_after ≡ None))

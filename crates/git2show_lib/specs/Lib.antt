@@ -1,8 +1,8 @@
-pub mod Lines
-pub mod Sending
-pub mod Showing
+pub mod PacketLines
+pub mod LineBuffer
+pub mod ShownStream
 pub mod Reports
-pub mod Checking
+pub mod CheckedStreams
 pub mod Numbers
 pub mod RepositoryLines
 pub mod RepositoryText

@@ -1,13 +1,13 @@
 -- The lines of a repository's text, and what each says.
-use Rattle.std.specs.Prelude.{◌≡◌, ℕ, ◌-◌, ◌<◌, ◌≤◌, ◌==◌, ◌^◌, Option, Some, None, List, [], ◌∷◌, ◌++◌, length, take, codes, slice_index, if◌then◌else◌}
-use Rattle.std.specs.List.{slice_split}
+use Rattle.std.specs.Prelude.{◌≡◌, ℕ, ◌<◌, ◌≤◌, ◌^◌, List, ◌∷◌, ◌++◌, codes}
 use Rattle.git_names.specs.declared.object_format.Format.{Format}
 use Rattle.git_names.specs.ObjectFormat.{name_of}
 use Rattle.git_names.specs.ObjectName.{ObjectName, IsObjectName}
+use Rattle.git_pkt.specs.Packets.{text_of}
 use Rattle.git_msg.specs.declared.references.Boundary.{Boundary}
 use Rattle.git_msg.specs.declared.references.Boundary.TheVariants.{Shallow, Unshallow}
 use Rattle.git_msg.specs.References.{Ref, IsReferenceLine, shown_reference}
-use Rattle.git_msg.specs.Texts.{Follows}
+use Rattle.git_msg.specs.Texts.{Follows, parts_of}
 use Rattle.git2show_lib.specs.Numbers.{IsNumber}
 use Rattle.git2show_lib.specs.declared.repository_lines.Item.{Item}
 use Rattle.git2show_lib.specs.declared.repository_lines.Item.TheVariants.{Reference, Object, ReadyAfter, BoundaryLine}
@@ -27,22 +27,9 @@ shown (Object id size) = object id size
 shown (ReadyAfter count) = ready count
 shown (BoundaryLine line) = boundary line
 
--- the text without one LF at its end
-abbrev pub without_last_end : List ℕ → List ℕ
-without_last_end text = if slice_index text (length text - 1) == 10 then take (length text - 1) text else text
-
--- the parts of a text between LFs
-abbrev pub ended_lines : List ℕ → List (List ℕ)
-ended_lines text = slice_split (λ c. c == 10) text
-
--- the lines of what is left of a text, if there are more
-abbrev pub lines_left : Option (List ℕ) → List (List ℕ)
-lines_left None = []
-lines_left (Some text) = ended_lines text
-
--- the lines of a text, whose last may lack its LF
+-- the lines of a text, between LFs; the last may lack its LF
 abbrev pub lines_of : List ℕ → List (List ℕ)
-lines_of text = ended_lines (without_last_end text)
+lines_of text = parts_of 10 (text_of text)
 
 abbrev pub format_line : Format → List ℕ
 format_line format = codes "format " ++ name_of format

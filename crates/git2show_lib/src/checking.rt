@@ -2,8 +2,8 @@
 
 ghost use Rattle.std.specs.Prelude.{◌≡◌, ◌+◌, ◌-◌, ◌≤◌, ◌<◌, ◌||◌, true, false, None, length, take, drop, IsTrue, OnOk, IfOk, IfErr};
 ghost use Rattle.git_pkt.specs.Told.{inner_of, reads_of, has_failed, has_ended, IsNew};
-ghost use Rattle.git_client.specs.Hearing.{bytes_used, fault_of, can_ask, wants_input};
-ghost use Rattle.git2show_lib.specs.Checking.{FailsInCheck, IsShownInCheck, IsShownInHearing, IsShownInPiece, IsShownInRequests, Checks, EndsCheck, Judges, judgement_of, IsFirst, Transcribes, TranscribesUntil, Transcribed, TranscribedUntil};
+ghost use Rattle.git_client.specs.Client.{bytes_used, fault_of, can_ask, wants_input};
+ghost use Rattle.git2show_lib.specs.CheckedStreams.{FailsInCheck, IsShownInCheck, IsShownInHearing, IsShownInPiece, IsShownInRequests, Checks, EndsCheck, Judges, judgement_of, IsFirst, Transcribes, TranscribesUntil, Transcribed, TranscribedUntil};
 
 use git_client::{Client, Ending, HeardGot, write_event};
 use git_names::Format;

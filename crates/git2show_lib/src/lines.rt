@@ -5,8 +5,8 @@ ghost use Rattle.std.specs.Io.KnownBytes.{Appends};
 ghost use Rattle.git_pkt.specs.Told.{inner_of, has_failed, AppendsFront};
 ghost use Rattle.git_pkt.specs.Packets.{body_of, seen};
 ghost use Rattle.git_pkt.specs.Escape.{escaped_of};
-ghost use Rattle.git2show_lib.specs.Lines.{kind_shown, line_of};
-ghost use Rattle.git2show_lib.specs.Sending.{Emits, EmitsFront};
+ghost use Rattle.git2show_lib.specs.PacketLines.{kind_shown, line_of};
+ghost use Rattle.git2show_lib.specs.LineBuffer.{Emits, EmitsFront};
 
 use git_pkt::{Packet, RunFault, Told, escape_into, flush, is_plain, send};
 use itoa::Buffer;
@@ -22,24 +22,25 @@ const BLOCK: usize = 32;
 /// How many bytes are tested at a time, whether each stands for itself.
 const RUN: usize = 512;
 
-/// How many bytes a line has before the payload, at the most.
+/// How many bytes stand in a packet's line before the payload, at the most.
 const HEAD: usize = 64;
 
 /// A buffer of lines. It lies where its owner does and never allocates.
 #[derive(Drop)]
 pub(crate) struct Lines {
-    bytes: [u8; 65_536],
+    bytes: [u8; CAPACITY],
     count: usize,
 }
 
 impl Model for Lines {
     ghost use Rattle.std.specs.Prelude.{◌≡◌, ◌≤◌, ℕ, List, length, take};
+    ghost use Rattle.git2show_lib.specs.declared.lines.TheConstants.{CAPACITY};
 
     ghost Value = { List ℕ };
 
     ghost view = { λ lines. take lines.count lines.bytes };
 
-    ghost invariant = { λ lines. lines.count ≤ 65536 };
+    ghost invariant = { λ lines. lines.count ≤ CAPACITY };
 }
 
 impl Lines {
@@ -47,7 +48,7 @@ impl Lines {
         ensures { result ≡ [] }
     {
         Lines {
-            bytes: [0; 65_536],
+            bytes: [0; CAPACITY],
             count: 0,
         }
     }
@@ -91,16 +92,33 @@ impl Lines {
         ensures fault { IfErr result (λ fault. fault ≡ RunFault.WriteFault) }
         ensures failed { has_failed writer.new ≡ (has_failed writer.old || is_err result) }
     {
-        let mut head = [0; HEAD];
-        let end = write_head(packet, offset, &mut head);
-        self.emit(writer, &head[..end])?;
+        self.emit_head(writer, packet, offset)?;
         self.emit_escaped(writer, body(packet))?;
         self.emit(writer, b"\n")
     }
 
+    /// Puts what stands in a packet's line before the payload after the others.
+    fn emit_head<W: Write>(
+        &mut self,
+        writer: &mut Told<W>,
+        packet: Packet<'_>,
+        offset: u64,
+    ) -> Result<(), RunFault>
+        ensures ok { OnOk result (Emits (W.contents (inner_of writer.old)) (W.contents (inner_of writer.new)) self.old
+            (decimal offset ++ kind_shown (seen packet.entry)) self.new) }
+        ensures err { OnErr result (EmitsFront (W.contents (inner_of writer.old)) (W.contents (inner_of writer.new)) self.old
+            (decimal offset ++ kind_shown (seen packet.entry))) }
+        ensures fault { IfErr result (λ fault. fault ≡ RunFault.WriteFault) }
+        ensures failed { has_failed writer.new ≡ (has_failed writer.old || is_err result) }
+    {
+        self.make_room(writer)?;
+        self.count = write_head(packet, offset, &mut self.bytes, self.count);
+        Ok(())
+    }
+
     /// Puts a few bytes after the others.
     fn emit<W: Write>(&mut self, writer: &mut Told<W>, bytes: &[u8]) -> Result<(), RunFault>
-        requires { length bytes.now ≤ 512 }
+        requires { length bytes.now ≤ RUN }
         ensures ok { OnOk result (Emits (W.contents (inner_of writer.old)) (W.contents (inner_of writer.new)) self.old bytes.now self.new) }
         ensures err { OnErr result (EmitsFront (W.contents (inner_of writer.old)) (W.contents (inner_of writer.new)) self.old bytes.now) }
         ensures fault { IfErr result (λ fault. fault ≡ RunFault.WriteFault) }
@@ -130,7 +148,7 @@ impl Lines {
 
     /// Puts the escapes of a run after the others: at once where each byte stands for itself.
     fn emit_run<W: Write>(&mut self, writer: &mut Told<W>, bytes: &[u8]) -> Result<(), RunFault>
-        requires { length bytes.now ≤ 512 }
+        requires { length bytes.now ≤ RUN }
         ensures ok { OnOk result (Emits (W.contents (inner_of writer.old)) (W.contents (inner_of writer.new)) self.old (escaped_of bytes.now) self.new) }
         ensures err { OnErr result (EmitsFront (W.contents (inner_of writer.old)) (W.contents (inner_of writer.new)) self.old (escaped_of bytes.now)) }
         ensures fault { IfErr result (λ fault. fault ≡ RunFault.WriteFault) }
@@ -159,16 +177,16 @@ impl Lines {
         Ok(())
     }
 
-    /// Puts the escapes of one block after the others.
+    /// Puts the escapes of one block after the others: at once where it is a whole one, each byte of which stands for itself.
     fn emit_block<W: Write>(&mut self, writer: &mut Told<W>, block: &[u8]) -> Result<(), RunFault>
-        requires { length block.now ≤ 32 }
+        requires { length block.now ≤ BLOCK }
         ensures ok { OnOk result (Emits (W.contents (inner_of writer.old)) (W.contents (inner_of writer.new)) self.old (escaped_of block.now) self.new) }
         ensures err { OnErr result (EmitsFront (W.contents (inner_of writer.old)) (W.contents (inner_of writer.new)) self.old (escaped_of block.now)) }
         ensures fault { IfErr result (λ fault. fault ≡ RunFault.WriteFault) }
         ensures failed { has_failed writer.new ≡ (has_failed writer.old || is_err result) }
     {
         self.make_room(writer)?;
-        self.count = if is_plain(block) {
+        self.count = if block.len() == BLOCK && is_plain(block) {
             put_at(&mut self.bytes, self.count, block)
         } else {
             escape_into(block, &mut self.bytes, self.count)
@@ -179,7 +197,7 @@ impl Lines {
     /// Makes room for a run.
     fn make_room<W: Write>(&mut self, writer: &mut Told<W>) -> Result<(), RunFault>
         ensures ok { OnOk result (Emits (W.contents (inner_of writer.old)) (W.contents (inner_of writer.new)) self.old [] self.new) }
-        ensures room { OnOk result (length self.new + 512 ≤ 65536) }
+        ensures room { OnOk result (length self.new + RUN ≤ CAPACITY) }
         ensures err { OnErr result (AppendsFront (W.contents (inner_of writer.old)) (W.contents (inner_of writer.new)) self.old) }
         ensures fault { IfErr result (λ fault. fault ≡ RunFault.WriteFault) }
         ensures failed { has_failed writer.new ≡ (has_failed writer.old || is_err result) }
@@ -201,14 +219,14 @@ fn body<'a>(packet: Packet<'a>) -> &'a [u8]
     }
 }
 
-/// Writes what stands in a packet's line before the payload, and answers how many bytes that are.
-fn write_head(packet: Packet<'_>, offset: u64, out: &mut [u8]) -> usize
-    requires { length out.old ≡ 64 }
-    ensures within { result ≤ 64 }
-    ensures head { take result out.new ≡ decimal offset ++ kind_shown (seen packet.entry) }
+/// Writes what stands in a packet's line before the payload at a place, over what stands there, and answers where it ends.
+fn write_head(packet: Packet<'_>, offset: u64, out: &mut [u8], at: usize) -> usize
+    requires { at + HEAD ≤ length out.old }
+    ensures within { result ≤ at + HEAD }
+    ensures head { take result out.new ≡ take at out.old ++ decimal offset ++ kind_shown (seen packet.entry) }
 {
     let mut digits = Buffer::new();
-    let at = put_at(out, 0, digits.format(offset).as_bytes());
+    let at = put_at(out, at, digits.format(offset).as_bytes());
     match packet {
         Packet::Flush => put_at(out, at, b" flush"),
         Packet::Delim => put_at(out, at, b" delim"),

@@ -24,10 +24,10 @@ const STATUS: u8 = 1;
 pub enum ProgramFault {
     /// A run over a reader and a writer ended early.
     #[error("{0}")]
-    Run(RunFault),
+    Run(#[from] RunFault),
     /// A check of two streams ended early.
     #[error("{0}")]
-    Check(CheckFault),
+    Check(#[from] CheckFault),
     /// A repository's text is bad from this line on, counted from 1.
     #[error("BadRepo at {0}")]
     Repo(u64),
@@ -57,8 +57,8 @@ pub fn report<W: Write>(fault: &ProgramFault, error: &mut Told<W>) -> u8
 
 /// Writes a fault's line, and answers how many bytes it has.
 fn write_line(fault: &ProgramFault, out: &mut [u8]) -> usize
-    requires { length out.old ≡ 80 }
-    ensures within { result ≤ 80 }
+    requires { length out.old ≡ LINE }
+    ensures within { result ≤ LINE }
     ensures line { take result out.new ≡ fault_line fault.now }
 {
     let at = put_at(out, 0, b"git2show: ");
@@ -107,14 +107,11 @@ fn put_check_fault(out: &mut [u8], at: usize, fault: &CheckFault) -> usize
     }
 }
 
-/// Puts a fault's name and offset at a place, and answers where they end.
+/// Puts a fault at a place, and answers where it ends.
 fn put_fault(out: &mut [u8], at: usize, fault: &Fault) -> usize
     requires { at + 41 ≤ length out.old }
     ensures within { result ≤ at + 41 }
     ensures put { take result out.new ≡ take at out.old ++ fault_text fault.now }
 {
-    let mut digits = Buffer::new();
-    let at = put_at(out, at, fault.kind.name().as_bytes());
-    let at = put_at(out, at, b" at ");
-    put_at(out, at, digits.format(fault.offset).as_bytes())
+    put_at(out, at, fault.text().as_str().as_bytes())
 }

@@ -1,14 +1,12 @@
 //! The lines of a repository's text.
 
-ghost use Rattle.std.specs.Prelude.{◌≡◌, ◌≢◌, ◌<◌, ◌∷◌, ◌++◌, ◌↔◌, ℕ, List, length, IsTrue, MatchOption};
-ghost use Rattle.std.specs.Option.{option_copied};
+ghost use Rattle.std.specs.Prelude.{◌≡◌, ◌≢◌, ℕ, MatchOption};
 ghost use Rattle.git_names.specs.declared.object_format.Format.{Format};
 ghost use Rattle.git_names.specs.ObjectName.{ObjectName};
-ghost use Rattle.git2show_lib.specs.RepositoryLines.{IsCount, IsSizedObject, Says, SaysNothing, ended_lines, format_line, lines_left, shown, without_last_end};
+ghost use Rattle.git2show_lib.specs.RepositoryLines.{IsCount, IsSizedObject, Says, SaysNothing, format_line, shown};
 
 use crate::numbers::read_number;
-use git_msg::texts::{after, find_byte};
-use git_msg::{Boundary, Reference, read_reference};
+use git_msg::{Boundary, Reference, after, read_reference};
 use git_names::{Format, Oid};
 
 /// The most common objects that a repository may want before it is ready.
@@ -86,25 +84,4 @@ fn read_count(text: &[u8]) -> Option<u32>
         return None;
     }
     Some(count as u32)
-}
-
-/// The text without one LF at its end.
-pub(crate) fn without_last_end(text: &[u8]) -> &[u8]
-    ensures { result.now ≡ without_last_end text.now }
-{
-    if text.is_empty() || text[text.len() - 1] != b'\n' {
-        return text;
-    }
-    &text[..text.len() - 1]
-}
-
-/// The first line of a text, and what stands after the LF that ends it.
-pub(crate) fn split_line(text: &[u8]) -> (&[u8], Option<&[u8]>)
-    ensures lines { ended_lines text.now ≡ result.0.now ∷ lines_left (option_copied result.1) }
-    ensures shorter { MatchOption result.1 (Unit {0}) (λ rest. length rest.now < length text.now) }
-{
-    match find_byte(text, b'\n') {
-        Some(at) => (&text[..at], Some(&text[at + 1..])),
-        None => (text, None),
-    }
 }

@@ -4,7 +4,8 @@ ghost use Rattle.std.specs.Prelude.{MatchResult};
 ghost use Rattle.git2show_lib.specs.RepositoryFaults.{IsTextFault, IsWholeText};
 
 use crate::drafts::{Draft, LineFault};
-use crate::repository_lines::{read_format, read_item, split_line, without_last_end};
+use crate::repository_lines::{read_format, read_item};
+use git_msg::split_at_first;
 use git_server::ListRepo;
 use std::alloc::Global;
 use thiserror::Error;
@@ -33,7 +34,7 @@ pub enum TextFault {
 pub fn read_repo(alloc: Global, text: &[u8], pack: Vec<u8>) -> Result<ListRepo, TextFault>
     ensures { MatchResult result (IsWholeText text.now pack.items) (IsTextFault text.now) }
 {
-    let (first, mut rest) = split_line(without_last_end(text));
+    let (first, mut rest) = split_at_first(git_pkt::text(text), b'\n');
     let Some(format) = read_format(first) else {
         return Err(TextFault::Bad { line: 1 });
     };
@@ -41,7 +42,7 @@ pub fn read_repo(alloc: Global, text: &[u8], pack: Vec<u8>) -> Result<ListRepo, 
     let mut line: u64 = 1;
     'lines: while let Some(left) = rest {
         line += 1;
-        let (this, next) = split_line(left);
+        let (this, next) = split_at_first(left, b'\n');
         let Some(item) = read_item(format, this) else {
             return Err(TextFault::Bad { line });
         };

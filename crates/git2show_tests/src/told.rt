@@ -98,7 +98,7 @@ fn flushes_are_passed_on(rt: HostRuntime) -> Result<(), Fail> {
 }
 
 #[test]
-fn many_reads_and_a_large_write_go_through(rt: HostRuntime) -> Result<(), Fail> {
+fn many_calls_and_large_writes_go_through(rt: HostRuntime) -> Result<(), Fail> {
     let bytes = vec![in rt.alloc(); b'x'; 300_000]?;
     let mut reader = Told::new(Stream::new(&bytes, 1, u32::MAX));
     let mut piece = [0u8; 9];
@@ -109,10 +109,18 @@ fn many_reads_and_a_large_write_go_through(rt: HostRuntime) -> Result<(), Fail> 
     assert!(rt; !reader.failed() && !reader.ended());
     let mut sink = Sink::new(Vec::new(rt.alloc()), usize::MAX, u32::MAX);
     let mut writer = Told::new(&mut sink);
+    for _ in 0..300_000 {
+        assert_eq!(rt; writer.write(b"x")?, 1);
+        writer.write_all(b"x")?;
+        writer.flush()?;
+    }
+    assert_eq!(rt; writer.write(&bytes)?, 300_000);
     writer.write_all(&bytes)?;
     assert!(rt; !writer.failed());
-    assert_eq!(rt; sink.writes, 1);
-    assert_eq!(rt; sink.taken.as_slice(), bytes.as_slice());
+    assert_eq!(rt; sink.writes, 600_002);
+    assert_eq!(rt; sink.flushes, 300_000);
+    assert_eq!(rt; sink.taken.len(), 1_200_000);
+    assert!(rt; sink.taken.as_slice().iter().all(|byte| *byte == b'x'));
     Ok(())
 }
 

@@ -9,14 +9,15 @@ use Rattle.git_client.specs.Events.{EventValue, turns_of}
 use Rattle.git_pkt.specs.Packets.{flushes}
 use Rattle.git_client.specs.Parts.{nearest}
 use Rattle.git_client.specs.Conversation.{GiveAll, Sounds, HasEvents, GoesWell, IsAdvertisement}
-use Rattle.git_client.specs.Hearing.{Hears, StandsIn, is_ready, fault_of, can_ask, wants_input, bytes_used, phase_of, reader_of}
+use Rattle.git_client.specs.Client.{Hears, StandsIn, is_ready, fault_of, can_ask, wants_input, bytes_used, phase_of, reader_of}
 use Rattle.git_client.specs.declared.phase.Phase.{Phase}
 use Rattle.git_client.specs.declared.phase.Phase.TheVariants.{Opening, Advertisement, Ready, Failed as FailedPhase}
 use Rattle.git_client.specs.declared.events.Ending.{Ending}
 use Rattle.git_client.specs.declared.conversation.Client.{Client}
 use Rattle.git_client.proofs.Carries.{goes_in, turn_is, none_while_due}
 
-all_clean : (format : Format) (bytes : List ℕ) (clean given : List Given) (rest : List ℕ) (events : List EventValue) → Splits 0 bytes given rest → GiveAll format [] clean events → given ≡ clean → Sounds format bytes clean events
+all_clean : (format : Format) (bytes : List ℕ) (clean given : List Given) (rest : List ℕ) (events : List EventValue) → Splits 0 bytes given rest
+    → GiveAll format [] clean events → given ≡ clean → Sounds format bytes clean events
 all_clean format bytes clean given rest events splits gives cut = record {
   given = given;
   rest = rest;
@@ -27,7 +28,8 @@ all_clean format bytes clean given rest events splits gives cut = record {
   stops = tt;
 }
 
-sounds_in : (phase : Phase) (format : Format) (bytes : List ℕ) (clean given : List Given) (rest : List ℕ) (events : List EventValue) (reader : PacketReader) → Splits 0 bytes given rest → GiveAll format [] clean events
+sounds_in : (phase : Phase) (format : Format) (bytes : List ℕ) (clean given : List Given) (rest : List ℕ) (events : List EventValue) (reader : PacketReader)
+    → Splits 0 bytes given rest → GiveAll format [] clean events
     → StandsIn phase format clean given rest (length bytes) reader → Sounds format bytes clean events
 sounds_in Opening format bytes clean given rest events reader splits gives h = all_clean format bytes clean given rest events splits gives h.cut
 sounds_in Advertisement format bytes clean given rest events reader splits gives h = all_clean format bytes clean given rest events splits gives h.cut
@@ -41,7 +43,8 @@ sounds_in (FailedPhase f) format bytes clean given rest events reader splits giv
 ]
 
 -- where a client can ask, its packets are clean, the last of them is the one flush, and nothing stands after it
-ready_in : (phase : Phase) (format : Format) (clean given : List Given) (rest : List ℕ) (end : ℕ) (reader : PacketReader) → is_ready phase ≡ true → StandsIn phase format clean given rest end reader
+ready_in : (phase : Phase) (format : Format) (clean given : List Given) (rest : List ℕ) (end : ℕ) (reader : PacketReader) → is_ready phase ≡ true
+    → StandsIn phase format clean given rest end reader
     → (given ≡ clean) × (flushes (nearest clean []) ≡ 1) × (rest ≡ [])
 ready_in Opening format clean given rest end reader ready h = absurd (cc)
 ready_in Advertisement format clean given rest end reader ready h = absurd (cc)

@@ -10,13 +10,14 @@ use Rattle.git_pkt.specs.Packets.{flushes}
 use Rattle.git_client.specs.Parts.{nearest}
 use Rattle.git_client.specs.Events.{EventValue}
 use Rattle.git_client.specs.Conversation.{GiveAll, FirstMalformed}
-use Rattle.git_client.specs.Hearing.{Hears, StandsIn, RefusedPacket, RefusedBytes, EndedEarly, fault_in, fault_of, phase_of, reader_of}
+use Rattle.git_client.specs.Client.{Hears, StandsIn, RefusedPacket, RefusedBytes, EndedEarly, fault_in, fault_of, phase_of, reader_of}
 use Rattle.git_client.specs.declared.phase.Phase.{Phase}
 use Rattle.git_client.specs.declared.phase.Phase.TheVariants.{Opening, Advertisement, Ready, Failed}
 use Rattle.git_client.specs.declared.events.Ending.{Ending}
 use Rattle.git_client.specs.declared.conversation.Client.{Client}
 
-module _ (format : Format) (bytes : List ℕ) (clean given : List Given) (rest : List ℕ) (events : List EventValue) (splits : Splits 0 bytes given rest) (gives : GiveAll format [] clean events) (fault : Fault) where
+module _ (format : Format) (bytes : List ℕ) (clean given : List Given) (rest : List ℕ) (events : List EventValue) (splits : Splits 0 bytes given rest)
+    (gives : GiveAll format [] clean events) (fault : Fault) where
   by_packet : (reader : PacketReader) → RefusedPacket format clean given rest fault reader → FirstMalformed format bytes fault
   by_packet reader p = inl (record {
     given = given;
@@ -58,7 +59,8 @@ module _ (format : Format) (bytes : List ℕ) (clean given : List Given) (rest :
     at = omega (arith, p.at, ap length p.nothing);
   }))
 
-  in_phase : (phase : Phase) (reader : PacketReader) → fault_in phase ≡ Some fault → StandsIn phase format clean given rest (length bytes) reader → FirstMalformed format bytes fault
+  in_phase : (phase : Phase) (reader : PacketReader) → fault_in phase ≡ Some fault → StandsIn phase format clean given rest (length bytes) reader
+      → FirstMalformed format bytes fault
   in_phase Opening reader e h = absurd (cc)
   in_phase Advertisement reader e h = absurd (cc)
   in_phase Ready reader e h = absurd (cc)
@@ -69,6 +71,7 @@ module _ (format : Format) (bytes : List ℕ) (clean given : List Given) (rest :
         | inr others ↦ elim others [ inl p ↦ by_bytes p | inr p ↦ by_end p ]
       ]
 
-pub first_fault : (format : Format) (ending : Ending) (client : Client) (bytes : List ℕ) (events : List EventValue) (fault : Fault) → Hears format ending client bytes events → fault_of client ≡ Some fault → FirstMalformed format bytes fault
+pub first_fault : (format : Format) (ending : Ending) (client : Client) (bytes : List ℕ) (events : List EventValue) (fault : Fault)
+    → Hears format ending client bytes events → fault_of client ≡ Some fault → FirstMalformed format bytes fault
 first_fault format ending client bytes events fault h told =
     in_phase format bytes h.clean h.given h.rest events h.reads.splits h.gives fault (phase_of client) (reader_of client) told h.stands

@@ -1,5 +1,5 @@
 -- What the hold has after a packet.
-use Rattle.std.proofs.Common.{◌≡◌, ◌≢◌, ℕ, ◌-◌, List, [], ◌∷◌, ◌++◌, length, take, drop, Option, Some, None, ap, sym, ◌∙◌, refl, subst, Bor, codes, MatchOption, inl, inr}
+use Rattle.std.proofs.Common.{◌≡◌, ℕ, ◌-◌, List, [], ◌∷◌, ◌++◌, length, take, drop, Option, Some, None, ap, sym, ◌∙◌, refl, subst, Bor, MatchOption, inl, inr}
 use Rattle.git_names.specs.declared.object_format.Format.{Format}
 use Rattle.git_pkt.specs.Packets.{Pkt, flush, delim, resp_end, payload, text_of, Spells}
 use Rattle.git_pkt.specs.Splits.{Given, Splits}
@@ -10,11 +10,12 @@ use Rattle.git_pkt.specs.declared.fault.Kind.{Kind}
 use Rattle.git_pkt.specs.declared.fault.Kind.TheVariants.{RemoteError}
 use Rattle.git_pkt.proofs.Pieces.{left_of}
 use Rattle.git_msg.specs.Capability.{IsCapability}
+use Rattle.git_msg.specs.Texts.{IsErrorOf, IsErrorText}
 use Rattle.git_msg.proofs.Keys.{one_capability}
 use Rattle.git_client.specs.Conversation.{RefusesAt}
 use Rattle.git_client.specs.Parts.{nearest, Part, opening, advertisement}
-use Rattle.git_client.specs.Events.{EventValue, IsError, Refuses}
-use Rattle.git_client.specs.Hearing.{Hears, StandsIn, RefusedPacket, HoldsCapability, EndsWithError, EndsWithoutError, phase_of, reader_of}
+use Rattle.git_client.specs.Events.{EventValue, Refuses}
+use Rattle.git_client.specs.Client.{Hears, StandsIn, RefusedPacket, HoldsCapability, EndsWithError, EndsWithoutError, phase_of, reader_of}
 use Rattle.git_client.specs.declared.phase.Phase.{Phase}
 use Rattle.git_client.specs.declared.phase.Phase.TheVariants.{Failed}
 use Rattle.git_client.specs.declared.events.Ending.{Ending}
@@ -25,13 +26,15 @@ pub held_payload : (held line : List ℕ) → Spells (payload line) held → tak
 held_payload held line spells = left_of held 4 spells.digits.four ∙ spells.body
 
 -- the line in the hold is the one capability that was read of it
-pub held_capability : (held text key : List ℕ) (value : Option (List ℕ)) (k : List ℕ) (v : Option (List ℕ)) → text ≡ text_of (take (length held - 4) (drop 4 held)) → IsCapability text k v → HoldsCapability held key value → (k ≡ key) × (v ≡ value)
+pub held_capability : (held text key : List ℕ) (value : Option (List ℕ)) (k : List ℕ) (v : Option (List ℕ))
+    → text ≡ text_of (take (length held - 4) (drop 4 held)) → IsCapability text k v → HoldsCapability held key value → (k ≡ key) × (v ≡ value)
 held_capability held text key value k v e is h =
     let same : text ≡ text_of h.line = e ∙ ap text_of (held_payload held h.line h.spells) in
     one_capability (text_of h.line) k key v value (subst (λ (t : List ℕ). IsCapability t k v) same is) h.is_line
 
 -- a packet that is refused as a remote error is an error packet
-error_line : (part : Part) (format : Format) (before : List Pkt) (p : Pkt) → Refuses part format before p RemoteError → (line : List ℕ) × (p ≡ payload line) × IsError (text_of line)
+error_line : (part : Part) (format : Format) (before : List Pkt) (p : Pkt) → Refuses part format before p RemoteError
+    → (line : List ℕ) × (p ≡ payload line) × IsErrorText (text_of line)
 error_line opening format before (payload line) r = (line, refl, r)
 error_line opening format before flush r = absurd r
 error_line opening format before delim r = absurd r
@@ -42,14 +45,17 @@ error_line advertisement format before delim r = absurd r
 error_line advertisement format before resp_end r = absurd r
 
 -- a client that failed by a remote error was told it by a packet, which lies in its hold
-pub refused_by_error : (format : Format) (clean given : List Given) (rest : List ℕ) (end : ℕ) (client : Client) (fault : Fault) → phase_of client ≡ Failed fault → fault.kind ≡ RemoteError → StandsIn (phase_of client) format clean given rest end (reader_of client) → RefusedPacket format clean given rest fault (reader_of client)
+pub refused_by_error : (format : Format) (clean given : List Given) (rest : List ℕ) (end : ℕ) (client : Client) (fault : Fault)
+    → phase_of client ≡ Failed fault → fault.kind ≡ RemoteError → StandsIn (phase_of client) format clean given rest end (reader_of client)
+    → RefusedPacket format clean given rest fault (reader_of client)
 refused_by_error format clean given rest end client fault failed kind stands =
     elim (subst (λ (phase : Phase). StandsIn phase format clean given rest end (reader_of client)) failed stands) [
       | inl packet ↦ packet
       | inr others ↦
           elim others [
             | inl bytes ↦
-                let by : StopsBy (end - length rest) rest end RemoteError fault.offset = subst (λ (k : Kind). StopsBy (end - length rest) rest end k fault.offset) kind bytes.by in
+                let by : StopsBy (end - length rest) rest end RemoteError fault.offset =
+                subst (λ (k : Kind). StopsBy (end - length rest) rest end k fault.offset) kind bytes.by in
                 absurd by.0
             | inr early ↦ let never = early.kind in absurd (cc)
           ]
@@ -64,14 +70,16 @@ pub record ErrorPacket (format : Format) (bytes : List ℕ) (client : Client) : 
   pub splits : Splits 0 bytes (clean ++ bad ∷ []) rest
   pub refused : RefusesAt format (nearest clean []) bad.packet RemoteError
   pub packet : bad.packet ≡ payload line
-  pub error : IsError (text_of line)
+  pub error : IsErrorText (text_of line)
   pub held : Spells (payload line) (held_of (reader_of client))
 
-error_packet : (format : Format) (ending : Ending) (bytes : List ℕ) (events : List EventValue) (client : Client) (fault : Fault) → Hears format ending client bytes events → phase_of client ≡ Failed fault → fault.kind ≡ RemoteError → ErrorPacket format bytes client
+error_packet : (format : Format) (ending : Ending) (bytes : List ℕ) (events : List EventValue) (client : Client) (fault : Fault)
+    → Hears format ending client bytes events → phase_of client ≡ Failed fault → fault.kind ≡ RemoteError → ErrorPacket format bytes client
 error_packet format ending bytes events client fault h failed kind =
     let packet = refused_by_error format h.clean h.given h.rest (length bytes) client fault failed kind h.stands in
     let bad = packet.bad in
-    let refused : RefusesAt format (nearest h.clean []) bad.packet RemoteError = subst (λ (k : Kind). RefusesAt format (nearest h.clean []) bad.packet k) kind packet.refused in
+    let refused : RefusesAt format (nearest h.clean []) bad.packet RemoteError =
+    subst (λ (k : Kind). RefusesAt format (nearest h.clean []) bad.packet k) kind packet.refused in
     let error = error_line refused.part format (nearest h.clean []) bad.packet refused.refuses in
     record {
       clean = h.clean;
@@ -85,8 +93,10 @@ error_packet format ending bytes events client fault h failed kind =
       held = subst (λ (p : Pkt). Spells p (held_of (reader_of client))) error.1 packet.held;
     }
 
-message_found : (format : Format) (bytes : List ℕ) (client : Client) (found : List ℕ) (r : Option (Bor (List ℕ))) (p : ErrorPacket format bytes client) → found ≡ text_of p.line → MatchOption r ((message : List ℕ) → found ≢ codes "ERR " ++ message) (λ m. found ≡ codes "ERR " ++ m.now) → MatchOption r (EndsWithoutError client) (λ m. EndsWithError format bytes m.now)
-message_found format bytes client found None p e none = absurd (none p.error.0 (e ∙ p.error.1))
+message_found : (format : Format) (bytes : List ℕ) (client : Client) (found : List ℕ) (r : Option (Bor (List ℕ))) (p : ErrorPacket format bytes client)
+    → found ≡ text_of p.line → MatchOption r (¬ IsErrorText found) (λ m. IsErrorOf found m.now)
+    → MatchOption r (EndsWithoutError client) (λ m. EndsWithError format bytes m.now)
+message_found format bytes client found None p e none = absurd (none (subst IsErrorText (sym e) p.error))
 message_found format bytes client found (Some m) p e some = record {
   clean = p.clean;
   bad = p.bad;
@@ -99,7 +109,10 @@ message_found format bytes client found (Some m) p e some = record {
 }
 
 -- what was found after `ERR ` in the hold is the message
-pub message_is : (format : Format) (ending : Ending) (bytes : List ℕ) (events : List EventValue) (client : Client) (fault : Fault) (found : List ℕ) (r : Option (Bor (List ℕ))) → Hears format ending client bytes events → phase_of client ≡ Failed fault → fault.kind ≡ RemoteError → found ≡ text_of (take (length (held_of (reader_of client)) - 4) (drop 4 (held_of (reader_of client)))) → MatchOption r ((message : List ℕ) → found ≢ codes "ERR " ++ message) (λ m. found ≡ codes "ERR " ++ m.now) → MatchOption r (EndsWithoutError client) (λ m. EndsWithError format bytes m.now)
+pub message_is : (format : Format) (ending : Ending) (bytes : List ℕ) (events : List EventValue) (client : Client) (fault : Fault) (found : List ℕ)
+    (r : Option (Bor (List ℕ))) → Hears format ending client bytes events → phase_of client ≡ Failed fault → fault.kind ≡ RemoteError
+    → found ≡ text_of (take (length (held_of (reader_of client)) - 4) (drop 4 (held_of (reader_of client))))
+    → MatchOption r (¬ IsErrorText found) (λ m. IsErrorOf found m.now) → MatchOption r (EndsWithoutError client) (λ m. EndsWithError format bytes m.now)
 message_is format ending bytes events client fault found r h failed kind e m =
     let packet = error_packet format ending bytes events client fault h failed kind in
     message_found format bytes client found r packet (e ∙ ap text_of (held_payload (held_of (reader_of client)) packet.line packet.held)) m

@@ -10,7 +10,7 @@ use Rattle.git_client.specs.Parts.{opening, advertisement, advertisement_of}
 use Rattle.git_client.specs.Events.{capability, offered, IsVersion, RefusesFlush}
 use Rattle.git_client.specs.Conversation.{GivesAt, RefusesAt}
 use Rattle.git_client.specs.Turns.{takes_packets, Judges, NotesLine}
-use Rattle.git_client.specs.Hearing.{Behind}
+use Rattle.git_client.specs.Client.{Behind}
 use Rattle.git_client.specs.declared.phase.Phase.{Phase}
 use Rattle.git_client.specs.declared.phase.Phase.TheVariants.{Opening, Advertisement, Ready, Failed}
 use Rattle.git_client.proofs.Sequences.{advertisement_more}
@@ -20,10 +20,12 @@ version_notes : (line : List ℕ) → text_of line ≡ codes "version 2" → not
 version_notes line e = rw e refl
 
 -- the first packet is the line `version 2`
-pub says_version : (format : Format) (caps : Caps) (p : Pkt) (before : List Pkt) → IsVersion p → before ≡ [] → caps ≡ noted_of (advertisement_of before) → GivesAt format before p [] × (caps ≡ noted_of (advertisement_of (p ∷ before))) × Behind Advertisement (p ∷ before)
+pub says_version : (format : Format) (caps : Caps) (p : Pkt) (before : List Pkt) → IsVersion p → before ≡ [] → caps ≡ noted_of (advertisement_of before)
+    → GivesAt format before p [] × (caps ≡ noted_of (advertisement_of (p ∷ before))) × Behind Advertisement (p ∷ before)
 says_version format caps (payload line) before version none notes = (
   record { part = opening; is_part = none; gives = (version, refl) },
-  notes ∙ ap (λ (l : List Pkt). noted_of (advertisement_of l)) none ∙ sym (version_notes line version) ∙ ap (λ (l : List Pkt). noted_of (advertisement_of (payload line ∷ l))) (sym none),
+  notes ∙ ap (λ (l : List Pkt). noted_of (advertisement_of l)) none ∙ sym (version_notes line version)
+      ∙ ap (λ (l : List Pkt). noted_of (advertisement_of (payload line ∷ l))) (sym none),
   (λ e. absurd (cc), ap flushes none),
 )
 says_version format caps flush before version none notes = absurd version
@@ -31,7 +33,10 @@ says_version format caps delim before version none notes = absurd version
 says_version format caps resp_end before version none notes = absurd version
 
 -- a line of the advertisement
-pub says_line : (format : Format) (caps after : Caps) (line : List ℕ) (before : List Pkt) (j : NotesLine caps line after) → Behind Advertisement before → caps ≡ noted_of (advertisement_of before) → GivesAt format before (payload line) (capability j.key j.value ∷ []) × (after ≡ noted_of (advertisement_of (payload line ∷ before))) × Behind Advertisement (payload line ∷ before)
+pub says_line : (format : Format) (caps after : Caps) (line : List ℕ) (before : List Pkt) (j : NotesLine caps line after) → Behind Advertisement before
+    → caps ≡ noted_of (advertisement_of before)
+    → GivesAt format before (payload line) (capability j.key j.value ∷ []) × (after ≡ noted_of (advertisement_of (payload line ∷ before)))
+    × Behind Advertisement (payload line ∷ before)
 says_line format caps after line before j behind notes = (
   record { part = advertisement; is_part = behind; gives = (j.no_error, (j.key, j.value, j.is_line, refl)) },
   j.notes (advertisement_of before) notes ∙ ap noted_of (sym (advertisement_more (payload line) before behind.1)),
@@ -39,7 +44,9 @@ says_line format caps after line before j behind notes = (
 )
 
 -- the end of the advertisement
-pub says_offered : (format : Format) (caps : Caps) (before : List Pkt) → is_spoken caps format ≡ true → Behind Advertisement before → caps ≡ noted_of (advertisement_of before) → GivesAt format before flush (offered ∷ []) × (caps ≡ noted_of (advertisement_of (flush ∷ before))) × Behind Ready (flush ∷ before)
+pub says_offered : (format : Format) (caps : Caps) (before : List Pkt) → is_spoken caps format ≡ true → Behind Advertisement before
+    → caps ≡ noted_of (advertisement_of before)
+    → GivesAt format before flush (offered ∷ []) × (caps ≡ noted_of (advertisement_of (flush ∷ before))) × Behind Ready (flush ∷ before)
 says_offered format caps before spoken behind notes = (
   record { part = advertisement; is_part = behind; gives = (ap (λ (c : Caps). is_spoken c format) (sym notes) ∙ spoken, refl) },
   notes ∙ ap noted_of (sym (advertisement_more flush before behind.1)),
@@ -47,7 +54,8 @@ says_offered format caps before spoken behind notes = (
 )
 
 -- a packet that is refused
-pub says_refused : (phase : Phase) (format : Format) (caps : Caps) (p : Pkt) (kind : Kind) (before : List Pkt) → Judges phase format caps p (Err kind) → Behind phase before → takes_packets phase ≡ true → caps ≡ noted_of (advertisement_of before) → RefusesAt format before p kind
+pub says_refused : (phase : Phase) (format : Format) (caps : Caps) (p : Pkt) (kind : Kind) (before : List Pkt) → Judges phase format caps p (Err kind)
+    → Behind phase before → takes_packets phase ≡ true → caps ≡ noted_of (advertisement_of before) → RefusesAt format before p kind
 says_refused Opening format caps p kind before j behind takes notes = record { part = opening; is_part = behind; refuses = j }
 says_refused Advertisement format caps (payload line) kind before j behind takes notes = record { part = advertisement; is_part = behind; refuses = j }
 says_refused Advertisement format caps flush kind before j behind takes notes = record {
@@ -61,7 +69,8 @@ says_refused Ready format caps p kind before j behind takes notes = absurd (cc)
 says_refused (Failed fault) format caps p kind before j behind takes notes = absurd (cc)
 
 -- no packet is refused by the name of a fault that the reader tells
-pub refused_by : (phase : Phase) (format : Format) (caps : Caps) (p : Pkt) → takes_packets phase ≡ true → (Judges phase format caps p (Err Truncated) → ⊥) × (Judges phase format caps p (Err StreamTooLong) → ⊥)
+pub refused_by : (phase : Phase) (format : Format) (caps : Caps) (p : Pkt) → takes_packets phase ≡ true
+    → (Judges phase format caps p (Err Truncated) → ⊥) × (Judges phase format caps p (Err StreamTooLong) → ⊥)
 refused_by Opening format caps (payload line) takes = (λ j. j, λ j. j)
 refused_by Opening format caps flush takes = (λ j. j, λ j. j)
 refused_by Opening format caps delim takes = (λ j. j, λ j. j)

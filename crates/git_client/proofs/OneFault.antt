@@ -15,7 +15,8 @@ use Rattle.git_client.specs.Conversation.{GiveAll, FirstFault, MalformedPacket, 
 use Rattle.git_client.proofs.Determined.{one_first_fault, same_cut}
 
 -- packets without a fault have no first one
-none_among : (format : Format) (given : List Given) (events : List EventValue) (kind : Kind) (offset : ℕ) → GiveAll format [] given events → FirstFault format given kind offset → ⊥
+none_among : (format : Format) (given : List Given) (events : List EventValue) (kind : Kind) (offset : ℕ) → GiveAll format [] given events
+    → FirstFault format given kind offset → ⊥
 none_among format given events kind offset gives h =
     let same = same_cut format [] h.clean given (h.bad ∷ h.more) [] h.events events (sym h.cut ∙ sym (append-nil given)) h.sound gives (kind, h.refused) tt in
     let none : h.bad ∷ h.more ≡ [] = same.more_is in cc
@@ -31,18 +32,23 @@ module _ (format : Format) (bytes : List ℕ) (f g : Fault) where
       let same = one_first_fault format h.given f.kind g.kind f.offset g.offset h.first moved in
       same_fault f g same.0 same.1
 
-  packet_or_none : (given : List Given) (rest : List ℕ) (events : List EventValue) → Splits 0 bytes given rest → GiveAll format [] given events → (x : Fault) → MalformedPacket format bytes x → ⊥
+  packet_or_none : (given : List Given) (rest : List ℕ) (events : List EventValue) → Splits 0 bytes given rest → GiveAll format [] given events
+      → (x : Fault) → MalformedPacket format bytes x → ⊥
   packet_or_none given rest events splits gives x h =
       let same = (same_split given h.given rest h.rest splits h.splits).packets in
       none_among format given events x.kind x.offset gives (subst (λ (l : List Given). FirstFault format l x.kind x.offset) (sym same) h.first)
 
-  moved_rest : (h : MalformedRest format bytes f) (k : MalformedRest format bytes g) → StopsBy (length bytes - length h.rest) h.rest (length bytes) g.kind g.offset
+  moved_rest : (h : MalformedRest format bytes f) (k : MalformedRest format bytes g)
+      → StopsBy (length bytes - length h.rest) h.rest (length bytes) g.kind g.offset
   moved_rest h k =
-      subst (λ (l : List ℕ). StopsBy (length bytes - length l) l (length bytes) g.kind g.offset) (sym (same_split h.given k.given h.rest k.rest h.splits k.splits).rest_is) k.by
+      subst (λ (l : List ℕ). StopsBy (length bytes - length l) l (length bytes) g.kind g.offset)
+      (sym (same_split h.given k.given h.rest k.rest h.splits k.splits).rest_is) k.by
 
   rests_shown : f.kind ≢ Truncated → f.kind ≢ StreamTooLong → MalformedRest format bytes f → MalformedRest format bytes g → f ≡ g
   rests_shown a b h k =
-      let same = stops_once (length bytes - length h.rest) (length bytes) h.rest f.kind g.kind f.offset g.offset a b h.by (moved_rest h k) in same_fault f g same.0 same.1
+      let same =
+      stops_once (length bytes - length h.rest) (length bytes) h.rest f.kind g.kind f.offset g.offset a b h.by
+      (moved_rest h k) in same_fault f g same.0 same.1
 
   rests_named : f.kind ≡ g.kind → MalformedRest format bytes f → MalformedRest format bytes g → f ≡ g
   rests_named name h k =
@@ -70,7 +76,8 @@ module _ (format : Format) (bytes : List ℕ) (f g : Fault) where
       omega (arith, by.2, k.at, ap length same)
 
 -- a fault that the bytes show is the only one
-pub one_shown : (format : Format) (bytes : List ℕ) (f g : Fault) → FirstMalformed format bytes f → FirstMalformed format bytes g → f.kind ≢ Truncated → f.kind ≢ StreamTooLong → f ≡ g
+pub one_shown : (format : Format) (bytes : List ℕ) (f g : Fault) → FirstMalformed format bytes f → FirstMalformed format bytes g → f.kind ≢ Truncated
+    → f.kind ≢ StreamTooLong → f ≡ g
 one_shown format bytes f g (inl h) (inl k) a b = packets format bytes f g h k
 one_shown format bytes f g (inl h) (inr (inl k)) a b = absurd (packet_or_none format bytes f g k.given k.rest k.events k.splits k.sound f h)
 one_shown format bytes f g (inl h) (inr (inr k)) a b = absurd (packet_or_none format bytes f g k.given k.rest k.events k.splits k.sound f h)

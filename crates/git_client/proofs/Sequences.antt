@@ -12,11 +12,17 @@ pub nearest_push : (gs : List Given) (g : Given) (before : List Pkt) → nearest
 nearest_push [] g before = refl
 nearest_push (h ∷ gs) g before = nearest_push gs g (h.packet ∷ before)
 
-pub give_all_push : (format : Format) (before : List Pkt) (gs : List Given) (g : Given) (events now : List EventValue) → GiveAll format before gs events → GivesAt format (nearest gs before) g.packet now → GiveAll format before (gs ++ g ∷ []) (events ++ now)
+pub give_all_push : (format : Format) (before : List Pkt) (gs : List Given) (g : Given) (events now : List EventValue) → GiveAll format before gs events
+    → GivesAt format (nearest gs before) g.packet now → GiveAll format before (gs ++ g ∷ []) (events ++ now)
 give_all_push format before [] g events now e a =
     (now, [], ap (λ (l : List EventValue). l ++ now) e ∙ sym (append-nil now), a, refl)
-give_all_push format before (h ∷ gs) g events now (first, later, e, at, rest) a =
-    (first, later ++ now, ap (λ (l : List EventValue). l ++ now) e ∙ append_assoc first later now, at, give_all_push format (h.packet ∷ before) gs g later now rest a)
+give_all_push format before (h ∷ gs) g events now (first, later, e, at, rest) a = (
+  first,
+  later ++ now,
+  ap (λ (l : List EventValue). l ++ now) e ∙ append_assoc first later now,
+  at,
+  give_all_push format (h.packet ∷ before) gs g later now rest a,
+)
 
 -- the advertisement goes on until its flush
 pub advertisement_more : (p : Pkt) (before : List Pkt) → flushes before ≡ 0 → advertisement_of (p ∷ before) ≡ p ∷ advertisement_of before
@@ -28,7 +34,8 @@ turns-append [] later = omega arith
 turns-append (offered ∷ events) later = omega (arith, turns-append events later)
 turns-append (capability key value ∷ events) later = turns-append events later
 
-one_turn : (part : Part) (format : Format) (before : List Pkt) (p : Pkt) (now : List EventValue) → Gives part format before p now → turns_of now + flushes before ≡ flushes (p ∷ before)
+one_turn : (part : Part) (format : Format) (before : List Pkt) (p : Pkt) (now : List EventValue) → Gives part format before p now
+    → turns_of now + flushes before ≡ flushes (p ∷ before)
 one_turn opening format before (payload line) now g = ap (λ (l : List EventValue). turns_of l + flushes before) g.1 ∙ omega arith
 one_turn opening format before flush now g = absurd g.0
 one_turn opening format before delim now g = absurd g.0
@@ -40,7 +47,14 @@ one_turn advertisement format before delim now g = absurd g
 one_turn advertisement format before resp_end now g = absurd g
 
 -- a flush ends each turn
-pub turns_are_flushes : (format : Format) (before : List Pkt) (gs : List Given) (events : List EventValue) → GiveAll format before gs events → turns_of events + flushes before ≡ flushes (nearest gs before)
+pub turns_are_flushes : (format : Format) (before : List Pkt) (gs : List Given) (events : List EventValue) → GiveAll format before gs events
+    → turns_of events + flushes before ≡ flushes (nearest gs before)
 turns_are_flushes format before [] events e = ap (λ (l : List EventValue). turns_of l + flushes before) e ∙ omega arith
 turns_are_flushes format before (g ∷ gs) events (now, later, e, at, rest) =
-    omega (arith, ap turns_of e, turns-append now later, one_turn at.part format before g.packet now at.gives, turns_are_flushes format (g.packet ∷ before) gs later rest)
+    omega (
+      arith,
+      ap turns_of e,
+      turns-append now later,
+      one_turn at.part format before g.packet now at.gives,
+      turns_are_flushes format (g.packet ∷ before) gs later rest,
+    )

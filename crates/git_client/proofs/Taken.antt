@@ -10,7 +10,7 @@ use Rattle.git_msg.specs.Advertisement.{is_spoken}
 use Rattle.git_msg.specs.declared.offers.Caps.{Caps}
 use Rattle.git_client.specs.Events.{capability, offered, IsVersion}
 use Rattle.git_client.specs.Turns.{takes_packets, Judges, NotesLine}
-use Rattle.git_client.specs.Hearing.{Behind, Takes, fault_in, is_ready, phase_after, caps_after, outcome_of, phase_of, reader_of, format_of, ending_of, caps_of, wants_input}
+use Rattle.git_client.specs.Client.{Behind, Takes, fault_in, is_ready, phase_after, caps_after, outcome_of, phase_of, reader_of, format_of, ending_of, caps_of, wants_input}
 use Rattle.git_client.specs.declared.phase.Phase.{Phase}
 use Rattle.git_client.specs.declared.phase.Phase.TheVariants.{Opening, Advertisement, Ready, Failed}
 use Rattle.git_client.specs.declared.phase.Turn.{Turn}
@@ -33,7 +33,11 @@ pub record ReadsPacket (old new : Client) (piece : List ℕ) (used : ℕ) (g : G
   pub ending : ending_of new ≡ ending_of old
 
 -- the reader's own words for it
-pub packet_read : (old new : Client) (reader : PacketReader) (piece : List ℕ) (used : ℕ) (g : Given) → wants_input old ≡ true → ReadsOn (reader_of old) (take used piece) (g ∷ []) reader → (0 < used) × (reader_fault_of reader ≡ None) × (is_open reader ≡ false) × Spells g.packet (held_of reader) × (g.offset + length (held_of reader) ≡ position_of reader) → reader_of new ≡ reader → format_of new ≡ format_of old → ending_of new ≡ ending_of old → ReadsPacket old new piece used g
+pub packet_read : (old new : Client) (reader : PacketReader) (piece : List ℕ) (used : ℕ) (g : Given) → wants_input old ≡ true
+    → ReadsOn (reader_of old) (take used piece) (g ∷ []) reader
+    → (0 < used) × (reader_fault_of reader ≡ None) × (is_open reader ≡ false) × Spells g.packet (held_of reader)
+    × (g.offset + length (held_of reader) ≡ position_of reader) → reader_of new ≡ reader → format_of new ≡ format_of old → ending_of new ≡ ending_of old
+    → ReadsPacket old new piece used g
 packet_read old new reader piece used g wants reads tells same format ending = record {
   wants = wants;
   reads = subst (λ (r : PacketReader). ReadsOn (reader_of old) (take used piece) (g ∷ []) r) (sym same) reads;
@@ -48,7 +52,8 @@ packet_read old new reader piece used g wants reads tells same format ending = r
 abbrev StepTakes : Client → Client → List ℕ → ℕ → Outcome → Type 0
 StepTakes old new piece used outcome = Takes old piece (record { used = used; outcome = outcome }) new
 
-taken_version : (old new : Client) (piece : List ℕ) (used : ℕ) (g : Given) → ReadsPacket old new piece used g → phase_of old ≡ Opening → IsVersion g.packet → phase_of new ≡ Advertisement → caps_of new ≡ caps_of old → StepTakes old new piece used Nothing
+taken_version : (old new : Client) (piece : List ℕ) (used : ℕ) (g : Given) → ReadsPacket old new piece used g → phase_of old ≡ Opening → IsVersion g.packet
+    → phase_of new ≡ Advertisement → caps_of new ≡ caps_of old → StepTakes old new piece used Nothing
 taken_version old new piece used g r was version now caps = record {
   events = [];
   comes = refl;
@@ -65,11 +70,15 @@ taken_version old new piece used g r was version now caps = record {
   leaves = (ap takes_packets now, λ _. r.some);
 }
 
-taken_line : (old new : Client) (piece : List ℕ) (used offset : ℕ) (line : List ℕ) (after : Caps) → ReadsPacket old new piece used (record { packet = payload line; offset = offset }) → phase_of old ≡ Advertisement → NotesLine (caps_of old) line after → phase_of new ≡ phase_of old → caps_of new ≡ after → StepTakes old new piece used CapabilityLine
+taken_line : (old new : Client) (piece : List ℕ) (used offset : ℕ) (line : List ℕ) (after : Caps)
+    → ReadsPacket old new piece used (record { packet = payload line; offset = offset }) → phase_of old ≡ Advertisement → NotesLine (caps_of old) line after
+    → phase_of new ≡ phase_of old → caps_of new ≡ after → StepTakes old new piece used CapabilityLine
 taken_line old new piece used offset line after r was j now caps = record {
   events = capability j.key j.value ∷ [];
   comes = (j.key, j.value, record { line = line; spells = r.held; is_line = j.is_line }, refl);
-  hears = hears_packet old new (take used piece) (record { packet = payload line; offset = offset }) (capability j.key j.value ∷ []) r.wants (ap fault_in (now ∙ was)) r.reads r.sound r.shut r.format r.ending (
+  hears =
+      hears_packet old new (take used piece) (record { packet = payload line; offset = offset }) (capability j.key j.value ∷ []) r.wants
+      (ap fault_in (now ∙ was)) r.reads r.sound r.shut r.format r.ending (
       λ before behind notes.
       let start : Behind Advertisement before = subst (λ (phase : Phase). Behind phase before) was behind in
       let says = says_line (format_of old) (caps_of old) after line before j start notes in
@@ -82,11 +91,15 @@ taken_line old new piece used offset line after r was j now caps = record {
   leaves = (ap takes_packets (now ∙ was), r.some, r.shut);
 }
 
-taken_flush : (old new : Client) (piece : List ℕ) (used offset : ℕ) → ReadsPacket old new piece used (record { packet = flush; offset = offset }) → phase_of old ≡ Advertisement → is_spoken (caps_of old) (format_of old) ≡ true → phase_of new ≡ Ready → caps_of new ≡ caps_of old → StepTakes old new piece used OfferedNow
+taken_flush : (old new : Client) (piece : List ℕ) (used offset : ℕ) → ReadsPacket old new piece used (record { packet = flush; offset = offset })
+    → phase_of old ≡ Advertisement → is_spoken (caps_of old) (format_of old) ≡ true → phase_of new ≡ Ready → caps_of new ≡ caps_of old
+    → StepTakes old new piece used OfferedNow
 taken_flush old new piece used offset r was spoken now caps = record {
   events = offered ∷ [];
   comes = refl;
-  hears = hears_packet old new (take used piece) (record { packet = flush; offset = offset }) (offered ∷ []) r.wants (ap fault_in now) r.reads r.sound r.shut r.format r.ending (
+  hears =
+      hears_packet old new (take used piece) (record { packet = flush; offset = offset }) (offered ∷ []) r.wants
+      (ap fault_in now) r.reads r.sound r.shut r.format r.ending (
       λ before behind notes.
       let start : Behind Advertisement before = subst (λ (phase : Phase). Behind phase before) was behind in
       let says = says_offered (format_of old) (caps_of old) before spoken start notes in
@@ -99,14 +112,19 @@ taken_flush old new piece used offset r was spoken now caps = record {
   leaves = (ap is_ready now, r.some, r.shut);
 }
 
-taken_refused : (old new : Client) (piece : List ℕ) (used : ℕ) (g : Given) (phase : Phase) (kind : Kind) → ReadsPacket old new piece used g → phase_of old ≡ phase → Judges phase (format_of old) (caps_of old) g.packet (Err kind) → phase_of new ≡ Failed (record { kind = kind; offset = g.offset }) → caps_of new ≡ caps_of old → StepTakes old new piece used (FailedNow (record { kind = kind; offset = g.offset }))
+taken_refused : (old new : Client) (piece : List ℕ) (used : ℕ) (g : Given) (phase : Phase) (kind : Kind) → ReadsPacket old new piece used g
+    → phase_of old ≡ phase → Judges phase (format_of old) (caps_of old) g.packet (Err kind)
+    → phase_of new ≡ Failed (record { kind = kind; offset = g.offset }) → caps_of new ≡ caps_of old
+    → StepTakes old new piece used (FailedNow (record { kind = kind; offset = g.offset }))
 taken_refused old new piece used g phase kind r was j now caps =
     let takes : takes_packets phase ≡ true = ap takes_packets (sym was) ∙ r.wants in
     let never = refused_by phase (format_of old) (caps_of old) g.packet takes in
     record {
       events = [];
       comes = refl;
-      hears = hears_refused old new (take used piece) g (record { kind = kind; offset = g.offset }) r.wants now r.reads r.sound r.shut r.held refl r.format r.ending caps (
+      hears =
+          hears_refused old new (take used piece) g (record { kind = kind; offset = g.offset }) r.wants now r.reads r.sound r.shut r.held refl r.format
+          r.ending caps (
           λ before behind notes.
           let start : Behind phase before = subst (λ (p : Phase). Behind p before) was behind in
           says_refused phase (format_of old) (caps_of old) g.packet kind before j start takes notes
@@ -120,7 +138,9 @@ taken_refused old new piece used g phase kind r was j now caps =
       );
     }
 
-pub taken_failed : (old new : Client) (piece : List ℕ) (used : ℕ) (f : Fault) → wants_input old ≡ true → phase_of new ≡ Failed f → ReadsOn (reader_of old) (take used piece) [] (reader_of new) → reader_fault_of (reader_of new) ≡ Some f → ShownByFeed f used piece → format_of new ≡ format_of old → ending_of new ≡ ending_of old → caps_of new ≡ caps_of old → StepTakes old new piece used (FailedNow f)
+pub taken_failed : (old new : Client) (piece : List ℕ) (used : ℕ) (f : Fault) → wants_input old ≡ true → phase_of new ≡ Failed f
+    → ReadsOn (reader_of old) (take used piece) [] (reader_of new) → reader_fault_of (reader_of new) ≡ Some f → ShownByFeed f used piece
+    → format_of new ≡ format_of old → ending_of new ≡ ending_of old → caps_of new ≡ caps_of old → StepTakes old new piece used (FailedNow f)
 taken_failed old new piece used f wants now reads told shown format ending caps = record {
   events = [];
   comes = refl;
@@ -134,7 +154,10 @@ no_wait phase old was wants none =
     cc
 
 -- a packet was judged and settled
-pub taken : (phase : Phase) (judged : Result Turn Kind) (p : Pkt) (old new : Client) (piece : List ℕ) (used offset : ℕ) → ReadsPacket old new piece used (record { packet = p; offset = offset }) → phase_of old ≡ phase → Judges phase (format_of old) (caps_of old) p judged → phase_of new ≡ phase_after (phase_of old) offset judged → caps_of new ≡ caps_after (caps_of old) judged → StepTakes old new piece used (outcome_of offset judged)
+pub taken : (phase : Phase) (judged : Result Turn Kind) (p : Pkt) (old new : Client) (piece : List ℕ) (used offset : ℕ)
+    → ReadsPacket old new piece used (record { packet = p; offset = offset }) → phase_of old ≡ phase → Judges phase (format_of old) (caps_of old) p judged
+    → phase_of new ≡ phase_after (phase_of old) offset judged → caps_of new ≡ caps_after (caps_of old) judged
+    → StepTakes old new piece used (outcome_of offset judged)
 taken Opening (Ok Version) p old new piece used offset r was j now caps = taken_version old new piece used _ r was j now caps
 taken Opening (Ok (Capability after)) p old new piece used offset r was j now caps = absurd j
 taken Opening (Ok Offered) p old new piece used offset r was j now caps = absurd j
@@ -142,7 +165,8 @@ taken Advertisement (Ok Version) (payload line) old new piece used offset r was 
 taken Advertisement (Ok Version) flush old new piece used offset r was j now caps = absurd j
 taken Advertisement (Ok Version) delim old new piece used offset r was j now caps = absurd j
 taken Advertisement (Ok Version) resp_end old new piece used offset r was j now caps = absurd j
-taken Advertisement (Ok (Capability after)) (payload line) old new piece used offset r was j now caps = taken_line old new piece used offset line after r was j now caps
+taken Advertisement (Ok (Capability after)) (payload line) old new piece used offset r was j now caps =
+    taken_line old new piece used offset line after r was j now caps
 taken Advertisement (Ok (Capability after)) flush old new piece used offset r was j now caps = absurd j
 taken Advertisement (Ok (Capability after)) delim old new piece used offset r was j now caps = absurd j
 taken Advertisement (Ok (Capability after)) resp_end old new piece used offset r was j now caps = absurd j

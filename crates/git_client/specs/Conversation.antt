@@ -28,7 +28,8 @@ pub record RefusesAt (format : Format) (before : List Pkt) (p : Pkt) (kind : Kin
 abbrev pub GiveAll : Format → List Pkt → List Given → List EventValue → Type 0
 GiveAll format before [] events = events ≡ []
 GiveAll format before (g ∷ gs) events =
-    (now : List EventValue) × (later : List EventValue) × (events ≡ now ++ later) × GivesAt format before g.packet now × GiveAll format (g.packet ∷ before) gs later
+    (now : List EventValue) × (later : List EventValue) × (events ≡ now ++ later) × GivesAt format before g.packet now
+    × GiveAll format (g.packet ∷ before) gs later
 
 -- the first packet with a fault, which is told at its offset
 pub record FirstFault (format : Format) (given : List Given) (kind : Kind) (offset : ℕ) : Type 0 where

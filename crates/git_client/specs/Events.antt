@@ -1,10 +1,11 @@
 -- What a packet gives, and what refuses it, by the part of the conversation that it belongs to.
-use Rattle.std.specs.Prelude.{◌≡◌, ℕ, suc, Bool, true, false, List, [], ◌∷◌, ◌++◌, Option, codes}
+use Rattle.std.specs.Prelude.{◌≡◌, ℕ, suc, Bool, true, false, List, [], ◌∷◌, Option, codes}
 use Rattle.git_names.specs.declared.object_format.Format.{Format}
 use Rattle.git_pkt.specs.Packets.{Pkt, flush, payload, text_of}
 use Rattle.git_pkt.specs.declared.fault.Kind.{Kind}
 use Rattle.git_pkt.specs.declared.fault.Kind.TheVariants.{RemoteError, NotVersion2, BadCapability, WrongFormat, UnexpectedPacket}
 use Rattle.git_msg.specs.Capability.{IsCapability, IsNoCapability}
+use Rattle.git_msg.specs.Texts.{IsErrorText}
 use Rattle.git_msg.specs.Advertisement.{noted_of, is_spoken}
 use Rattle.git_client.specs.Parts.{Part, opening, advertisement, advertisement_of}
 
@@ -13,16 +14,6 @@ pub data EventValue : Type 0 where
   capability : (key : List ℕ) (value : Option (List ℕ)) → EventValue
   offered : EventValue
 
--- the text tells an error of the other side, with this message
-abbrev pub IsErrorOf : List ℕ → List ℕ → Type 0
-IsErrorOf text message = text ≡ codes "ERR " ++ message
-
-abbrev pub IsError : List ℕ → Type 0
-IsError text = (message : List ℕ) × IsErrorOf text message
-
-abbrev pub IsNoError : List ℕ → Type 0
-IsNoError text = (message : List ℕ) → IsErrorOf text message → ⊥
-
 -- the line that begins an advertisement
 abbrev pub IsVersion : Pkt → Type 0
 IsVersion (payload line) = text_of line ≡ codes "version 2"
@@ -30,16 +21,16 @@ IsVersion _ = ⊥
 
 -- the first packet is refused
 abbrev pub RefusesOpening : Pkt → Kind → Type 0
-RefusesOpening (payload line) RemoteError = IsError (text_of line)
-RefusesOpening (payload line) NotVersion2 = IsNoError (text_of line) × ¬ IsVersion (payload line)
+RefusesOpening (payload line) RemoteError = IsErrorText (text_of line)
+RefusesOpening (payload line) NotVersion2 = (¬ IsErrorText (text_of line)) × ¬ IsVersion (payload line)
 RefusesOpening (payload line) _ = ⊥
 RefusesOpening _ NotVersion2 = Unit {0}
 RefusesOpening _ _ = ⊥
 
 -- a line of an advertisement is refused
 abbrev pub RefusesLine : List ℕ → Kind → Type 0
-RefusesLine text RemoteError = IsError text
-RefusesLine text BadCapability = IsNoError text × IsNoCapability text
+RefusesLine text RemoteError = IsErrorText text
+RefusesLine text BadCapability = (¬ IsErrorText text) × IsNoCapability text
 RefusesLine text _ = ⊥
 
 -- the end of an advertisement is refused, which notes that the client's format is spoken, or not
@@ -59,7 +50,7 @@ speaks format before = is_spoken (noted_of (advertisement_of before)) format
 abbrev pub Gives : Part → Format → List Pkt → Pkt → List EventValue → Type 0
 Gives opening format before p events = IsVersion p × (events ≡ [])
 Gives advertisement format before (payload line) events =
-    IsNoError (text_of line)
+    (¬ IsErrorText (text_of line))
     × ((key : List ℕ) × (value : Option (List ℕ)) × IsCapability (text_of line) key value × (events ≡ capability key value ∷ []))
 Gives advertisement format before flush events = (speaks format before ≡ true) × (events ≡ offered ∷ [])
 Gives advertisement format before _ events = ⊥

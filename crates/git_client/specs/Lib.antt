@@ -2,5 +2,5 @@ pub mod Parts
 pub mod Events
 pub mod Conversation
 pub mod Turns
-pub mod Hearing
+pub mod Client
 pub mod Transcript

@@ -1,6 +1,6 @@
 -- Which part of a conversation a packet belongs to. What is looked at are the packets before it, the nearest first.
 use Rattle.std.specs.Prelude.{◌≡◌, ◌≢◌, ℕ, suc, zero, Bool, true, false, List, [], ◌∷◌, if◌then◌else◌}
-use Rattle.git_pkt.specs.Packets.{Pkt, flush, flushes}
+use Rattle.git_pkt.specs.Packets.{Pkt, flushes}
 use Rattle.git_pkt.specs.Splits.{Given}
 
 -- the packets of a list, the last one first, after those that were there before

@@ -4,9 +4,10 @@ use Rattle.git_names.specs.declared.object_format.Format.{Format}
 use Rattle.git_pkt.specs.Packets.{Pkt, flush, delim, resp_end, payload, text_of}
 use Rattle.git_pkt.specs.declared.fault.Kind.{Kind}
 use Rattle.git_msg.specs.Capability.{IsCapability}
+use Rattle.git_msg.specs.Texts.{IsErrorText}
 use Rattle.git_msg.specs.Advertisement.{noted_of, is_spoken}
 use Rattle.git_msg.specs.declared.offers.Caps.{Caps}
-use Rattle.git_client.specs.Events.{IsNoError, IsVersion, RefusesOpening, RefusesLine, RefusesFlush, RefusesOther}
+use Rattle.git_client.specs.Events.{IsVersion, RefusesOpening, RefusesLine, RefusesFlush, RefusesOther}
 use Rattle.git_client.specs.declared.phase.Phase.{Phase}
 use Rattle.git_client.specs.declared.phase.Phase.TheVariants.{Opening, Advertisement, Ready, Failed}
 use Rattle.git_client.specs.declared.phase.Turn.{Turn}
@@ -14,7 +15,7 @@ use Rattle.git_client.specs.declared.phase.Turn.TheVariants.{Version, Capability
 
 -- the line is a capability, with which `after` is noted where `caps` was
 pub record NotesLine (caps : Caps) (line : List ℕ) (after : Caps) : Type 0 where
-  pub no_error : IsNoError (text_of line)
+  pub no_error : ¬ IsErrorText (text_of line)
   pub key : List ℕ
   pub value : Option (List ℕ)
   pub is_line : IsCapability (text_of line) key value

@@ -1,12 +1,12 @@
 //! The client: it reads what a server says, in pieces of any size, and hands out events.
 
-ghost use Rattle.std.specs.Prelude.{◌≡◌, ◌≢◌, ◌+◌, ◌≤◌, ◌<◌, ◌↔◌, IsTrue, ℕ, List, [], ◌∷◌, ◌++◌, Option, Some, None, true, false, length, take, MatchOption};
+ghost use Rattle.std.specs.Prelude.{◌≡◌, ◌+◌, ◌≤◌, ◌<◌, ◌↔◌, IsTrue, ℕ, List, [], Option, Some, None, true, false, length, take, MatchOption};
 ghost use Rattle.std.specs.Option.{option_copied};
 ghost use Rattle.std.specs.Borrow.{sem};
 ghost use Rattle.std.specs.Io.BufRead.{Rests};
 ghost use Rattle.git_names.specs.declared.object_format.Format.{Format};
 ghost use Rattle.git_pkt.specs.Splits.{Given, Splits};
-ghost use Rattle.git_pkt.specs.Reading.{fault_of as reader_fault_of, is_open, held_of, ShownByFeed};
+ghost use Rattle.git_pkt.specs.Reading.{fault_of as reader_fault_of, held_of};
 ghost use Rattle.git_client.specs.Turns.{takes_packets};
 ghost use Rattle.git_client.specs.Events.{EventValue, turns_of};
 ghost use Rattle.git_client.specs.Conversation.{HasNoted};
@@ -14,7 +14,7 @@ ghost use Rattle.git_client.specs.declared.events.Ending.{Ending};
 
 use crate::events::{Ending, Event, Heard, HeardGot, Sent};
 use crate::phase::{Phase, Turn, judge};
-use git_msg::{Capability, Caps, read_capability};
+use git_msg::{Capability, Caps, error_message, read_capability};
 use git_names::Format;
 use git_pkt::{Fault, Got, Kind, PacketReader, text};
 
@@ -49,7 +49,7 @@ pub struct Client {
 }
 
 impl Client {
-    ghost use Rattle.git_client.specs.Hearing.{Hears, HearsOn, Feeds, Pulls, Comes, HoldsCapability, EndsWithError, EndsWithoutError, fault_of, can_ask, wants_input, bytes_used, caps_of, reader_of, Takes, Settles};
+    ghost use Rattle.git_client.specs.Client.{Hears, HearsOn, Feeds, Pulls, HoldsCapability, EndsWithError, EndsWithoutError, fault_of, can_ask, wants_input, bytes_used, caps_of, reader_of, Takes, Settles};
     ghost use Rattle.git_client.specs.contracts.conversation.Client.{the_row};
 
     /// A client of this object format, before the first byte of the advertisement.
@@ -121,7 +121,7 @@ impl Client {
             return None;
         };
         let payload = self.reader.hold().as_slice().get(4..)?;
-        text(payload).strip_prefix(b"ERR ")
+        error_message(text(payload))
     }
 
     /// Reads on. It returns after one event, or with the whole piece used, or at the first fault. A client that

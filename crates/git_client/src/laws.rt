@@ -10,7 +10,7 @@ ghost use Rattle.git_pkt.specs.declared.fault.Kind.TheVariants.{Truncated, Strea
 ghost use Rattle.git_msg.specs.declared.offers.Caps.{Caps};
 ghost use Rattle.git_client.specs.Events.{EventValue};
 ghost use Rattle.git_client.specs.Conversation.{GivesAt, RefusesAt, FirstFault, HasEvents, HasNoted, FirstMalformed, GoesWell, IsAdvertisement};
-ghost use Rattle.git_client.specs.Hearing.{Hears, fault_of, can_ask};
+ghost use Rattle.git_client.specs.Client.{Hears, fault_of, can_ask};
 ghost use Rattle.git_client.specs.declared.conversation.Client.{Client};
 ghost use Rattle.git_client.specs.declared.events.Ending.{Ending};
 

@@ -1,12 +1,11 @@
 //! Where a conversation stands, and what each packet says there.
 
-ghost use Rattle.std.specs.Prelude.{◌≡◌, MatchBool, MatchResult};
+ghost use Rattle.std.specs.Prelude.{MatchResult};
 ghost use Rattle.git_pkt.specs.Packets.{seen, text_of};
-ghost use Rattle.git_msg.specs.Advertisement.{is_spoken};
-ghost use Rattle.git_client.specs.Events.{IsError, IsNoError, RefusesLine};
+ghost use Rattle.git_client.specs.Events.{RefusesLine};
 ghost use Rattle.git_client.specs.Turns.{Judges, JudgesAdvertised, JudgesOpening, NotesLine};
 
-use git_msg::{Caps, read_capability};
+use git_msg::{Caps, is_error, read_capability};
 use git_names::Format;
 use git_pkt::{Fault, Kind, Packet, text};
 
@@ -94,11 +93,4 @@ fn judge_line(caps: Caps, payload: &[u8]) -> Result<Caps, Kind>
     }
     let capability = read_capability(line)?;
     Ok(caps.with(&capability))
-}
-
-/// Whether a line tells an error of the other side.
-fn is_error(line: &[u8]) -> bool
-    ensures { MatchBool result (IsError line.now) (IsNoError line.now) }
-{
-    line.starts_with(b"ERR ")
 }

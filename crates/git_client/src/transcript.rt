@@ -5,7 +5,7 @@ ghost use Rattle.std.specs.Option.{option_copied};
 ghost use Rattle.std.specs.Io.KnownBytes.{Appends};
 ghost use Rattle.git_pkt.specs.Told.{inner_of, has_failed, AppendsFront, ReadsNothing};
 ghost use Rattle.git_pkt.specs.Escape.{escaped_of};
-ghost use Rattle.git_client.specs.Hearing.{value_of};
+ghost use Rattle.git_client.specs.Client.{value_of};
 ghost use Rattle.git_client.specs.Transcript.{line_of, value_shown};
 
 use crate::events::Event;

@@ -12,14 +12,15 @@ use Rattle.git_msg.specs.declared.requests.Request.{Request}
 use Rattle.git_msg.specs.declared.reader.Part.{Part}
 use Rattle.git_msg.specs.declared.reader.Part.TheVariants.{Arguments, Waiting, Failed}
 use Rattle.git_msg.specs.declared.reader.RequestReader.{RequestReader}
-use Rattle.git_msg.specs.Arguments.{Arg, symrefs, peel, ref_prefix, IsArgument, written_text, TakesMemory}
+use Rattle.git_msg.specs.Arguments.{Arg, symrefs, peel, ref_prefix, IsArgument, IsValueFault, written_text, TakesMemory}
 use Rattle.git_msg.specs.Asked.{asked_by, with_argument}
 use Rattle.git_msg.specs.Checks.{Passes}
-use Rattle.git_msg.specs.Holding.{command_of, format_of, kept_of, limit_of, Keeps, keep_checks, IsRefused, IsValueFault}
+use Rattle.git_msg.specs.Holding.{command_of, format_of, kept_of, limit_of, Keeps, keep_checks, IsRefused}
 use Rattle.git_msg.specs.Lines.{Line, argument, commands_of, arguments_of, IsLine, IsArgumentLine, HasFault, HasFaultIn}
 use Rattle.git_msg.specs.Requests.{AreLines, FirstFault, WantsMemory, IsTold}
 use Rattle.git_msg.specs.Taking.{WaitsIn, WaitsBehind, InArguments, KeepsOn, limit_in}
-use Rattle.git_msg.proofs.LineLists.{commands_snoc, arguments_snoc, delimiter_snoc, kept_snoc, asked_snoc, lines_snoc, argument_is_line}
+use Rattle.git_msg.proofs.ArgumentsInOrder.{asked_snoc}
+use Rattle.git_msg.proofs.LineLists.{commands_snoc, arguments_snoc, delimiter_snoc, kept_snoc, lines_snoc, argument_is_line}
 
 -- the line of an argument that waited
 waited_line : {A : Type 0} (packets : List Given) (offset long : ℕ) (arg : Arg) (r : RequestReader A) → (w : WaitsBehind packets offset long arg r) → kept_of r.request + long ≤ limit_of r.request → IsLine r.offer (limit_in r) w.lines w.last.packet (argument arg long)

@@ -1,5 +1,5 @@
 -- Where the key of a capability line ends.
-use Rattle.std.proofs.Common.{arith, tests, ◌≡◌, ℕ, ◌+◌, ◌-◌, ◌≢◌, ◌<◌, ◌≤◌, List, [], ◌∷◌, ◌++◌, length, true, false, Bool, ◌&&◌, not, cond, eqb, refl, ap, ◌∙◌, sym, take, drop, Option, Some, None, unwrap_or, ltb, get_or, subst, length-append, suc, Bor}
+use Rattle.std.proofs.Common.{arith, tests, ◌≡◌, ℕ, ◌+◌, ◌≢◌, ◌<◌, ◌≤◌, List, [], ◌∷◌, ◌++◌, length, true, false, Bool, ◌&&◌, not, cond, eqb, refl, ap, ◌∙◌, sym, take, drop, Option, Some, None, unwrap_or, ltb, get_or, subst, length-append, suc, Bor}
 use Rattle.std.specs.Option.{option_copied}
 use Rattle.std.specs.List.{list_all, position_or_len}
 use Rattle.std.proofs.lemmas.Grind.{common_steps}
@@ -112,10 +112,6 @@ key_and_value text value n at within short v k e =
     let found = eqb-true _ _ (passes_at_first (λ c. eqb c 61) text 0 there) in
     let split = split_at_first (λ c. eqb c 61) text 0 there in
     (k, subst (λ (l : List ℕ). text ≡ l) (joined text value n found at v) split, e)
-
--- what the code has of the bytes after the first `=`
-pub rest_of_text : (text : List ℕ) (n : ℕ) → n ≤ length text → take (length text - n) (drop n text) ≡ drop n text
-rest_of_text text n h = grind (arith, common_steps)
 
 pub key_with_some : (b all : Bool) → b ≡ false → (not b && all) ≡ all
 key_with_some true all e = absurd (cc)

@@ -5,6 +5,7 @@ pub mod LineLists
 pub mod Keeping
 pub mod TakingOn
 pub mod StepFacts
+pub mod TextParts
 pub mod ReferenceLines
 pub mod ReferenceWords
 pub mod LineLaws

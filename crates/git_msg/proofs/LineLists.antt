@@ -9,10 +9,7 @@ use Rattle.git_pkt.specs.Packets.{payload, text_of}
 use Rattle.git_pkt.specs.Splits.{Given}
 use Rattle.git_pkt.specs.declared.fault.Kind.{Kind}
 use Rattle.git_msg.specs.declared.offers.Offer.{Offer}
-use Rattle.git_msg.specs.declared.arguments.Command.{Command}
-use Rattle.git_msg.specs.declared.arguments.Command.TheVariants.{LsRefs}
 use Rattle.git_msg.specs.Arguments.{Arg}
-use Rattle.git_msg.specs.Asked.{asked_by, with_argument, is_symrefs, is_peel, prefix_in}
 use Rattle.git_msg.specs.Checks.{Check, Refuses}
 use Rattle.git_msg.specs.Lines.{Line, argument, command_in, argument_in, long_of, is_object_format, is_delimiter, commands_of, arguments_of, kept_in, has_format, has_delimiter, is_none, IsLine, IsLineIn, IsArgumentLine, IsCapabilityLine}
 use Rattle.git_msg.specs.Requests.{AreLines}
@@ -47,10 +44,6 @@ delimiter_snoc lines line = list_any_snoc is_delimiter lines line
 
 pub kept_snoc : (lines : List Line) (line : Line) → kept_in (lines ++ line ∷ []) ≡ kept_in lines + long_of line
 kept_snoc lines line = omega (arith, sum_by-append long_of lines (line ∷ []))
-
--- what is asked for with one more argument
-pub asked_snoc : (c : Command) (args : List Arg) (arg : Arg) → asked_by c (args ++ arg ∷ []) ≡ with_argument (asked_by c args) arg
-asked_snoc LsRefs args arg = rw (list_any_snoc is_symrefs args arg, list_any_snoc is_peel args arg, filter_map_snoc prefix_in args arg) refl
 
 -- one more packet, which is a line
 pub lines_snoc : (offer : Offer) (limit : ℕ) (before : List Line) (gs : List Given) (lines : List Line) (g : Given) (line : Line) → AreLines offer limit before gs lines → IsLine offer limit (before ++ lines) g.packet line → AreLines offer limit before (gs ++ g ∷ []) (lines ++ line ∷ [])

@@ -9,7 +9,8 @@ same_maybe : (format : Format) (text : Option (List ℕ)) (a b : Option ObjectNa
 same_maybe format None a b h k = h ∙ sym k
 same_maybe format (Some text) a b h k = h.2 ∙ ap Some (one_object_name format text h.0 k.0 h.1 k.1) ∙ sym k.2
 
-same_heads : (a b : List ℕ) (more others : List (List ℕ)) → a ∷ more ≡ b ∷ others → (a ≡ b) × (more ≡ others)
+-- the first words and the others of one list
+pub same_heads : (a b : List ℕ) (more others : List (List ℕ)) → a ∷ more ≡ b ∷ others → (a ≡ b) × (more ≡ others)
 same_heads a b more others e = (cc, cc)
 
 same_parts : (a b : Ref) → a.id ≡ b.id → a.name ≡ b.name → a.target ≡ b.target → a.peeled ≡ b.peeled → a ≡ b
@@ -22,7 +23,8 @@ one_reference format text a b h k =
     let first = same_heads h.id k.id (a.name ∷ h.attributes) (b.name ∷ k.attributes) (sym h.words ∙ k.words) in
     let second = same_heads a.name b.name h.attributes k.attributes first.1 in
     let there : IsObjectName format k.id a.id = subst (λ (x : List ℕ). IsObjectName format x a.id) first.0 h.id_is in
-    let peeled : IsMaybeObjectName format (last_of (values_of (codes "peeled:") k.attributes)) a.peeled = subst (λ (ws : List (List ℕ)). IsMaybeObjectName format (last_of (values_of (codes "peeled:") ws)) a.peeled) second.1 h.attributes_are.peeled_is in
+    let peeled : IsMaybeObjectName format (last_of (values_of (codes "peeled:") k.attributes)) a.peeled =
+    subst (λ (ws : List (List ℕ)). IsMaybeObjectName format (last_of (values_of (codes "peeled:") ws)) a.peeled) second.1 h.attributes_are.peeled_is in
     same_parts a b (one_object_name format k.id a.id b.id there k.id_is) second.0
     (h.attributes_are.target_is ∙ ap (λ (ws : List (List ℕ)). last_of (values_of (codes "symref-target:") ws)) second.1 ∙ sym k.attributes_are.target_is)
     (same_maybe format (last_of (values_of (codes "peeled:") k.attributes)) a.peeled b.peeled peeled k.attributes_are.peeled_is)

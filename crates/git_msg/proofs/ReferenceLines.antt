@@ -1,5 +1,5 @@
 -- Reference lines, as they are written.
-use Rattle.std.proofs.Common.{arith, ◌≡◌, ◌≢◌, ℕ, ◌+◌, ◌<◌, ◌≤◌, ◌==◌, Bool, true, false, not, ◌&&◌, Option, Some, None, List, [], ◌∷◌, ◌++◌, refl, ap, ◌∙◌, subst, append_assoc, length, drop, slice_index, codes, length-append, lit≤}
+use Rattle.std.proofs.Common.{arith, ◌≡◌, ◌≢◌, ℕ, ◌+◌, ◌≤◌, ◌==◌, Bool, true, false, not, ◌&&◌, Option, Some, None, List, [], ◌∷◌, ◌++◌, refl, ap, ◌∙◌, subst, append_assoc, length, drop, slice_index, codes, length-append, lit≤}
 use Rattle.std.specs.Prelude.{All}
 use Rattle.std.specs.List.{list_all}
 use Rattle.std.proofs.lemmas.Bool.Decides.{nat_tests}
@@ -7,7 +7,8 @@ use Rattle.std.proofs.lemmas.List.{append-nil}
 use Rattle.std.proofs.lemmas.List.Elements.{All-append, All-cons, All-nil, All-from_get_or}
 use Rattle.std.proofs.lemmas.List.Splits.{slice_split_at, slice_split_none}
 use Rattle.git_names.specs.ObjectFormat.{digits_of}
-use Rattle.git_names.specs.ObjectName.{ObjectName, IsObjectName, digit_value, hex_of}
+use Rattle.git_names.specs.Digits.{IsHexDigit, digit_value}
+use Rattle.git_names.specs.ObjectName.{ObjectName, IsObjectName, hex_of}
 use Rattle.git_names.specs.RefName.{IsRefName, Lacks}
 use Rattle.git_names.specs.declared.object_format.Format.{Format}
 use Rattle.git_names.specs.declared.object_format.Format.TheVariants.{Sha1, Sha256}
@@ -22,9 +23,10 @@ eq_false c h = grind (arith, nat_tests)
 lacking_is_unspaced : (text : List ℕ) → Lacks text 32 → All (λ c. (c == 32) ≡ false) text
 lacking_is_unspaced text h = All-from_get_or (λ c. (c == 32) ≡ false) text 0 (λ k within. eq_false (slice_index text k) (h k within))
 
-no_digit : (c : ℕ) → digit_value c < 16 → c ≢ 32
+no_digit : (c : ℕ) → IsHexDigit c → c ≢ 32
+unfolding digit_value
 no_digit c h same =
-    let at : digit_value 32 < 16 = subst (λ (n : ℕ). digit_value n < 16) same h in
+    let at : IsHexDigit 32 = subst IsHexDigit same h in
     omega arith
 
 digits_are_unspaced : (format : Format) (text : List ℕ) (id : ObjectName) → IsObjectName format text id → All (λ c. (c == 32) ≡ false) text
@@ -71,7 +73,8 @@ peeled_attribute format text id h = record {
 }
 
 unspaced_target : (name : List ℕ) → IsRefName name → All (λ c. (c == 32) ≡ false) (codes "symref-target:" ++ name)
-unspaced_target name h = All-append (λ c. (c == 32) ≡ false) (codes "symref-target:") name (tested (codes "symref-target:") refl) (lacking_is_unspaced name h.no_space)
+unspaced_target name h =
+    All-append (λ c. (c == 32) ≡ false) (codes "symref-target:") name (tested (codes "symref-target:") refl) (lacking_is_unspaced name h.no_space)
 
 -- the words after the name
 peeled_words : Option ObjectName → List (List ℕ)
@@ -79,12 +82,15 @@ peeled_words None = []
 peeled_words (Some id) = (codes "peeled:" ++ hex_of id) ∷ []
 
 unspaced_peeled : (format : Format) (id : ObjectName) → IsObjectName format (hex_of id) id → All (λ c. (c == 32) ≡ false) (codes "peeled:" ++ hex_of id)
-unspaced_peeled format id h = All-append (λ c. (c == 32) ≡ false) (codes "peeled:") (hex_of id) (tested (codes "peeled:") refl) (digits_are_unspaced format (hex_of id) id h)
+unspaced_peeled format id h =
+    All-append (λ c. (c == 32) ≡ false) (codes "peeled:") (hex_of id) (tested (codes "peeled:") refl) (digits_are_unspaced format (hex_of id) id h)
 
 behind : List ℕ → List (List ℕ) → List (List ℕ)
 behind word words = word ∷ words
 
-tail_words : (name : List ℕ) (target : Option (List ℕ)) (peeled : Option ObjectName) → IsRefName name → ((t : List ℕ) → target ≡ Some t → IsRefName t) → ((p : ObjectName) → peeled ≡ Some p → IsObjectName p.format (hex_of p) p) → spaced_words (name ++ target_text target ++ peeled_text peeled) ≡ name ∷ (target_words target ++ peeled_words peeled)
+tail_words : (name : List ℕ) (target : Option (List ℕ)) (peeled : Option ObjectName) → IsRefName name → ((t : List ℕ) → target ≡ Some t → IsRefName t)
+    → ((p : ObjectName) → peeled ≡ Some p → IsObjectName p.format (hex_of p) p)
+    → spaced_words (name ++ target_text target ++ peeled_text peeled) ≡ name ∷ (target_words target ++ peeled_words peeled)
 unfolding target_words peeled_words
 tail_words name None None h targets names = ap spaced_words (append-nil (name ++ []) ∙ append-nil name) ∙ word_alone name (lacking_is_unspaced name h.no_space)
 tail_words name (Some t) None h targets names =
@@ -98,27 +104,37 @@ tail_words name None (Some p) h targets names =
 tail_words name (Some t) (Some p) h targets names =
     ap spaced_words (append_assoc name (32 ∷ (codes "symref-target:" ++ t)) (32 ∷ (codes "peeled:" ++ hex_of p)))
     ∙ words_of_two name ((codes "symref-target:" ++ t) ++ 32 ∷ (codes "peeled:" ++ hex_of p)) (lacking_is_unspaced name h.no_space)
-    ∙ ap (λ (ws : List (List ℕ)). name ∷ ws) (words_of_two (codes "symref-target:" ++ t) (codes "peeled:" ++ hex_of p) (unspaced_target t (targets t refl)) ∙ ap (λ (ws : List (List ℕ)). (codes "symref-target:" ++ t) ∷ ws) (word_alone (codes "peeled:" ++ hex_of p) (unspaced_peeled p.format p (names p refl))))
+    ∙ ap (λ (ws : List (List ℕ)). name ∷ ws) (words_of_two (codes "symref-target:" ++ t) (codes "peeled:" ++ hex_of p) (unspaced_target t (targets t refl))
+    ∙ ap (λ (ws : List (List ℕ)). (codes "symref-target:" ++ t) ∷ ws) (word_alone (codes "peeled:" ++ hex_of p)
+    (unspaced_peeled p.format p (names p refl))))
 
 -- a peeled object of the line's format
-of_format : (format : Format) (id p : ObjectName) (peeled : Option ObjectName) → peeled ≡ Some p → ((q : ObjectName) → peeled ≡ Some q → q.format ≡ id.format) → id.format ≡ format → IsObjectName p.format (hex_of p) p → IsObjectName format (hex_of p) p
+of_format : (format : Format) (id p : ObjectName) (peeled : Option ObjectName) → peeled ≡ Some p
+    → ((q : ObjectName) → peeled ≡ Some q → q.format ≡ id.format) → id.format ≡ format → IsObjectName p.format (hex_of p) p
+    → IsObjectName format (hex_of p) p
 of_format format id p peeled e formats same named = subst (λ (f : Format). IsObjectName f (hex_of p) p) (formats p e ∙ same) named
 
-attributes_pass : (format : Format) (id : ObjectName) (target : Option (List ℕ)) (peeled : Option ObjectName) → ((t : List ℕ) → target ≡ Some t → IsRefName t) → ((p : ObjectName) → peeled ≡ Some p → IsObjectName format (hex_of p) p) → Passes (attribute_checks format (target_words target ++ peeled_words peeled))
+attributes_pass : (format : Format) (id : ObjectName) (target : Option (List ℕ)) (peeled : Option ObjectName)
+    → ((t : List ℕ) → target ≡ Some t → IsRefName t) → ((p : ObjectName) → peeled ≡ Some p → IsObjectName format (hex_of p) p)
+    → Passes (attribute_checks format (target_words target ++ peeled_words peeled))
 unfolding target_words peeled_words
 attributes_pass format id None None targets names = tt
 attributes_pass format id (Some t) None targets names = (target_attribute format t (targets t refl), tt)
 attributes_pass format id None (Some p) targets names = (peeled_attribute format (hex_of p) p (names p refl), tt)
-attributes_pass format id (Some t) (Some p) targets names = (target_attribute format t (targets t refl), (peeled_attribute format (hex_of p) p (names p refl), tt))
+attributes_pass format id (Some t) (Some p) targets names =
+    (target_attribute format t (targets t refl), (peeled_attribute format (hex_of p) p (names p refl), tt))
 
-target_last : (target : Option (List ℕ)) (peeled : Option ObjectName) → target ≡ last_of (values_of (codes "symref-target:") (target_words target ++ peeled_words peeled))
+target_last : (target : Option (List ℕ)) (peeled : Option ObjectName)
+    → target ≡ last_of (values_of (codes "symref-target:") (target_words target ++ peeled_words peeled))
 unfolding target_words peeled_words
 target_last None None = refl
 target_last (Some t) None = refl
 target_last None (Some p) = refl
 target_last (Some t) (Some p) = refl
 
-peeled_last : (format : Format) (target : Option (List ℕ)) (peeled : Option ObjectName) → ((p : ObjectName) → peeled ≡ Some p → IsObjectName format (hex_of p) p) → IsMaybeObjectName format (last_of (values_of (codes "peeled:") (target_words target ++ peeled_words peeled))) peeled
+peeled_last : (format : Format) (target : Option (List ℕ)) (peeled : Option ObjectName)
+    → ((p : ObjectName) → peeled ≡ Some p → IsObjectName format (hex_of p) p)
+    → IsMaybeObjectName format (last_of (values_of (codes "peeled:") (target_words target ++ peeled_words peeled))) peeled
 unfolding target_words peeled_words
 peeled_last format None None names = refl
 peeled_last format (Some t) None names = refl
@@ -126,7 +142,10 @@ peeled_last format None (Some p) names = (p, names p refl, refl)
 peeled_last format (Some t) (Some p) names = (p, names p refl, refl)
 
 -- what is written of a reference reads back
-pub reads_back : (format : Format) (id : ObjectName) (name : List ℕ) (target : Option (List ℕ)) (peeled : Option ObjectName) → IsWritable (reference_of id name target peeled) → id.format ≡ format → IsObjectName format (hex_of id) id → ((p : ObjectName) → peeled ≡ Some p → IsObjectName p.format (hex_of p) p) → IsReferenceLine format (reference_text (reference_of id name target peeled)) (reference_of id name target peeled)
+pub reads_back : (format : Format) (id : ObjectName) (name : List ℕ) (target : Option (List ℕ)) (peeled : Option ObjectName)
+    → IsWritable (reference_of id name target peeled) → id.format ≡ format → IsObjectName format (hex_of id) id
+    → ((p : ObjectName) → peeled ≡ Some p → IsObjectName p.format (hex_of p) p)
+    → IsReferenceLine format (reference_text (reference_of id name target peeled)) (reference_of id name target peeled)
 reads_back format id name target peeled w same named others =
     let names : (p : ObjectName) → peeled ≡ Some p → IsObjectName format (hex_of p) p = λ p e. of_format format id p peeled e w.peeled same (others p e) in
     record {
@@ -156,7 +175,10 @@ peeled_fits None = lit≤ tt
 peeled_fits (Some p) = omega (arith, few_digits p.format)
 
 -- there is room for the line's end
-pub room : (id : ObjectName) (name : List ℕ) (target : Option (List ℕ)) (peeled : Option ObjectName) (a b c d e f head : List ℕ) → IsWritable (reference_of id name target peeled) → length head ≡ 4 → IsObjectName id.format (hex_of id) id → length (peeled_text peeled) ≡ peeled_count peeled → a ≡ head → b ≡ a ++ hex_of id → c ≡ b ++ 32 ∷ [] → d ≡ c ++ name → e ≡ d ++ target_text target → f ≡ e ++ peeled_text peeled → length f + 1 ≤ 65520
+pub room : (id : ObjectName) (name : List ℕ) (target : Option (List ℕ)) (peeled : Option ObjectName) (a b c d e f head : List ℕ)
+    → IsWritable (reference_of id name target peeled) → length head ≡ 4 → IsObjectName id.format (hex_of id) id
+    → length (peeled_text peeled) ≡ peeled_count peeled → a ≡ head → b ≡ a ++ hex_of id → c ≡ b ++ 32 ∷ [] → d ≡ c ++ name → e ≡ d ++ target_text target
+    → f ≡ e ++ peeled_text peeled → length f + 1 ≤ 65520
 room id name target peeled a b c d e f head w four named count ha hb hc hd he hf =
     let most = w.name.at_most in
     let digits = named.count in

@@ -1,19 +1,23 @@
--- What is left of a request after each packet.
-use Rattle.std.proofs.Common.{arith, ◌≡◌, ℕ, ◌+◌, ◌<◌, Bool, Some, List, ◌∷◌, ◌++◌, ap, ◌∙◌, length, drop, get_or, codes}
+-- What is left of a request after the line of an argument.
+use Rattle.std.proofs.Common.{arith, ◌≡◌, ℕ, ◌+◌, Some, None, List, [], ◌∷◌, ap, drop}
 use Rattle.std.specs.Prelude.{slice_get}
 use Rattle.std.proofs.lemmas.Grind.{common_steps}
-use Rattle.std.proofs.lemmas.Option.{slice_get_within, get_or_from_slice_get}
-use Rattle.git_names.specs.declared.object_format.Format.{Format}
-use Rattle.git_msg.specs.declared.arguments.Command.{Command}
-use Rattle.git_msg.specs.declared.writer.Next.TheVariants.{Prefix}
-use Rattle.git_msg.specs.Asked.{Asked, ls_refs, ref_prefixes_of}
-use Rattle.git_msg.specs.Writing.{lines_from, prefix_lines, text_line}
+use Rattle.std.proofs.lemmas.Option.{gets}
+use Rattle.git_pkt.specs.Packets.{flush}
+use Rattle.git_msg.specs.Arguments.{Arg, written_text}
+use Rattle.git_msg.specs.Writing.{argument_lines, text_line}
 
-drop_from : (xs : List (List ℕ)) (i : ℕ) (d : List ℕ) → i < length xs → drop i xs ≡ get_or xs i d ∷ drop (i + 1) xs
-drop_from xs i d h = grind (arith, common_steps)
+drop_from : (args : List Arg) (i : ℕ) (arg : Arg) → slice_get args i ≡ Some arg → drop i args ≡ arg ∷ drop (i + 1) args
+drop_from args i arg h = grind (arith, common_steps, gets)
 
--- a prefix is written, and those after it are left
-pub prefix_step : (asked : Asked) (i : ℕ) (prefix : List ℕ) (agent object_format : Bool) (command : Command) (format : Format) → slice_get (ref_prefixes_of asked) i ≡ Some prefix → lines_from (Prefix i) agent object_format command format asked ≡ text_line (codes "ref-prefix " ++ prefix) ∷ lines_from (Prefix (i + 1)) agent object_format command format asked
-prefix_step (ls_refs q) i prefix agent object_format command format h =
-    let at : drop i q.ref_prefixes ≡ prefix ∷ drop (i + 1) q.ref_prefixes = drop_from q.ref_prefixes i prefix (slice_get_within q.ref_prefixes i prefix h) ∙ ap (λ (x : List ℕ). x ∷ drop (i + 1) q.ref_prefixes) (get_or_from_slice_get q.ref_prefixes i prefix prefix h) in
-    ap prefix_lines at
+drop_past : (args : List Arg) (i : ℕ) → slice_get args i ≡ None → drop i args ≡ []
+drop_past args i h = grind (arith, common_steps, gets)
+
+-- an argument is written, and those after it are left
+pub argument_step : (args : List Arg) (i : ℕ) (arg : Arg) → slice_get args i ≡ Some arg
+    → argument_lines (drop i args) ≡ text_line (written_text arg) ∷ argument_lines (drop (i + 1) args)
+argument_step args i arg h = ap argument_lines (drop_from args i arg h)
+
+-- after the last argument the flush is left
+pub flush_left : (args : List Arg) (i : ℕ) → slice_get args i ≡ None → argument_lines (drop i args) ≡ flush ∷ []
+flush_left args i h = ap argument_lines (drop_past args i h)

@@ -42,6 +42,17 @@ IsArgument LsRefs format text symrefs = text ≡ codes "symrefs"
 IsArgument LsRefs format text peel = text ≡ codes "peel"
 IsArgument LsRefs format text (ref_prefix prefix) = (text ≡ codes "ref-prefix " ++ prefix) × (length prefix ≤ most_text)
 
+-- the argument may stand in a request of the command and the format
+abbrev pub IsValue : Command → Format → Arg → Type 0
+IsValue LsRefs format symrefs = Unit {0}
+IsValue LsRefs format peel = Unit {0}
+IsValue LsRefs format (ref_prefix prefix) = length prefix ≤ most_text
+
+-- by which name the argument may not stand there
+abbrev pub IsValueFault : Command → Format → Arg → Kind → Type 0
+IsValueFault LsRefs format (ref_prefix prefix) BadLine = most_text < length prefix
+IsValueFault _ format _ _ = ⊥
+
 -- the feature that the argument needs is offered
 abbrev pub IsOffered : Offer → Arg → Type 0
 IsOffered offer symrefs = Unit {0}

@@ -5,8 +5,8 @@ pub mod Capability
 pub mod Checks
 pub mod Holding
 pub mod Judging
+pub mod Kept
 pub mod Lines
-pub mod LsRefs
 pub mod ReferenceParts
 pub mod References
 pub mod Requests

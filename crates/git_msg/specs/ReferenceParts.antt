@@ -1,16 +1,11 @@
 -- What the parts of the reader of reference lines find.
-use Rattle.std.specs.Prelude.{◌≡◌, ℕ, Option, Some, None, List, [], ◌++◌, codes}
+use Rattle.std.specs.Prelude.{◌≡◌, ℕ, Option, Some, None, List, ◌++◌, codes}
 use Rattle.git_names.specs.declared.object_format.Format.{Format}
 use Rattle.git_msg.specs.declared.reference_lines.Attribute.{Attribute}
 use Rattle.git_msg.specs.declared.reference_lines.Attribute.TheVariants.{Target, Peeled, Other}
-use Rattle.git_msg.specs.Texts.{spaced_words}
+use Rattle.git_msg.specs.Texts.{parts_left}
 use Rattle.git_msg.specs.Checks.{Passes}
 use Rattle.git_msg.specs.References.{value_behind, values_of, last_of, IsAttribute, attribute_checks}
-
--- the words of what is left of a line, if there are more
-abbrev pub words_left : Option (List ℕ) → List (List ℕ)
-words_left None = []
-words_left (Some text) = spaced_words text
 
 -- the values that an attribute is found to have
 abbrev pub target_in : Attribute → Option (List ℕ)
@@ -38,5 +33,5 @@ pub record LastValues (format : Format) (words : List (List ℕ)) (target peeled
 -- some of the words were read, and these are left
 pub record ReadSoFar (format : Format) (whole : List (List ℕ)) (left target peeled : Option (List ℕ)) : Type 0 where
   pub before : List (List ℕ)
-  pub whole_is : whole ≡ before ++ words_left left
+  pub whole_is : whole ≡ before ++ parts_left 32 left
   pub values : LastValues format before target peeled

@@ -1,10 +1,19 @@
 -- Words of a text, and at its beginning.
-use Rattle.std.specs.Prelude.{◌≡◌, ◌≢◌, ℕ, ◌==◌, List, [], ◌∷◌, ◌++◌, codes}
+use Rattle.std.specs.Prelude.{◌≡◌, ◌≢◌, ℕ, ◌==◌, List, [], ◌∷◌, ◌++◌, Option, Some, None, codes}
 use Rattle.std.specs.List.{slice_split}
+
+-- the parts of a text between bytes of this value
+abbrev pub parts_of : ℕ → List ℕ → List (List ℕ)
+parts_of byte text = slice_split (λ c. c == byte) text
+
+-- the parts of what is left of a text, if something is left
+abbrev pub parts_left : ℕ → Option (List ℕ) → List (List ℕ)
+parts_left byte None = []
+parts_left byte (Some text) = parts_of byte text
 
 -- the parts of a text between single spaces
 abbrev pub spaced_words : List ℕ → List (List ℕ)
-spaced_words text = slice_split (λ c. c == 32) text
+spaced_words text = parts_of 32 text
 
 -- the text is the word and then a value that meets P
 pub record Follows (word : List ℕ) (P : List ℕ → Type 0) (text : List ℕ) : Type 0 where
@@ -26,6 +35,11 @@ abbrev pub BeginsWithNone : List (List ℕ) → List ℕ → Type 0
 BeginsWithNone [] text = Unit {0}
 BeginsWithNone (word ∷ words) text = BeginsOtherThan word text × BeginsWithNone words text
 
--- the text is that of an error packet, which either end may send (gitprotocol-pack(5))
-abbrev pub IsErrorText : List ℕ → Type 0
-IsErrorText = Follows (codes "ERR ") (λ _. Unit {0})
+-- the text is that of an error packet with this message, which either end may send (gitprotocol-pack(5))
+abbrev pub IsErrorOf : List ℕ → List ℕ → Type 0
+IsErrorOf text message = text ≡ codes "ERR " ++ message
+
+-- the text is that of an error packet
+pub record IsErrorText (text : List ℕ) : Type 0 where
+  pub message : List ℕ
+  pub spelled : IsErrorOf text message

@@ -17,6 +17,9 @@ pub struct Capability<'a> {
     pub value: Option<&'a [u8]>,
 }
 
+/// The line by which each end names itself.
+pub const AGENT_LINE: &[u8] = b"agent=git2/1\n";
+
 /// Reads the text of a capability line, `key` or `key=value`. Any other text is `BadCapability`.
 pub fn read_capability(text: &[u8]) -> Result<Capability<'_>, Kind>
     ensures line { MatchResult result (λ c. IsCapability text.now c.key.now (option_copied c.value)) (λ kind. IsNoCapability text.now) }

@@ -1,8 +1,8 @@
 //! What follows from the definitions alone: each law is the contract of a function without parameters.
 
-ghost use Rattle.std.specs.Prelude.{◌≡◌, ◌≤◌, ◌++◌, ◌∷◌, [], ℕ, List, Option, length, map, sum_by};
+ghost use Rattle.std.specs.Prelude.{◌≡◌, ◌≤◌, ℕ, List, Option, length, map, sum_by};
 ghost use Rattle.git_names.specs.declared.object_format.Format.{Format};
-ghost use Rattle.git_pkt.specs.Packets.{Pkt, flush};
+ghost use Rattle.git_pkt.specs.Packets.{Pkt};
 ghost use Rattle.git_pkt.specs.Splits.{Given};
 ghost use Rattle.git_pkt.specs.declared.fault.Kind.{Kind};
 ghost use Rattle.git_msg.specs.declared.arguments.Command.{Command};
@@ -10,14 +10,14 @@ ghost use Rattle.git_msg.specs.declared.offers.Caps.{Caps};
 ghost use Rattle.git_msg.specs.declared.offers.Offer.{Offer};
 ghost use Rattle.git_msg.specs.declared.requests.Request.{Request};
 ghost use Rattle.git_msg.specs.Arguments.{Arg, IsArgumentFault, ReadsAs, written_text};
-ghost use Rattle.git_msg.specs.Asked.{Asked, HasShortTexts, arguments_in, asked_by, written_bytes};
+ghost use Rattle.git_msg.specs.Asked.{Asked, HasValues, arguments_in, asked_by, command_asked, written_bytes};
 ghost use Rattle.git_msg.specs.Capability.{IsCapability};
 ghost use Rattle.git_msg.specs.Checks.{Passes, Refuses};
 ghost use Rattle.git_msg.specs.Holding.{IsEmpty, AddsAll, add_checks, asked_of, kept_of};
 ghost use Rattle.git_msg.specs.Lines.{Line, IsFormatMeant, IsLine, HasFault};
 ghost use Rattle.git_msg.specs.References.{Ref, IsReferenceFault, IsReferenceLine};
 ghost use Rattle.git_msg.specs.Requests.{Asks, FirstFault};
-ghost use Rattle.git_msg.specs.Writing.{argument_lines, lines_written, text_line};
+ghost use Rattle.git_msg.specs.Writing.{lines_written};
 
 use crate::requests::Limits;
 use std::alloc::Allocator;
@@ -98,12 +98,12 @@ pub fn one_first_fault()
 {}
 
 /// The packets that are written of a request are a request for the same, whatever their offsets: where the format is
-/// that of the reader, its texts are not too long, and the texts of its lines are within the limit. For SHA-256 the
-/// format has to be among what was advertised.
+/// that of the reader, each argument may stand in such a request, and the texts of its lines are within the limit. For
+/// SHA-256 the format has to be among what was advertised.
 pub fn written_request_reads_back()
-    ensures { (offer : Offer) (limit : ℕ) (caps : Caps) (command : Command) (asked : Asked) (packets : List Given)
-        → IsFormatMeant offer.format caps.object_format → HasShortTexts asked → written_bytes asked ≤ limit
-        → map (λ g. g.packet) packets ≡ lines_written caps.agent caps.object_format command offer.format asked
+    ensures { (offer : Offer) (limit : ℕ) (caps : Caps) (asked : Asked) (packets : List Given)
+        → IsFormatMeant offer.format caps.object_format → HasValues offer.format asked → written_bytes asked ≤ limit
+        → map (λ g. g.packet) packets ≡ lines_written caps.agent caps.object_format offer.format asked
         → Asks offer limit packets asked (written_bytes asked) }
 {}
 
@@ -132,8 +132,7 @@ pub fn added_arguments_are_asked_for<A: Allocator + Copy>()
         → IsEmpty command format limit empty → AddsAll empty args request → kept_of request ≡ sum_by (λ arg. length (written_text arg)) args }
 {}
 
-/// The lines and the bytes of a request are those of its arguments in their order.
+/// The arguments of a request, in the order in which they are written, ask for just what the request asks.
 pub fn arguments_in_order()
-    ensures lines { (asked : Asked) → argument_lines asked ≡ map (λ a. text_line (written_text a)) (arguments_in asked) ++ flush ∷ [] }
-    ensures bytes { (asked : Asked) → written_bytes asked ≡ sum_by (λ a. length (written_text a)) (arguments_in asked) }
+    ensures { (asked : Asked) → asked_by (command_asked asked) (arguments_in asked) ≡ asked }
 {}

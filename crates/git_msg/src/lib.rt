@@ -12,15 +12,16 @@ mod reader;
 mod reference_lines;
 mod references;
 mod requests;
-pub mod texts;
+mod texts;
 mod writer;
 mod writing;
 
 pub use crate::arguments::{Argument, Command, read_argument};
-pub use crate::capabilities::{Capability, read_capability};
+pub use crate::capabilities::{AGENT_LINE, Capability, read_capability};
 pub use crate::offers::{Caps, Offer};
 pub use crate::reader::{RequestReader, Taken};
 pub use crate::reference_lines::read_reference;
 pub use crate::references::{Boundary, Reference, put_reference};
 pub use crate::requests::{Limits, LsRefs, Request};
+pub use crate::texts::{after, error_message, is_error, split_at_first};
 pub use crate::writer::RequestWriter;

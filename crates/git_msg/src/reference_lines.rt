@@ -1,14 +1,14 @@
 //! Reference lines, read.
-ghost use Rattle.std.specs.Prelude.{◌≡◌, ◌<◌, ◌∷◌, List, ℕ, length, MatchOption, MatchResult};
+ghost use Rattle.std.specs.Prelude.{MatchResult};
 ghost use Rattle.std.specs.Option.{ForSome, option_copied};
 ghost use Rattle.git_names.specs.ObjectName.{ObjectName, IsObjectName};
 ghost use Rattle.git_msg.specs.Checks.{Refuses};
 ghost use Rattle.git_msg.specs.References.{IsAttributeFault, IsMaybeObjectName, IsReferenceFault, IsReferenceLine, attribute_checks, shown_reference};
-ghost use Rattle.git_msg.specs.Texts.{spaced_words};
-ghost use Rattle.git_msg.specs.ReferenceParts.{IsFound, LastValues, words_left};
+ghost use Rattle.git_msg.specs.Texts.{parts_left};
+ghost use Rattle.git_msg.specs.ReferenceParts.{IsFound, LastValues};
 
 use crate::references::Reference;
-use crate::texts::{after, find_byte};
+use crate::texts::{after, split_at_first};
 use git_names::{Format, Oid, RefName};
 use git_pkt::Kind;
 
@@ -34,16 +34,12 @@ pub fn read_reference(format: Format, text: &[u8]) -> Result<Reference<'_>, Kind
     ensures { MatchResult result (λ reference. IsReferenceLine format text.now (shown_reference reference))
         (IsReferenceFault format text.now) }
 {
-    let (id, Some(rest)) = split_word(text) else {
+    let (id, Some(rest)) = split_at_first(text, b' ') else {
         return Err(Kind::BadLine);
     };
-    let Ok(id) = Oid::read(format, id) else {
-        return Err(Kind::BadObjectName);
-    };
-    let (name, rest) = split_word(rest);
-    if RefName::read(name).is_err() {
-        return Err(Kind::BadRefName);
-    }
+    let id = Oid::read(format, id)?;
+    let (name, rest) = split_at_first(rest, b' ');
+    RefName::read(name)?;
     let found = read_attributes(format, rest)?;
     let peeled = read_peeled(format, found.peeled);
     Ok(Reference {
@@ -57,14 +53,14 @@ pub fn read_reference(format: Format, text: &[u8]) -> Result<Reference<'_>, Kind
 /// The last values of the attributes of a line.
 fn read_attributes<'a>(format: Format, words: Option<&'a [u8]>) -> Result<Found<'a>, Kind>
     ensures { MatchResult result
-        (λ found. LastValues format (words_left (option_copied words.entry)) (option_copied found.target) (option_copied found.peeled))
-        (Refuses (attribute_checks format (words_left (option_copied words.entry)))) }
+        (λ found. LastValues format (parts_left 32 (option_copied words.entry)) (option_copied found.target) (option_copied found.peeled))
+        (Refuses (attribute_checks format (parts_left 32 (option_copied words.entry)))) }
 {
     let mut target = None;
     let mut peeled = None;
     let mut rest = words;
     'words: while let Some(text) = rest {
-        let (word, next) = split_word(text);
+        let (word, next) = split_at_first(text, b' ');
         match read_attribute(format, word) {
             Ok(Attribute::Target(name)) => target = Some(name),
             Ok(Attribute::Peeled(text)) => peeled = Some(text),
@@ -80,15 +76,11 @@ fn read_attribute<'a>(format: Format, word: &'a [u8]) -> Result<Attribute<'a>, K
     ensures { MatchResult result (IsFound format word.now) (IsAttributeFault format word.now) }
 {
     if let Some(name) = after(word, b"symref-target:") {
-        if RefName::read(name).is_err() {
-            return Err(Kind::BadRefName);
-        }
+        RefName::read(name)?;
         return Ok(Attribute::Target(name));
     }
     if let Some(text) = after(word, b"peeled:") {
-        if Oid::read(format, text).is_err() {
-            return Err(Kind::BadObjectName);
-        }
+        Oid::read(format, text)?;
         return Ok(Attribute::Peeled(text));
     }
     Ok(Attribute::Other)
@@ -102,16 +94,5 @@ fn read_peeled(format: Format, text: Option<&[u8]>) -> Option<Oid>
     match text {
         Some(text) => Oid::read(format, text).ok(),
         None => None,
-    }
-}
-
-/// The first word of a text, and what stands after the space that ends it.
-fn split_word(text: &[u8]) -> (&[u8], Option<&[u8]>)
-    ensures words { spaced_words text.now ≡ result.0.now ∷ words_left (option_copied result.1) }
-    ensures shorter { MatchOption result.1 (Unit {0}) (λ rest. length rest.now < length text.now) }
-{
-    match find_byte(text, b' ') {
-        Some(at) => (&text[..at], Some(&text[at + 1..])),
-        None => (text, None),
     }
 }

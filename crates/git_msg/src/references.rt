@@ -1,11 +1,11 @@
 //! Reference lines, as answers to ls-refs have them: gitprotocol-v2(5).
-ghost use Rattle.std.specs.Prelude.{◌≡◌, ◌+◌, ◌≤◌, [], ◌∷◌, ◌++◌, length, MatchResult};
+ghost use Rattle.std.specs.Prelude.{◌≡◌, ◌+◌, ◌<◌, ◌≤◌, [], ◌∷◌, ◌++◌, length};
 ghost use Rattle.std.specs.Option.{option_copied};
 ghost use Rattle.arrayvec.specs.ArrayVec.{array_vec_len};
 ghost use Rattle.git_names.specs.ObjectFormat.{digits_of};
 ghost use Rattle.git_names.specs.ObjectName.{ObjectName, IsObjectName, hex_of};
-ghost use Rattle.git_pkt.specs.Packets.{payload, spelling_of};
-ghost use Rattle.git_msg.specs.References.{IsReferenceFault, IsReferenceLine, IsWritable, peeled_count, peeled_text, reference_of, reference_text, shown_reference, target_text};
+ghost use Rattle.git_pkt.specs.Packets.{longest_payload, payload, spelling_of};
+ghost use Rattle.git_msg.specs.References.{IsReferenceLine, IsWritable, peeled_count, peeled_text, reference_of, reference_text, shown_reference, target_text};
 
 use git_names::Oid;
 use git_pkt::{Hold, append, begin};
@@ -38,7 +38,7 @@ pub fn put_reference(hold: &mut Hold, reference: Reference<'_>)
     requires { IsWritable (shown_reference reference) }
     ensures written { hold.new.items ≡ spelling_of (payload (reference_text (shown_reference reference.entry) ++ 10 ∷ [])) }
     ensures reads_back { IsReferenceLine reference.entry.id.format (reference_text (shown_reference reference.entry)) (shown_reference reference.entry) }
-    ensures fits { length (reference_text (shown_reference reference.entry)) ≤ 65515 }
+    ensures fits { length (reference_text (shown_reference reference.entry)) < longest_payload }
 {
     let Reference {
         id,
@@ -53,7 +53,7 @@ fn put_parts(hold: &mut Hold, id: &Oid, name: &[u8], target: Option<&[u8]>, peel
     requires { IsWritable (reference_of id.now name.now (option_copied target) peeled.now) }
     ensures written { hold.new.items ≡ spelling_of (payload (reference_text (reference_of id.now name.now (option_copied target.entry) peeled.now) ++ 10 ∷ [])) }
     ensures reads_back { IsReferenceLine id.now.format (reference_text (reference_of id.now name.now (option_copied target.entry) peeled.now)) (reference_of id.now name.now (option_copied target.entry) peeled.now) }
-    ensures fits { length (reference_text (reference_of id.now name.now (option_copied target.entry) peeled.now)) ≤ 65515 }
+    ensures fits { length (reference_text (reference_of id.now name.now (option_copied target.entry) peeled.now)) < longest_payload }
 {
     let length = id.format().digits() + 1 + name.len();
     begin(

@@ -1,7 +1,9 @@
 //! Requests as they are kept.
-ghost use Rattle.std.specs.Prelude.{◌≡◌, ◌+◌, ◌^◌, ◌≤◌, ◌<◌, [], ◌∷◌, ◌++◌, length, OnOk, OnSome, OnErr, IfErr, IfSome, MatchResult, slice_get};
-ghost use Rattle.std.specs.Option.{option_copied};
-ghost use Rattle.git_msg.specs.Arguments.{most_limit, shown, written_text};
+ghost use Rattle.std.specs.Prelude.{◌≡◌, ◌+◌, ◌^◌, ◌≤◌, ◌<◌, [], ◌∷◌, ◌++◌, List, Some, length, OnOk, OnSome, OnErr, IfErr, IfSome, MatchOption, MatchResult, slice_get};
+ghost use Rattle.std.specs.Option.{option_copied, option_map};
+ghost use Rattle.git_pkt.specs.Packets.{longest_payload};
+ghost use Rattle.git_msg.specs.Arguments.{Arg, most_limit, shown, written_text};
+ghost use Rattle.git_msg.specs.Asked.{where_asked};
 
 use crate::arguments::{Argument, Command, MOST_TEXT};
 use git_names::Format;
@@ -20,6 +22,41 @@ pub struct Limits {
 impl Limits {
     /// The usual limit: 16,777,216 bytes.
     pub const USUAL: u32 = 16_777_216;
+}
+
+// How many bytes the texts of a request's argument lines may have, and how many they had so far.
+#[derive(Clone, Copy, Debug)]
+struct Budget {
+    limit: u32,
+    kept: u32,
+    ghost within: { kept ≤ limit },
+    ghost in_range: { limit ≤ most_limit },
+}
+
+impl Budget {
+    fn new(limits: Limits) -> Budget
+        ensures limit { result.limit ≡ limits.args }
+        ensures kept { result.kept ≡ 0 }
+    {
+        Budget {
+            limit: limits.args,
+            kept: 0,
+        }
+    }
+
+    // Counts a text of so many bytes, if there is room for it.
+    fn charge(&mut self, text_length: usize) -> Result<(), Kind>
+        ensures charged { OnOk result ((self.new.kept ≡ self.old.kept + text_length) × (self.new.limit ≡ self.old.limit)) }
+        ensures unchanged { OnErr result (self.new ≡ self.old) }
+        ensures sides { MatchResult result (λ _. self.old.kept + text_length ≤ self.old.limit)
+            (λ kind. (self.old.limit < self.old.kept + text_length) × (kind ≡ Kind.TooMuchKept)) }
+    {
+        if text_length > (self.limit - self.kept) as usize {
+            return Err(Kind::TooMuchKept);
+        }
+        self.kept += text_length as u32;
+        Ok(())
+    }
 }
 
 // Byte strings, each in memory of its own.
@@ -43,12 +80,6 @@ impl<A: Allocator + Copy> Texts<A> {
         Texts {
             items: Vec::new(alloc),
         }
-    }
-
-    fn len(&self) -> usize
-        ensures { result ≡ length self.now }
-    {
-        self.items.len()
     }
 
     fn get(&self, i: usize) -> Option<&[u8]>
@@ -75,30 +106,26 @@ impl<A: Allocator + Copy> Texts<A> {
 #[derive(Drop)]
 pub struct LsRefs<A: Allocator + Copy> {
     format: Format,
-    limit: u32,
-    kept: u32,
+    budget: Budget,
     symrefs: bool,
     peel: bool,
     ref_prefixes: Texts<A>,
 }
 
 impl<A: Allocator + Copy> Model for LsRefs<A> {
-    ghost use Rattle.std.specs.Prelude.{◌≤◌, All, length};
-    ghost use Rattle.git_msg.specs.Arguments.{most_text, most_limit};
-    ghost use Rattle.git_msg.specs.Asked.{ls_refs, written_bytes};
-    ghost use Rattle.git_msg.specs.LsRefs.{LsRefsKept};
+    ghost use Rattle.git_msg.specs.Asked.{LsRefsAsked, ls_refs};
+    ghost use Rattle.git_msg.specs.Kept.{Kept, IsCounted};
 
-    ghost Value = { LsRefsKept };
+    ghost Value = { Kept LsRefsAsked };
 
     ghost view = { λ q. record {
       format = q.format;
       asked = record { symrefs = q.symrefs; peel = q.peel; ref_prefixes = q.ref_prefixes };
-      kept = q.kept;
-      limit = q.limit;
+      kept = q.budget.kept;
+      limit = q.budget.limit;
     } };
 
-    ghost invariant = { λ q. (q.kept ≤ q.limit) × (q.limit ≤ most_limit) × All (λ text. length text ≤ most_text) q.ref_prefixes
-        × (written_bytes (ls_refs (record { symrefs = q.symrefs; peel = q.peel; ref_prefixes = q.ref_prefixes })) ≤ q.kept) };
+    ghost invariant = { λ q. IsCounted q.format (ls_refs (record { symrefs = q.symrefs; peel = q.peel; ref_prefixes = q.ref_prefixes })) q.budget.kept };
 }
 
 /// A request of gitprotocol-v2(5), as it is kept: its arguments by their kinds.
@@ -109,8 +136,9 @@ pub enum Request<A: Allocator + Copy> {
 }
 
 impl<A: Allocator + Copy> LsRefs<A> {
-    ghost use Rattle.git_msg.specs.Arguments.{most_text};
-    ghost use Rattle.git_msg.specs.LsRefs.{IsShort, IsNew, KeepsArgument, IsUnkept};
+    ghost use Rattle.git_msg.specs.Arguments.{IsValue, most_text};
+    ghost use Rattle.git_msg.specs.Asked.{arguments_in, ls_refs};
+    ghost use Rattle.git_msg.specs.Kept.{IsNew, IsUnkept, IsWithin, KeepsArgument, kept_as};
 
     /// Whether symbolic references are to be shown with what they point to.
     pub fn symrefs(&self) -> bool
@@ -136,29 +164,52 @@ impl<A: Allocator + Copy> LsRefs<A> {
     }
 
     fn new(alloc: A, format: Format, limits: Limits) -> LsRefs<A>
-        ensures { IsNew format limits.args result }
+        ensures { IsNew Command.LsRefs format limits.args (kept_as ls_refs result) }
     {
         LsRefs {
             format,
-            limit: limits.args,
-            kept: 0,
+            budget: Budget::new(limits),
             symrefs: false,
             peel: false,
             ref_prefixes: Texts::new(alloc),
         }
     }
 
+    fn kept(&self) -> u32
+        ensures value { result ≡ self.now.kept }
+        ensures within { IsWithin (kept_as ls_refs self.now) }
+    {
+        self.budget.kept
+    }
+
+    // The argument at place `i`, in the order in which they are written.
+    fn argument(&self, i: usize) -> Option<Argument<'_>>
+        ensures value { option_map shown result ≡ slice_get (arguments_in (ls_refs self.now.asked)) i }
+        ensures within { IsWithin (kept_as ls_refs self.now) }
+    {
+        let Some(i) = past_flag(self.peel, i) else {
+            return Some(Argument::Peel);
+        };
+        let Some(i) = past_flag(self.symrefs, i) else {
+            return Some(Argument::Symrefs);
+        };
+        match self.ref_prefix(i) {
+            Some(prefix) => Some(Argument::RefPrefix(prefix)),
+            None => None,
+        }
+    }
+
     // Keeps an argument whose line has a text of so many bytes.
     fn keep(&mut self, argument: Argument<'_>, text_length: usize) -> Result<(), Kind>
-        requires short { IsShort (shown argument) }
+        requires value { IsValue Command.LsRefs self.old.format (shown argument) }
         requires counted { length (written_text (shown argument)) ≤ text_length }
-        ensures kept { OnOk result (KeepsArgument self.old (shown argument.entry) text_length self.new) }
+        ensures kept { OnOk result (KeepsArgument (kept_as ls_refs self.old) (shown argument.entry) text_length (kept_as ls_refs self.new)) }
+        ensures fits { OnOk result (self.old.kept + text_length ≤ self.old.limit) }
         ensures unchanged { OnErr result (self.new ≡ self.old) }
-        ensures refused { IfErr result (IsUnkept self.old (shown argument.entry) text_length) }
+        ensures refused { IfErr result (IsUnkept (kept_as ls_refs self.old) (shown argument.entry) text_length) }
     {
-        if text_length > (self.limit - self.kept) as usize {
-            return Err(Kind::TooMuchKept);
-        }
+        let mut budget = self.budget;
+        budget.charge(text_length)?;
         match argument {
             Argument::Symrefs => self.symrefs = true,
             Argument::Peel => self.peel = true,
@@ -168,17 +219,32 @@ impl<A: Allocator + Copy> LsRefs<A> {
                 }
             }
         }
-        self.kept += text_length as u32;
+        self.budget = budget;
         Ok(())
     }
 }
 
+// The place after a flag's argument, if that is among the arguments; none where the place is its own.
+fn past_flag(set: bool, i: usize) -> Option<usize>
+    ensures { MatchOption result
+        ((flag : Arg) (others : List Arg) → slice_get (where_asked set flag ++ others) i ≡ Some flag)
+        (λ next. (flag : Arg) (others : List Arg) → slice_get (where_asked set flag ++ others) i ≡ slice_get others next) }
+{
+    if !set {
+        return Some(i);
+    }
+    if i == 0 {
+        return None;
+    }
+    Some(i - 1)
+}
+
 impl<A: Allocator + Copy> Request<A> {
-    ghost use Rattle.git_msg.specs.Arguments.{most_text};
-    ghost use Rattle.git_msg.specs.Asked.{nothing_asked, symrefs_of, peel_of, ref_prefixes_of, written_bytes, HasShortTexts};
+    ghost use Rattle.git_msg.specs.Arguments.{most_text, IsValue, IsValueFault};
+    ghost use Rattle.git_msg.specs.Asked.{arguments_in, symrefs_of, peel_of, ref_prefixes_of, written_bytes, HasValues};
     ghost use Rattle.git_msg.specs.Checks.{Passes, Refuses};
     ghost use Rattle.git_msg.specs.Lines.{end_checks};
-    ghost use Rattle.git_msg.specs.Holding.{IsEmpty, asked_of, command_of, format_of, kept_of, limit_of, Keeps, add_checks, keep_checks, IsRefused, IsValue, IsValueFault};
+    ghost use Rattle.git_msg.specs.Holding.{IsEmpty, asked_of, command_of, format_of, kept_of, limit_of, Keeps, add_checks, keep_checks, IsRefused};
 
     /// A request without arguments. Later calls take memory from `alloc`, and only where an argument with a text is
     /// kept.
@@ -236,12 +302,12 @@ impl<A: Allocator + Copy> Request<A> {
         ensures value { result ≡ kept_of self.now }
         ensures within { kept_of self.now ≤ limit_of self.now }
 
-        // The lines as they are written have no more, and their texts are not too long.
+        // The lines as they are written have no more, and each argument may stand there.
         ensures written { written_bytes (asked_of self.now) ≤ kept_of self.now }
-        ensures short { HasShortTexts (asked_of self.now) }
+        ensures values { HasValues (format_of self.now) (asked_of self.now) }
     {
         match self {
-            Request::LsRefs(request) => request.kept,
+            Request::LsRefs(request) => request.kept(),
         }
     }
 
@@ -251,7 +317,7 @@ impl<A: Allocator + Copy> Request<A> {
     {
         match self {
             Request::LsRefs(request) => Limits {
-                args: request.limit,
+                args: request.budget.limit,
             },
         }
     }
@@ -285,12 +351,14 @@ impl<A: Allocator + Copy> Request<A> {
         }
     }
 
-    /// How many prefixes there are.
-    pub(crate) fn ref_prefix_count(&self) -> usize
-        ensures { result ≡ length (ref_prefixes_of (asked_of self.now)) }
+    /// The argument at place `i`, in the order in which they are written.
+    pub(crate) fn argument(&self, i: usize) -> Option<Argument<'_>>
+        ensures value { option_map shown result ≡ slice_get (arguments_in (asked_of self.now)) i }
+        ensures bound { OnSome result (i + 1 < 2 ^ 64) }
+        ensures fits { IfSome result (λ argument. length (written_text (shown argument)) < longest_payload) }
     {
         match self {
-            Request::LsRefs(request) => request.ref_prefixes.len(),
+            Request::LsRefs(request) => request.argument(i),
         }
     }
 

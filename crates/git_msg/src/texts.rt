@@ -1,12 +1,13 @@
 //! Words of lines, and where they end.
-ghost use Rattle.std.specs.Prelude.{◌≡◌, ◌↔◌, ◌++◌, ◌==◌, IsTrue, MatchOption, codes, position};
+ghost use Rattle.std.specs.Prelude.{◌≡◌, ◌<◌, ◌↔◌, ◌∷◌, ◌++◌, ◌==◌, IsTrue, MatchOption, length, position};
+ghost use Rattle.std.specs.Option.{option_copied};
 ghost use Rattle.std.specs.Str.{bytes_eq};
-ghost use Rattle.git_msg.specs.Texts.{BeginsOtherThan, IsErrorText};
+ghost use Rattle.git_msg.specs.Texts.{BeginsOtherThan, IsErrorOf, IsErrorText, parts_left, parts_of};
 
 use bstr::ByteSlice;
 
 /// Whether the text is the word.
-pub fn is_word(text: &[u8], word: &[u8]) -> bool
+pub(crate) fn is_word(text: &[u8], word: &[u8]) -> bool
     ensures value { result ≡ bytes_eq text.now word.now }
     ensures same { IsTrue result ↔ (text.now ≡ word.now) }
 {
@@ -21,15 +22,33 @@ pub fn after<'a>(text: &'a [u8], word: &[u8]) -> Option<&'a [u8]>
 }
 
 /// The first place of the text where this byte stands.
-pub fn find_byte(text: &[u8], byte: u8) -> Option<usize>
+pub(crate) fn find_byte(text: &[u8], byte: u8) -> Option<usize>
     ensures { result ≡ position (λ c. c == byte) text.now }
 {
     text.find_byte(byte)
 }
 
-/// Whether the text is that of an error packet, gitprotocol-pack(5).
-pub(crate) fn is_error(text: &[u8]) -> bool
+/// The text up to the first such byte, and what stands after that byte, where there is one.
+pub fn split_at_first(text: &[u8], byte: u8) -> (&[u8], Option<&[u8]>)
+    ensures parts { parts_of byte text.now ≡ result.0.now ∷ parts_left byte (option_copied result.1) }
+    ensures shorter { MatchOption result.1 (Unit {0}) (λ rest. length rest.now < length text.now) }
+{
+    match find_byte(text, byte) {
+        Some(at) => (&text[..at], Some(&text[at + 1..])),
+        None => (text, None),
+    }
+}
+
+/// The message of an error packet that has this text, gitprotocol-pack(5): what stands after `ERR `.
+pub fn error_message(text: &[u8]) -> Option<&[u8]>
+    ensures { MatchOption result (¬ IsErrorText text.now) (λ message. IsErrorOf text.now message.now) }
+{
+    after(text, b"ERR ")
+}
+
+/// Whether the text is that of an error packet.
+pub fn is_error(text: &[u8]) -> bool
     ensures { IsTrue result ↔ IsErrorText text.now }
 {
-    after(text, b"ERR ").is_some()
+    error_message(text).is_some()
 }

@@ -2,14 +2,14 @@
 ghost use Rattle.std.specs.Prelude.{◌≡◌, [], Bool, MatchOption};
 ghost use Rattle.std.specs.Bool.{OnTrue, OnFalse};
 ghost use Rattle.git_names.specs.declared.object_format.Format.{Format};
-ghost use Rattle.git_msg.specs.declared.arguments.Command.{Command};
 ghost use Rattle.git_msg.specs.Asked.{Asked};
 ghost use Rattle.git_msg.specs.Holding.{asked_of};
-ghost use Rattle.git_msg.specs.Writing.{agent_lines, format_lines, argument_lines, behind_peel, lines_from, left_at, left_to_write, written_of, PutsFirst};
+ghost use Rattle.git_msg.specs.Writing.{agent_line, argument_part, format_line, lines_from, left_at, left_to_write, where_set, written_of, PutsFirst};
 
+use crate::capabilities::AGENT_LINE;
 use crate::offers::Caps;
 use crate::requests::Request;
-use crate::writing::put_line;
+use crate::writing::{put_argument, put_line};
 use git_pkt::{Hold, Packet, put};
 use std::alloc::Allocator;
 
@@ -20,9 +20,8 @@ enum Next {
     Agent,
     ObjectFormat,
     Delimiter,
-    Peel,
-    Symrefs,
-    Prefix(usize),
+    // The argument at this place, or the flush after the last.
+    Argument(usize),
     Done,
 }
 
@@ -72,7 +71,7 @@ impl RequestWriter {
                 Some(self.after_command())
             }
             Next::Agent => {
-                put_line(hold, b"agent=git2/1", b"");
+                put(hold, Packet::Payload(AGENT_LINE));
                 Some(self.after_agent())
             }
             Next::ObjectFormat => {
@@ -81,24 +80,16 @@ impl RequestWriter {
             }
             Next::Delimiter => {
                 put(hold, Packet::Delim);
-                Some(after_delimiter(request))
+                Some(Next::Argument(0))
             }
-            Next::Peel => {
-                put_line(hold, b"peel", b"");
-                Some(after_peel(request))
-            }
-            Next::Symrefs => {
-                put_line(hold, b"symrefs", b"");
-                Some(Next::Prefix(0))
-            }
-            Next::Prefix(i) => Some(put_prefix(request, i, hold)),
+            Next::Argument(i) => Some(put_from(request, i, hold)),
             Next::Done => None,
         }
     }
 
     fn after_command(&self) -> Next
-        ensures { (command : Command) (format : Format) (asked : Asked)
-            → lines_from result self.now.agent self.now.object_format command format asked ≡ agent_lines self.now.agent self.now.object_format format asked }
+        ensures { (format : Format) (asked : Asked) → lines_from result self.now.agent self.now.object_format format asked
+            ≡ where_set self.now.agent agent_line (where_set self.now.object_format (format_line format) (argument_part asked)) }
     {
         if self.agent {
             return Next::Agent;
@@ -107,8 +98,8 @@ impl RequestWriter {
     }
 
     fn after_agent(&self) -> Next
-        ensures { (command : Command) (format : Format) (asked : Asked)
-            → lines_from result self.now.agent self.now.object_format command format asked ≡ format_lines self.now.object_format format asked }
+        ensures { (format : Format) (asked : Asked) → lines_from result self.now.agent self.now.object_format format asked
+            ≡ where_set self.now.object_format (format_line format) (argument_part asked) }
     {
         if self.object_format {
             return Next::ObjectFormat;
@@ -117,41 +108,20 @@ impl RequestWriter {
     }
 }
 
-fn after_delimiter<A: Allocator + Copy>(request: &Request<A>) -> Next
-    ensures { (agent object_format : Bool) (command : Command) (format : Format)
-        → lines_from result agent object_format command format (asked_of request.now) ≡ argument_lines (asked_of request.now) }
+/// The line of the argument at place `i`, or the flush after the last.
+fn put_from<A: Allocator + Copy>(request: &Request<A>, i: usize, hold: &mut Hold) -> Next
+    ensures { (agent object_format : Bool) (format : Format)
+        → PutsFirst (lines_from (Next.Argument i) agent object_format format (asked_of request.now))
+        (lines_from result agent object_format format (asked_of request.now)) hold.new.items }
 {
-    if request.peel() {
-        return Next::Peel;
-    }
-    after_peel(request)
-}
-
-fn after_peel<A: Allocator + Copy>(request: &Request<A>) -> Next
-    ensures { (agent object_format : Bool) (command : Command) (format : Format)
-        → lines_from result agent object_format command format (asked_of request.now) ≡ behind_peel (asked_of request.now) }
-{
-    if request.symrefs() {
-        return Next::Symrefs;
-    }
-    Next::Prefix(0)
-}
-
-/// The line of a prefix, or the flush after the last.
-fn put_prefix<A: Allocator + Copy>(request: &Request<A>, i: usize, hold: &mut Hold) -> Next
-    ensures { (agent object_format : Bool) (command : Command) (format : Format)
-        → PutsFirst (lines_from (Next.Prefix i) agent object_format command format (asked_of request.now))
-        (lines_from result agent object_format command format (asked_of request.now)) hold.new.items }
-{
-    if i >= request.ref_prefix_count() {
-        put(hold, Packet::Flush);
-        return Next::Done;
-    }
-    match request.ref_prefix(i) {
-        Some(prefix) => {
-            put_line(hold, b"ref-prefix ", prefix);
-            Next::Prefix(i + 1)
+    match request.argument(i) {
+        Some(argument) => {
+            put_argument(hold, argument);
+            Next::Argument(i + 1)
         }
-        None => unreachable!(),
+        None => {
+            put(hold, Packet::Flush);
+            Next::Done
+        }
     }
 }

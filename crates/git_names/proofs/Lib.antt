@@ -1,4 +1,5 @@
 pub mod Beginnings
+pub mod HexDigits
 pub mod ObjectNames
 pub mod Pairs
 pub mod RefNames

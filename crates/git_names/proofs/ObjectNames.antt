@@ -1,14 +1,15 @@
 -- What holds of object names and of their texts.
-use Rattle.std.proofs.Common.{◌≡◌, ℕ, zero, suc, ◌-◌, ◌*◌, ◌/◌, ◌%◌, ◌<◌, ◌≤◌, ◌==◌, Bool, List, [], ◌∷◌, ◌++◌, length, slice_index, take, drop, replicate, refl, sym, ap, ◌∙◌, inl, inr, arith}
-use Rattle.std.proofs.lemmas.Bool.{eqb-true, cases_lt}
+use Rattle.std.proofs.Common.{◌≡◌, ℕ, zero, suc, ◌-◌, ◌*◌, ◌/◌, ◌%◌, ◌<◌, ◌≤◌, List, [], ◌∷◌, ◌++◌, length, slice_index, take, drop, replicate, refl, sym, ap, ◌∙◌, inl, inr, arith}
+use Rattle.std.proofs.lemmas.Bool.{cases_lt}
 use Rattle.std.proofs.lemmas.List.{ext_get_or, get_or-take, take-append-drop, length-append, length-replicate, length-take, length-take-le, get_or_past, get_or-replicate}
 use Rattle.std.proofs.Math.Seq.{take-append_seam, drop-append_seam}
 use Rattle.git_names.specs.declared.object_format.Format.{Format}
 use Rattle.git_names.specs.declared.object_format.Format.TheVariants.{Sha1, Sha256}
 use Rattle.git_names.specs.ObjectFormat.{width_of, digits_of}
-use Rattle.git_names.specs.ObjectName.{ArePairs, IsNoObjectName, IsObjectName, IsOid, IsPair, ObjectName, digit_value, hex_of, hex_text, lower_digit, name_bytes}
+use Rattle.git_names.specs.Digits.{lower_digit}
+use Rattle.git_names.specs.ObjectName.{ArePairs, IsNoObjectName, IsObjectName, IsOid, IsPair, ObjectName, hex_of, hex_text, name_bytes}
+use Rattle.git_names.proofs.HexDigits.{digit_value-lower_digit}
 use Rattle.git_names.proofs.Pairs.{SpellsNone, length-pairs, pair_at}
-use Rattle.git_names.proofs.Tables.{all_pass-at}
 
 -- two digits for each byte of the format
 digits_of-width : (format : Format) → digits_of format ≡ 2 * width_of format
@@ -84,13 +85,6 @@ one_object_name format text a b p q =
     same_name a b kind whole
 
 -- ---- the written form
-
--- the digit of a value reads back
-abbrev reads_back : ℕ → Bool
-reads_back d = digit_value (lower_digit d) == d
-
-digit_value-lower_digit : (d : ℕ) → d < 16 → digit_value (lower_digit d) ≡ d
-digit_value-lower_digit d lt = eqb-true (digit_value (lower_digit d)) d (all_pass-at reads_back 16 d refl lt)
 
 -- the two digits of a byte spell it
 IsPair-lower : (byte : ℕ) → byte < 256 → IsPair (lower_digit (byte / 16)) (lower_digit (byte % 16)) byte

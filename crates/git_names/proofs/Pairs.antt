@@ -3,7 +3,8 @@ use Rattle.std.proofs.Common.{◌≡◌, ℕ, zero, suc, ◌+◌, ◌*◌, ◌<�
 use Rattle.std.specs.Prelude.{IsOk, OnOk}
 use Rattle.hex.specs.Hex.{encode_with, lower_digits}
 use Rattle.hex.specs.declared.error.FromHexError.{FromHexError}
-use Rattle.git_names.specs.ObjectName.{ArePairs, IsPair, digit_value, hex_text}
+use Rattle.git_names.specs.Digits.{IsHexDigit, lower_digit}
+use Rattle.git_names.specs.ObjectName.{ArePairs, IsPair, hex_text}
 
 -- pairs have two digits for each byte
 pub length-pairs : (text bytes : List ℕ) → ArePairs text bytes → length text ≡ 2 * length bytes
@@ -60,14 +61,14 @@ spells_none-length text n other bytes long h =
 
 -- a text with a byte that is no digit spells none
 pub spells_none-digit : (text : List ℕ) (n k : ℕ) → k < n
-    → (digit_value (slice_index text (2 * k)) < 16 → digit_value (slice_index text (2 * k + 1)) < 16 → ⊥) → SpellsNone text n
+    → (IsHexDigit (slice_index text (2 * k)) → IsHexDigit (slice_index text (2 * k + 1)) → ⊥) → SpellsNone text n
 spells_none-digit text n k lt bad bytes long h =
     let p = pair_at text bytes k h (omega arith) in
     bad p.high_digit p.low_digit
 
 -- the lower case text of `hex`
 pub encode_lower-text : (bytes : List ℕ) → encode_with lower_digits bytes ≡ hex_text bytes
-unfolding encode_with hex_text
+unfolding encode_with hex_text lower_digit
 encode_lower-text [] = refl
 encode_lower-text (byte ∷ bytes) = rw (encode_lower-text bytes) refl
 

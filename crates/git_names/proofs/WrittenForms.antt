@@ -1,22 +1,18 @@
 -- The written forms of object names.
-use Rattle.std.proofs.Common.{◌≡◌, ℕ, zero, suc, ◌/◌, ◌%◌, ◌<◌, ◌==◌, Bool, true, false, not, ◌||◌, List, [], ◌∷◌, length, slice_index, refl, sym, ap, ◌∙◌, arith}
+use Rattle.std.proofs.Common.{◌≡◌, ℕ, zero, suc, ◌/◌, ◌%◌, ◌<◌, true, List, [], ◌∷◌, length, slice_index, refl, sym, ap, ◌∙◌, arith}
 use Rattle.std.specs.List.{AllPass}
-use Rattle.std.proofs.lemmas.Bool.{eqb-true}
 use Rattle.std.proofs.lemmas.List.Elements.{All-cons, All-head, All-nil, All-tail}
 use Rattle.git_names.specs.declared.object_format.Format.{Format}
 use Rattle.git_names.specs.declared.object_format.Format.TheVariants.{Sha1, Sha256}
 use Rattle.git_names.specs.ObjectFormat.{digits_of}
-use Rattle.git_names.specs.ObjectName.{ArePairs, IsObjectName, IsOid, ObjectName, digit_value, hex_of, hex_text, is_lower_digit, lower_digit, name_bytes}
+use Rattle.git_names.specs.Digits.{IsHexDigit, digit_value, is_lower_digit, lower_digit}
+use Rattle.git_names.specs.ObjectName.{ArePairs, IsObjectName, IsOid, ObjectName, hex_of, hex_text, name_bytes}
+use Rattle.git_names.proofs.HexDigits.{is_lower_digit-lower_digit, lower_digit-digit_value}
 use Rattle.git_names.proofs.ObjectNames.{bytes_of_part, one_object_name, reads_back-hex_of}
-use Rattle.git_names.proofs.Tables.{all_pass-at}
 
 -- the fact of `AllPass is_lower_digit`
 abbrev lower_holds : ℕ → Type 0
 lower_holds c = is_lower_digit c ≡ true
-
--- the digit of a value is in lower case
-is_lower_digit-lower_digit : (d : ℕ) → d < 16 → is_lower_digit (lower_digit d) ≡ true
-is_lower_digit-lower_digit d lt = all_pass-at (λ (k : ℕ). is_lower_digit (lower_digit k)) 16 d refl lt
 
 -- what is written is in lower case
 lower-hex_text : (bytes : List ℕ) → ((i : ℕ) → slice_index bytes i < 256) → AllPass is_lower_digit (hex_text bytes)
@@ -30,20 +26,6 @@ lower-hex_text (byte ∷ bytes) fits =
 
 pub lower-hex_of : (id : ObjectName) → IsOid id → AllPass is_lower_digit (hex_of id)
 lower-hex_of id h = lower-hex_text (name_bytes id) (bytes_of_part _ id.bytes h.in_range)
-
--- a digit in lower case is the digit of its value
-abbrev is_own_digit : ℕ → Bool
-is_own_digit c = not (is_lower_digit c) || lower_digit (digit_value c) == c
-
-own_if_lower : (lower own : Bool) → (not lower || own) ≡ true → lower ≡ true → own ≡ true
-own_if_lower true own h is = h
-own_if_lower false own h is = cc is
-
-lower_digit-digit_value : (c : ℕ) → is_lower_digit c ≡ true → lower_digit (digit_value c) ≡ c
-lower_digit-digit_value c h =
-    let small : c < 103 = grind arith in
-    eqb-true (lower_digit (digit_value c)) c
-    (own_if_lower (is_lower_digit c) (lower_digit (digit_value c) == c) (all_pass-at is_own_digit 103 c refl small) h)
 
 -- pairs in lower case are what is written
 hex_text-lower : (text bytes : List ℕ) → ArePairs text bytes → AllPass is_lower_digit text → text ≡ hex_text bytes
@@ -83,7 +65,7 @@ hex_of-apart a b h k same =
     one_object_name a.format (hex_of a) a b left (rw (same, kind) right)
 
 -- each byte of pairs is a digit
-digits-pairs : (text bytes : List ℕ) → ArePairs text bytes → (k : ℕ) → k < length text → digit_value (slice_index text k) < 16
+digits-pairs : (text bytes : List ℕ) → ArePairs text bytes → (k : ℕ) → k < length text → IsHexDigit (slice_index text k)
 unfolding ArePairs
 digits-pairs [] [] h k lt = absurd (omega arith)
 digits-pairs [] (byte ∷ bytes) h k lt = absurd h
@@ -94,5 +76,5 @@ digits-pairs (high ∷ low ∷ text) (byte ∷ bytes) h (suc zero) lt = h.0.low_
 digits-pairs (high ∷ low ∷ text) (byte ∷ bytes) h (suc (suc k)) lt = digits-pairs text bytes h.1 k (omega arith)
 
 pub digits-object_name : (format : Format) (text : List ℕ) (id : ObjectName) → IsObjectName format text id
-    → (k : ℕ) → k < length text → digit_value (slice_index text k) < 16
+    → (k : ℕ) → k < length text → IsHexDigit (slice_index text k)
 digits-object_name format text id h = digits-pairs text (name_bytes id) h.pairs

@@ -1,3 +1,4 @@
+pub mod Digits
 pub mod Following
 pub mod NameBytes
 pub mod NameFaults

@@ -1,5 +1,6 @@
 -- What object names are, as texts and as values.
-use Rattle.std.specs.Prelude.{◌≡◌, ℕ, ◌+◌, ◌-◌, ◌*◌, ◌/◌, ◌%◌, ◌<◌, Bool, nat_le, ◌&&◌, ◌||◌, if◌then◌else◌, List, [], ◌∷◌, length, take, drop, replicate, slice_index, codes}
+use Rattle.std.specs.Prelude.{◌≡◌, ℕ, ◌+◌, ◌-◌, ◌*◌, ◌/◌, ◌%◌, ◌<◌, List, [], ◌∷◌, length, take, drop, replicate, slice_index}
+use Rattle.git_names.specs.Digits.{IsHexDigit, digit_value, lower_digit}
 use Rattle.git_names.specs.declared.object_format.Format.{Format}
 use Rattle.git_names.specs.ObjectFormat.{width_of, digits_of}
 
@@ -16,18 +17,10 @@ name_bytes id = take (width_of id.format) id.bytes
 abbrev pub IsPadded : ObjectName → Type 0
 IsPadded id = drop (width_of id.format) id.bytes ≡ replicate (32 - width_of id.format) 0
 
--- the value of a hexadecimal digit of either case, and 16 for any other byte
-abbrev pub digit_value : ℕ → ℕ
-digit_value c =
-    if nat_le 48 c && nat_le c 57 then c - 48
-    else if nat_le 65 c && nat_le c 70 then c - 55
-    else if nat_le 97 c && nat_le c 102 then c - 87
-    else 16
-
 -- two digits that spell a byte, the high four bits first
 pub record IsPair (high low byte : ℕ) : Type 0 where
-  pub high_digit : digit_value high < 16
-  pub low_digit : digit_value low < 16
+  pub high_digit : IsHexDigit high
+  pub low_digit : IsHexDigit low
   pub value : byte ≡ digit_value high * 16 + digit_value low
 
 -- the text spells the bytes, two digits for each
@@ -47,10 +40,6 @@ pub record IsObjectName (format : Format) (text : List ℕ) (id : ObjectName) : 
 abbrev pub IsNoObjectName : Format → List ℕ → Type 0
 IsNoObjectName format text = (id : ObjectName) → ¬ IsObjectName format text id
 
--- the digit of a value below 16, in lower case
-abbrev pub lower_digit : ℕ → ℕ
-lower_digit d = slice_index (codes "0123456789abcdef") d
-
 -- the bytes in lower case digits, two for each
 unfoldable pub hex_text : List ℕ → List ℕ
 hex_text [] = []
@@ -65,7 +54,3 @@ pub record IsOid (id : ObjectName) : Type 0 where
   pub size : length id.bytes ≡ 32
   pub in_range : (i : ℕ) → slice_index id.bytes i < 256
   pub padded : IsPadded id
-
--- the byte is a digit in lower case
-abbrev pub is_lower_digit : ℕ → Bool
-is_lower_digit c = (nat_le 48 c && nat_le c 57) || (nat_le 97 c && nat_le c 102)

@@ -1,9 +1,11 @@
-//! Bytes as pairs of hexadecimal digits.
-ghost use Rattle.std.specs.Prelude.{◌≡◌, ◌*◌, ◌≤◌, List, ℕ, length, MatchBool};
-ghost use Rattle.git_names.specs.ObjectName.{ArePairs, digit_value, hex_text};
+//! Hexadecimal digits, and bytes as pairs of them.
+ghost use Rattle.std.specs.Prelude.{◌≡◌, ◌*◌, ◌<◌, ◌≤◌, List, ℕ, length, MatchBool};
+ghost use Rattle.git_names.specs.Digits.{digit_value, lower_digit};
+ghost use Rattle.git_names.specs.ObjectName.{ArePairs, hex_text};
 
 // The value of each byte as a digit of either case, and 16 where it is none; a row has 16 bytes.
-// Object names stand in nearly every line, and a table has no branch for the processor to guess.
+// Each packet begins with digits and object names stand in nearly every line; a table has no branch for the
+// processor to guess.
 static DIGIT_VALUES: [u8; 256] = *b"\
     \x10\x10\x10\x10\x10\x10\x10\x10\x10\x10\x10\x10\x10\x10\x10\x10\
     \x10\x10\x10\x10\x10\x10\x10\x10\x10\x10\x10\x10\x10\x10\x10\x10\
@@ -22,11 +24,21 @@ static DIGIT_VALUES: [u8; 256] = *b"\
     \x10\x10\x10\x10\x10\x10\x10\x10\x10\x10\x10\x10\x10\x10\x10\x10\
     \x10\x10\x10\x10\x10\x10\x10\x10\x10\x10\x10\x10\x10\x10\x10\x10";
 
-// The value of a digit, and 16 for a byte that is none.
-fn digit(byte: u8) -> u8
+static LOWER_DIGITS: [u8; 16] = *b"0123456789abcdef";
+
+/// The value of a hexadecimal digit of either case, and 16 for any other byte.
+pub fn digit_value(byte: u8) -> u8
     ensures { result ≡ digit_value byte }
 {
     DIGIT_VALUES[byte as usize]
+}
+
+/// The digit of a value below 16, in lower case.
+pub fn lower_digit(value: usize) -> u8
+    requires { value < 16 }
+    ensures { result ≡ lower_digit value }
+{
+    LOWER_DIGITS[value]
 }
 
 // Reads a pair of digits for each byte of `out`. Where `text` is something else the answer is
@@ -40,8 +52,8 @@ pub(crate) fn read_pairs(text: &[u8], out: &mut [u8]) -> bool
         return false;
     }
     'pairs: for i in 0..out.len() {
-        let high = digit(text[2 * i]);
-        let low = digit(text[2 * i + 1]);
+        let high = digit_value(text[2 * i]);
+        let low = digit_value(text[2 * i + 1]);
         if high > 15 {
             return false;
         }

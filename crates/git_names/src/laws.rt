@@ -1,7 +1,8 @@
 //! Laws of names: each function does nothing, and its contract is the law.
 ghost use Rattle.std.specs.Prelude.{◌≡◌, ℕ, ◌<◌, ◌⊎◌, List, [], ◌++◌, codes, length, slice_index};
 ghost use Rattle.std.specs.List.{AllPass};
-ghost use Rattle.git_names.specs.ObjectName.{IsObjectName, IsOid, ObjectName, digit_value, hex_of, is_lower_digit};
+ghost use Rattle.git_names.specs.Digits.{IsHexDigit, is_lower_digit};
+ghost use Rattle.git_names.specs.ObjectName.{IsObjectName, IsOid, ObjectName, hex_of};
 ghost use Rattle.git_names.specs.RefName.{IsRefName, Lacks};
 ghost use Rattle.git_names.specs.declared.object_format.Format.{Format as ObjectFormat};
 
@@ -37,7 +38,7 @@ pub fn no_object_name_begins_another()
 /// An object name is digits: no byte of it ends a word or a line.
 pub fn object_name_is_digits()
     ensures { (format : ObjectFormat) (text : List ℕ) (id : ObjectName) → IsObjectName format text id
-        → (k : ℕ) → k < length text → digit_value (slice_index text k) < 16 }
+        → (k : ℕ) → k < length text → IsHexDigit (slice_index text k) }
 {}
 
 /// Each object name that a text spells is a value of [`Oid`](crate::Oid).

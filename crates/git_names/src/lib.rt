@@ -1,5 +1,6 @@
 //! Names in Git's protocol: object formats, object names and reference names, read from the bytes
-//! of a stranger and written back, and the counter of steps that contracts speak of.
+//! of a stranger and written back, the hexadecimal digits of the protocol, and the counter of steps that contracts
+//! speak of.
 #![tactic(auto)]
 
 mod counter;
@@ -11,6 +12,7 @@ mod object_name;
 mod reference;
 
 pub use crate::counter::Steps;
+pub use crate::digits::{digit_value, lower_digit};
 pub use crate::fault::NameFault;
 pub use crate::object_format::Format;
 pub use crate::object_name::Oid;

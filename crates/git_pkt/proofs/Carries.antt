@@ -4,7 +4,7 @@ use Rattle.std.proofs.lemmas.List.{append-nil}
 use Rattle.git_pkt.specs.Packets.{Spells}
 use Rattle.git_pkt.specs.Splits.{Given, NoneBegins}
 use Rattle.git_pkt.specs.Faults.{IsOpen, StopsBy}
-use Rattle.git_pkt.specs.Reading.{position_of, held_of, rest_of, fault_of, Reads, StandsAt, ReadsOn}
+use Rattle.git_pkt.specs.Reading.{position_of, held_of, rest_of, fault_of, StandsAt, ReadsOn}
 use Rattle.git_pkt.specs.ReaderSteps.{Moves}
 use Rattle.git_pkt.specs.declared.fault.Fault.{Fault}
 use Rattle.git_pkt.specs.declared.reader.PacketReader.{PacketReader}
@@ -12,22 +12,15 @@ use Rattle.git_pkt.specs.declared.reader.Progress.TheVariants.{Open, Whole, Fail
 use Rattle.git_pkt.proofs.Spelling.{none_begins_nothing}
 use Rattle.git_pkt.proofs.Streams.{spells_all_more, spells_all_whole}
 use Rattle.git_pkt.proofs.ReaderMoves.{rest_of_shut, rest_is_open, rest_is_partial}
-
--- a reader without a fault has the stream's rest
-pub rest_stands : (r : PacketReader) (start : ℕ) (bytes : List ℕ) (given : List Given) (rest : List ℕ) → fault_of r ≡ None → Reads r start bytes given rest → rest_of r ≡ rest
-rest_stands r start bytes given rest sound h =
-    let end : ℕ = start + length bytes in
-    let state : StandsAt None (end - length rest) end rest r =
-    subst (λ (o : Option Fault). StandsAt o (end - length rest) end rest r) sound h.state in
-    state.0
+use Rattle.git_pkt.proofs.Holding.{sound_rest}
 
 stands_open : (r : PacketReader) (p end : ℕ) (rest : List ℕ) → fault_of r ≡ None → rest_of r ≡ rest → StandsAt (fault_of r) p end rest r
 stands_open r p end rest sound same =
-    subst (λ (o : Option Fault). StandsAt o p end rest r) (sym sound) (same, subst (λ (l : List ℕ). IsOpen l) same (rest_is_open r))
+    subst (λ (o : Option Fault). StandsAt o p end rest r) (sym sound) (record { all = same }, subst (λ (l : List ℕ). IsOpen l) same (rest_is_open r))
 
 pub carry_open : (old new : PacketReader) (u : List ℕ) → fault_of old ≡ None → Moves old u Open new → ReadsOn old u [] new
 carry_open old new u sound m start bytes given rest r =
-    let was = rest_stands old start bytes given rest sound r in
+    let was = (sound_rest old start bytes given rest sound r).0.all in
     let same : rest_of new ≡ rest ++ u = m.arrives.rest_is ∙ ap (λ (l : List ℕ). l ++ u) was in (
       rest ++ u,
       record {
@@ -43,7 +36,7 @@ carry_open old new u sound m start bytes given rest r =
 
 pub carry_whole : (old new : PacketReader) (u : List ℕ) (g : Given) → fault_of old ≡ None → Moves old u Whole new → Spells g.packet (held_of new) → g.offset + length (held_of new) ≡ position_of new → ReadsOn old u (g ∷ []) new
 carry_whole old new u g sound m spells at start bytes given rest r =
-    let was = rest_stands old start bytes given rest sound r in
+    let was = (sound_rest old start bytes given rest sound r).0.all in
     let same : held_of new ≡ rest ++ u = m.arrives.held ∙ ap (λ (l : List ℕ). l ++ u) was in
     let spelled : Spells g.packet (rest ++ u) = subst (λ (l : List ℕ). Spells g.packet l) same spells in (
       [],
@@ -61,7 +54,7 @@ carry_whole old new u g sound m spells at start bytes given rest r =
 
 pub carry_failed : (old new : PacketReader) (u : List ℕ) (f : Fault) → fault_of old ≡ None → Moves old u (Failed f) new → ReadsOn old u [] new
 carry_failed old new u f sound m start bytes given rest r =
-    let was = rest_stands old start bytes given rest sound r in
+    let was = (sound_rest old start bytes given rest sound r).0.all in
     let same : rest_of old ++ u ≡ rest ++ u = ap (λ (l : List ℕ). l ++ u) was in
     let end : position_of new ≡ start + length (bytes ++ u) = omega (arith, m.position, r.position, length-append bytes u) in
     let by : StopsBy (start + length (bytes ++ u) - length (rest ++ u)) (rest ++ u) (start + length (bytes ++ u)) f.kind f.offset =

@@ -2,7 +2,8 @@
 use Rattle.std.proofs.Common.{◌≡◌, ◌≢◌, ◌⊎◌, inl, inr, ℕ, zero, suc, ◌+◌, ◌-◌, ◌<◌, ◌≤◌, List, [], ◌∷◌, ◌++◌, length, take, drop, slice_index, max, replicate, arith, refl, sym, ◌∙◌, ap, subst, length-append, length-drop, append_assoc}
 use Rattle.std.proofs.lemmas.Bool.{cases_lt}
 use Rattle.std.proofs.lemmas.List.{length-replicate, get_or-replicate, get_or_append_left, get_or-append_right, take-append-drop}
-use Rattle.git_pkt.specs.Digits.{IsHexDigit, HasDigits, digit_value, digits_value}
+use Rattle.git_names.specs.Digits.{IsHexDigit, digit_value}
+use Rattle.git_pkt.specs.Digits.{HasDigits, digits_value}
 use Rattle.git_pkt.specs.Packets.{Pkt, flush, delim, resp_end, payload, Spells}
 use Rattle.git_pkt.specs.Splits.{Given, NoneBegins, Splits}
 use Rattle.git_pkt.specs.Faults.{IsOpen, IsRefused}

@@ -2,11 +2,12 @@
 use Rattle.std.proofs.Common.{◌≡◌, ◌≢◌, ℕ, ◌+◌, ◌-◌, List, length, Option, Some, None, sym, ◌∙◌, ap, subst, refl}
 use Rattle.git_pkt.specs.Splits.{Given}
 use Rattle.git_pkt.specs.Faults.{IsOpen, IsRefused, RestFault, StopsBy}
-use Rattle.git_pkt.specs.Reading.{Reads, StandsAt, fault_of, rest_of}
+use Rattle.git_pkt.specs.Reading.{Reads, StandsAt, HoldsAll, fault_of, rest_of}
 use Rattle.git_pkt.specs.declared.fault.Fault.{Fault}
 use Rattle.git_pkt.specs.declared.fault.Kind.{Kind}
 use Rattle.git_pkt.specs.declared.fault.Kind.TheVariants.{Truncated, StreamTooLong}
 use Rattle.git_pkt.specs.declared.reader.PacketReader.{PacketReader}
+use Rattle.git_pkt.proofs.Holding.{sound_rest}
 use Rattle.git_pkt.proofs.Streams.{one_split, SameSplit}
 use Rattle.git_pkt.proofs.Rests.{not_open_and_faulty, one_fault, same_fault}
 
@@ -18,10 +19,6 @@ same_split r s start bytes given others rest other_rest h k =
 pub stopped : (r : PacketReader) (f : Fault) (start : ℕ) (bytes : List ℕ) (given : List Given) (rest : List ℕ) → Reads r start bytes given rest → fault_of r ≡ Some f → StopsBy (start + length bytes - length rest) rest (start + length bytes) f.kind f.offset
 stopped r f start bytes given rest h told =
     (subst (λ (o : Option Fault). StandsAt o (start + length bytes - length rest) (start + length bytes) rest r) told h.state).1
-
-pub unstopped : (r : PacketReader) (start : ℕ) (bytes : List ℕ) (given : List Given) (rest : List ℕ) → Reads r start bytes given rest → fault_of r ≡ None → StandsAt None (start + length bytes - length rest) (start + length bytes) rest r
-unstopped r start bytes given rest h none =
-    subst (λ (o : Option Fault). StandsAt o (start + length bytes - length rest) (start + length bytes) rest r) none h.state
 
 -- a fault by one name stands at one offset
 pub one_offset : (p : ℕ) (rest : List ℕ) (end : ℕ) (kind : Kind) (m n : ℕ) → StopsBy p rest end kind m → StopsBy p rest end kind n → m ≡ n
@@ -83,8 +80,9 @@ one_by_name r s f g start bytes given others rest other_rest h k told other name
     subst (λ (n : Kind). StopsBy p rest (start + length bytes) n g.offset) (sym name) b in
     same_fault f g name (one_offset p rest (start + length bytes) f.kind f.offset g.offset a c)
 
--- two readers without a fault hold one rest
-pub one_rest : (r s : PacketReader) (start : ℕ) (bytes : List ℕ) (given others : List Given) (rest other_rest : List ℕ) → Reads r start bytes given rest → Reads s start bytes others other_rest → fault_of r ≡ None → fault_of s ≡ None → rest_of r ≡ rest_of s
-one_rest r s start bytes given others rest other_rest h k sound well =
+-- two readers without a fault that hold all of the rest hold one
+pub one_rest : (r s : PacketReader) (start : ℕ) (bytes : List ℕ) (given others : List Given) (rest other_rest : List ℕ) → Reads r start bytes given rest
+    → Reads s start bytes others other_rest → fault_of r ≡ None → fault_of s ≡ None → HoldsAll r → HoldsAll s → rest_of r ≡ rest_of s
+one_rest r s start bytes given others rest other_rest h k sound well all others_all =
     let same = (same_split r s start bytes given others rest other_rest h k).rest_is in
-    (unstopped r start bytes given rest h sound).0 ∙ same ∙ sym (unstopped s start bytes others other_rest k well).0
+    (sound_rest r start bytes given rest sound h).0.all ∙ same ∙ sym (sound_rest s start bytes others other_rest well k).0.all

@@ -1,6 +1,6 @@
 -- Facts about the four digits of a packet.
 use Rattle.std.proofs.Common.{ℕ, ◌<◌, List, slice_index, arith, below_more}
-use Rattle.git_pkt.specs.Digits.{IsHexDigit}
+use Rattle.git_names.specs.Digits.{IsHexDigit}
 
 -- digits below k
 abbrev pub DigitsBelow : List ℕ → ℕ → Type 0

@@ -1,45 +1,10 @@
 -- The table of escapes, and what a block of bytes comes to.
-use Rattle.std.proofs.Common.{append_assoc, ◌≡◌, ℕ, zero, suc, ◌+◌, ◌<◌, ◌≤◌, Bool, true, false, IsTrue, ◌↔◌, ◌&&◌, ◌||◌, not, nat_eq, nat_le, List, [], ◌∷◌, ◌++◌, length, take, drop, slice_index, refl, sym, ◌∙◌, ap, inl, inr, arith, length-append}
-use Rattle.std.proofs.lemmas.Bool.{and_parts, cases_lt, eqb-true}
-use Rattle.std.proofs.lemmas.List.{take_more, take-append-le, length-take-le, append-nil}
+use Rattle.std.proofs.Common.{append_assoc, ◌≡◌, ℕ, ◌+◌, ◌<◌, ◌≤◌, Bool, true, false, IsTrue, ◌↔◌, ◌&&◌, ◌||◌, not, nat_eq, nat_le, List, [], ◌∷◌, ◌++◌, length, take, drop, slice_index, refl, sym, ◌∙◌, ap, arith, length-append}
+use Rattle.std.proofs.lemmas.List.{take_more, take-append-drop, take-append-le, length-take-le, append-nil}
 use Rattle.std.proofs.lemmas.Slice.{drop-append-drop}
 use Rattle.std.proofs.Math.Seq.{take-append-add, take-length}
 use Rattle.std.proofs.lemmas.Grind.{common_steps, flat_map-append}
 use Rattle.git_pkt.specs.Escape.{escape_of, escaped_of}
-
--- each number below n passes the test
-abbrev pub all_pass : (ℕ → Bool) → ℕ → Bool
-all_pass test zero = true
-all_pass test (suc n) = test n && all_pass test n
-
--- a number below n
-pub all_pass-at : (test : ℕ → Bool) (n k : ℕ) → all_pass test n ≡ true → k < n → test k ≡ true
-all_pass-at test zero k h lt = absurd (omega arith)
-all_pass-at test (suc n) k h lt =
-    let parts = and_parts (test n) (all_pass test n) h in
-    elim (cases_lt k n) [
-      | inl below ↦ all_pass-at test n k parts.1 below
-      | inr top ↦
-          let e : k ≡ n = omega arith in
-          rw e parts.0
-    ]
-
--- two lists of bytes are one
-abbrev pub same_bytes : List ℕ → List ℕ → Bool
-same_bytes [] [] = true
-same_bytes [] (y ∷ ys) = false
-same_bytes (x ∷ xs) [] = false
-same_bytes (x ∷ xs) (y ∷ ys) = nat_eq x y && same_bytes xs ys
-
-pub same_bytes-true : (xs ys : List ℕ) → same_bytes xs ys ≡ true → xs ≡ ys
-same_bytes-true [] [] h = refl
-same_bytes-true [] (y ∷ ys) h = absurd (cc)
-same_bytes-true (x ∷ xs) [] h = absurd (cc)
-same_bytes-true (x ∷ xs) (y ∷ ys) h =
-    let parts = and_parts (nat_eq x y) (same_bytes xs ys) h in
-    let first : x ≡ y = eqb-true x y parts.0 in
-    let rest : xs ≡ ys = same_bytes-true xs ys parts.1 in
-    cc
 
 -- one more byte is escaped
 pub escaped_more : (block : List ℕ) (i : ℕ) → i < length block → escaped_of (take (i + 1) block) ≡ escaped_of (take i block) ++ escape_of (slice_index block i)
@@ -133,3 +98,11 @@ escaped_on bytes out four front i end n below within fits so_far one =
     overwritten out four (front ++ escaped_of (take i bytes)) (escape_of (slice_index bytes i)) end n within fits so_far one
     ∙ append_assoc front (escaped_of (take i bytes)) (escape_of (slice_index bytes i))
     ∙ ap (λ (l : List ℕ). front ++ l) (sym (escaped_more bytes i below))
+
+-- the escapes of two parts
+pub escaped-append : (front back : List ℕ) → escaped_of (front ++ back) ≡ escaped_of front ++ escaped_of back
+escaped-append front back = flat_map-append escape_of front back
+
+-- the escapes of a front and of the others
+pub escaped-parts : (bytes : List ℕ) (n : ℕ) → escaped_of (take n bytes) ++ escaped_of (drop n bytes) ≡ escaped_of bytes
+escaped-parts bytes n = sym (escaped-append (take n bytes) (drop n bytes)) ∙ ap escaped_of (take-append-drop n bytes)

@@ -1,8 +1,10 @@
+pub mod FaultTexts
 pub mod DigitFacts
 pub mod Spelling
 pub mod Streams
 pub mod Gathered
 pub mod ReaderMoves
+pub mod Holding
 pub mod Carries
 pub mod Pieces
 pub mod Written

@@ -3,7 +3,8 @@ use Rattle.std.proofs.Common.{◌≡◌, ◌⊎◌, inl, inr, ℕ, zero, suc, �
 use Rattle.std.proofs.lemmas.Bool.{cases_lt, cases_eq}
 use Rattle.std.proofs.lemmas.List.{get_or_append_left, take-append-le, length-take-le}
 use Rattle.std.proofs.Math.Seq.{take-append_seam}
-use Rattle.git_pkt.specs.Digits.{IsHexDigit, HasDigits, digit_value, digits_value}
+use Rattle.git_names.specs.Digits.{IsHexDigit, digit_value}
+use Rattle.git_pkt.specs.Digits.{HasDigits, digits_value}
 use Rattle.git_pkt.specs.Faults.{FirstBadDigit, IsRefused, RestFault, IsOpen, ShowsAtEnd}
 use Rattle.git_pkt.specs.declared.fault.Fault.{Fault}
 use Rattle.git_pkt.specs.declared.fault.Kind.{Kind}

@@ -1,7 +1,8 @@
 -- No spelling begins another, and what follows from it.
 use Rattle.std.proofs.Common.{◌≡◌, ◌≢◌, ℕ, ◌+◌, ◌<◌, ◌≤◌, List, [], ◌∷◌, ◌++◌, length, slice_index, drop, arith, refl, sym, ◌∙◌, ap, subst, length-append, length-drop, max}
 use Rattle.std.proofs.lemmas.List.{get_or_append_left}
-use Rattle.git_pkt.specs.Digits.{IsHexDigit, HasDigits, digits_value}
+use Rattle.git_names.specs.Digits.{IsHexDigit}
+use Rattle.git_pkt.specs.Digits.{HasDigits, digits_value}
 use Rattle.git_pkt.specs.Packets.{Pkt, flush, delim, resp_end, payload, Spells, length_field, body_of}
 use Rattle.git_pkt.specs.Splits.{NoneBegins}
 use Rattle.git_pkt.specs.Faults.{FirstBadDigit}

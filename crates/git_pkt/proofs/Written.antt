@@ -1,22 +1,19 @@
 -- What is written is a spelling.
 use Rattle.std.proofs.Common.{◌≡◌, ℕ, ◌/◌, ◌%◌, ◌<◌, ◌≤◌, List, ◌++◌, length, arith, refl, length-append}
-use Rattle.std.proofs.lemmas.Grind.{common_steps}
-use Rattle.git_pkt.specs.Digits.{digit_value, digit_of, HasDigits, digits_value, digits_of}
-use Rattle.git_pkt.specs.Packets.{Pkt, flush, delim, resp_end, payload, Spells, length_field, body_of, spelling_of}
+use Rattle.git_names.specs.Digits.{digit_value, lower_digit}
+use Rattle.git_names.proofs.HexDigits.{digit_value-lower_digit}
+use Rattle.git_pkt.specs.Digits.{HasDigits, digits_value, digits_of}
+use Rattle.git_pkt.specs.Packets.{Pkt, flush, delim, resp_end, payload, Spells, length_field, body_of, spelling_of, longest_payload}
 use Rattle.git_pkt.proofs.DigitFacts.{digits_below-four}
 
--- the written digit of a number is read as that number
-pub digit_value-digit_of : (n : ℕ) → n < 16 → digit_value (digit_of n) ≡ n
-unfolding digit_value digit_of
-digit_value-digit_of n h = grind (arith, common_steps)
-
+-- the written digits of a number are read as that number
 pub digits_value-digits_of : (n : ℕ) (more : List ℕ) → n < 65536 → digits_value (digits_of n ++ more) ≡ n
 unfolding digits_value
 digits_value-digits_of n more h =
-    let a : digit_value (digit_of (n / 4096)) ≡ n / 4096 = digit_value-digit_of (n / 4096) (omega arith) in
-    let b : digit_value (digit_of (n / 256 % 16)) ≡ n / 256 % 16 = digit_value-digit_of (n / 256 % 16) (omega arith) in
-    let c : digit_value (digit_of (n / 16 % 16)) ≡ n / 16 % 16 = digit_value-digit_of (n / 16 % 16) (omega arith) in
-    let d : digit_value (digit_of (n % 16)) ≡ n % 16 = digit_value-digit_of (n % 16) (omega arith) in
+    let a : digit_value (lower_digit (n / 4096)) ≡ n / 4096 = digit_value-lower_digit (n / 4096) (omega arith) in
+    let b : digit_value (lower_digit (n / 256 % 16)) ≡ n / 256 % 16 = digit_value-lower_digit (n / 256 % 16) (omega arith) in
+    let c : digit_value (lower_digit (n / 16 % 16)) ≡ n / 16 % 16 = digit_value-lower_digit (n / 16 % 16) (omega arith) in
+    let d : digit_value (lower_digit (n % 16)) ≡ n % 16 = digit_value-lower_digit (n % 16) (omega arith) in
     rw (a, b, c, d) (omega arith)
 
 has_digits_written : (n : ℕ) (more : List ℕ) → n < 65536 → HasDigits (digits_of n ++ more)
@@ -24,19 +21,19 @@ has_digits_written n more h =
     record {
       four = omega (arith, length-append (digits_of n) more);
       digits = digits_below-four (digits_of n ++ more)
-          (rw (digit_value-digit_of (n / 4096) (omega arith)) (omega arith))
-          (rw (digit_value-digit_of (n / 256 % 16) (omega arith)) (omega arith))
-          (rw (digit_value-digit_of (n / 16 % 16) (omega arith)) (omega arith))
-          (rw (digit_value-digit_of (n % 16) (omega arith)) (omega arith));
+          (rw (digit_value-lower_digit (n / 4096) (omega arith)) (omega arith))
+          (rw (digit_value-lower_digit (n / 256 % 16) (omega arith)) (omega arith))
+          (rw (digit_value-lower_digit (n / 16 % 16) (omega arith)) (omega arith))
+          (rw (digit_value-lower_digit (n % 16) (omega arith)) (omega arith));
     }
 
-field_fits : (p : Pkt) → length (body_of p) ≤ 65516 → length_field p < 65536
+field_fits : (p : Pkt) → length (body_of p) ≤ longest_payload → length_field p < 65536
 field_fits flush h = omega arith
 field_fits delim h = omega arith
 field_fits resp_end h = omega arith
 field_fits (payload x) h = omega arith
 
-pub spells_written : (p : Pkt) → length (body_of p) ≤ 65516 → Spells p (spelling_of p)
+pub spells_written : (p : Pkt) → length (body_of p) ≤ longest_payload → Spells p (spelling_of p)
 spells_written p h =
     let fits = field_fits p h in
     record {

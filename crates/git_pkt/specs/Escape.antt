@@ -1,7 +1,7 @@
 -- How bytes are shown on one line of text.
 use Rattle.std.specs.Prelude.{ℕ, ◌/◌, ◌%◌, ◌==◌, ◌&&◌, List, [], ◌∷◌, nat_le, if◌then◌else◌, codes}
 use Rattle.std.specs.List.{flat_map}
-use Rattle.git_pkt.specs.Digits.{digit_of}
+use Rattle.git_names.specs.Digits.{lower_digit}
 
 -- LF and the backslash have two characters, bytes from 0x20 to 0x7e stand for themselves, and others have two digits
 unfoldable pub escape_of : ℕ → List ℕ
@@ -10,7 +10,7 @@ escape_of b =
     then codes "\\n"
     else (if b == 92
     then codes "\\\\"
-    else (if nat_le 32 b && nat_le b 126 then b ∷ [] else 92 ∷ 120 ∷ digit_of (b / 16) ∷ digit_of (b % 16) ∷ []))
+    else (if nat_le 32 b && nat_le b 126 then b ∷ [] else 92 ∷ 120 ∷ lower_digit (b / 16) ∷ lower_digit (b % 16) ∷ []))
 
 abbrev pub escaped_of : List ℕ → List ℕ
 escaped_of bytes = flat_map escape_of bytes

@@ -1,6 +1,7 @@
 -- What is wrong with the rest of a stream, if anything.
 use Rattle.std.specs.Prelude.{◌≡◌, ◌≢◌, ℕ, ◌+◌, ◌<◌, ◌≤◌, List, length, take, slice_index}
-use Rattle.git_pkt.specs.Digits.{HasDigits, IsHexDigit, digits_value}
+use Rattle.git_names.specs.Digits.{IsHexDigit}
+use Rattle.git_pkt.specs.Digits.{HasDigits, digits_value}
 use Rattle.git_pkt.specs.declared.fault.Fault.{Fault}
 use Rattle.git_pkt.specs.declared.fault.Kind.{Kind}
 use Rattle.git_pkt.specs.declared.fault.Kind.TheVariants.{BadDigit, BadLength, TooLong, Truncated, StreamTooLong}

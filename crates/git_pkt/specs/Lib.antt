@@ -9,5 +9,7 @@ pub mod ReaderSteps
 pub mod Lending
 pub mod Escape
 pub mod FaultNames
+pub mod NameFaults
 pub mod Told
 pub mod Engine
+pub mod Bands

@@ -38,12 +38,16 @@ body_of delim = []
 body_of resp_end = []
 body_of (payload bytes) = bytes
 
+-- how many bytes a packet has after its four digits, at the most
+abbrev pub longest_payload : ℕ
+longest_payload = 65516
+
 -- the bytes s spell the packet p
 pub record Spells (p : Pkt) (s : List ℕ) : Type 0 where
   pub digits : HasDigits s
   pub field : digits_value s ≡ length_field p
   pub body : drop 4 s ≡ body_of p
-  pub fits : length (body_of p) ≤ 65516
+  pub fits : length (body_of p) ≤ longest_payload
 
 -- the spelling that is written: digits in lower case
 abbrev pub spelling_of : Pkt → List ℕ

@@ -22,9 +22,21 @@ is_open r = r.begun
 abbrev pub held_of : PacketReader → List ℕ
 held_of r = r.hold.items
 
--- what has come of the open packet
+-- what the hold has of the open packet
 abbrev pub rest_of : PacketReader → List ℕ
 rest_of r = if is_open r then take r.count (held_of r) else []
+
+-- how many bytes of the open packet have come
+abbrev pub open_length : PacketReader → ℕ
+open_length r = if is_open r then r.count else 0
+
+-- what the reader holds of the rest of a stream: all of it
+pub record Holds (r : PacketReader) (rest : List ℕ) : Type 0 where
+  pub all : rest_of r ≡ rest
+
+-- the hold has each byte of the open packet that has come
+abbrev pub HoldsAll : PacketReader → Type 0
+HoldsAll r = length (rest_of r) ≡ open_length r
 
 -- the fault that ended the reading
 abbrev pub fault_of : PacketReader → Option Fault
@@ -32,7 +44,7 @@ fault_of r = r.fault
 
 -- how the rest of the stream, at p, stands: open, or with the fault that was told
 abbrev pub StandsAt : Option Fault → ℕ → ℕ → List ℕ → PacketReader → Type 0
-StandsAt None p end rest r = (rest_of r ≡ rest) × IsOpen rest
+StandsAt None p end rest r = Holds r rest × IsOpen rest
 StandsAt (Some f) p end rest r = (is_open r ≡ false) × StopsBy p rest end f.kind f.offset
 
 -- the reader has used these bytes of a stream that starts at `start`: they are the packets given, and a rest
@@ -78,7 +90,7 @@ Repeats old fed new = (f : Fault) → fault_of old ≡ Some f → (fed.used ≡ 
 -- after a packet the hold has its bytes as they came
 abbrev pub HoldsAsItCame : PacketReader → List ℕ → Got → PacketReader → Type 0
 HoldsAsItCame old used More new = Unit {0}
-HoldsAsItCame old used (Packet p offset) new = held_of new ≡ rest_of old ++ used
+HoldsAsItCame old used (Packet p offset) new = (rest : List ℕ) → Holds old rest → held_of new ≡ rest ++ used
 HoldsAsItCame old used (Failed f) new = Unit {0}
 
 -- what a call of `feed` does

@@ -1,22 +1,9 @@
 //! The four hexadecimal digits that begin a packet.
 
-ghost use Rattle.std.specs.Prelude.{◌≡◌, ◌≤◌, ◌<◌, length};
-ghost use Rattle.git_pkt.specs.Digits.{digit_value};
+ghost use Rattle.std.specs.Prelude.{◌≤◌, length};
 ghost use Rattle.git_pkt.specs.TellsDigits.{TellsDigits};
 
-/// The value of a hexadecimal digit of either case, and 16 for a byte that is none.
-#[tactic(auto, unfolding(crate::specs::Digits::digit_value))]
-pub(crate) fn digit(byte: u8) -> u8
-    ensures value { result ≡ digit_value byte }
-    ensures within { result ≤ 16 }
-{
-    match byte {
-        b'0'..=b'9' => byte - b'0',
-        b'a'..=b'f' => byte - b'a' + 10,
-        b'A'..=b'F' => byte - b'A' + 10,
-        _ => 16,
-    }
-}
+use git_names::digit_value;
 
 /// What four bytes say.
 #[derive(Clone, Copy, Debug)]
@@ -32,20 +19,20 @@ pub(crate) fn read_digits(bytes: &[u8]) -> Digits
     requires { 4 ≤ length bytes.now }
     ensures { TellsDigits bytes.now result }
 {
-    let first = digit(bytes[0]);
-    if first == 16 {
+    let first = digit_value(bytes[0]);
+    if first > 15 {
         return Digits::Bad(0);
     }
-    let second = digit(bytes[1]);
-    if second == 16 {
+    let second = digit_value(bytes[1]);
+    if second > 15 {
         return Digits::Bad(1);
     }
-    let third = digit(bytes[2]);
-    if third == 16 {
+    let third = digit_value(bytes[2]);
+    if third > 15 {
         return Digits::Bad(2);
     }
-    let fourth = digit(bytes[3]);
-    if fourth == 16 {
+    let fourth = digit_value(bytes[3]);
+    if fourth > 15 {
         return Digits::Bad(3);
     }
     Digits::Number(

@@ -1,8 +1,15 @@
 //! What can be refused, each by a name and a number of its own, and where.
 ghost use Rattle.std.specs.Prelude.{◌≡◌, Some};
 ghost use Rattle.git_pkt.specs.FaultNames.{kind_name, kind_number, fault_text, run_fault_text};
+ghost use Rattle.git_pkt.specs.NameFaults.{kind_of};
 
+use arrayvec::ArrayString;
+use git_names::NameFault;
+use itoa::Buffer;
 use std::fmt;
+
+/// How many bytes the text of a fault has at the most: 17 of a name, ` at ` and 20 digits.
+const LONGEST_TEXT: usize = 41;
 
 /// Why an input was refused, or why a run over a reader and a writer ended early.
 ///
@@ -174,6 +181,17 @@ impl fmt::Display for Kind {
     }
 }
 
+impl From<NameFault> for Kind {
+    ghost from_gives = { λ fault kind. kind ≡ kind_of fault };
+
+    fn from(fault: NameFault) -> Kind {
+        match fault {
+            NameFault::BadObjectName => Kind::BadObjectName,
+            NameFault::BadRefName => Kind::BadRefName,
+        }
+    }
+}
+
 /// A refusal and its place.
 #[derive(Clone, Copy, Debug, PartialEq, Eq)]
 pub struct Fault {
@@ -183,11 +201,24 @@ pub struct Fault {
     pub offset: u64,
 }
 
+impl Fault {
+    /// What users see of it: its name, ` at ` and its offset.
+    pub fn text(&self) -> ArrayString<LONGEST_TEXT>
+        ensures { result.bytes ≡ fault_text self.now }
+    {
+        let mut text = ArrayString::new();
+        text.push_str(self.kind.name());
+        text.push_str(" at ");
+        text.push_str(Buffer::new().format(self.offset));
+        text
+    }
+}
+
 impl fmt::Display for Fault {
     ghost output = { λ fault. Some (fault_text fault) };
 
     fn fmt<W: fmt::Write>(&self, f: &mut fmt::Formatter<W>) -> fmt::Result {
-        write!(f, "{} at {}", self.kind, self.offset)
+        f.write_str(self.text().as_str())
     }
 }
 

@@ -30,7 +30,9 @@ pub(crate) fn place(hold: &mut Hold, at: usize, bytes: &[u8])
 {
     let over = bytes.len().min(hold.len() - at);
     overwrite(hold.as_mut_slice(), at, &bytes[..over]);
-    append(hold, &bytes[over..]);
+    if over < bytes.len() {
+        append(hold, &bytes[over..]);
+    }
 }
 
 /// Puts bytes over those of a slice.

@@ -1,10 +1,10 @@
 //! What follows from the definitions alone: each law is the contract of a function without parameters.
 
-ghost use Rattle.std.specs.Prelude.{◌≡◌, ◌≢◌, ◌⊎◌, ◌≤◌, ◌∷◌, ◌++◌, ℕ, List, [], Some, None, length, take};
-ghost use Rattle.git_pkt.specs.Packets.{Pkt, Spells, body_of, spelling_of, text_of};
+ghost use Rattle.std.specs.Prelude.{◌≡◌, ◌≢◌, ◌⊎◌, ◌≤◌, ◌∷◌, ◌++◌, ℕ, List, [], Some, None, false, length, take, true};
+ghost use Rattle.git_pkt.specs.Packets.{Pkt, Spells, body_of, spelling_of, text_of, longest_payload};
 ghost use Rattle.git_pkt.specs.Splits.{Given, NoneBegins, Splits};
 ghost use Rattle.git_pkt.specs.Faults.{IsOpen, RestFault, ShowsAtEnd};
-ghost use Rattle.git_pkt.specs.Reading.{Reads, fault_of, position_of, rest_of};
+ghost use Rattle.git_pkt.specs.Reading.{Holds, HoldsAll, Reads, fault_of, is_open, open_length, position_of, rest_of};
 ghost use Rattle.git_pkt.specs.declared.fault.Fault.{Fault};
 ghost use Rattle.git_pkt.specs.declared.fault.Kind.TheVariants.{StreamTooLong, Truncated};
 ghost use Rattle.git_pkt.specs.declared.reader.PacketReader.{PacketReader};
@@ -22,7 +22,7 @@ pub fn one_split()
 
 /// What is written is a spelling of the packet.
 pub fn written_form_is_a_spelling()
-    ensures { (p : Pkt) → length (body_of p) ≤ 65516 → Spells p (spelling_of p) }
+    ensures { (p : Pkt) → length (body_of p) ≤ longest_payload → Spells p (spelling_of p) }
 {}
 
 /// A spelling is that of one packet.
@@ -66,7 +66,17 @@ pub fn fault_shows_with_one_byte()
         → RestFault p shown fault → ShowsAtEnd shown → RestFault q other next → ShowsAtEnd other → shown ≡ other }
 {}
 
-/// Readers of the same bytes gave the same packets and have the same rest, however the bytes came.
+/// A reader knows of the rest that it holds whether there is any, and how long it is; and it holds all that has come of
+/// an open packet.
+pub fn reader_knows_its_rest()
+    ensures between { (r : PacketReader) (rest : List ℕ) → Holds r rest → is_open r ≡ false → rest ≡ [] }
+    ensures inside { (r : PacketReader) (rest : List ℕ) → Holds r rest → is_open r ≡ true → rest ≢ [] }
+    ensures long { (r : PacketReader) (rest : List ℕ) → Holds r rest → open_length r ≡ length rest }
+    ensures all { (r : PacketReader) → HoldsAll r }
+{}
+
+/// Readers of the same bytes gave the same packets and have the same rest, however the bytes came; those that hold all
+/// of it hold the same bytes.
 pub fn one_answer_however_cut()
     ensures packets { (r s : PacketReader) (start : ℕ) (bytes : List ℕ) (given others : List Given) (rest other_rest : List ℕ)
         → Reads r start bytes given rest → Reads s start bytes others other_rest → given ≡ others }
@@ -76,7 +86,7 @@ pub fn one_answer_however_cut()
         → Reads r start bytes given rest → Reads s start bytes others other_rest → position_of r ≡ position_of s }
     ensures held { (r s : PacketReader) (start : ℕ) (bytes : List ℕ) (given others : List Given) (rest other_rest : List ℕ)
         → Reads r start bytes given rest → Reads s start bytes others other_rest
-        → fault_of r ≡ None → fault_of s ≡ None → rest_of r ≡ rest_of s }
+        → fault_of r ≡ None → fault_of s ≡ None → HoldsAll r → HoldsAll s → rest_of r ≡ rest_of s }
 {}
 
 /// A fault that the bytes show is told by every reader of them; the two others, for the end of the input and of

@@ -1,6 +1,7 @@
 //! Packets of Git's wire protocol, over pieces of any size.
 #![tactic(auto)]
 
+mod band;
 mod digits;
 mod engine;
 mod escape;
@@ -11,6 +12,7 @@ mod packet;
 mod reader;
 mod told;
 
+pub use band::{Band, put_band};
 pub use engine::{flush, receive, send};
 pub use escape::{escape_into, is_plain};
 pub use fault::{Fault, Kind, RunFault};

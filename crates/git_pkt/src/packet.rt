@@ -1,10 +1,11 @@
 //! Packets of the wire, as gitprotocol-common(5) has them, and how they are written.
 
 ghost use Rattle.std.specs.Prelude.{◌≡◌, ◌+◌, ◌≤◌, ◌<◌, ◌++◌, length};
-ghost use Rattle.git_pkt.specs.Digits.{digits_of, digit_of};
-ghost use Rattle.git_pkt.specs.Packets.{body_of, seen, spelling_of, text_of};
+ghost use Rattle.git_pkt.specs.Digits.{digits_of};
+ghost use Rattle.git_pkt.specs.Packets.{body_of, seen, spelling_of, text_of, longest_payload};
 
 use crate::hold::{Hold, append};
+use git_names::lower_digit;
 
 /// A packet, whose payload is lent.
 #[derive(Clone, Copy, Debug)]
@@ -21,7 +22,7 @@ pub enum Packet<'a> {
 
 /// Makes the hold the packet's spelling, with its digits in lower case.
 pub fn put(hold: &mut Hold, packet: Packet<'_>)
-    requires { length (body_of (seen packet)) ≤ 65516 }
+    requires { length (body_of (seen packet)) ≤ longest_payload }
     ensures { hold.new.items ≡ spelling_of (seen packet.entry) }
 {
     match packet {
@@ -44,7 +45,7 @@ pub fn text(payload: &[u8]) -> &[u8]
 
 /// Makes the hold the four digits of a data packet. Its payload, of `length` bytes, is to be appended then.
 pub fn begin(hold: &mut Hold, length: usize)
-    requires { length ≤ 65516 }
+    requires { length ≤ longest_payload }
     ensures { hold.new.items ≡ digits_of (length + 4) }
 {
     spell(hold, length + 4, b"");
@@ -53,7 +54,7 @@ pub fn begin(hold: &mut Hold, length: usize)
 /// Four digits and the bytes after them.
 fn spell(hold: &mut Hold, field: usize, body: &[u8])
     requires digits { field < 65536 }
-    requires fits { length body.now ≤ 65516 }
+    requires fits { length body.now ≤ longest_payload }
     ensures { hold.new.items ≡ digits_of field ++ body.now }
 {
     hold.clear();
@@ -67,18 +68,4 @@ fn spell(hold: &mut Hold, field: usize, body: &[u8])
         ],
     );
     append(hold, body);
-}
-
-/// The digit, in lower case, of a number below 16.
-#[tactic(auto, unfolding(crate::specs::Digits::digit_of))]
-fn lower_digit(number: usize) -> u8
-    requires { number < 16 }
-    ensures { result ≡ digit_of number }
-{
-    let number = number as u8;
-    if number < 10 {
-        b'0' + number
-    } else {
-        b'a' - 10 + number
-    }
 }

@@ -10,10 +10,11 @@ ghost use Rattle.git_pkt.specs.Faults.{last_position};
 ghost use Rattle.git_pkt.specs.Gathering.{IsGathering, IsLengthField, IsWhole, TellsField};
 ghost use Rattle.git_pkt.specs.declared.fault.Kind.TheVariants.{Truncated};
 
-use crate::digits::{Digits, digit, read_digits};
+use crate::digits::{Digits, read_digits};
 use crate::fault::{Fault, Kind};
 use crate::hold::{Hold, place};
 use crate::packet::Packet;
+use git_names::digit_value;
 
 /// The last position of a stream.
 const LAST_POSITION: u64 = 9_223_372_036_854_775_807;
@@ -75,7 +76,7 @@ pub struct PacketReader {
 }
 
 impl PacketReader {
-    ghost use Rattle.git_pkt.specs.Reading.{Reads, ReadsOn, Feeds, position_of, fault_of, rest_of, held_of, is_open};
+    ghost use Rattle.git_pkt.specs.Reading.{Reads, ReadsOn, Feeds, Holds, position_of, fault_of, rest_of, open_length, held_of, is_open};
     ghost use Rattle.git_pkt.specs.contracts.reader.PacketReader.{the_row};
     ghost use Rattle.git_pkt.specs.Lending.{LendsHold};
     ghost use Rattle.git_pkt.specs.ReaderSteps.{Moves, IsStopped, IsOfPacket, IsShown};
@@ -151,7 +152,7 @@ impl PacketReader {
         ensures told { IfErr result (λ f. fault_of self.new ≡ Some f) }
         ensures repeats { (f : Fault) → fault_of self.old ≡ Some f → (result ≡ Err f) × (self.new ≡ self.old) }
         ensures truncated { fault_of self.old ≡ None → IfErr result (λ f.
-            (is_open self.old ≡ true) × (f.kind ≡ Truncated) × (f.offset + length (rest_of self.old) ≡ position_of self.old)) }
+            (is_open self.old ≡ true) × (f.kind ≡ Truncated) × (f.offset + open_length self.old ≡ position_of self.old)) }
     {
         if let Some(fault) = self.fault {
             return Err(fault);
@@ -171,7 +172,7 @@ impl PacketReader {
     /// Whether a packet has begun and is not whole.
     pub fn is_open(&self) -> bool
         ensures value { result ≡ is_open self.now }
-        ensures rest { IsTrue result ↔ (rest_of self.now ≢ []) }
+        ensures rest { (rest : List ℕ) → Holds self.now rest → IsTrue result ↔ (rest ≢ []) }
         ensures stream { (start : ℕ) (bytes : List ℕ) (given : List Given) (rest : List ℕ) → Reads self.now start bytes given rest
             → IsTrue result ↔ ((fault_of self.now ≡ None) × (rest ≢ [])) }
     {
@@ -299,7 +300,7 @@ impl PacketReader {
         place(&mut self.hold, self.count, &[byte]);
         self.count += 1;
         self.position += 1;
-        if digit(byte) == 16 {
+        if digit_value(byte) > 15 {
             return self.stop(Kind::BadDigit, self.position - 1);
         }
         if self.count < 4 {

@@ -1,11 +1,11 @@
 -- A server whose input ends.
-use Rattle.std.proofs.Common.{◌≡◌, ◌≢◌, ◌⊎◌, ℕ, ◌+◌, ◌<◌, Bool, true, false, List, [], ◌∷◌, length, Option, Some, None, refl, sym, ap, ◌∙◌, append-nil, subst, inl, inr, arith}
+use Rattle.std.proofs.Common.{◌≡◌, ◌≢◌, ◌⊎◌, ℕ, ◌+◌, Bool, true, false, List, [], ◌∷◌, length, Option, Some, None, refl, sym, ap, ◌∙◌, append-nil, subst, inl, inr, arith}
 use Rattle.git_pkt.specs.Packets.{Pkt}
 use Rattle.git_pkt.specs.Splits.{Given}
-use Rattle.git_pkt.specs.Reading.{is_open, rest_of, fault_of, position_of}
+use Rattle.git_pkt.specs.Reading.{is_open, open_length, fault_of, position_of}
 use Rattle.git_pkt.specs.declared.fault.Fault.{Fault}
 use Rattle.git_pkt.specs.declared.fault.Kind.TheVariants.{Truncated}
-use Rattle.git_pkt.proofs.ReaderMoves.{rest_of_shut}
+use Rattle.git_pkt.proofs.Holding.{sound_rest, none_between, some_inside, rest_length}
 use Rattle.git_msg.specs.Taking.{offer_of, limit_in, kept_so_far, is_waiting, fault_of as requests_fault}
 use Rattle.git_server.specs.Repository.{Repository}
 use Rattle.git_server.specs.Answers.{AllFit, spelled}
@@ -18,7 +18,6 @@ use Rattle.git_server.specs.declared.outcome.Outcome.TheVariants.{Closed, Refuse
 use Rattle.git_server.specs.declared.server.Phase.{Phase}
 use Rattle.git_server.specs.declared.server.Phase.TheVariants.{Between, Within, Ended}
 use Rattle.git_server.specs.declared.server.Server.{Server}
-use Rattle.git_server.proofs.Readers.{open_rest, sound_rest}
 use Rattle.git_server.proofs.Sent.{all_sent}
 use Rattle.git_server.proofs.WholeRequests.{begins}
 use Rattle.git_server.proofs.Going.{all_sent_of, owes_at, refused_outcome_by, refused_owes_by, serves_of, none_kept_at_end}
@@ -28,10 +27,6 @@ none_is_left {A = A} phase left is h = subst (λ (p : Phase A). LeftIn p left) i
 
 some_is_left : {A : Type 0} (phase : Phase A) (left : List Given) → phase ≡ Within → LeftIn phase left → left ≢ []
 some_is_left {A = A} phase left is h = subst (λ (p : Phase A). LeftIn p left) is h
-
-not_nil : (l : List ℕ) → 0 < length l → l ≢ []
-not_nil [] some e = absurd (omega arith)
-not_nil (x ∷ xs) some e = cc
 
 module _ {R A : Type 0} (answers : R → Repository) (old new : Server R A) where
   ends_here : (s : Setting) (so_far : List ℕ) (over : Bool) (before : List ℕ) (outcome : Outcome) → wants_input old ≡ true → Keeps old new
@@ -69,8 +64,7 @@ module _ {R A : Type 0} (answers : R → Repository) (old new : Server R A) wher
         ends_here s so_far over before Closed wants keeps r h (
           refl,
           none_is_left old.phase h.left was h.left_is,
-          sym known.0
-              ∙ rest_of_shut old.reader shut,
+          none_between old.reader h.rest known.0 shut,
         ) (ap outcome_in is) (λ owed owes. sym (owes_at answers old new [] s (Ended Closed) owed is owes)),
         inl (ap outcome_in is),
       )
@@ -99,7 +93,7 @@ module _ {R A : Type 0} (answers : R → Repository) (old new : Server R A) wher
   closes_within fault wants keeps was is requests_sound ready sound shut name at s so_far over before r =
       let h = serves_of answers old new [] s so_far over before wants r in
       let known = sound_rest old.reader 0 so_far h.packets h.rest sound h.reads in
-      let empty : h.rest ≡ [] = sym known.0 ∙ rest_of_shut old.reader shut in
+      let empty : h.rest ≡ [] = none_between old.reader h.rest known.0 shut in
       let place : fault.offset + length h.rest ≡ length so_far = omega (arith, ap length empty, h.reads.position, at) in (
         cut_short s so_far over before fault wants keeps r h requests_sound ready sound (inl (some_is_left old.phase h.left was h.left_is)) name place is,
         inr (fault, ap outcome_in is ∙ refused_outcome_by A fault.kind fault, name),
@@ -107,13 +101,14 @@ module _ {R A : Type 0} (answers : R → Repository) (old new : Server R A) wher
 
   -- inside a packet
   pub closes_open : (fault : Fault) → wants_input old ≡ true → Keeps old new → new.phase ≡ refused_by fault.kind fault → requests_fault old.requests ≡ None → is_waiting old.requests ≡ false
-      → (fault_of old.reader ≡ None → (is_open old.reader ≡ true) × (fault.kind ≡ Truncated) × (fault.offset + length (rest_of old.reader) ≡ position_of old.reader)) → Closes answers old new
+      → (fault_of old.reader ≡ None
+          → (is_open old.reader ≡ true) × (fault.kind ≡ Truncated) × (fault.offset + open_length old.reader ≡ position_of old.reader))
+      → Closes answers old new
   closes_open fault wants keeps is requests_sound ready truncated s so_far over before r =
       let h = serves_of answers old new [] s so_far over before wants r in
       let known = sound_rest old.reader 0 so_far h.packets h.rest h.no_fault h.reads in
       let (begun, name, at) = truncated h.no_fault in
-      let some : 0 < length h.rest = subst (λ (l : List ℕ). 0 < length l) known.0 (open_rest old.reader begun) in
-      let place : fault.offset + length h.rest ≡ length so_far = omega (arith, ap length known.0, h.reads.position, at) in (
-        cut_short s so_far over before fault wants keeps r h requests_sound ready h.no_fault (inr (not_nil h.rest some)) name place is,
+      let place : fault.offset + length h.rest ≡ length so_far = omega (arith, rest_length old.reader h.rest known.0, h.reads.position, at) in (
+        cut_short s so_far over before fault wants keeps r h requests_sound ready h.no_fault (inr (some_inside old.reader h.rest known.0 begun)) name place is,
         inr (fault, ap outcome_in is ∙ refused_outcome_by A fault.kind fault, name),
       )

@@ -28,8 +28,8 @@ use Rattle.git_server.specs.declared.requests.Brought.TheVariants.{Part, Whole, 
 use Rattle.git_server.specs.declared.server.Phase.{Phase}
 use Rattle.git_server.specs.declared.server.Phase.TheVariants.{Greeting, Between, Within, Answering, Refusing, Ended}
 use Rattle.git_server.specs.declared.server.Server.{Server}
-use Rattle.git_pkt.proofs.ReaderMoves.{rest_of_shut}
-use Rattle.git_server.proofs.Readers.{sound_rest, stopped_by}
+use Rattle.git_pkt.proofs.Holding.{sound_rest, none_between}
+use Rattle.git_server.proofs.Readers.{stopped_by}
 use Rattle.git_server.proofs.Sent.{all_sent, one_more_asked}
 use Rattle.git_server.proofs.WholeRequests.{begins, cuts_more, cuts_whole}
 
@@ -192,8 +192,7 @@ module _ {R A : Type 0} (answers : R → Repository) (old new : Server R A) (u :
   -- after a whole packet there is no rest
   no_rest : (bytes : List ℕ) (packets : List Given) (rest : List ℕ) → fault_of new.reader ≡ None → is_open new.reader ≡ false → Reads new.reader 0 bytes packets rest → rest ≡ []
   no_rest bytes packets rest sound shut stream =
-      let known = sound_rest new.reader 0 bytes packets rest sound stream in
-      sym known.0 ∙ rest_of_shut new.reader shut
+      none_between new.reader rest (sound_rest new.reader 0 bytes packets rest sound stream).0 shut
 
   -- what is owed, in the phase that was come to
   pub owes_at : (s : Setting) (phase : Phase A) (owed : List Pkt) → new.phase ≡ phase → Owes new.offer s.repo new.phase owed → Owes new.offer s.repo phase owed

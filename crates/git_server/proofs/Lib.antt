@@ -1,7 +1,6 @@
 pub mod Adjacent
 pub mod NameOrder
 pub mod Prefixes
-pub mod FaultTexts
 pub mod Readers
 pub mod Openings
 pub mod WholeRequests

@@ -1,9 +1,8 @@
 -- What follows of a packet reader from what it has read.
-use Rattle.std.proofs.Common.{◌≡◌, ℕ, ◌+◌, ◌-◌, ◌<◌, true, List, [], length, Option, Some, None, refl, arith, subst, zero-add}
-use Rattle.git_pkt.specs.Faults.{IsOpen, StopsBy}
+use Rattle.std.proofs.Common.{◌≡◌, ℕ, ◌+◌, ◌-◌, List, [], length, Option, Some, None, refl, arith, subst, zero-add}
+use Rattle.git_pkt.specs.Faults.{StopsBy}
 use Rattle.git_pkt.specs.Splits.{Given}
-use Rattle.git_pkt.proofs.ReaderMoves.{rest_of_open}
-use Rattle.git_pkt.specs.Reading.{Reads, StandsAt, fault_of, is_open, rest_of}
+use Rattle.git_pkt.specs.Reading.{Reads, StandsAt, fault_of}
 use Rattle.git_pkt.specs.declared.fault.Fault.{Fault}
 use Rattle.git_pkt.specs.declared.fault.Kind.{Kind}
 use Rattle.git_pkt.specs.declared.fault.Kind.TheVariants.{BadDigit, BadLength, TooLong, Truncated, StreamTooLong}
@@ -26,13 +25,6 @@ no_fault_by (Some f) r (shut, stops) = absurd (nothing_stops f.kind f.offset sto
 pub fresh_has_no_fault : (r : PacketReader) → Reads r 0 [] [] [] → fault_of r ≡ None
 fresh_has_no_fault r h = no_fault_by (fault_of r) r h.state
 
--- what a reader without a fault knows of the rest
-pub sound_rest : (r : PacketReader) (start : ℕ) (bytes : List ℕ) (given : List Given) (rest : List ℕ) → fault_of r ≡ None → Reads r start bytes given rest → (rest_of r ≡ rest) × IsOpen rest
-sound_rest r start bytes given rest none h =
-    let end : ℕ = start + length bytes in
-    let state : StandsAt None (end - length rest) end rest r = subst (λ (o : Option Fault). StandsAt o (end - length rest) end rest r) none h.state in
-    state
-
 -- what ended the reading of a stream from offset 0
 pub stopped_by : (r : PacketReader) (bytes : List ℕ) (given : List Given) (rest : List ℕ) (f : Fault) → fault_of r ≡ Some f → Reads r 0 bytes given rest
     → StopsBy (length bytes - length rest) rest (length bytes) f.kind f.offset
@@ -40,7 +32,3 @@ stopped_by r bytes given rest f is h =
     let end : ℕ = 0 + length bytes in
     let state : StandsAt (Some f) (end - length rest) end rest r = subst (λ (o : Option Fault). StandsAt o (end - length rest) end rest r) is h.state in
     subst (λ (n : ℕ). StopsBy (n - length rest) rest n f.kind f.offset) (zero-add (length bytes)) state.1
-
--- a reader with a packet open has some of its bytes
-pub open_rest : (r : PacketReader) → is_open r ≡ true → 0 < length (rest_of r)
-open_rest r e = rw (rest_of_open r e) ((r.gathers e).some)

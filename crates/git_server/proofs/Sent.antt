@@ -1,7 +1,7 @@
 -- What was sent, one packet more at a time.
 use Rattle.std.proofs.Common.{◌≡◌, ◌≤◌, length, ℕ, List, [], ◌∷◌, ◌++◌, refl, sym, ap, ◌∙◌, append_assoc, append-nil, subst, inl, inr}
 use Rattle.std.proofs.lemmas.Grind.{flat_map-append}
-use Rattle.git_pkt.specs.Packets.{Pkt, spelling_of, body_of}
+use Rattle.git_pkt.specs.Packets.{Pkt, spelling_of, body_of, longest_payload}
 use Rattle.git_msg.specs.Asked.{Asked}
 use Rattle.git_server.specs.Answers.{AllFit, spelled, IsAnswer}
 use Rattle.git_server.specs.Sessions.{Setting, IsSent, AreAnswers, advertised}
@@ -13,7 +13,7 @@ spelled_both front back = flat_map-append spelling_of front back
 pub spelled_one : (sent : List Pkt) (packet : Pkt) → spelled (sent ++ packet ∷ []) ≡ spelled sent ++ spelling_of packet
 spelled_one sent packet = spelled_both sent (packet ∷ []) ∙ ap (λ (l : List ℕ). spelled sent ++ l) (append-nil (spelling_of packet))
 
-pub fit_more : (sent : List Pkt) (packet : Pkt) → AllFit sent → length (body_of packet) ≤ 65516 → AllFit (sent ++ packet ∷ [])
+pub fit_more : (sent : List Pkt) (packet : Pkt) → AllFit sent → length (body_of packet) ≤ longest_payload → AllFit (sent ++ packet ∷ [])
 fit_more [] packet h fits = (fits, tt)
 fit_more (p ∷ ps) packet h fits = (h.0, fit_more ps packet h.1 fits)
 

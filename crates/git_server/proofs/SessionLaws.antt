@@ -12,7 +12,7 @@ use Rattle.git_server.specs.Serving.{Running, Serves, StandsBy, outcome_of, want
 use Rattle.git_server.specs.Moves.{OwesNow, Pulls}
 use Rattle.git_server.specs.declared.outcome.Outcome.{Outcome}
 use Rattle.git_server.specs.declared.server.Server.{Server}
-use Rattle.git_server.proofs.Readers.{sound_rest}
+use Rattle.git_pkt.proofs.Holding.{sound_rest}
 use Rattle.git_server.proofs.WholeRequests.{begins}
 use Rattle.git_server.proofs.Sent.{all_sent}
 use Rattle.git_server.proofs.Going.{no_outcome, owes_nothing, owes_some}

@@ -1,15 +1,14 @@
 -- What a server gives: its advertisement, the answer to each request, and what it writes of an outcome.
 use Rattle.std.specs.Prelude.{◌≡◌, ◌≤◌, ◌+◌, length, ℕ, Bool, ◌||◌, if◌then◌else◌, None, List, [], ◌∷◌, ◌++◌, true, false, codes, filter, map, nat_eq}
 use Rattle.std.specs.List.{list_any, flat_map, starts_with}
-use Rattle.git_names.specs.ObjectFormat.{name_of}
-use Rattle.git_pkt.specs.Packets.{Pkt, flush, payload, spelling_of, body_of}
+use Rattle.git_pkt.specs.Packets.{Pkt, flush, spelling_of, body_of, longest_payload}
 use Rattle.git_pkt.specs.FaultNames.{fault_text}
 use Rattle.git_pkt.specs.declared.fault.Fault.{Fault}
 use Rattle.git_pkt.specs.declared.fault.Kind.{Kind}
 use Rattle.git_pkt.specs.declared.fault.Kind.TheVariants.{RemoteError}
 use Rattle.git_msg.specs.declared.offers.Offer.{Offer}
 use Rattle.git_msg.specs.Asked.{Asked, LsRefsAsked, ls_refs}
-use Rattle.git_msg.specs.Writing.{text_line}
+use Rattle.git_msg.specs.Writing.{text_line, agent_line, format_line}
 use Rattle.git_msg.specs.References.{Ref, reference_text}
 use Rattle.git_server.specs.Repository.{Entry, Repository}
 use Rattle.git_server.specs.declared.outcome.Outcome.{Outcome}
@@ -22,7 +21,7 @@ spelled = flat_map spelling_of
 -- each is a packet of the wire
 abbrev pub AllFit : List Pkt → Type 0
 AllFit [] = Unit {0}
-AllFit (p ∷ ps) = (length (body_of p) ≤ 65516) × AllFit ps
+AllFit (p ∷ ps) = (length (body_of p) ≤ longest_payload) × AllFit ps
 
 -- the line of a capability that may be offered
 abbrev pub offered_line : Bool → List ℕ → List Pkt
@@ -31,8 +30,8 @@ offered_line offered text = if offered then text_line text ∷ [] else []
 -- what a server says first
 abbrev pub advertisement_of : Offer → List Pkt
 advertisement_of offer =
-    text_line (codes "version 2") ∷ text_line (codes "agent=git2/1") ∷ text_line (codes "ls-refs")
-    ∷ (offered_line offer.server_option (codes "server-option") ++ text_line (codes "object-format=" ++ name_of offer.format) ∷ flush ∷ [])
+    text_line (codes "version 2") ∷ agent_line ∷ text_line (codes "ls-refs")
+    ∷ (offered_line offer.server_option (codes "server-option") ++ format_line offer.format ∷ flush ∷ [])
 
 abbrev pub is_empty : List (List ℕ) → Bool
 is_empty [] = true

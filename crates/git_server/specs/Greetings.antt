@@ -1,10 +1,9 @@
 -- The lines of an advertisement, one after another.
 use Rattle.std.specs.Prelude.{if◌then◌else◌, Option, Some, None, List, [], ◌∷◌, ◌++◌, codes}
 use Rattle.git_names.specs.declared.object_format.Format.{Format}
-use Rattle.git_names.specs.ObjectFormat.{name_of}
 use Rattle.git_pkt.specs.Packets.{Pkt, flush}
 use Rattle.git_msg.specs.declared.offers.Offer.{Offer}
-use Rattle.git_msg.specs.Writing.{text_line}
+use Rattle.git_msg.specs.Writing.{text_line, agent_line, format_line}
 use Rattle.git_server.specs.Answers.{offered_line, advertisement_of}
 use Rattle.git_server.specs.declared.greeting.Greeting.{Greeting}
 use Rattle.git_server.specs.declared.greeting.Greeting.TheVariants.{Version, Agent, LsRefs, ServerOption, ObjectFormat, End}
@@ -12,10 +11,10 @@ use Rattle.git_server.specs.declared.greeting.Greeting.TheVariants.{Version, Age
 -- the packet of a line
 abbrev pub greeting_packet : Format → Greeting → Pkt
 greeting_packet format Version = text_line (codes "version 2")
-greeting_packet format Agent = text_line (codes "agent=git2/1")
+greeting_packet format Agent = agent_line
 greeting_packet format LsRefs = text_line (codes "ls-refs")
 greeting_packet format ServerOption = text_line (codes "server-option")
-greeting_packet format ObjectFormat = text_line (codes "object-format=" ++ name_of format)
+greeting_packet format ObjectFormat = format_line format
 greeting_packet format End = flush
 
 -- the line after it

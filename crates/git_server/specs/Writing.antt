@@ -1,6 +1,6 @@
 -- What writing a packet into a reader's hold does to the reader.
 use Rattle.std.specs.Prelude.{◌≡◌, ◌≤◌, ℕ, false, List, length}
-use Rattle.git_pkt.specs.Packets.{Pkt, spelling_of, body_of}
+use Rattle.git_pkt.specs.Packets.{Pkt, spelling_of, body_of, longest_payload}
 use Rattle.git_pkt.specs.Splits.{Given}
 use Rattle.git_pkt.specs.Reading.{Reads, held_of, fault_of, is_open, position_of}
 use Rattle.git_pkt.specs.declared.reader.PacketReader.{PacketReader}
@@ -8,7 +8,7 @@ use Rattle.git_pkt.specs.declared.reader.PacketReader.{PacketReader}
 -- the packet's spelling is in the hold, and the reader reads on as before
 pub record Writes (old : PacketReader) (packet : Pkt) (new : PacketReader) : Type 0 where
   pub held : held_of new ≡ spelling_of packet
-  pub fits : length (body_of packet) ≤ 65516
+  pub fits : length (body_of packet) ≤ longest_payload
   pub between : is_open new ≡ false
   pub fault : fault_of new ≡ fault_of old
   pub position : position_of new ≡ position_of old

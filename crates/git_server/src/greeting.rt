@@ -1,10 +1,10 @@
 //! The capability advertisement, a line at a time.
 
 ghost use Rattle.std.specs.Prelude.{◌≡◌, ◌≤◌, length};
-ghost use Rattle.git_pkt.specs.Packets.{body_of, seen};
+ghost use Rattle.git_pkt.specs.Packets.{body_of, seen, longest_payload};
 ghost use Rattle.git_server.specs.Greetings.{greeting_after, greeting_packet};
 
-use git_msg::Offer;
+use git_msg::{AGENT_LINE, Offer};
 use git_names::Format;
 use git_pkt::Packet;
 
@@ -23,11 +23,11 @@ impl Greeting {
     /// The packet of the line, in a repository of this format.
     pub(crate) fn packet(self, format: Format) -> Packet<'static>
         ensures value { seen result ≡ greeting_packet format self }
-        ensures fits { length (body_of (seen result)) ≤ 65516 }
+        ensures fits { length (body_of (seen result)) ≤ longest_payload }
     {
         match self {
             Greeting::Version => Packet::Payload(b"version 2\n"),
-            Greeting::Agent => Packet::Payload(b"agent=git2/1\n"),
+            Greeting::Agent => Packet::Payload(AGENT_LINE),
             Greeting::LsRefs => Packet::Payload(b"ls-refs\n"),
             Greeting::ServerOption => Packet::Payload(b"server-option\n"),
             Greeting::ObjectFormat => match format {

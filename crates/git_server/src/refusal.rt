@@ -5,7 +5,6 @@ ghost use Rattle.git_pkt.specs.FaultNames.{fault_text};
 
 use arrayvec::ArrayVec;
 use git_pkt::Fault;
-use itoa::Buffer;
 
 /// The payload of an error packet, gitprotocol-pack(5), that tells this fault by its name and offset.
 pub(crate) fn error_line(fault: Fault) -> ArrayVec<u8, 64>
@@ -13,9 +12,7 @@ pub(crate) fn error_line(fault: Fault) -> ArrayVec<u8, 64>
 {
     let mut line = ArrayVec::new();
     append(&mut line, b"ERR ");
-    append(&mut line, fault.kind.name().as_bytes());
-    append(&mut line, b" at ");
-    append(&mut line, Buffer::new().format(fault.offset).as_bytes());
+    append(&mut line, fault.text().as_str().as_bytes());
     append(&mut line, b"\n");
     line
 }

@@ -2,17 +2,12 @@
 
 use crate::escapes::escaped;
 use crate::script::{Script, Step};
+use crate::setup::{MANY, limits, offer};
 use crate::trouble::Trouble;
-use git_msg::{Caps, Command, Limits, Offer, Request, RequestWriter, read_argument};
+use git_msg::{Caps, Command, Request, RequestWriter, read_argument};
 use git_names::Format;
 use git_pkt::Hold;
 use std::alloc::Global;
-
-/// More packets than any request has.
-const MANY: usize = 100_000;
-
-/// The most bytes that the texts of a request's arguments may have.
-const MOST_KEPT: u32 = 1_073_741_824;
 
 /// A request that is to be made, and what the other end advertised.
 #[derive(Clone, Copy)]
@@ -31,14 +26,7 @@ impl Asking {
         request: &mut Request<Global>,
         text: &[u8],
     ) -> Result<String, Trouble> {
-        let offer = Offer {
-            format: self.format,
-            shallow: true,
-            ref_in_want: true,
-            object_info: false,
-            server_option: true,
-        };
-        let Ok(argument) = read_argument(Command::LsRefs, &offer, text) else {
+        let Ok(argument) = read_argument(Command::LsRefs, &offer(self.format), text) else {
             return Err(Trouble::BadCase("no argument"));
         };
         match request.add(argument) {
@@ -72,9 +60,7 @@ impl Asking {
 
     /// Each argument is kept or refused as the line after it says, and the request is written as the ending does.
     pub fn goes(self, alloc: Global, script: &Script) -> Result<usize, Trouble> {
-        let limits = Limits {
-            args: self.limit.min(MOST_KEPT),
-        };
+        let limits = limits(self.limit);
         let mut request = Request::new(alloc, Command::LsRefs, self.format, limits);
         let mut told = Vec::new(alloc);
         let mut last = Step { input: 0, given: 0 };

@@ -2,6 +2,7 @@
 
 use crate::runs::{Due, Run, compare};
 use crate::script::Script;
+use crate::setup::TURNS;
 use crate::trouble::Trouble;
 use git_client::Ending;
 use git_names::Format;
@@ -9,9 +10,6 @@ use git_pkt::Told;
 use git2show_lib::{CheckFault, check};
 use std::alloc::{AllocError, Global};
 use test_streams::{Pieces, Sink};
-
-/// More reads than any run makes.
-const TURNS: u64 = 1_073_741_824;
 
 fn ending_of(alloc: Global, answer: Result<(), CheckFault>) -> Result<String, AllocError> {
     match answer {

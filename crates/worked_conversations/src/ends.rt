@@ -2,13 +2,11 @@
 
 use crate::runs::{Due, compare};
 use crate::script::{Given, Script};
+use crate::setup::LAST_POSITION;
 use crate::trouble::Trouble;
 use crate::{checks, clients, packets, requests, sessions};
 use git_names::Format;
 use std::alloc::{AllocError, Global};
-
-/// The last position of a stream.
-const LAST_POSITION: u64 = 9_223_372_036_854_775_807;
 
 /// An end or a reader, and how it is set up.
 #[derive(Drop)]

@@ -14,6 +14,7 @@ mod requests;
 mod runs;
 mod script;
 mod sessions;
+mod setup;
 mod tables;
 mod trouble;
 

@@ -6,17 +6,12 @@ ghost use Rattle.git_pkt.specs.Faults.{last_position};
 use crate::escapes::escaped;
 use crate::runs::Run;
 use crate::script::Script;
+use crate::setup::{LAST_POSITION, TURNS};
 use crate::trouble::Trouble;
 use git_pkt::{Fault, Got, Packet, PacketReader, RunFault, Told, put};
 use git2show_lib::show;
 use std::alloc::{AllocError, Global};
 use test_streams::{Pieces, Sink};
-
-/// More reads than any run makes.
-const TURNS: u64 = 1_073_741_824;
-
-/// The last position of a stream.
-const LAST_POSITION: u64 = 9_223_372_036_854_775_807;
 
 // Appends the line of a packet.
 fn append_line(

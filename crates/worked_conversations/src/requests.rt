@@ -5,17 +5,12 @@ ghost use Rattle.git_msg.specs.Taking.{is_waiting};
 
 use crate::escapes::escaped;
 use crate::runs::Run;
+use crate::setup::{MANY, limits, offer};
 use crate::trouble::Trouble;
-use git_msg::{Limits, Offer, Request, RequestReader, Taken};
+use git_msg::{Request, RequestReader, Taken};
 use git_names::Format;
 use git_pkt::{Fault, Got, Packet, PacketReader, text};
 use std::alloc::{AllocError, Global};
-
-/// More texts than a request of any case has.
-const MANY: usize = 100_000;
-
-/// The most bytes that the texts of a request's arguments may have.
-const MOST_KEPT: u32 = 1_073_741_824;
 
 /// What a packet brought.
 #[derive(Drop)]
@@ -149,19 +144,9 @@ fn feed(
 
 /// What a reader of all that is offered hears in the pieces, after which the input ends.
 pub fn heard(alloc: Global, format: Format, limit: u32, pieces: &[&[u8]]) -> Result<Run, Trouble> {
-    let offer = Offer {
-        format,
-        shallow: true,
-        ref_in_want: true,
-        object_info: false,
-        server_option: true,
-    };
-    let limits = Limits {
-        args: limit.min(MOST_KEPT),
-    };
     let mut packets = PacketReader::new();
     let mut keeper = Keeper {
-        reader: RequestReader::new(alloc, offer, limits),
+        reader: RequestReader::new(alloc, offer(format), limits(limit)),
     };
     let mut lines = Vec::new(alloc);
     let mut ending = None;

@@ -1,22 +1,13 @@
 //! A server that is fed, and one that is run over a reader and a writer.
 
 use crate::runs::Run;
+use crate::setup::{MANY, TURNS, limits, offer};
 use crate::trouble::Trouble;
-use git_msg::{Limits, Offer};
 use git_pkt::{Fault, Told};
 use git_server::{ListRepo, Outcome, Pulled, Repo, Server, serve};
 use git2show_lib::{TextFault, read_repo};
 use std::alloc::{AllocError, Global};
 use test_streams::Pieces;
-
-/// More reads than any run makes.
-const TURNS: u64 = 1_073_741_824;
-
-/// More packets than any answer has.
-const MANY: usize = 100_000;
-
-/// The most bytes that the texts of a request's arguments may have.
-const MOST_KEPT: u32 = 1_073_741_824;
 
 /// How a server is set up.
 #[derive(Drop)]
@@ -35,16 +26,8 @@ fn new_server(alloc: Global, setup: &Setup<'_>) -> Result<Server<ListRepo, Globa
         Err(TextFault::OutOfMemory) => return Err(Trouble::OutOfMemory),
         Err(TextFault::Bad { .. }) => return Err(Trouble::BadCase("no repository text")),
     };
-    let offer = Offer {
-        format: repo.format(),
-        shallow: true,
-        ref_in_want: true,
-        object_info: false,
-        server_option: true,
-    };
-    let limits = Limits {
-        args: setup.limit.min(MOST_KEPT),
-    };
+    let offer = offer(repo.format());
+    let limits = limits(setup.limit);
     Ok(Server::new(alloc, repo, offer, limits, setup.advertises))
 }
 

@@ -4,8 +4,9 @@ use crate::clients::append_noted;
 use crate::escapes::escaped;
 use crate::lists::made;
 use crate::script::{Script, Step};
+use crate::setup::offer;
 use crate::trouble::Trouble;
-use git_msg::{Argument, Caps, Command, Offer, read_argument, read_capability, read_reference};
+use git_msg::{Argument, Caps, Command, read_argument, read_capability, read_reference};
 use git_names::{Format, Oid, RefName};
 use git_pkt::{Hold, Packet, put, text};
 use git_server::Repo;
@@ -148,14 +149,7 @@ fn say_argument(
     format: Format,
     text: &[u8],
 ) -> Result<(), AllocError> {
-    let offer = Offer {
-        format,
-        shallow: true,
-        ref_in_want: true,
-        object_info: false,
-        server_option: true,
-    };
-    match read_argument(Command::LsRefs, &offer, text) {
+    match read_argument(Command::LsRefs, &offer(format), text) {
         Ok(Argument::Symrefs) => say(alloc, lines, "symrefs", Said::Nothing),
         Ok(Argument::Peel) => say(alloc, lines, "peel", Said::Nothing),
         Ok(Argument::RefPrefix(prefix)) => say(alloc, lines, "prefix", Said::Bytes(prefix)),

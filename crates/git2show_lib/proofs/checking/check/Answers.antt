@@ -1,7 +1,7 @@
 use Rattle.std.proofs.Common.{rules, arith, ◌≡◌, ◌-◌, ◌≤◌, ◌<◌, true, take, drop, length, [], refl}
 use Rattle.std.specs.Io.KnownBytes.{Consumes, Keeps}
 use Rattle.git_pkt.specs.Told.{inner_of, has_ended, has_failed}
-use Rattle.git2show_lib.specs.Checking.{Judges, nothing_asked}
+use Rattle.git2show_lib.specs.CheckedStreams.{Judges, nothing_asked}
 use Rattle.git2show_lib.specs.declared.checking.Left.{Left}
 use Rattle.git2show_lib.specs.declared.checking.CheckFault.TheVariants.{WriteFault}
 use Rattle.git2show_lib.proofs.Asking.{unread_yet}
@@ -27,7 +27,10 @@ pub returns-in_err-map_err-clause-checked : goal.returns-in_err-map_err-clause-c
 returns-in_err-map_err-clause-checked g c =
     let named : c.in_err-map_err.field-0.0 ≡ WriteFault = search rules in
     ends_at_write c.from_residual.result _ c.args.format _ (has_ended c.hear_advertisement-heard.new.responses) _ _ _ _ c.from_residual.ensures.1 named
-    (flush_failed c.args.format c.args.ending c.new-client.result c.hear_advertisement-heard.new.client c.new-client.ensures.hears _ (has_ended c.hear_advertisement-heard.new.responses) (g.A.Read.remaining (inner_of c.args.responses.now)) (g.A.Read.remaining (inner_of c.hear_advertisement-heard.new.responses)) (g.W.Write.contents (inner_of c.args.out.now)) (g.W.Write.contents (inner_of c.hear_advertisement-heard.new.out)) (g.W.Write.contents (inner_of c.flush.new.writer)) c.flush.ensures.bytes
+    (flush_failed c.args.format c.args.ending c.new-client.result c.hear_advertisement-heard.new.client c.new-client.ensures.hears _
+    (has_ended c.hear_advertisement-heard.new.responses) (g.A.Read.remaining (inner_of c.args.responses.now))
+    (g.A.Read.remaining (inner_of c.hear_advertisement-heard.new.responses)) (g.W.Write.contents (inner_of c.args.out.now))
+    (g.W.Write.contents (inner_of c.hear_advertisement-heard.new.out)) (g.W.Write.contents (inner_of c.flush.new.writer)) c.flush.ensures.bytes
     (unread_yet (has_ended c.args.requests.now) (has_failed c.args.requests.now)
     (g.Q.Read.remaining (inner_of c.args.requests.now))) c.hear_advertisement-heard.result
     (λ (left : Left). take (left.end - left.start)
@@ -35,27 +38,38 @@ returns-in_err-map_err-clause-checked g c =
 
 pub returns-in_err-left-clause-checked : goal.returns-in_err-left-clause-checked
 returns-in_err-left-clause-checked g c =
-    ends_at c.from_residual-in_err-left.result _ c.args.format _ (has_ended c.hear_advertisement-heard.new.responses) _ _ _ _ c.from_residual-in_err-left.ensures.1
-    (responses_stopped c.args.format c.args.ending c.new-client.result c.hear_advertisement-heard.new.client c.new-client.ensures.hears _ (has_ended c.hear_advertisement-heard.new.responses) (g.A.Read.remaining (inner_of c.args.responses.now)) (g.A.Read.remaining (inner_of c.hear_advertisement-heard.new.responses)) (g.W.Write.contents (inner_of c.args.out.now)) (g.W.Write.contents (inner_of c.hear_advertisement-heard.new.out)) (g.W.Write.contents (inner_of c.flush.new.writer)) c.flush.ensures.bytes
+    ends_at c.from_residual-in_err-left.result _ c.args.format _ (has_ended c.hear_advertisement-heard.new.responses) _ _ _ _
+    c.from_residual-in_err-left.ensures.1
+    (responses_stopped c.args.format c.args.ending c.new-client.result c.hear_advertisement-heard.new.client c.new-client.ensures.hears _
+    (has_ended c.hear_advertisement-heard.new.responses) (g.A.Read.remaining (inner_of c.args.responses.now))
+    (g.A.Read.remaining (inner_of c.hear_advertisement-heard.new.responses)) (g.W.Write.contents (inner_of c.args.out.now))
+    (g.W.Write.contents (inner_of c.hear_advertisement-heard.new.out)) (g.W.Write.contents (inner_of c.flush.new.writer)) c.flush.ensures.bytes
     (unread_yet (has_ended c.args.requests.now) (has_failed c.args.requests.now)
     (g.Q.Read.remaining (inner_of c.args.requests.now))) c.in_err-left.field-0.0 c.in_err-left.ensures.stopped)
 
 pub returns-in_err-read_requests-clause-checked : goal.returns-in_err-read_requests-clause-checked
 returns-in_err-read_requests-clause-checked g c =
-    ends_at c.from_residual-in_err-read_requests.result _ c.args.format _ (has_ended c.hear_advertisement-heard.new.responses) _ _ _ _ c.from_residual-in_err-read_requests.ensures.1
+    ends_at c.from_residual-in_err-read_requests.result _ c.args.format _
+    (has_ended c.hear_advertisement-heard.new.responses) _ _ _ _ c.from_residual-in_err-read_requests.ensures.1
     (requests_stopped c.args.format c.args.ending c.new-client.result c.hear_advertisement-heard.new.client c.new-client.ensures.hears _
     (has_ended c.hear_advertisement-heard.new.responses) (g.A.Read.remaining (inner_of c.args.responses.now))
     (g.A.Read.remaining (inner_of c.hear_advertisement-heard.new.responses)) (g.W.Write.contents (inner_of c.args.out.now))
     (g.W.Write.contents (inner_of c.hear_advertisement-heard.new.out))
     (g.W.Write.contents (inner_of c.flush.new.writer)) c.flush.ensures.bytes c.in_ok-left.ensures.whole
     (take (c.in_ok-left.left.end - c.in_ok-left.left.start)
-    (drop c.in_ok-left.left.start c.hear_advertisement-heard.new.piece)) c.in_ok-left.ensures.heard c.read_requests.new.requests _ c.in_err-read_requests.field-0.0 c.in_ok-left.ensures.ok.1 c.in_err-read_requests.ensures.fault c.in_err-read_requests.ensures.asked)
+    (drop c.in_ok-left.left.start c.hear_advertisement-heard.new.piece)) c.in_ok-left.ensures.heard c.read_requests.new.requests _
+    c.in_err-read_requests.field-0.0 c.in_ok-left.ensures.ok.1 c.in_err-read_requests.ensures.fault c.in_err-read_requests.ensures.asked)
 
 pub returns-then-left-clause-checked : goal.returns-then-left-clause-checked
 returns-then-left-clause-checked g c =
     let so : Judges (has_ended c.read_requests.new.requests) (has_failed c.read_requests.new.requests) (g.Q.Read.remaining (inner_of c.args.requests.now))
     (g.Q.Read.remaining (inner_of c.read_requests.new.requests)) nothing_asked = search rules in
-    some_was_left c.args.format c.args.ending c.new-client.result c.hear_advertisement-heard.new.client c.new-client.ensures.hears _ (has_ended c.hear_advertisement-heard.new.responses) (g.A.Read.remaining (inner_of c.args.responses.now)) (g.A.Read.remaining (inner_of c.hear_advertisement-heard.new.responses)) (g.W.Write.contents (inner_of c.args.out.now)) (g.W.Write.contents (inner_of c.hear_advertisement-heard.new.out)) (g.W.Write.contents (inner_of c.flush.new.writer)) c.flush.ensures.bytes c.in_ok-left.ensures.whole (take (c.in_ok-left.left.end - c.in_ok-left.left.start) (drop c.in_ok-left.left.start c.hear_advertisement-heard.new.piece)) c.in_ok-left.ensures.heard so c.left_over.result c.left_over.ensures
+    some_was_left c.args.format c.args.ending c.new-client.result c.hear_advertisement-heard.new.client c.new-client.ensures.hears _
+    (has_ended c.hear_advertisement-heard.new.responses) (g.A.Read.remaining (inner_of c.args.responses.now))
+    (g.A.Read.remaining (inner_of c.hear_advertisement-heard.new.responses)) (g.W.Write.contents (inner_of c.args.out.now))
+    (g.W.Write.contents (inner_of c.hear_advertisement-heard.new.out)) (g.W.Write.contents (inner_of c.flush.new.writer)) c.flush.ensures.bytes
+    c.in_ok-left.ensures.whole (take (c.in_ok-left.left.end - c.in_ok-left.left.start) (drop c.in_ok-left.left.start c.hear_advertisement-heard.new.piece))
+    c.in_ok-left.ensures.heard so c.left_over.result c.left_over.ensures
     (some_left c.hear_advertisement-heard.new.piece c.in_ok-left.left.start c.in_ok-left.left.end (omega arith) c.in_ok-left.ensures.left)
 
 pub returns-then-reads-turns-clause-checked : goal.returns-then-reads-turns-clause-checked
@@ -63,7 +77,12 @@ returns-then-reads-turns-clause-checked g c =
     let so : Judges (has_ended c.read_requests.new.requests) (has_failed c.read_requests.new.requests) (g.Q.Read.remaining (inner_of c.args.requests.now))
     (g.Q.Read.remaining (inner_of c.read_requests.new.requests)) nothing_asked = search rules in
     let none : c.in_ok-left.left.end ≤ c.in_ok-left.left.start = search rules in
-    limit_met c.args.format c.args.ending c.new-client.result c.hear_advertisement-heard.new.client c.new-client.ensures.hears _ (has_ended c.hear_advertisement-heard.new.responses) (g.A.Read.remaining (inner_of c.args.responses.now)) (g.A.Read.remaining (inner_of c.hear_advertisement-heard.new.responses)) (g.W.Write.contents (inner_of c.args.out.now)) (g.W.Write.contents (inner_of c.hear_advertisement-heard.new.out)) (g.W.Write.contents (inner_of c.flush.new.writer)) c.flush.ensures.bytes c.in_ok-left.ensures.whole (take (c.in_ok-left.left.end - c.in_ok-left.left.start) (drop c.in_ok-left.left.start c.hear_advertisement-heard.new.piece)) c.in_ok-left.ensures.heard
+    limit_met c.args.format c.args.ending c.new-client.result c.hear_advertisement-heard.new.client c.new-client.ensures.hears _
+    (has_ended c.hear_advertisement-heard.new.responses) (g.A.Read.remaining (inner_of c.args.responses.now))
+    (g.A.Read.remaining (inner_of c.hear_advertisement-heard.new.responses)) (g.W.Write.contents (inner_of c.args.out.now))
+    (g.W.Write.contents (inner_of c.hear_advertisement-heard.new.out)) (g.W.Write.contents (inner_of c.flush.new.writer)) c.flush.ensures.bytes
+    c.in_ok-left.ensures.whole (take (c.in_ok-left.left.end - c.in_ok-left.left.start) (drop c.in_ok-left.left.start c.hear_advertisement-heard.new.piece))
+    c.in_ok-left.ensures.heard
     so (no_more_left c.hear_advertisement-heard.new.piece c.in_ok-left.left.start c.in_ok-left.left.end none)
 
 pub returns-in-Ok-eq0-clause-checked : goal.returns-in-Ok-eq0-clause-checked
@@ -72,28 +91,45 @@ returns-in-Ok-eq0-clause-checked g c =
     (g.Q.Read.remaining (inner_of c.read_requests.new.requests)) nothing_asked = search rules in
     let none : c.in_ok-left.left.end ≤ c.in_ok-left.left.start = search rules in
     let at_end : has_ended c.receive.new.reader ≡ true = search rules in
-    let read : Consumes (g.A.Read.remaining (inner_of c.hear_advertisement-heard.new.responses)) (g.A.Read.remaining (inner_of c.receive.new.reader)) [] = search rules in
-    all_was_used c.args.format c.args.ending c.new-client.result c.hear_advertisement-heard.new.client c.new-client.ensures.hears _ (has_ended c.receive.new.reader) (g.A.Read.remaining (inner_of c.args.responses.now)) (g.A.Read.remaining (inner_of c.receive.new.reader)) (g.W.Write.contents (inner_of c.args.out.now)) (g.W.Write.contents (inner_of c.hear_advertisement-heard.new.out)) (g.W.Write.contents (inner_of c.flush.new.writer)) c.flush.ensures.bytes c.in_ok-left.ensures.whole []
-    (read_more _ _ (take (c.in_ok-left.left.end - c.in_ok-left.left.start) (drop c.in_ok-left.left.start c.hear_advertisement-heard.new.piece)) [] _ _ _ _ _ (no_more_left c.hear_advertisement-heard.new.piece c.in_ok-left.left.start c.in_ok-left.left.end none) c.in_ok-left.ensures.heard read) so refl at_end
+    let read : Consumes (g.A.Read.remaining (inner_of c.hear_advertisement-heard.new.responses)) (g.A.Read.remaining (inner_of c.receive.new.reader)) [] =
+    search rules in
+    all_was_used c.args.format c.args.ending c.new-client.result c.hear_advertisement-heard.new.client c.new-client.ensures.hears _
+    (has_ended c.receive.new.reader) (g.A.Read.remaining (inner_of c.args.responses.now)) (g.A.Read.remaining (inner_of c.receive.new.reader))
+    (g.W.Write.contents (inner_of c.args.out.now)) (g.W.Write.contents (inner_of c.hear_advertisement-heard.new.out))
+    (g.W.Write.contents (inner_of c.flush.new.writer)) c.flush.ensures.bytes c.in_ok-left.ensures.whole []
+    (read_more _ _ (take (c.in_ok-left.left.end - c.in_ok-left.left.start) (drop c.in_ok-left.left.start c.hear_advertisement-heard.new.piece)) [] _ _ _ _ _
+    (no_more_left c.hear_advertisement-heard.new.piece c.in_ok-left.left.start c.in_ok-left.left.end none) c.in_ok-left.ensures.heard read) so refl at_end
 
 pub returns-in-Ok-clause-checked : goal.returns-in-Ok-clause-checked
 returns-in-Ok-clause-checked g c =
     let so : Judges (has_ended c.read_requests.new.requests) (has_failed c.read_requests.new.requests) (g.Q.Read.remaining (inner_of c.args.requests.now))
     (g.Q.Read.remaining (inner_of c.read_requests.new.requests)) nothing_asked = search rules in
     let none : c.in_ok-left.left.end ≤ c.in_ok-left.left.start = search rules in
-    let read : Consumes (g.A.Read.remaining (inner_of c.hear_advertisement-heard.new.responses)) (g.A.Read.remaining (inner_of c.receive.new.reader)) (take c.in-Ok.field-0 c.receive.new.piece) = search rules in
+    let read : Consumes (g.A.Read.remaining (inner_of c.hear_advertisement-heard.new.responses)) (g.A.Read.remaining (inner_of c.receive.new.reader))
+    (take c.in-Ok.field-0 c.receive.new.piece) =
+    search rules in
     let bound : c.in-Ok.field-0 ≤ length c.receive.new.piece = search rules in
     let some : 0 < c.in-Ok.field-0 = search rules in
     let more : 0 < length (take c.in-Ok.field-0 c.receive.new.piece) = taken_some c.receive.new.piece c.in-Ok.field-0 some bound in
-    some_was_left c.args.format c.args.ending c.new-client.result c.hear_advertisement-heard.new.client c.new-client.ensures.hears _ (has_ended c.receive.new.reader) (g.A.Read.remaining (inner_of c.args.responses.now)) (g.A.Read.remaining (inner_of c.receive.new.reader)) (g.W.Write.contents (inner_of c.args.out.now)) (g.W.Write.contents (inner_of c.hear_advertisement-heard.new.out)) (g.W.Write.contents (inner_of c.flush.new.writer)) c.flush.ensures.bytes c.in_ok-left.ensures.whole (take c.in-Ok.field-0 c.receive.new.piece)
-    (read_more _ _ (take (c.in_ok-left.left.end - c.in_ok-left.left.start) (drop c.in_ok-left.left.start c.hear_advertisement-heard.new.piece)) _ _ _ _ _ _ (no_more_left c.hear_advertisement-heard.new.piece c.in_ok-left.left.start c.in_ok-left.left.end none) c.in_ok-left.ensures.heard read) so c.left_over-in-Ok.result c.left_over-in-Ok.ensures more
+    some_was_left c.args.format c.args.ending c.new-client.result c.hear_advertisement-heard.new.client c.new-client.ensures.hears _
+    (has_ended c.receive.new.reader) (g.A.Read.remaining (inner_of c.args.responses.now)) (g.A.Read.remaining (inner_of c.receive.new.reader))
+    (g.W.Write.contents (inner_of c.args.out.now)) (g.W.Write.contents (inner_of c.hear_advertisement-heard.new.out))
+    (g.W.Write.contents (inner_of c.flush.new.writer)) c.flush.ensures.bytes c.in_ok-left.ensures.whole (take c.in-Ok.field-0 c.receive.new.piece)
+    (read_more _ _ (take (c.in_ok-left.left.end - c.in_ok-left.left.start) (drop c.in_ok-left.left.start c.hear_advertisement-heard.new.piece)) _ _ _ _ _ _
+    (no_more_left c.hear_advertisement-heard.new.piece c.in_ok-left.left.start c.in_ok-left.left.end none) c.in_ok-left.ensures.heard read) so
+    c.left_over-in-Ok.result c.left_over-in-Ok.ensures more
 
 pub returns-in-Err-clause-checked : goal.returns-in-Err-clause-checked
 returns-in-Err-clause-checked g c =
     let so : Judges (has_ended c.read_requests.new.requests) (has_failed c.read_requests.new.requests) (g.Q.Read.remaining (inner_of c.args.requests.now))
     (g.Q.Read.remaining (inner_of c.read_requests.new.requests)) nothing_asked = search rules in
     let none : c.in_ok-left.left.end ≤ c.in_ok-left.left.start = search rules in
-    let kept : Keeps (g.A.Read.remaining (inner_of c.hear_advertisement-heard.new.responses)) (g.A.Read.remaining (inner_of c.receive.new.reader)) = search rules in
-    read_failed c.args.format c.args.ending c.new-client.result c.hear_advertisement-heard.new.client c.new-client.ensures.hears _ (has_ended c.receive.new.reader) (g.A.Read.remaining (inner_of c.args.responses.now)) (g.A.Read.remaining (inner_of c.receive.new.reader)) (g.W.Write.contents (inner_of c.args.out.now)) (g.W.Write.contents (inner_of c.hear_advertisement-heard.new.out)) (g.W.Write.contents (inner_of c.flush.new.writer)) c.flush.ensures.bytes c.in_ok-left.ensures.whole (take (c.in_ok-left.left.end - c.in_ok-left.left.start) (drop c.in_ok-left.left.start c.hear_advertisement-heard.new.piece))
+    let kept : Keeps (g.A.Read.remaining (inner_of c.hear_advertisement-heard.new.responses)) (g.A.Read.remaining (inner_of c.receive.new.reader)) =
+    search rules in
+    read_failed c.args.format c.args.ending c.new-client.result c.hear_advertisement-heard.new.client c.new-client.ensures.hears _
+    (has_ended c.receive.new.reader) (g.A.Read.remaining (inner_of c.args.responses.now)) (g.A.Read.remaining (inner_of c.receive.new.reader))
+    (g.W.Write.contents (inner_of c.args.out.now)) (g.W.Write.contents (inner_of c.hear_advertisement-heard.new.out))
+    (g.W.Write.contents (inner_of c.flush.new.writer)) c.flush.ensures.bytes c.in_ok-left.ensures.whole
+    (take (c.in_ok-left.left.end - c.in_ok-left.left.start) (drop c.in_ok-left.left.start c.hear_advertisement-heard.new.piece))
     (read_kept _ _ _ _ _ _ _ _ c.in_ok-left.ensures.heard kept)
     so (no_more_left c.hear_advertisement-heard.new.piece c.in_ok-left.left.start c.in_ok-left.left.end none)

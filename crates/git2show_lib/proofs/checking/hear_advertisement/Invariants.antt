@@ -1,7 +1,7 @@
 use Rattle.std.proofs.Common.{◌≡◌, ◌-◌, ◌≤◌, ◌<◌, length, take, drop, true, false, None}
 use Rattle.git_pkt.specs.Told.{inner_of, reads_of, has_failed, has_ended}
-use Rattle.git_client.specs.Hearing.{fault_of, wants_input}
-use Rattle.git2show_lib.specs.Checking.{Transcribed}
+use Rattle.git_client.specs.Client.{fault_of, wants_input}
+use Rattle.git2show_lib.specs.CheckedStreams.{Transcribed}
 use Rattle.git2show_lib.proofs.checking.hear_advertisement.Given as goal
 
 -- at most one read each turn, and nothing has failed or ended; while bytes are due all that were read are used

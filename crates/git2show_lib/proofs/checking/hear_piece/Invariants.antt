@@ -1,7 +1,7 @@
 use Rattle.std.proofs.Common.{◌≡◌, ◌-◌, ◌≤◌, length, take, None}
 use Rattle.git_pkt.specs.Told.{inner_of, has_failed}
-use Rattle.git_client.specs.Hearing.{fault_of}
-use Rattle.git2show_lib.specs.Checking.{Transcribes}
+use Rattle.git_client.specs.Client.{fault_of}
+use Rattle.git2show_lib.specs.CheckedStreams.{Transcribes}
 use Rattle.git2show_lib.proofs.checking.hear_piece.Given as goal
 
 -- the client has not failed, and neither has the writer since the call began; the lines of what was used were written

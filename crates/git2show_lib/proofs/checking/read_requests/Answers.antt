@@ -6,12 +6,16 @@ use Rattle.git2show_lib.proofs.checking.read_requests.Goals as goal
 
 pub returns-in-Failed-clause-asked : goal.returns-in-Failed-clause-asked
 returns-in-Failed-clause-asked g c =
-    let read : Consumes (g.Q.Read.remaining (inner_of c.loop.requests)) (g.Q.Read.remaining (inner_of c.receive.new.reader)) (take c.in_ok-count.count c.receive.new.piece) = search rules in
+    let read : Consumes (g.Q.Read.remaining (inner_of c.loop.requests)) (g.Q.Read.remaining (inner_of c.receive.new.reader))
+    (take c.in_ok-count.count c.receive.new.piece) =
+    search rules in
     asks_failed _ _ _ _ _ _ _ c.loop.invariant.asked read c.feed.follows.holds-at-none _ _ _ c.loop.invariant.packets_sound c.in-Failed.is
 
 pub returns-in-Packet : goal.returns-in-Packet
 returns-in-Packet g c =
-    let read : Consumes (g.Q.Read.remaining (inner_of c.loop.requests)) (g.Q.Read.remaining (inner_of c.receive.new.reader)) (take c.in_ok-count.count c.receive.new.piece) = search rules in
+    let read : Consumes (g.Q.Read.remaining (inner_of c.loop.requests)) (g.Q.Read.remaining (inner_of c.receive.new.reader))
+    (take c.in_ok-count.count c.receive.new.piece) =
+    search rules in
     record {
       told = first_fails _ _ (has_failed c.receive.new.reader) _ c.read_first.ensures (search rules);
       reads = search rules;
@@ -32,7 +36,9 @@ loop-init g c = record {
 
 pub loop-preserved : goal.loop-preserved
 loop-preserved g c =
-    let read : Consumes (g.Q.Read.remaining (inner_of c.loop.requests)) (g.Q.Read.remaining (inner_of c.receive.new.reader)) (take c.in_ok-count.count c.receive.new.piece) = search rules in
+    let read : Consumes (g.Q.Read.remaining (inner_of c.loop.requests)) (g.Q.Read.remaining (inner_of c.receive.new.reader))
+    (take c.in_ok-count.count c.receive.new.piece) =
+    search rules in
     record {
       room = search rules;
       reads = search rules;

@@ -1,7 +1,8 @@
 use Rattle.std.proofs.Common.{◌+◌, ◌≤◌, length}
 use Rattle.std.specs.Option.{option_copied}
 use Rattle.git2show_lib.specs.Drafts.{drafted}
-use Rattle.git2show_lib.proofs.Reading.{Reading, bytes_left}
+use Rattle.git_msg.proofs.TextParts.{bytes_left}
+use Rattle.git2show_lib.proofs.Reading.{Reading}
 use Rattle.git2show_lib.proofs.repository_text.read_repo.Given as goal
 
 abbrev pub invariant-lines : goal.invariant-lines

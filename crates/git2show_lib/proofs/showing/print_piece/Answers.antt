@@ -1,26 +1,32 @@
 use Rattle.std.proofs.Common.{rules, arith}
 use Rattle.git_pkt.specs.Told.{inner_of}
-use Rattle.git2show_lib.specs.Showing.{PrintsInto}
+use Rattle.git2show_lib.specs.ShownStream.{PrintsInto}
 use Rattle.git2show_lib.proofs.Printing.{fed_failed, fed_packet, fed_packet_front, left_length, tells_by}
 use Rattle.git2show_lib.proofs.showing.print_piece.Goals as goal
 
 pub returns-in-Failed-clause-ok : goal.returns-in-Failed-clause-ok
 returns-in-Failed-clause-ok g c =
-    fed_failed _ _ _ _ _ _ _ _ _ c.loop-done.invariant.within c.loop-done.invariant.prints c.feed-fed.follows.holds-at-none _ c.loop-done.invariant.sound c.in-Failed.is
+    fed_failed _ _ _ _ _ _ _ _ _ c.loop-done.invariant.within c.loop-done.invariant.prints c.feed-fed.follows.holds-at-none _ c.loop-done.invariant.sound
+    c.in-Failed.is
 
 pub returns-in_err-put-in-Packet-clause-err : goal.returns-in_err-put-in-Packet-clause-err
 returns-in_err-put-in-Packet-clause-err g c =
-    let front : PrintsInto c.args.packets.now c.args.piece.now (g.W.Write.contents (inner_of c.args.writer.now)) (g.W.Write.contents (inner_of c.put.new.writer)) c.feed-fed.follows.lender-at-none =
-    fed_packet_front _ _ _ _ _ _ _ _ _ c.loop-done.invariant.within c.loop-done.invariant.prints c.feed-fed.follows.holds-at-none _ _ _ c.in-Packet.is (search rules) in
+    let front : PrintsInto c.args.packets.now c.args.piece.now (g.W.Write.contents (inner_of c.args.writer.now))
+    (g.W.Write.contents (inner_of c.put.new.writer)) c.feed-fed.follows.lender-at-none =
+    fed_packet_front _ _ _ _ _ _ _ _ _ c.loop-done.invariant.within c.loop-done.invariant.prints c.feed-fed.follows.holds-at-none _ _ _ c.in-Packet.is
+    (search rules) in
     search rules
 
 pub loop-done-preserved : goal.loop-done-preserved
 loop-done-preserved g c =
-    let rest = left_length c.args.packets.now c.loop-done.packets c.feed-fed.follows.lender-at-none c.args.piece.now c.loop-done.done _ _ _ c.feed-fed.result c.loop-done.invariant.within c.loop-done.invariant.prints c.feed-fed.follows.holds-at-none in
+    let rest =
+    left_length c.args.packets.now c.loop-done.packets c.feed-fed.follows.lender-at-none c.args.piece.now c.loop-done.done _ _ _ c.feed-fed.result
+    c.loop-done.invariant.within c.loop-done.invariant.prints c.feed-fed.follows.holds-at-none in
     let tells = tells_by _ _ _ _ _ _ _ _ _ c.loop-done.invariant.within c.loop-done.invariant.prints c.feed-fed.follows.holds-at-none _ c.in-Packet.is in
     record {
       within = omega (arith, c.feed-fed.ensures.used, rest, c.loop-done.invariant.within);
       sound = tells.1;
       writer_sound = search rules;
-      prints = fed_packet _ _ _ _ _ _ _ _ _ c.loop-done.invariant.within c.loop-done.invariant.prints c.feed-fed.follows.holds-at-none _ _ _ _ c.in-Packet.is (search rules);
+      prints = fed_packet _ _ _ _ _ _ _ _ _ c.loop-done.invariant.within c.loop-done.invariant.prints c.feed-fed.follows.holds-at-none _ _ _ _
+          c.in-Packet.is (search rules);
     }

@@ -32,7 +32,8 @@ loop-preserved g c = record {
 pub returns-in_err-count-clause-shown : goal.returns-in_err-count-clause-shown
 returns-in_err-count-clause-shown g c =
     ends_at_fault c.from_residual.result _ (has_ended c.receive.new.reader) _ _ _ _ c.from_residual.ensures.1
-    (until_read_fault _ (has_ended c.receive.new.reader) _ _ _ _ c.loop.packets c.in_err-count.ensures.fault c.loop.invariant.sound (Exchanges-read_fault c.loop.invariant.bytes c.in_err-count.ensures.bytes))
+    (until_read_fault _ (has_ended c.receive.new.reader) _ _ _ _ c.loop.packets c.in_err-count.ensures.fault c.loop.invariant.sound
+    (Exchanges-read_fault c.loop.invariant.bytes c.in_err-count.ensures.bytes))
 
 pub returns-in_err-show_piece-clause-shown : goal.returns-in_err-show_piece-clause-shown
 returns-in_err-show_piece-clause-shown g c =

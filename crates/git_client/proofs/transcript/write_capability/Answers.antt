@@ -2,11 +2,12 @@ use Rattle.std.proofs.Common.{◌++◌, codes}
 use Rattle.std.proofs.KnownBytes.{Appends-trans}
 use Rattle.std.specs.Io.KnownBytes.{Appends}
 use Rattle.std.specs.Option.{option_copied}
+use Rattle.std.proofs.lemmas.Result.{on_ok_weaker, on_err_weaker}
 use Rattle.git_pkt.specs.Told.{inner_of, AppendsFront}
 use Rattle.git_pkt.specs.Escape.{escaped_of}
 use Rattle.git_pkt.proofs.EngineLemmas.{AppendsFront-after, AppendsFront-longer}
 use Rattle.git_client.specs.Transcript.{value_shown}
-use Rattle.git_client.proofs.Writing.{on_err, on_ok-map, on_err-map}
+use Rattle.git_client.proofs.Writing.{on_err}
 use Rattle.git_client.proofs.transcript.write_capability.Goals as goal
 
 pub returns-in_err-send-clause-err : goal.returns-in_err-send-clause-err
@@ -21,7 +22,8 @@ returns-in_err-write_escaped-clause-err g c =
     let value = value_shown (option_copied c.args.capability.now.value) in
     on_err _
     (AppendsFront-longer _ _ (codes "capability " ++ key ++ value) (codes "\n")
-    (AppendsFront-longer _ _ (codes "capability " ++ key) value (AppendsFront-after _ _ _ (codes "capability ") key c.in_ok-send.ensures.ok c.in_err-write_escaped.ensures.err)))
+    (AppendsFront-longer _ _ (codes "capability " ++ key) value (AppendsFront-after _ _ _
+    (codes "capability ") key c.in_ok-send.ensures.ok c.in_err-write_escaped.ensures.err)))
 
 pub returns-in_err-write_value-clause-err : goal.returns-in_err-write_value-clause-err
 returns-in_err-write_value-clause-err g c =
@@ -40,8 +42,10 @@ returns-clause-ok g c =
     let d = g.W.Write.contents (inner_of c.write_value.new.out) in
     let e = g.W.Write.contents (inner_of c.send-2.new.writer) in
     let so_far : Appends a d (codes "capability " ++ key ++ value) =
-    Appends-trans _ _ _ (codes "capability " ++ key) value (Appends-trans _ _ _ (codes "capability ") key c.in_ok-send.ensures.ok c.in_ok-write_escaped.ensures.ok) c.in_ok-write_value.ensures.ok in
-    on_ok-map c.send-2.result (λ (last : Appends d e (codes "\n")). Appends-trans a d e (codes "capability " ++ key ++ value) (codes "\n") so_far last) c.send-2.ensures.ok
+    Appends-trans _ _ _ (codes "capability " ++ key) value (Appends-trans _ _ _
+    (codes "capability ") key c.in_ok-send.ensures.ok c.in_ok-write_escaped.ensures.ok) c.in_ok-write_value.ensures.ok in
+    on_ok_weaker c.send-2.result (λ (last : Appends d e (codes "\n")). Appends-trans a d e (codes "capability " ++ key ++ value) (codes "\n") so_far last)
+    c.send-2.ensures.ok
 
 pub returns-clause-err : goal.returns-clause-err
 returns-clause-err g c =
@@ -51,5 +55,7 @@ returns-clause-err g c =
     let d = g.W.Write.contents (inner_of c.write_value.new.out) in
     let e = g.W.Write.contents (inner_of c.send-2.new.writer) in
     let so_far : Appends a d (codes "capability " ++ key ++ value) =
-    Appends-trans _ _ _ (codes "capability " ++ key) value (Appends-trans _ _ _ (codes "capability ") key c.in_ok-send.ensures.ok c.in_ok-write_escaped.ensures.ok) c.in_ok-write_value.ensures.ok in
-    on_err-map c.send-2.result (λ (last : AppendsFront d e (codes "\n")). AppendsFront-after a d e (codes "capability " ++ key ++ value) (codes "\n") so_far last) c.send-2.ensures.err
+    Appends-trans _ _ _ (codes "capability " ++ key) value (Appends-trans _ _ _
+    (codes "capability ") key c.in_ok-send.ensures.ok c.in_ok-write_escaped.ensures.ok) c.in_ok-write_value.ensures.ok in
+    on_err_weaker c.send-2.result (λ (last : AppendsFront d e (codes "\n")). AppendsFront-after a d e (codes "capability " ++ key ++ value)
+    (codes "\n") so_far last) c.send-2.ensures.err

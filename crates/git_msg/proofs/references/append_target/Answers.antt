@@ -5,4 +5,6 @@ joined : (held middle all word name : List ℕ) → middle ≡ held ++ word → 
 joined held middle all word name p q = q ∙ ap (λ (xs : List ℕ). xs ++ name) p ∙ append_assoc held word name
 
 pub returns-in-Some : goal.returns-in-Some
-returns-in-Some c = rw c.in-Some.is (joined c.args.hold.now.items c.append.new.hold.items c.append-in-Some.new.hold.items (codes " symref-target:") c.in-Some.name.now (search rules) c.append-in-Some.ensures)
+returns-in-Some c =
+    rw c.in-Some.is (joined c.args.hold.now.items c.append.new.hold.items c.append-in-Some.new.hold.items (codes " symref-target:") c.in-Some.name.now
+    (search rules) c.append-in-Some.ensures)

@@ -3,24 +3,24 @@ use Rattle.git_pkt.specs.Digits.{digits_value}
 use Rattle.git_pkt.proofs.DigitFacts.{digits_below-one, digits_below-two, digits_below-three, digits_below-four}
 use Rattle.git_pkt.proofs.digits.read_digits.Goals as goal
 
-pub returns-then-second-eq16 : goal.returns-then-second-eq16
-returns-then-second-eq16 c = record {
+pub returns-then-second-gt15 : goal.returns-then-second-gt15
+returns-then-second-gt15 c = record {
   among = omega arith;
   there = omega arith;
   before = digits_below-one _ (omega arith);
   bad = omega arith;
 }
 
-pub returns-then-third-eq16 : goal.returns-then-third-eq16
-returns-then-third-eq16 c = record {
+pub returns-then-third-gt15 : goal.returns-then-third-gt15
+returns-then-third-gt15 c = record {
   among = omega arith;
   there = omega arith;
   before = digits_below-two _ (omega arith) (omega arith);
   bad = omega arith;
 }
 
-pub returns-then-fourth-eq16 : goal.returns-then-fourth-eq16
-returns-then-fourth-eq16 c = record {
+pub returns-then-fourth-gt15 : goal.returns-then-fourth-gt15
+returns-then-fourth-gt15 c = record {
   among = omega arith;
   there = omega arith;
   before = digits_below-three _ (omega arith) (omega arith) (omega arith);

@@ -25,6 +25,7 @@ returns-in-ReadyAfter c =
 
 pub returns-in-BoundaryLine : goal.returns-in-BoundaryLine
 returns-in-BoundaryLine c =
-    subst (λ (item : Item). AddsSaid (drafted c.args.self.now) (shown item) (drafted c.keep_boundary.new.self) c.keep_boundary.result) (sym c.in-BoundaryLine.is)
+    subst (λ (item : Item). AddsSaid (drafted c.args.self.now) (shown item) (drafted c.keep_boundary.new.self) c.keep_boundary.result)
+    (sym c.in-BoundaryLine.is)
     (said_boundary (drafted c.args.self.now) (drafted c.keep_boundary.new.self) c.in-BoundaryLine.boundary c.keep_boundary.result
     (subst (λ (item : Item). IsFit c.args.self.now.format (shown item)) c.in-BoundaryLine.is c.requires) c.keep_boundary.ensures)

@@ -1,7 +1,7 @@
 use Rattle.std.proofs.Common.{◌≡◌, ◌-◌, ◌≤◌, length, take}
 use Rattle.git_pkt.specs.Told.{inner_of, has_failed}
 use Rattle.git_pkt.specs.Escape.{escaped_of}
-use Rattle.git2show_lib.specs.Sending.{Emits}
+use Rattle.git2show_lib.specs.LineBuffer.{Emits}
 use Rattle.git2show_lib.proofs.lines.Lines.emit_escaped.Given as goal
 
 -- what is done of the bytes has been escaped, and nothing has failed since the call began

@@ -1,20 +1,20 @@
 use Rattle.std.proofs.Common.{rules, List, ℕ, ◌++◌, [], ◌∷◌, subst, decimal, Option}
+use Rattle.std.proofs.lemmas.Result.{on_ok_weaker, on_err_weaker}
 use Rattle.git_pkt.specs.Told.{inner_of}
 use Rattle.git_pkt.specs.Packets.{seen, body_of}
 use Rattle.git_pkt.specs.Escape.{escaped_of}
-use Rattle.git2show_lib.specs.Lines.{kind_shown}
-use Rattle.git2show_lib.specs.Sending.{Emits, EmitsFront}
-use Rattle.git2show_lib.proofs.Sendings.{emits_then, front_after, front_longer, on_ok-map, on_err-map}
+use Rattle.git2show_lib.specs.PacketLines.{kind_shown}
+use Rattle.git2show_lib.specs.LineBuffer.{Emits, EmitsFront}
+use Rattle.git2show_lib.proofs.Sendings.{emits_then, front_after, front_longer}
 use Rattle.git2show_lib.proofs.lines.Lines.put.Goals as goal
 
-pub returns-in_err-emit-clause-err : goal.returns-in_err-emit-clause-err
-returns-in_err-emit-clause-err g c =
+pub returns-in_err-emit_head-clause-err : goal.returns-in_err-emit_head-clause-err
+returns-in_err-emit_head-clause-err g c =
     let held : Option (List ℕ) = g.W.Write.contents (inner_of c.args.writer.now) in
-    let after : Option (List ℕ) = g.W.Write.contents (inner_of c.emit.new.writer) in
+    let after : Option (List ℕ) = g.W.Write.contents (inner_of c.emit_head.new.writer) in
     let head : List ℕ = decimal c.args.offset ++ kind_shown (seen c.args.packet) in
     let body : List ℕ = escaped_of (body_of (seen c.args.packet)) in
-    let began : EmitsFront held after c.args.self.now head =
-    subst (λ (l : List ℕ). EmitsFront held after c.args.self.now l) c.write_head-end.ensures.head c.in_err-emit.ensures.err in
+    let began : EmitsFront held after c.args.self.now head = c.in_err-emit_head.ensures.err in
     let front : EmitsFront held after c.args.self.now (head ++ body ++ 10 ∷ []) =
     front_longer held after c.args.self.now (head ++ body) (10 ∷ []) (front_longer held after c.args.self.now head body began) in
     search rules
@@ -22,46 +22,47 @@ returns-in_err-emit-clause-err g c =
 pub returns-in_err-emit_escaped-clause-err : goal.returns-in_err-emit_escaped-clause-err
 returns-in_err-emit_escaped-clause-err g c =
     let held : Option (List ℕ) = g.W.Write.contents (inner_of c.args.writer.now) in
-    let between : Option (List ℕ) = g.W.Write.contents (inner_of c.emit.new.writer) in
+    let between : Option (List ℕ) = g.W.Write.contents (inner_of c.emit_head.new.writer) in
     let after : Option (List ℕ) = g.W.Write.contents (inner_of c.emit_escaped.new.writer) in
     let head : List ℕ = decimal c.args.offset ++ kind_shown (seen c.args.packet) in
     let body : List ℕ = escaped_of (body_of (seen c.args.packet)) in
-    let began : Emits held between c.args.self.now head c.emit.new.self =
-    subst (λ (l : List ℕ). Emits held between c.args.self.now l c.emit.new.self) c.write_head-end.ensures.head c.in_ok-emit.ensures.ok in
-    let went : EmitsFront between after c.emit.new.self body =
-    subst (λ (l : List ℕ). EmitsFront between after c.emit.new.self (escaped_of l)) c.body.ensures c.in_err-emit_escaped.ensures.err in
+    let began : Emits held between c.args.self.now head c.emit_head.new.self = c.in_ok-emit_head.ensures.ok in
+    let went : EmitsFront between after c.emit_head.new.self body =
+    subst (λ (l : List ℕ). EmitsFront between after c.emit_head.new.self (escaped_of l)) c.body.ensures c.in_err-emit_escaped.ensures.err in
     let front : EmitsFront held after c.args.self.now (head ++ body ++ 10 ∷ []) =
-    front_longer held after c.args.self.now (head ++ body) (10 ∷ []) (front_after held between after c.args.self.now head c.emit.new.self body began went) in
+    front_longer held after c.args.self.now (head ++ body) (10 ∷ [])
+    (front_after held between after c.args.self.now head c.emit_head.new.self body began went) in
     search rules
 
 pub returns-clause-ok : goal.returns-clause-ok
 returns-clause-ok g c =
     let held : Option (List ℕ) = g.W.Write.contents (inner_of c.args.writer.now) in
-    let between : Option (List ℕ) = g.W.Write.contents (inner_of c.emit.new.writer) in
+    let between : Option (List ℕ) = g.W.Write.contents (inner_of c.emit_head.new.writer) in
     let next : Option (List ℕ) = g.W.Write.contents (inner_of c.emit_escaped.new.writer) in
-    let after : Option (List ℕ) = g.W.Write.contents (inner_of c.emit-2.new.writer) in
+    let after : Option (List ℕ) = g.W.Write.contents (inner_of c.emit.new.writer) in
     let head : List ℕ = decimal c.args.offset ++ kind_shown (seen c.args.packet) in
     let body : List ℕ = escaped_of (body_of (seen c.args.packet)) in
-    let began : Emits held between c.args.self.now head c.emit.new.self =
-    subst (λ (l : List ℕ). Emits held between c.args.self.now l c.emit.new.self) c.write_head-end.ensures.head c.in_ok-emit.ensures.ok in
-    let went : Emits between next c.emit.new.self body c.emit_escaped.new.self =
-    subst (λ (l : List ℕ). Emits between next c.emit.new.self (escaped_of l) c.emit_escaped.new.self) c.body.ensures c.in_ok-emit_escaped.ensures.ok in
+    let began : Emits held between c.args.self.now head c.emit_head.new.self = c.in_ok-emit_head.ensures.ok in
+    let went : Emits between next c.emit_head.new.self body c.emit_escaped.new.self =
+    subst (λ (l : List ℕ). Emits between next c.emit_head.new.self (escaped_of l) c.emit_escaped.new.self) c.body.ensures c.in_ok-emit_escaped.ensures.ok in
     let so_far : Emits held next c.args.self.now (head ++ body) c.emit_escaped.new.self =
-    emits_then held between next c.args.self.now head c.emit.new.self body c.emit_escaped.new.self began went in
-    on_ok-map c.emit-2.result (λ last. emits_then held next after c.args.self.now (head ++ body) c.emit_escaped.new.self (10 ∷ []) c.emit-2.new.self so_far last) c.emit-2.ensures.ok
+    emits_then held between next c.args.self.now head c.emit_head.new.self body c.emit_escaped.new.self began went in
+    on_ok_weaker c.emit.result
+    (λ last. emits_then held next after c.args.self.now (head ++ body) c.emit_escaped.new.self (10 ∷ []) c.emit.new.self so_far last)
+    c.emit.ensures.ok
 
 pub returns-clause-err : goal.returns-clause-err
 returns-clause-err g c =
     let held : Option (List ℕ) = g.W.Write.contents (inner_of c.args.writer.now) in
-    let between : Option (List ℕ) = g.W.Write.contents (inner_of c.emit.new.writer) in
+    let between : Option (List ℕ) = g.W.Write.contents (inner_of c.emit_head.new.writer) in
     let next : Option (List ℕ) = g.W.Write.contents (inner_of c.emit_escaped.new.writer) in
-    let after : Option (List ℕ) = g.W.Write.contents (inner_of c.emit-2.new.writer) in
+    let after : Option (List ℕ) = g.W.Write.contents (inner_of c.emit.new.writer) in
     let head : List ℕ = decimal c.args.offset ++ kind_shown (seen c.args.packet) in
     let body : List ℕ = escaped_of (body_of (seen c.args.packet)) in
-    let began : Emits held between c.args.self.now head c.emit.new.self =
-    subst (λ (l : List ℕ). Emits held between c.args.self.now l c.emit.new.self) c.write_head-end.ensures.head c.in_ok-emit.ensures.ok in
-    let went : Emits between next c.emit.new.self body c.emit_escaped.new.self =
-    subst (λ (l : List ℕ). Emits between next c.emit.new.self (escaped_of l) c.emit_escaped.new.self) c.body.ensures c.in_ok-emit_escaped.ensures.ok in
+    let began : Emits held between c.args.self.now head c.emit_head.new.self = c.in_ok-emit_head.ensures.ok in
+    let went : Emits between next c.emit_head.new.self body c.emit_escaped.new.self =
+    subst (λ (l : List ℕ). Emits between next c.emit_head.new.self (escaped_of l) c.emit_escaped.new.self) c.body.ensures c.in_ok-emit_escaped.ensures.ok in
     let so_far : Emits held next c.args.self.now (head ++ body) c.emit_escaped.new.self =
-    emits_then held between next c.args.self.now head c.emit.new.self body c.emit_escaped.new.self began went in
-    on_err-map c.emit-2.result (λ last. front_after held next after c.args.self.now (head ++ body) c.emit_escaped.new.self (10 ∷ []) so_far last) c.emit-2.ensures.err
+    emits_then held between next c.args.self.now head c.emit_head.new.self body c.emit_escaped.new.self began went in
+    on_err_weaker c.emit.result
+    (λ last. front_after held next after c.args.self.now (head ++ body) c.emit_escaped.new.self (10 ∷ []) so_far last) c.emit.ensures.err

@@ -1,6 +1,6 @@
 use Rattle.std.proofs.Common.{arith, ◌≡◌, [], List, subst, take, drop, length, ◌-◌}
 use Rattle.git_client.specs.Events.{EventValue}
-use Rattle.git_client.specs.Hearing.{Comes, HearsOn, Leaves}
+use Rattle.git_client.specs.Client.{Comes, HearsOn, Leaves}
 use Rattle.git_client.specs.declared.conversation.Outcome.{Outcome}
 use Rattle.git_client.specs.declared.conversation.Outcome.TheVariants.{More}
 use Rattle.git_client.proofs.Twice.{hears_then, leaves_then}
@@ -17,7 +17,8 @@ loop-used-preserved c =
       within = omega (arith, c.take-step.ensures.used, c.loop-used.invariant.within);
       waits = left.0;
       hears =
-          hears_then c.args.self.now c.loop-used.self new c.args.piece.now c.loop-used.used c.take-step.result.used [] c.loop-used.invariant.within c.loop-used.invariant.hears
+          hears_then c.args.self.now c.loop-used.self new c.args.piece.now c.loop-used.used c.take-step.result.used [] c.loop-used.invariant.within
+          c.loop-used.invariant.hears
           (subst (λ (es : List EventValue). HearsOn c.loop-used.self (take c.take-step.result.used rest) es new) none takes.hears);
     }
 
@@ -31,7 +32,9 @@ returns-in_default c =
       takes = record {
         events = takes.events;
         comes = takes.comes;
-        hears = hears_then c.args.self.now c.loop-used.self new c.args.piece.now c.loop-used.used c.take-step.result.used takes.events c.loop-used.invariant.within c.loop-used.invariant.hears takes.hears;
-        leaves = leaves_then c.take-step.result.outcome c.args.piece.now c.loop-used.used c.take-step.result.used new c.in_default.not-More c.loop-used.invariant.within takes.leaves;
+        hears = hears_then c.args.self.now c.loop-used.self new c.args.piece.now c.loop-used.used c.take-step.result.used takes.events
+            c.loop-used.invariant.within c.loop-used.invariant.hears takes.hears;
+        leaves = leaves_then c.take-step.result.outcome c.args.piece.now c.loop-used.used c.take-step.result.used new c.in_default.not-More
+            c.loop-used.invariant.within takes.leaves;
       };
     }

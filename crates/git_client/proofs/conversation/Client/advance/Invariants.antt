@@ -1,5 +1,5 @@
 use Rattle.std.proofs.Common.{length, ◌-◌, ◌≡◌, ◌≤◌, true, take, []}
-use Rattle.git_client.specs.Hearing.{HearsOn, wants_input}
+use Rattle.git_client.specs.Client.{HearsOn, wants_input}
 use Rattle.git_client.proofs.conversation.Client.advance.Given as goal
 
 -- the bytes so far gave no event

@@ -1,5 +1,5 @@
 use Rattle.std.proofs.Common.{rules, ◌≡◌, false, refl, sym, ◌∙◌, ap}
-use Rattle.git_client.specs.Hearing.{can_ask, is_ready, phase_of}
+use Rattle.git_client.specs.Client.{can_ask, is_ready, phase_of}
 use Rattle.git_client.specs.declared.phase.Phase.{Phase}
 use Rattle.git_client.specs.declared.phase.Phase.TheVariants.{Opening, Advertisement, Ready, Failed}
 use Rattle.git_client.proofs.Carries.{turn_is}

@@ -6,7 +6,7 @@ use Rattle.git_client.specs.declared.phase.Phase.TheVariants.{Opening, Advertise
 use Rattle.git_client.proofs.Carries.{takes_no_fault}
 use Rattle.std.specs.Option.{option_copied}
 use Rattle.git_client.specs.Events.{EventValue, capability}
-use Rattle.git_client.specs.Hearing.{Comes, HearsOn, Leaves, phase_of, fault_in, is_ready}
+use Rattle.git_client.specs.Client.{Comes, HearsOn, Leaves, phase_of, fault_in, is_ready}
 use Rattle.git_client.specs.declared.conversation.Outcome.{Outcome}
 use Rattle.git_client.specs.declared.conversation.Outcome.TheVariants.{Capability}
 use Rattle.git_client.proofs.conversation.Client.feed.Goals as goal

@@ -1,16 +1,22 @@
-use Rattle.std.proofs.Common.{rules, arith, ◌≡◌, ◌++◌, ◌∷◌, [], length-append, codes}
-use Rattle.git_msg.proofs.KeptBytes.{within_symrefs, within_peel, within_prefix}
+use Rattle.std.proofs.Common.{rules, ◌≡◌, ◌+◌, ◌++◌, ◌∷◌, []}
+use Rattle.git_msg.specs.Arguments.{shown}
+use Rattle.git_msg.specs.Asked.{LsRefsAsked, ls_refs, with_argument}
+use Rattle.git_msg.specs.Kept.{IsCounted}
+use Rattle.git_msg.proofs.KeptBytes.{counted_more}
 use Rattle.git_msg.proofs.requests.LsRefs.keep.Goals as goal
 use Rattle.git_msg.proofs.requests.LsRefs.keep.Goals.{in-Symrefs, in-Peel, in-RefPrefix+else-is_err}
 
 pub invariant_of-self-2 : goal.invariant_of-self-2
 invariant_of-self-2 g c =
+    let q : LsRefsAsked = record { symrefs = c.self.inside.symrefs; peel = c.self.inside.peel; ref_prefixes = c.self.inside.ref_prefixes } in
+    let charged : c.charge.new.self.kept ≡ c.self.inside.budget.kept + c.args.text_length = search rules in
+    let more : IsCounted c.self.inside.format (with_argument (ls_refs q) (shown c.args.argument)) c.charge.new.self.kept =
+    rw charged (counted_more c.self.inside.format (ls_refs q) (shown c.args.argument) c.self.inside.budget.kept c.args.text_length c.self.invariant
+    c.requires.value c.requires.counted) in
     elim c.match-argument.branch [
-      | in-Symrefs w ↦ rw w.self-inside-is (within_symrefs c.self.inside.kept c.self.inside.limit c.args.text_length c.self.inside.ref_prefixes c.self.inside.peel c.self.inside.symrefs c.self.invariant (omega arith) (rw w.in-Symrefs.is at c.requires.counted))
-      | in-Peel w ↦ rw w.self-inside-is (within_peel c.self.inside.kept c.self.inside.limit c.args.text_length c.self.inside.ref_prefixes c.self.inside.peel c.self.inside.symrefs c.self.invariant (omega arith) (rw w.in-Peel.is at c.requires.counted))
+      | in-Symrefs w ↦ rw w.self-inside-is (rw w.in-Symrefs.is at more)
+      | in-Peel w ↦ rw w.self-inside-is (rw w.in-Peel.is at more)
       | in-RefPrefix+else-is_err w ↦
           let grown : w.push.new.self ≡ c.self.inside.ref_prefixes ++ w.in-RefPrefix.prefix.now ∷ [] = search rules in
-          let short = rw w.in-RefPrefix.is at c.requires.short in
-          let long = rw w.in-RefPrefix.is at c.requires.counted in
-          rw w.self-inside-is (within_prefix c.self.inside.kept c.self.inside.limit c.args.text_length c.self.inside.ref_prefixes w.push.new.self w.in-RefPrefix.prefix.now c.self.inside.peel c.self.inside.symrefs c.self.invariant (omega arith) short (omega (arith, long, length-append (codes "ref-prefix ") w.in-RefPrefix.prefix.now)) grown)
+          rw (w.self-inside-is, grown) (rw w.in-RefPrefix.is at more)
     ]

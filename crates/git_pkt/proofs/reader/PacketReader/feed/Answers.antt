@@ -1,4 +1,4 @@
-use Rattle.std.proofs.Common.{rules, ◌≡◌, take, length, arith, subst, refl, ◌∙◌}
+use Rattle.std.proofs.Common.{rules, ◌≡◌, ◌++◌, ℕ, List, take, ap, arith, subst, refl, ◌∙◌}
 use Rattle.std.proofs.lemmas.List.{length-take-le}
 use Rattle.git_pkt.specs.Reading.{ShownByFeed}
 use Rattle.git_pkt.specs.ReaderSteps.{Moves, IsShown}
@@ -70,7 +70,7 @@ returns-in-Whole c =
           news = λ f sound is. absurd (cc);
           stays = λ f is. absurd (c.in_default.not-Some f is);
           keeps = c.step-step.ensures.keeps;
-          held = moves.arrives.held;
+          held = λ rest holds. moves.arrives.held ∙ ap (λ (l : List ℕ). l ++ take c.step-step.result.used c.args.piece.now) holds.all;
         },
       ),
       record { after = tt; used = c.step-step.ensures.used },

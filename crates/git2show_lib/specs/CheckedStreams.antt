@@ -17,11 +17,11 @@ use Rattle.git_pkt.specs.declared.fault.Kind.TheVariants.{UnexpectedPacket}
 use Rattle.git_client.specs.Events.{EventValue, turns_of}
 use Rattle.git_client.specs.Conversation.{HasEvents, FirstMalformed, GoesWell, IsAdvertisement}
 use Rattle.git_client.specs.Transcript.{line_of}
-use Rattle.git_client.specs.Hearing.{HearsOn, fault_of, wants_input}
+use Rattle.git_client.specs.Client.{HearsOn, fault_of, wants_input}
 use Rattle.git_client.specs.declared.conversation.Client.{Client}
 use Rattle.git2show_lib.specs.declared.checking.CheckFault.{CheckFault}
 use Rattle.git2show_lib.specs.declared.checking.CheckFault.TheVariants.{Requests, Responses, ReadFault, WriteFault, ReadLimit}
-use Rattle.git2show_lib.specs.Showing.{IsTimely}
+use Rattle.git2show_lib.specs.ShownStream.{IsTimely}
 
 -- what shows each fault that is no refusal: a reader failed, the writer failed, the reads of both streams are spent
 abbrev pub IsShownInCheck : {Q A : Type 0} → Told Q → Told A → Bool → ℕ → CheckFault → Type 0
@@ -194,7 +194,8 @@ pub record TranscribedAll (old new : Client) (left_before left_after held_before
 -- how far the responses were heard when this fault ended them
 abbrev pub TranscribedUntil : CheckFault → Bool → Client → Client → Option (List ℕ) → Option (List ℕ) → Option (List ℕ) → Option (List ℕ) → Type 0
 TranscribedUntil (Requests f) ended old new left_before left_after held_before held_after = ⊥
-TranscribedUntil (Responses f) ended old new left_before left_after held_before held_after = TranscribedUpTo f ended old new left_before left_after held_before held_after
+TranscribedUntil (Responses f) ended old new left_before left_after held_before held_after =
+    TranscribedUpTo f ended old new left_before left_after held_before held_after
 TranscribedUntil ReadFault ended old new left_before left_after held_before held_after = TranscribedAll old new left_before left_after held_before held_after
 TranscribedUntil WriteFault ended old new left_before left_after held_before held_after = TranscribedFront old new left_before left_after held_before held_after
 TranscribedUntil ReadLimit ended old new left_before left_after held_before held_after = TranscribedAll old new left_before left_after held_before held_after

@@ -9,8 +9,8 @@ use Rattle.git_pkt.specs.declared.fault.Kind.TheVariants.{Truncated, StreamTooLo
 use Rattle.git_pkt.specs.declared.fault.RunFault.{RunFault}
 use Rattle.git_pkt.specs.declared.fault.RunFault.TheVariants.{ReadFault, WriteFault, ReadLimit, Refused}
 use Rattle.git_pkt.specs.declared.reader.PacketReader.{PacketReader}
-use Rattle.git2show_lib.specs.Lines.{lines_of}
-use Rattle.git2show_lib.specs.Sending.{Emits, EmitsFront}
+use Rattle.git2show_lib.specs.PacketLines.{lines_of}
+use Rattle.git2show_lib.specs.LineBuffer.{Emits, EmitsFront}
 
 -- a stream is truncated only where the input has ended, and too long only where there is one more byte
 abbrev pub IsTimely : Kind → Bool → List ℕ → Type 0
@@ -58,7 +58,8 @@ pub record PrintsFront (old : PacketReader) (bytes : List ℕ) (held_before held
   pub emits : EmitsFront held_before held_after [] (lines_of packets)
 
 -- a front of the piece was used up to a fault, and printed
-pub record PrintsUpTo (f : Fault) (old : PacketReader) (piece : List ℕ) (held_before held_after : Option (List ℕ)) (waiting : List ℕ) (new : PacketReader) : Type 0 where
+pub record PrintsUpTo (f : Fault) (old : PacketReader) (piece : List ℕ) (held_before held_after : Option (List ℕ)) (waiting : List ℕ)
+    (new : PacketReader) : Type 0 where
   pub used : ℕ
   pub prints : Prints old (take used piece) held_before held_after waiting new
   pub told : fault_of new ≡ Some f

@@ -11,10 +11,11 @@ use Rattle.git_pkt.specs.declared.fault.Kind.{Kind}
 use Rattle.git_pkt.specs.declared.fault.Kind.TheVariants.{RemoteError, Truncated}
 use Rattle.git_pkt.specs.declared.reader.PacketReader.{PacketReader}
 use Rattle.git_msg.specs.Capability.{IsCapability}
+use Rattle.git_msg.specs.Texts.{IsErrorOf}
 use Rattle.git_msg.specs.Advertisement.{noted_of}
 use Rattle.git_msg.specs.declared.offers.Caps.{Caps}
 use Rattle.git_client.specs.Parts.{nearest, advertisement_of}
-use Rattle.git_client.specs.Events.{EventValue, capability, offered, IsErrorOf}
+use Rattle.git_client.specs.Events.{EventValue, capability, offered}
 use Rattle.git_client.specs.Conversation.{GiveAll, RefusesAt}
 use Rattle.git_client.specs.Turns.{takes_packets}
 use Rattle.git_client.specs.declared.phase.Phase.{Phase}

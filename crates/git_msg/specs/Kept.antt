@@ -1,0 +1,52 @@
+-- What is kept of a request, within a limit on the bytes of its argument lines.
+use Rattle.std.specs.Prelude.{◌≡◌, ◌⊎◌, ℕ, ◌+◌, ◌<◌, ◌≤◌}
+use Rattle.git_names.specs.declared.object_format.Format.{Format}
+use Rattle.git_pkt.specs.declared.fault.Kind.{Kind}
+use Rattle.git_pkt.specs.declared.fault.Kind.TheVariants.{TooMuchKept, OutOfMemory}
+use Rattle.git_msg.specs.declared.arguments.Command.{Command}
+use Rattle.git_msg.specs.Arguments.{Arg, most_limit, TakesMemory}
+use Rattle.git_msg.specs.Asked.{Asked, command_asked, nothing_asked, with_argument, written_bytes, HasValues}
+
+-- the format, what is asked for, and how many bytes the texts of the lines had and may have
+pub record Kept (Q : Type 0) : Type 0 where
+  pub format : Format
+  pub asked : Q
+  pub kept : ℕ
+  pub limit : ℕ
+
+-- what is kept of a request of one command, as what is kept of a request
+abbrev pub kept_as : {Q : Type 0} → (Q → Asked) → Kept Q → Kept Asked
+kept_as make q = record { format = q.format; asked = make q.asked; kept = q.kept; limit = q.limit }
+
+-- each argument may stand in such a request, and the texts of their lines as they are written have no more bytes than are counted
+pub record IsCounted (format : Format) (asked : Asked) (kept : ℕ) : Type 0 where
+  pub values : HasValues format asked
+  pub written : written_bytes asked ≤ kept
+
+-- and no more bytes are counted than the limit has
+pub record IsWithin (q : Kept Asked) : Type 0 where
+  pub counted : IsCounted q.format q.asked q.kept
+  pub room : q.kept ≤ q.limit
+  pub in_range : q.limit ≤ most_limit
+
+-- a request without arguments
+pub record IsNew (command : Command) (format : Format) (limit : ℕ) (q : Kept Asked) : Type 0 where
+  pub asked : q.asked ≡ nothing_asked command
+  pub kept : q.kept ≡ 0
+  pub command_is : command_asked q.asked ≡ command
+  pub format_is : q.format ≡ format
+  pub limit_is : q.limit ≡ limit
+
+-- an argument came to the others, with a text of so many bytes
+pub record KeepsArgument (old : Kept Asked) (arg : Arg) (long : ℕ) (new : Kept Asked) : Type 0 where
+  pub asked : new.asked ≡ with_argument old.asked arg
+  pub kept : new.kept ≡ old.kept + long
+  pub command : command_asked new.asked ≡ command_asked old.asked
+  pub format : new.format ≡ old.format
+  pub limit : new.limit ≡ old.limit
+
+-- the argument did not come to the others, by this name
+abbrev pub IsUnkept : Kept Asked → Arg → ℕ → Kind → Type 0
+IsUnkept old arg long kind =
+    ((old.limit < old.kept + long) × (kind ≡ TooMuchKept))
+    ⊎ ((old.kept + long ≤ old.limit) × TakesMemory arg × (kind ≡ OutOfMemory))

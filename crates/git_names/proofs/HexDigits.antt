@@ -1,0 +1,42 @@
+-- What holds of hexadecimal digits.
+use Rattle.std.proofs.Common.{◌≡◌, ℕ, ◌<◌, ◌==◌, Bool, true, not, ◌||◌, false, refl, arith}
+use Rattle.std.proofs.lemmas.Bool.{eqb-true}
+use Rattle.git_names.specs.Digits.{digit_value, is_lower_digit, lower_digit}
+use Rattle.git_names.proofs.Tables.{all_pass, all_pass-at}
+
+-- the digit of a value reads back
+abbrev reads_back : ℕ → Bool
+reads_back d = digit_value (lower_digit d) == d
+
+all_read_back : all_pass reads_back 16 ≡ true
+unfolding digit_value lower_digit
+all_read_back = refl
+
+pub digit_value-lower_digit : (d : ℕ) → d < 16 → digit_value (lower_digit d) ≡ d
+digit_value-lower_digit d lt = eqb-true (digit_value (lower_digit d)) d (all_pass-at reads_back 16 d all_read_back lt)
+
+-- it is in lower case
+all_are_lower : all_pass (λ (d : ℕ). is_lower_digit (lower_digit d)) 16 ≡ true
+unfolding lower_digit
+all_are_lower = refl
+
+pub is_lower_digit-lower_digit : (d : ℕ) → d < 16 → is_lower_digit (lower_digit d) ≡ true
+is_lower_digit-lower_digit d lt = all_pass-at (λ (k : ℕ). is_lower_digit (lower_digit k)) 16 d all_are_lower lt
+
+-- a digit in lower case is the digit of its value
+abbrev is_own_digit : ℕ → Bool
+is_own_digit c = not (is_lower_digit c) || lower_digit (digit_value c) == c
+
+own_if_lower : (lower own : Bool) → (not lower || own) ≡ true → lower ≡ true → own ≡ true
+own_if_lower true own h is = h
+own_if_lower false own h is = cc is
+
+all_own : all_pass is_own_digit 103 ≡ true
+unfolding digit_value lower_digit
+all_own = refl
+
+pub lower_digit-digit_value : (c : ℕ) → is_lower_digit c ≡ true → lower_digit (digit_value c) ≡ c
+lower_digit-digit_value c h =
+    let small : c < 103 = grind arith in
+    eqb-true (lower_digit (digit_value c)) c
+    (own_if_lower (is_lower_digit c) (lower_digit (digit_value c) == c) (all_pass-at is_own_digit 103 c all_own small) h)

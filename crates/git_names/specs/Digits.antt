@@ -1,0 +1,21 @@
+-- Hexadecimal digits.
+use Rattle.std.specs.Prelude.{ℕ, ◌-◌, ◌<◌, Bool, nat_le, ◌&&◌, ◌||◌, if◌then◌else◌, slice_index, codes}
+
+-- the value of a hexadecimal digit of either case, and 16 for any other byte
+unfoldable pub digit_value : ℕ → ℕ
+digit_value c =
+    if nat_le 48 c && nat_le c 57 then c - 48
+    else if nat_le 65 c && nat_le c 70 then c - 55
+    else if nat_le 97 c && nat_le c 102 then c - 87
+    else 16
+
+abbrev pub IsHexDigit : ℕ → Type 0
+IsHexDigit c = digit_value c < 16
+
+-- the digit of a value below 16, in lower case
+unfoldable pub lower_digit : ℕ → ℕ
+lower_digit d = slice_index (codes "0123456789abcdef") d
+
+-- the byte is a digit in lower case
+abbrev pub is_lower_digit : ℕ → Bool
+is_lower_digit c = (nat_le 48 c && nat_le c 57) || (nat_le 97 c && nat_le c 102)

@@ -1,0 +1,22 @@
+-- The side bands of a packfile section, by gitprotocol-v2(5).
+use Rattle.std.specs.Prelude.{◌≡◌, ℕ, ◌<◌, List, [], ◌∷◌, ◌++◌, length}
+use Rattle.git_pkt.specs.Packets.{Pkt, payload, longest_payload}
+use Rattle.git_pkt.specs.declared.band.Band.{Band}
+use Rattle.git_pkt.specs.declared.band.Band.TheVariants.{Pack, Progress, Fatal}
+
+-- the band's byte
+abbrev pub byte_of : Band → ℕ
+byte_of Pack = 1
+byte_of Progress = 2
+byte_of Fatal = 3
+
+-- the packet that has these bytes on the band
+abbrev pub band_packet : Band → List ℕ → Pkt
+band_packet band bytes = payload (byte_of band ∷ bytes)
+
+-- the packets have the bytes on the band, in their order: some in each, and no more than a packet takes
+abbrev pub AreBands : Band → List ℕ → List Pkt → Type 0
+AreBands band bytes [] = bytes ≡ []
+AreBands band bytes (packet ∷ packets) =
+    (part : List ℕ) × (more : List ℕ) × (bytes ≡ part ++ more) × (0 < length part) × (length part < longest_payload)
+    × (packet ≡ band_packet band part) × AreBands band more packets

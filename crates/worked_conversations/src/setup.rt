@@ -1,0 +1,39 @@
+//! How the ends of all cases are set up, and what no case comes to.
+
+ghost use Rattle.std.specs.Prelude.{◌≡◌, false};
+
+use git_msg::{Limits, Offer};
+use git_names::Format;
+
+/// More reads than any run makes.
+pub const TURNS: u64 = 1_073_741_824;
+
+/// More packets than any request or answer has, and more texts than any request.
+pub const MANY: usize = 100_000;
+
+/// The last position of a stream.
+pub const LAST_POSITION: u64 = 9_223_372_036_854_775_807;
+
+/// The most bytes that the texts of a request's arguments may have.
+const MOST_KEPT: u32 = 1_073_741_824;
+
+/// All that is offered so far, in this format.
+pub fn offer(format: Format) -> Offer
+    ensures format { result.format ≡ format }
+    ensures no_object_info { result.object_info ≡ false }
+{
+    Offer {
+        format,
+        shallow: true,
+        ref_in_want: true,
+        object_info: false,
+        server_option: true,
+    }
+}
+
+/// The limit that a case tells, or the highest that there is.
+pub fn limits(args: u32) -> Limits {
+    Limits {
+        args: args.min(MOST_KEPT),
+    }
+}
