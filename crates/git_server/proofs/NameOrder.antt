@@ -1,67 +1,122 @@
--- Rising names, searched by halves.
-use Rattle.std.proofs.Common.{◌≡◌, ◌≢◌, ℕ, ◌≤◌, true, List, All, refl, sym, ap, ◌∙◌, subst, arith}
+-- Elements that rise by a key, searched by halves, and the orders of the keys: names and object names.
+use Rattle.std.proofs.Common.{◌≡◌, ◌≢◌, ◌↔◌, ℕ, ◌<◌, true, false, List, All, Any, length, refl, sym, ap, ◌∙◌, subst, arith, inl, inr}
+use Rattle.std.specs.Cmp.{IsTotalOrder}
+use Rattle.std.specs.List.{AllAdjacentBelow, HoldsAt}
 use Rattle.std.specs.List.Sorted.{IsNonDecreasingBy, IsPartitionPoint}
-use Rattle.std.specs.Ordering.{nat_cmp, is_lt, ordering_index, ordering_reverse}
+use Rattle.std.specs.Ordering.{nat_cmp, is_lt, is_eq, ordering_index, ordering_reverse, ordering_then}
 use Rattle.std.specs.Cmp.Lexicographic.{slice_cmp}
 use Rattle.std.specs.FinMap.{nat_cmp-IsAntisymmetric, slice_cmp-IsAntisymmetric}
 use Rattle.std.specs.declared.cmp.Ordering.{Ordering}
 use Rattle.std.specs.declared.cmp.Ordering.TheVariants.{Less, Equal, Greater}
 use Rattle.std.proofs.lemmas.Bool.{cases_lt}
-use Rattle.std.proofs.Common.{inl, inr}
-use Rattle.std.proofs.lemmas.Cmp.{nat_list_cmp_total}
-use Rattle.std.proofs.lemmas.List.Sorted.{IsNonDecreasingBy-from_all_adjacent}
-use Rattle.git_server.specs.Repository.{Entry, IsRising}
+use Rattle.std.proofs.lemmas.Cmp.{nat_list_cmp_total, on_total, then_total, tied_itself}
+use Rattle.std.proofs.lemmas.List.Folds.{Any-from_list_any, list_any-from_Any, list_any_at, list_any_none}
+use Rattle.std.proofs.lemmas.List.Sorted.{searchable_from_sorted}
+use Rattle.git_names.specs.declared.object_format.Format.{Format}
+use Rattle.git_names.specs.declared.object_format.Format.TheVariants.{Sha1, Sha256}
+use Rattle.git_names.specs.ObjectName.{ObjectName}
+use Rattle.git_server.specs.Objects.{format_cmp, has_object, object_cmp}
 
--- how a name stands to another
-abbrev against : List ℕ → List ℕ → Ordering
-against a b = slice_cmp nat_cmp a b
+module _ {X K : Type 0} {R : K → K → Ordering} (total : IsTotalOrder R) (key : X → K) where
+  not_before : (a b : K) → is_lt (R a b) ≡ true → is_lt (R b a) ≡ false
+  not_before a b low = subst (λ (o : Ordering). is_lt o ≡ false) (sym (total.antisymm b a)) (turned (R a b) low)
+    where
+      turned : (o : Ordering) → is_lt o ≡ true → is_lt (ordering_reverse o) ≡ false
+      turned Less h = refl
+      turned Equal h = refl
+      turned Greater h = cc
 
-less_of_lt : (o : Ordering) → is_lt o ≡ true → o ≡ Less
-less_of_lt Less h = refl
-less_of_lt Equal h = cc
-less_of_lt Greater h = cc
+  -- the keys below n come first, then n, then those above
+  pub ranks_rise : (xs : List X) (n : K) → AllAdjacentBelow (λ a b. is_lt (R (key a) (key b)) ≡ true) xs (length xs)
+      → IsNonDecreasingBy (λ x. ordering_index (R (key x) n)) xs
+  ranks_rise xs n rising = searchable_from_sorted total key xs n (λ k d low below. not_before _ _ (rising k d below))
 
-pub same_name : (a b : List ℕ) → against a b ≡ Equal → a ≡ b
+  -- what is not tied with n is not n
+  differs : (a n : K) (o : Ordering) → R a n ≡ o → o ≢ Equal → a ≢ n
+  differs a n o is untied same = untied (sym is ∙ subst (λ (m : K). R m n ≡ Equal) (sym same) (tied_itself total n))
+
+  -- where the keys split into those below n and those above, none is n
+  pub none_is : (xs : List X) (n : K) (i : ℕ)
+      → IsPartitionPoint (λ x. R (key x) n ≡ Less) (λ x. R (key x) n ≡ Greater) xs i → All (λ x. key x ≢ n) xs
+  none_is xs n i parts k d below =
+      elim (cases_lt k i) [
+        | inl low ↦ differs _ n Less (parts.0 k d (omega arith) low) (λ h. cc)
+        | inr high ↦ differs _ n Greater (parts.1 k d high below) (λ h. cc)
+      ]
+
+pub same_name : (a b : List ℕ) → slice_cmp nat_cmp a b ≡ Equal → a ≡ b
 same_name a b h = slice_cmp-IsAntisymmetric nat_cmp-IsAntisymmetric a b h
 
--- a name below one that is equal to n is below n
-below_equal : (a b n : List ℕ) → against a b ≡ Less → against b n ≡ Equal → against a n ≡ Less
-below_equal a b n low same = subst (λ (m : List ℕ). against a m ≡ Less) (same_name b n same) low
-
-rank_rises : (a b n : List ℕ) (o : Ordering) → against a b ≡ Less → against b n ≡ o → ordering_index (against a n) ≤ ordering_index o
-rank_rises a b n Less low is = let e = nat_list_cmp_total.trans a b n low is in rw e (omega arith)
-rank_rises a b n Equal low is = let e = below_equal a b n low is in rw e (omega arith)
-rank_rises a b n Greater low is = top (against a n)
+format_total : IsTotalOrder format_cmp
+format_total = record { antisymm = back; trans = low; congr = tied }
   where
-    top : (o : Ordering) → ordering_index o ≤ 2
-    top Less = omega arith
-    top Equal = omega arith
-    top Greater = omega arith
+    back : (x y : Format) → format_cmp x y ≡ ordering_reverse (format_cmp y x)
+    back Sha1 Sha1 = refl
+    back Sha1 Sha256 = refl
+    back Sha256 Sha1 = refl
+    back Sha256 Sha256 = refl
 
--- the names below n come first, then n, then those above
-pub ranks_rise : (refs : List Entry) (n : List ℕ) → IsRising refs → IsNonDecreasingBy (λ entry. ordering_index (against entry.name n)) refs
-ranks_rise refs n rising =
-    IsNonDecreasingBy-from_all_adjacent (λ entry. ordering_index (against entry.name n)) refs
-    (λ k d below. rank_rises _ _ n _ (less_of_lt _ (rising k d below)) refl)
+    low : (x y z : Format) → format_cmp x y ≡ Less → format_cmp y z ≡ Less → format_cmp x z ≡ Less
+    low Sha1 Sha1 z h g = cc
+    low Sha1 Sha256 Sha1 h g = cc
+    low Sha1 Sha256 Sha256 h g = refl
+    low Sha256 Sha1 z h g = cc
+    low Sha256 Sha256 z h g = cc
 
-not_itself : (n : List ℕ) (o : Ordering) → against n n ≡ o → o ≡ ordering_reverse o
-not_itself n o is = sym is ∙ nat_list_cmp_total.antisymm n n ∙ ap ordering_reverse is
+    tied : (x y z : Format) → format_cmp x y ≡ Equal → format_cmp x z ≡ format_cmp y z
+    tied Sha1 Sha1 z h = refl
+    tied Sha1 Sha256 z h = cc
+    tied Sha256 Sha1 z h = cc
+    tied Sha256 Sha256 z h = refl
 
-differs : (a n : List ℕ) → against a n ≡ Less → a ≢ n
-differs a n low same =
-    let own : against n n ≡ Less = subst (λ (m : List ℕ). against m n ≡ Less) same low in
-    let turned : Less ≡ Greater = not_itself n Less own in cc
+-- the order of object names is total
+pub object_total : IsTotalOrder object_cmp
+object_total = then_total (on_total (λ (id : ObjectName). id.format) format_total) (on_total (λ (id : ObjectName). id.bytes) nat_list_cmp_total)
 
-differs_above : (a n : List ℕ) → against a n ≡ Greater → a ≢ n
-differs_above a n high same =
-    let own : against n n ≡ Greater = subst (λ (m : List ℕ). against m n ≡ Greater) same high in
-    let turned : Greater ≡ Less = not_itself n Greater own in cc
+same_format : (a b : Format) → format_cmp a b ≡ Equal → a ≡ b
+same_format Sha1 Sha1 h = refl
+same_format Sha1 Sha256 h = cc
+same_format Sha256 Sha1 h = cc
+same_format Sha256 Sha256 h = refl
 
--- where the names split into those below n and those above, none is n
-pub none_is : (refs : List Entry) (n : List ℕ) (i : ℕ)
-    → IsPartitionPoint (λ entry. against entry.name n ≡ Less) (λ entry. against entry.name n ≡ Greater) refs i → All (λ entry. entry.name ≢ n) refs
-none_is refs n i parts k d below =
-    elim (cases_lt k i) [
-      | inl low ↦ differs _ n (parts.0 k d (omega arith) low)
-      | inr high ↦ differs_above _ n (parts.1 k d high below)
-    ]
+both_tied : (o p : Ordering) → ordering_then o p ≡ Equal → (o ≡ Equal) × (p ≡ Equal)
+both_tied Less p h = cc
+both_tied Equal p h = (refl, h)
+both_tied Greater p h = cc
+
+-- object names of which neither comes before the other are one
+pub same_object : (a b : ObjectName) → object_cmp a b ≡ Equal → a ≡ b
+same_object a b h =
+    let both = both_tied _ _ h in
+    let of_format = same_format _ _ both.0 in
+    let of_bytes = same_name _ _ both.1 in
+    λ i. record { format = of_format i; bytes = of_bytes i }
+
+is_tied : (o : Ordering) → is_eq o ≡ true → o ≡ Equal
+is_tied Less h = cc
+is_tied Equal h = refl
+is_tied Greater h = cc
+
+not_tied : (o : Ordering) → o ≢ Equal → is_eq o ≡ false
+not_tied Less h = refl
+not_tied Equal h = absurd (h refl)
+not_tied Greater h = refl
+
+module _ (objects : List (ObjectName × ℕ)) (id : ObjectName) where
+  -- the test finds the name just where it stands
+  pub has_means : has_object objects id ≡ true ↔ Any (λ object. object.0 ≡ id) objects
+  has_means = (
+    (λ h. let at = Any-from_list_any (λ (object : ObjectName × ℕ). is_eq (object_cmp object.0 id)) objects h in
+        (at.0, at.1, at.2, at.3, same_object _ _ (is_tied _ at.4))),
+    (λ at. list_any-from_Any (λ (object : ObjectName × ℕ). is_eq (object_cmp object.0 id)) objects
+        (at.0, at.1, at.2, at.3, subst (λ (o : ObjectName). is_eq (object_cmp o id) ≡ true) (sym at.4) (ap is_eq (tied_itself object_total id)))),
+  )
+
+  pub has_at : (at : ℕ) → at < length objects → HoldsAt (λ object. object_cmp object.0 id ≡ Equal) objects at → has_object objects id ≡ true
+  has_at at within tied =
+      list_any_at (λ (object : ObjectName × ℕ). is_eq (object_cmp object.0 id)) objects at (id, 0) within (ap is_eq (tied (id, 0)))
+
+  pub has_none : All (λ object. object.0 ≢ id) objects → has_object objects id ≡ false
+  has_none none =
+      list_any_none (λ (object : ObjectName × ℕ). is_eq (object_cmp object.0 id)) objects
+      (λ k d below. not_tied _ (λ tied. none k d below (same_object _ _ tied)))

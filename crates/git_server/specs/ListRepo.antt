@@ -2,6 +2,7 @@
 use Rattle.git_server.specs.declared.list_repo.ListRepo.{ListRepo}
 use Rattle.git_server.specs.Repository.{RepoState}
 use Rattle.git_server.specs.Lists.{Lists}
+use Rattle.git_server.specs.Objects.{has_object}
 
 -- the lists that it is made of
 abbrev pub lists_of : ListRepo → Lists
@@ -16,4 +17,7 @@ lists_of repo = record {
 
 -- what it answers: none of its reads fails
 abbrev pub state_of : ListRepo → RepoState
-state_of repo = record { answers = record { format = repo.format; refs = repo.refs.items }; failures = 0 }
+state_of repo = record {
+  answers = record { format = repo.format; refs = repo.refs.items; has = has_object repo.objects.items };
+  failures = 0;
+}

@@ -1,7 +1,7 @@
 -- The order of object names.
 use Rattle.std.specs.Prelude.{◌≡◌, ℕ, Bool, true, List, length}
-use Rattle.std.specs.List.{AllAdjacentBelow}
-use Rattle.std.specs.Ordering.{nat_cmp, ordering_then, is_lt}
+use Rattle.std.specs.List.{AllAdjacentBelow, list_any}
+use Rattle.std.specs.Ordering.{nat_cmp, ordering_then, is_lt, is_eq}
 use Rattle.std.specs.Cmp.Lexicographic.{slice_cmp}
 use Rattle.std.specs.declared.cmp.Ordering.{Ordering}
 use Rattle.std.specs.declared.cmp.Ordering.TheVariants.{Less, Equal, Greater}
@@ -17,13 +17,21 @@ format_cmp Sha1 Sha256 = Less
 format_cmp Sha256 Sha1 = Greater
 format_cmp Sha256 Sha256 = Equal
 
--- the one comes before the other: SHA-1 before SHA-256, and in one format by their bytes
+-- SHA-1 comes before SHA-256, and names of one format are in the order of their bytes
+abbrev pub object_cmp : ObjectName → ObjectName → Ordering
+object_cmp a b = ordering_then (format_cmp a.format b.format) (slice_cmp nat_cmp a.bytes b.bytes)
+
+-- the one comes before the other
 abbrev pub precedes : ObjectName → ObjectName → Bool
-precedes a b = is_lt (ordering_then (format_cmp a.format b.format) (slice_cmp nat_cmp a.bytes b.bytes))
+precedes a b = is_lt (object_cmp a b)
 
 -- objects with their sizes: their names rise strictly
 abbrev pub AreRising : List (ObjectName × ℕ) → Type 0
 AreRising objects = AllAdjacentBelow (λ a b. precedes a.0 b.0 ≡ true) objects (length objects)
+
+-- whether one of the objects has the name: it comes neither before it nor after it
+abbrev pub has_object : List (ObjectName × ℕ) → ObjectName → Bool
+has_object objects id = list_any (λ object. is_eq (object_cmp object.0 id)) objects
 
 -- the object of a line of the boundary
 abbrev pub object_of : Boundary → ObjectName

@@ -42,10 +42,11 @@ pub record IsOfFormat (format : Format) (ref : Entry) : Type 0 where
 pub record HasOneFormat (ref : Entry) : Type 0 where
   pub by_peeled : (id : ObjectName) → ref.peeled ≡ Some id → id.format ≡ ref.id.format
 
--- what a repository answers
+-- what a repository answers: its format, its references, and which objects it has
 pub record Repository : Type 0 where
   pub format : Format
   pub refs : List Entry
+  pub has : ObjectName → Bool
 
 -- what a repository answers, and how many of its reads have failed
 pub record RepoState : Type 0 where

@@ -1,11 +1,11 @@
 //! A repository that is a few lists: of references, of objects, of shallow boundaries, and one pack.
 
-ghost use Rattle.std.specs.Prelude.{◌≡◌, ◌≢◌, ◌<◌, ◌↔◌, IsTrue, MatchOption, MatchResult, All, Some, length};
+ghost use Rattle.std.specs.Prelude.{◌≡◌, ◌≢◌, ◌<◌, ◌↔◌, IsTrue, MatchOption, MatchResult, All, Any, Some, length};
 ghost use Rattle.std.specs.List.{HoldsAt};
 ghost use Rattle.std.specs.Ordering.{nat_cmp};
 ghost use Rattle.std.specs.Cmp.Lexicographic.{slice_cmp};
 ghost use Rattle.git_server.specs.Lists.{repo_fault_name};
-ghost use Rattle.git_server.specs.Objects.{object_of, precedes, AreRising};
+ghost use Rattle.git_server.specs.Objects.{object_cmp, object_of, has_object, precedes, AreRising};
 ghost use Rattle.git_server.specs.Repository.{IsFound, IsNamed, IsOfFormat, IsRising, comes_before};
 
 use crate::entry::RefEntry;
@@ -51,6 +51,7 @@ pub struct ListRepo {
     boundaries: Vec<Boundary>,
     pack: Vec<u8>,
     ghost rising: { IsRising refs.items },
+    ghost rising_objects: { AreRising objects.items },
     ghost named: { All (λ ref. IsNamed ref.name ref.target) refs.items },
     ghost of_format: { All (IsOfFormat format) refs.items },
 }
@@ -106,7 +107,7 @@ impl ListRepo {
 }
 
 impl Repo for ListRepo {
-    ghost use Rattle.git_server.specs.ListRepo.{state_of};
+    ghost use Rattle.git_server.specs.ListRepo.{lists_of, state_of};
 
     ghost state = { state_of };
 
@@ -123,6 +124,13 @@ impl Repo for ListRepo {
     fn find(&self, name: &[u8]) -> Option<Oid> {
         let at = find_name(&self.refs, name)?;
         Some(self.refs[at].id())
+    }
+
+    fn has(&self, id: &Oid) -> bool
+        ensures answer { result ≡ (state_of self.now).answers.has id.now }
+        ensures among { IsTrue result ↔ Any (λ object. object.0 ≡ id.now) (lists_of self.now).objects }
+    {
+        stands_among(&self.objects, id)
     }
 }
 
@@ -195,5 +203,22 @@ fn find_name(refs: &[RefEntry], name: &[u8]) -> Option<usize>
     match searched {
         Ok(at) => Some(at),
         Err(_) => None,
+    }
+}
+
+// Whether one of the objects has the name.
+fn stands_among(objects: &[(Oid, u64)], id: &Oid) -> bool
+    requires { AreRising objects.now }
+    ensures value { result ≡ has_object objects.now id.now }
+    ensures among { IsTrue result ↔ Any (λ object. object.0 ≡ id.now) objects.now }
+{
+    let searched = objects.binary_search_by(
+        |object: &(Oid, u64)| -> Ordering
+            ensures { result ≡ object_cmp object.now.0 id.entry.now }
+        { object.0.cmp(id) },
+    );
+    match searched {
+        Ok(_) => true,
+        Err(_) => false,
     }
 }

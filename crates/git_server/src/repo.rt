@@ -23,6 +23,10 @@ pub trait Repo {
     fn find(&self, name: &[u8]) -> Option<Oid>
         ensures { IsFound (state self.now).answers.refs name.now result };
 
+    /// Whether it has an object of this name.
+    fn has(&self, id: &Oid) -> bool
+        ensures { result ≡ (state self.now).answers.has id.now };
+
     /// The names of the references rise, they and the targets are names that a reference may have, and all object names
     /// are of the format.
     ghost sound: { (repo : Self) → IsSound (state repo).answers };
