@@ -21,10 +21,10 @@ option_lines : (offer : Offer) (b : Bool) → offered_line b (codes "server-opti
 option_lines offer true = refl
 option_lines offer false = refl
 
-pub one_line : (offer : Offer) (line : AdvertisementLine) → advertisement_from offer line ≡ advertisement_packet offer.format line ∷ advertisement_after offer (advertisement_line_after offer line)
+pub one_line : (offer : Offer) (line : AdvertisementLine) → advertisement_from offer line ≡ advertisement_packet offer line ∷ advertisement_after offer (advertisement_line_after offer line)
 one_line offer Version = refl
 one_line offer Agent = refl
-one_line offer LsRefs = ap (λ (l : List Pkt). advertisement_packet offer.format LsRefs ∷ l) (option_lines offer offer.server_option)
+one_line offer LsRefs = ap (λ (l : List Pkt). advertisement_packet offer LsRefs ∷ l) (option_lines offer offer.server_option)
 one_line offer ServerOption = refl
 one_line offer ObjectFormat = refl
 one_line offer End = refl
@@ -47,7 +47,7 @@ module _ {A : Type 0} where
 
   -- after a line of the advertisement the other lines are owed
   pub line_behind : (offer : Offer) (repo : Repository) (old new : Phase A) (line : AdvertisementLine) (next : Option AdvertisementLine) (packet : Pkt) → old ≡ Advertising line
-      → packet ≡ advertisement_packet offer.format line
+      → packet ≡ advertisement_packet offer line
       → next ≡ advertisement_line_after offer line → new ≡ advertising_phase next → (later : List Pkt) → Owes offer repo new later → Owes offer repo old (packet ∷ later)
   line_behind offer repo old new line next packet was packet_is next_is is later owes =
       subst (λ (p : Phase A). Owes offer repo p (packet ∷ later)) (sym was)

@@ -1,6 +1,5 @@
 -- The lines of an advertisement, one after another.
 use Rattle.std.specs.Prelude.{if◌then◌else◌, Option, Some, None, List, [], ◌∷◌, ◌++◌, codes}
-use Rattle.git_names.specs.declared.object_format.Format.{Format}
 use Rattle.git_pkt.specs.Packets.{Pkt, flush}
 use Rattle.git_msg.specs.declared.offers.Offer.{Offer}
 use Rattle.git_msg.specs.Writing.{text_line, agent_line, format_line}
@@ -8,14 +7,14 @@ use Rattle.git_server.specs.Answers.{offered_line, advertisement_of}
 use Rattle.git_server.specs.declared.advertisement.AdvertisementLine.{AdvertisementLine}
 use Rattle.git_server.specs.declared.advertisement.AdvertisementLine.TheVariants.{Version, Agent, LsRefs, ServerOption, ObjectFormat, End}
 
--- the packet of a line
-abbrev pub advertisement_packet : Format → AdvertisementLine → Pkt
-advertisement_packet format Version = text_line (codes "version 2")
-advertisement_packet format Agent = agent_line
-advertisement_packet format LsRefs = text_line (codes "ls-refs")
-advertisement_packet format ServerOption = text_line (codes "server-option")
-advertisement_packet format ObjectFormat = format_line format
-advertisement_packet format End = flush
+-- the packet of a line, for this offer
+abbrev pub advertisement_packet : Offer → AdvertisementLine → Pkt
+advertisement_packet offer Version = text_line (codes "version 2")
+advertisement_packet offer Agent = agent_line
+advertisement_packet offer LsRefs = text_line (codes "ls-refs")
+advertisement_packet offer ServerOption = text_line (codes "server-option")
+advertisement_packet offer ObjectFormat = format_line offer.format
+advertisement_packet offer End = flush
 
 -- the line after it
 abbrev pub advertisement_line_after : Offer → AdvertisementLine → Option AdvertisementLine
@@ -28,19 +27,19 @@ advertisement_line_after offer End = None
 
 -- the packets from the line of the format on
 abbrev pub format_on : Offer → List Pkt
-format_on offer = advertisement_packet offer.format ObjectFormat ∷ flush ∷ []
+format_on offer = advertisement_packet offer ObjectFormat ∷ flush ∷ []
 
 -- the packets from the line of ls-refs on
 abbrev pub ls_refs_on : Offer → List Pkt
 ls_refs_on offer =
-    advertisement_packet offer.format LsRefs ∷ (offered_line offer.server_option (codes "server-option") ++ format_on offer)
+    advertisement_packet offer LsRefs ∷ (offered_line offer.server_option (codes "server-option") ++ format_on offer)
 
 -- the packets from a line on
 abbrev pub advertisement_from : Offer → AdvertisementLine → List Pkt
 advertisement_from offer Version = advertisement_of offer
-advertisement_from offer Agent = advertisement_packet offer.format Agent ∷ ls_refs_on offer
+advertisement_from offer Agent = advertisement_packet offer Agent ∷ ls_refs_on offer
 advertisement_from offer LsRefs = ls_refs_on offer
-advertisement_from offer ServerOption = advertisement_packet offer.format ServerOption ∷ format_on offer
+advertisement_from offer ServerOption = advertisement_packet offer ServerOption ∷ format_on offer
 advertisement_from offer ObjectFormat = format_on offer
 advertisement_from offer End = flush ∷ []
 

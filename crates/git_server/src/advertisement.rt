@@ -1,12 +1,13 @@
 //! The capability advertisement, a line at a time.
 
-ghost use Rattle.std.specs.Prelude.{◌≡◌, ◌≤◌, length};
-ghost use Rattle.git_pkt.specs.Packets.{body_of, seen, longest_payload};
+ghost use Rattle.std.specs.Prelude.{◌≡◌, false};
+ghost use Rattle.git_pkt.specs.Reading.{is_open};
 ghost use Rattle.git_server.specs.AdvertisementLines.{advertisement_line_after, advertisement_packet};
+ghost use Rattle.git_server.specs.WrittenPackets.{Writes};
 
+use crate::packets::{write_line, write_packet};
 use git_msg::{AGENT_LINE, Offer};
-use git_names::Format;
-use git_pkt::Packet;
+use git_pkt::{Packet, PacketReader};
 
 /// A line of the advertisement, in the order in which they are given, gitprotocol-v2(5).
 #[derive(Clone, Copy, Debug)]
@@ -20,21 +21,20 @@ pub(crate) enum AdvertisementLine {
 }
 
 impl AdvertisementLine {
-    /// The packet of the line, in a repository of this format.
-    pub(crate) fn packet(self, format: Format) -> Packet<'static>
-        ensures value { seen result ≡ advertisement_packet format self }
-        ensures fits { length (body_of (seen result)) ≤ longest_payload }
+    /// Makes the hold the packet of the line, for this offer, between two packets that are read.
+    pub(crate) fn write(self, offer: &Offer, reader: &mut PacketReader)
+        requires { is_open reader.old ≡ false }
+        ensures { Writes reader.old (advertisement_packet offer.now self) reader.new }
     {
         match self {
-            AdvertisementLine::Version => Packet::Payload(b"version 2\n"),
-            AdvertisementLine::Agent => Packet::Payload(AGENT_LINE),
-            AdvertisementLine::LsRefs => Packet::Payload(b"ls-refs\n"),
-            AdvertisementLine::ServerOption => Packet::Payload(b"server-option\n"),
-            AdvertisementLine::ObjectFormat => match format {
-                Format::Sha1 => Packet::Payload(b"object-format=sha1\n"),
-                Format::Sha256 => Packet::Payload(b"object-format=sha256\n"),
-            },
-            AdvertisementLine::End => Packet::Flush,
+            AdvertisementLine::Version => write_line(reader, b"version 2", b""),
+            AdvertisementLine::Agent => write_packet(reader, Packet::Payload(AGENT_LINE)),
+            AdvertisementLine::LsRefs => write_line(reader, b"ls-refs", b""),
+            AdvertisementLine::ServerOption => write_line(reader, b"server-option", b""),
+            AdvertisementLine::ObjectFormat => {
+                write_line(reader, b"object-format=", offer.format.name().as_bytes());
+            }
+            AdvertisementLine::End => write_packet(reader, Packet::Flush),
         }
     }
 

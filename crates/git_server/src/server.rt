@@ -8,7 +8,6 @@ ghost use Rattle.git_server.specs.Phases.{advertising_phase, outcome_in, owes_in
 use crate::advertisement::AdvertisementLine;
 use crate::answer::answer_one;
 use crate::outcome::Outcome;
-use crate::packets::write_packet;
 use crate::refusal::write_error;
 use crate::repo::Repo;
 use crate::requests::{Brought, take_packet};
@@ -219,7 +218,7 @@ impl<R: Repo, A: Allocator + Copy> Server<R, A> {
         match &mut self.phase {
             Phase::Advertising(line) => {
                 let line = *line;
-                write_packet(&mut self.reader, line.packet(self.offer.format));
+                line.write(&self.offer, &mut self.reader);
                 self.phase = advertising(line.next(&self.offer));
             }
             Phase::Answering(request, next) => {

@@ -1,5 +1,4 @@
 use Rattle.std.proofs.Common.{arith, refl, ap, Some, None}
-use Rattle.git_pkt.specs.Packets.{seen}
 use Rattle.git_server.specs.Answers.{error_packet}
 use Rattle.git_server.specs.Phases.{kept_in, most_owed}
 use Rattle.git_server.specs.declared.server.Phase.TheVariants.{Answering, Between}
@@ -13,8 +12,8 @@ returns-in-Advertising g c =
     let repo = (g.R.Repo.state old.repo).answers in
     let was = is_advertising old.phase c.in-Advertising.line c.in-Advertising.is in
     let is = is_advertised _ c.next.result c.advertising.ensures in
-    gives g.R.Repo.state old _ (seen c.packet.result) c.write_packet.ensures (record { offer = refl; answers = refl; requests = refl })
-    (line_behind old.offer repo old.phase c.advertising.result c.in-Advertising.line c.next.result _ c.in-Advertising.is c.packet.ensures.value c.next.ensures c.advertising.ensures)
+    gives g.R.Repo.state old _ _ c.write.ensures (record { offer = refl; answers = refl; requests = refl })
+    (line_behind old.offer repo old.phase c.advertising.result c.in-Advertising.line c.next.result _ c.in-Advertising.is refl c.next.ensures c.advertising.ensures)
     (fewer_lines old.offer repo old.phase c.advertising.result c.in-Advertising.line c.next.result c.in-Advertising.is c.next.ensures c.advertising.ensures)
     (same_outcome old.phase _ was is) (left_stays old.phase _ was is) (omega (arith, none_kept_in_advertising c.next.result _ c.advertising.ensures))
 
