@@ -6,7 +6,7 @@ use Rattle.git_pkt.specs.Reading.{held_of}
 use Rattle.git_server.specs.Repository.{Repository, RepoState}
 use Rattle.git_server.specs.Answers.{AllFit, spelled}
 use Rattle.git_server.specs.Sessions.{Setting, IsTail, advertised}
-use Rattle.git_server.specs.Phases.{LeftIn, kept_in, Owes}
+use Rattle.git_server.specs.Phases.{FlushIsAt, LeftIn, kept_in, Owes}
 use Rattle.git_server.specs.WrittenPackets.{Writes}
 use Rattle.git_server.specs.Serving.{StandsBy, outcome_of}
 use Rattle.git_server.specs.Moves.{ComesFirst, Gives, Keeps, most_left}
@@ -17,7 +17,8 @@ use Rattle.git_server.proofs.Sent.{fit_more, sent_one, spelled_one}
 
 module _ {R A : Type 0} (state : R → RepoState) (old new : Server R A) (packet : Pkt) (writes : Writes old.reader packet new.reader) (keeps : Keeps state old new)
     (owed : ComesFirst state packet old new) (less : most_left state new < most_left state old) (same : outcome_of new ≡ outcome_of old)
-    (left_stays : (left : List Given) → LeftIn old.phase left → LeftIn new.phase left) (no_more : kept_in new.phase ≤ kept_in old.phase) where
+    (left_stays : (left : List Given) → LeftIn old.phase left → LeftIn new.phase left)
+    (flush_stays : (packets : List Given) → FlushIsAt old.phase packets → FlushIsAt new.phase packets) (no_more : kept_in new.phase ≤ kept_in old.phase) where
   -- what is owed, as the session's repository has it
   owed_here : (s : Setting) (later : List Pkt) → (state old.repo).answers ≡ s.repo → Owes new.offer s.repo new.phase later
       → Owes old.offer s.repo old.phase (packet ∷ later)
@@ -43,6 +44,7 @@ module _ {R A : Type 0} (state : R → RepoState) (old new : Server R A) (packet
       requests = h.requests;
       takes = subst (Takes h.left) (sym keeps.requests) h.takes;
       left_is = left_stays h.left h.left_is;
+      flush_at = flush_stays h.packets h.flush_at;
       is_sent = λ later owes. sent_one s h.asked h.sent later packet (h.is_sent (packet ∷ later) (owed_here s later repo owes));
       given_is = given_on before h.sent h.given_is;
       fit = fit_more h.sent packet h.fit writes.fits;

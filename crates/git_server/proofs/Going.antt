@@ -6,7 +6,7 @@ use Rattle.git_pkt.specs.Reading.{Reads, is_open, fault_of, ShownByFeed}
 use Rattle.git_pkt.specs.declared.fault.Fault.{Fault}
 use Rattle.git_pkt.specs.declared.fault.Kind.{Kind}
 use Rattle.git_pkt.specs.declared.fault.Kind.TheVariants.{RemoteError, Truncated, StreamTooLong}
-use Rattle.git_msg.specs.Asked.{Asked, ls_refs}
+use Rattle.git_msg.specs.Asked.{Asked}
 use Rattle.git_msg.specs.Holding.{asked_of, kept_of}
 use Rattle.git_msg.specs.Requests.{Asks, IsTold}
 use Rattle.git_msg.specs.WholeRequests.{AreRequests}
@@ -15,11 +15,15 @@ use Rattle.git_msg.proofs.WholeRequests.{one_more_request, requests_more}
 use Rattle.git_msg.specs.Taking.{Takes, offer_of, limit_in, kept_so_far, is_waiting, fault_of as requests_fault}
 use Rattle.git_msg.specs.declared.offers.Offer.{Offer}
 use Rattle.git_msg.specs.declared.reader.RequestReader.{RequestReader}
+use Rattle.git_msg.specs.declared.requests.Request.{Request}
+use Rattle.git_msg.specs.declared.requests.Request.TheVariants.{LsRefs as OfLsRefs}
+use Rattle.git_server.specs.declared.answer.Answer.TheVariants.{References}
 use Rattle.git_server.specs.Repository.{Repository, RepoState}
 use Rattle.git_server.specs.Answers.{AllFit, IsAnswer, error_packet, tail_of, spelled}
 use Rattle.git_server.specs.AdvertisementLines.{advertisement_from}
 use Rattle.git_server.specs.Sessions.{Begins, IsTail, Setting, IsRequest, IsSent, IsEnding, IsRefused, EndsBy}
-use Rattle.git_server.specs.Phases.{LeftIn, answer_from, IsAnswerFrom, Owes, kept_in, outcome_in, reads_in, phase_after, refused_by}
+use Rattle.git_server.specs.Phases.{FlushIsAt, LeftIn, Owes, kept_in, outcome_in, reads_in, phase_after, refused_by}
+use Rattle.git_server.specs.Answering.{IsAnswerFrom, answer_to, kept_with, references_from}
 use Rattle.git_server.specs.Brought.{Brings, IsBrought, IsWithin}
 use Rattle.git_server.specs.Serving.{Running, Serves, StandsBy, outcome_of, wants_input}
 use Rattle.git_server.specs.Moves.{Goes, ReadsFor, StopsInTime}
@@ -35,9 +39,13 @@ use Rattle.git_server.proofs.Begun.{begins}
 use Rattle.git_server.proofs.Readers.{stopped_by}
 use Rattle.git_server.proofs.Sent.{all_sent, one_more_asked}
 
--- an answer from the first reference on is the answer
-whole_answer : (repo : Repository) (q : Asked) (later : List Pkt) → IsAnswerFrom repo q 0 later → IsAnswer repo q later
-whole_answer repo (ls_refs q) later h = h
+-- an answer of which nothing was given is the answer
+whole_answer : {A : Type 0} (repo : Repository) (request : Request A) (later : List Pkt) → IsAnswerFrom repo (answer_to request) later
+    → IsAnswer repo (asked_of request) later
+whole_answer repo (OfLsRefs request) later h = h
+
+kept_to_answer : {A : Type 0} (request : Request A) → kept_with (answer_to request) ≡ kept_of request
+kept_to_answer (OfLsRefs request) = refl
 
 pub refused_outcome_by : (A : Type 0) (kind : Kind) (fault : Fault) → outcome_in {A = A} (refused_by kind fault) ≡ Some (Refused fault)
 refused_outcome_by A RemoteError fault = refl
@@ -54,7 +62,7 @@ module _ {A : Type 0} where
   waiting P between within Between h = between
   waiting P between within Within h = within
   waiting P between within (Advertising line) h = absurd (cc)
-  waiting P between within (Answering request next) h = absurd (cc)
+  waiting P between within (Answering answer offset) h = absurd (cc)
   waiting P between within (Refusing fault) h = absurd (cc)
   waiting P between within (Ended outcome) h = absurd (cc)
 
@@ -79,21 +87,22 @@ module _ {A : Type 0} where
   none_kept_at_end Between outcome h = refl
   none_kept_at_end Within outcome h = refl
   none_kept_at_end (Advertising line) outcome h = refl
-  none_kept_at_end (Answering request next) outcome h = absurd (cc)
+  none_kept_at_end (Answering answer offset) outcome h = absurd (cc)
   none_kept_at_end (Refusing fault) outcome h = refl
   none_kept_at_end (Ended outcome) _ h = refl
 
   -- after a packet the request is kept by the reader of requests, or by what answers it
-  kept_behind : (brought : Brought A) (requests : RequestReader A) → IsWithin brought requests → kept_so_far requests + kept_in (phase_after brought) ≤ limit_in requests
-  kept_behind Part requests h = omega (arith, h)
-  kept_behind (Whole request) requests h = omega (arith, h.0, h.1)
-  kept_behind Stop requests h = omega (arith, h)
-  kept_behind (RefusedPacket fault) requests h = omega (arith, h, none_kept_at_end (refused_by fault.kind fault) (Refused fault) (refused_outcome_by A fault.kind fault))
+  kept_behind : (offset : ℕ) (brought : Brought A) (requests : RequestReader A) → IsWithin brought requests
+      → kept_so_far requests + kept_in (phase_after offset brought) ≤ limit_in requests
+  kept_behind offset Part requests h = omega (arith, h)
+  kept_behind offset (Whole request) requests h = omega (arith, h.0, h.1, kept_to_answer request)
+  kept_behind offset Stop requests h = omega (arith, h)
+  kept_behind offset (RefusedPacket fault) requests h = omega (arith, h, none_kept_at_end (refused_by fault.kind fault) (Refused fault) (refused_outcome_by A fault.kind fault))
 
 -- in each phase some packets make an end
 pub owes_some : {A : Type 0} (offer : Offer) (repo : Repository) (phase : Phase A) → (owed : List Pkt) × Owes offer repo phase owed
 owes_some offer repo (Advertising line) = (advertisement_from offer line, refl)
-owes_some offer repo (Answering request next) = (answer_from (asked_of request) repo.refs next, refl)
+owes_some offer repo (Answering (References request next) offset) = (references_from request.asked repo.refs next, refl)
 owes_some offer repo (Refusing fault) = (error_packet fault ∷ [], refl)
 owes_some offer repo Between = ([], refl)
 owes_some offer repo Within = ([], refl)
@@ -104,12 +113,12 @@ one_more [] x e = cc
 one_more (y ∷ ys) x e = cc
 
 -- a packet of a request is not told as a stream that is too long
-not_too_long : {A : Type 0} (packets : List Given) (brought : Brought A) (requests : RequestReader A) → IsBrought packets brought requests
-    → (fault : Fault) → outcome_in (phase_after brought) ≡ Some (Refused fault) → fault.kind ≡ StreamTooLong → ⊥
-not_too_long packets Part requests h fault ended too_long = cc
-not_too_long packets (Whole request) requests h fault ended too_long = cc
-not_too_long packets Stop requests h fault ended too_long = cc
-not_too_long {A = A} packets (RefusedPacket f) requests h fault ended too_long =
+not_too_long : {A : Type 0} (offset : ℕ) (packets : List Given) (brought : Brought A) (requests : RequestReader A) → IsBrought packets brought requests
+    → (fault : Fault) → outcome_in (phase_after offset brought) ≡ Some (Refused fault) → fault.kind ≡ StreamTooLong → ⊥
+not_too_long offset packets Part requests h fault ended too_long = cc
+not_too_long offset packets (Whole request) requests h fault ended too_long = cc
+not_too_long offset packets Stop requests h fault ended too_long = cc
+not_too_long {A = A} offset packets (RefusedPacket f) requests h fault ended too_long =
     let same : Some (Refused f) ≡ Some (Refused fault) = sym (refused_outcome_by A f.kind f) ∙ ended in
     let one : f ≡ fault = cc in
     told_of_packets (offer_of requests) (limit_in requests) packets f h (ap (λ (x : Fault). x.kind) one ∙ too_long)
@@ -155,6 +164,7 @@ module _ {R A : Type 0} (state : R → RepoState) (old new : Server R A) (u : Li
             requests = h.requests;
             takes = subst (Takes h.left) (sym same_requests) h.takes;
             left_is = subst (λ (p : Phase A). LeftIn p h.left) (sym same_phase) h.left_is;
+            flush_at = subst (λ (p : Phase A). FlushIsAt p h.packets) (sym same_phase) h.flush_at;
             is_sent = λ owed owes. subst (λ (l : List Pkt). IsSent s h.asked h.sent l)
                 (sym (nothing_owed new.offer s.repo new.phase owed (ap reads_in same_phase ∙ wants) owes)) (all_sent_of s so_far before wants h);
             given_is = append-nil before ∙ h.given_is;
@@ -202,9 +212,9 @@ module _ {R A : Type 0} (state : R → RepoState) (old new : Server R A) (u : Li
   packet_serves : (s : Setting) (so_far : List ℕ) (before : List ℕ) (asked : List Asked) (packets left : List Given) (rest : List ℕ) (sent : List Pkt)
       (phase : Phase A)
       → Reads new.reader 0 (so_far ++ u) packets rest → fault_of new.reader ≡ None → AreRequests (IsRequest s) packets asked left → Takes left new.requests → new.phase ≡ phase
-      → LeftIn phase left → ((owed : List Pkt) → Owes new.offer s.repo phase owed → IsSent s asked sent owed) → before ≡ spelled sent → AllFit sent
+      → LeftIn phase left → FlushIsAt phase packets → ((owed : List Pkt) → Owes new.offer s.repo phase owed → IsSent s asked sent owed) → before ≡ spelled sent → AllFit sent
       → Serves s (so_far ++ u) (before ++ []) new
-  packet_serves s so_far before asked packets left rest sent phase stream sound requests takes phase_is left_is is_sent given fit =
+  packet_serves s so_far before asked packets left rest sent phase stream sound requests takes phase_is left_is flush_at is_sent given fit =
       record {
         asked = asked;
         packets = packets;
@@ -216,6 +226,7 @@ module _ {R A : Type 0} (state : R → RepoState) (old new : Server R A) (u : Li
         requests = requests;
         takes = takes;
         left_is = subst (λ (p : Phase A). LeftIn p left) (sym phase_is) left_is;
+        flush_at = subst (λ (p : Phase A). FlushIsAt p packets) (sym phase_is) flush_at;
         is_sent = λ owed owes. is_sent owed (subst (λ (p : Phase A). Owes new.offer s.repo p owed) phase_is owes);
         given_is = append-nil before ∙ given;
         fit = fit;
@@ -225,12 +236,12 @@ module _ {R A : Type 0} (state : R → RepoState) (old new : Server R A) (u : Li
   packet_stands : (s : Setting) (so_far : List ℕ) (over : Bool) (before : List ℕ) (g : Given) (brought : Brought A)
       → wants_input old ≡ true → over ≡ false → (h : Serves s so_far before old) → (rest : List ℕ) → Reads new.reader 0 (so_far ++ u) (h.packets ++ g ∷ []) rest
       → fault_of new.reader ≡ None → is_open new.reader ≡ false → offer_of new.requests ≡ s.offer → limit_in new.requests ≡ s.limit → Begins s h.left
-      → IsBrought (h.left ++ g ∷ []) brought new.requests → new.phase ≡ phase_after brought
-      → StandsBy (outcome_in (phase_after brought)) s (so_far ++ u) over (before ++ []) new
+      → IsBrought (h.left ++ g ∷ []) brought new.requests → new.phase ≡ phase_after g.offset brought
+      → StandsBy (outcome_in (phase_after g.offset brought)) s (so_far ++ u) over (before ++ []) new
   packet_stands s so_far over before g Part wants not_over h rest stream sound shut offer limit begun takes phase_is = (
     not_over,
     packet_serves s so_far before h.asked (h.packets ++ g ∷ []) (h.left ++ g ∷ []) rest h.sent Within stream sound
-        (with_packet s so_far before h g) takes phase_is (one_more h.left g)
+        (with_packet s so_far before h g) takes phase_is (one_more h.left g) tt
         (λ owed owes. subst (λ (l : List Pkt). IsSent s h.asked h.sent l) (sym owes) (all_sent_of s so_far before wants h)) h.given_is h.fit,
   )
   packet_stands s so_far over before g (Whole request) wants not_over h rest stream sound shut offer limit begun (takes, asks) phase_is =
@@ -238,11 +249,11 @@ module _ {R A : Type 0} (state : R → RepoState) (old new : Server R A) (u : Li
       subst (λ (n : ℕ). Asks s.offer n (h.left ++ g ∷ []) (asked_of request) (kept_of request)) limit
       (subst (λ (o : Offer). Asks o (limit_in new.requests) (h.left ++ g ∷ []) (asked_of request) (kept_of request)) offer asks) in (
         not_over,
-        packet_serves s so_far before (h.asked ++ asked_of request ∷ []) (h.packets ++ g ∷ []) [] rest h.sent (Answering request 0) stream sound
+        packet_serves s so_far before (h.asked ++ asked_of request ∷ []) (h.packets ++ g ∷ []) [] rest h.sent (Answering (answer_to request) g.offset) stream sound
             (one_more_request (IsRequest s) (h.packets ++ g ∷ []) h.asked (h.left ++ g ∷ []) (asked_of request) (with_packet s so_far before h g)
-            (kept_of request, asks_here)) takes phase_is refl
+            (kept_of request, asks_here)) takes phase_is refl (h.packets, g, refl, refl)
             (λ owed owes. one_more_asked s h.asked h.sent owed (asked_of request) (all_sent_of s so_far before wants h)
-            (whole_answer s.repo (asked_of request) owed owes)) h.given_is h.fit,
+            (whole_answer s.repo request owed owes)) h.given_is h.fit,
       )
   packet_stands s so_far over before g Stop wants not_over h rest stream sound shut offer limit begun stop phase_is =
       λ owed owes. ended_at s so_far over before (h.left ++ g ∷ []) (h.packets ++ g ∷ []) rest Flush wants h stream
@@ -259,7 +270,7 @@ module _ {R A : Type 0} (state : R → RepoState) (old new : Server R A) (u : Li
 
   -- a packet came of the bytes
   pub goes_packet : (g : Given) (brought : Brought A) → wants_input old ≡ true → ReadsFor state old u (g ∷ []) new → Brings old.requests g brought new.requests
-      → new.phase ≡ phase_after brought → fault_of new.reader ≡ None → is_open new.reader ≡ false → Goes state u [] old new
+      → new.phase ≡ phase_after g.offset brought → fault_of new.reader ≡ None → is_open new.reader ≡ false → Goes state u [] old new
   goes_packet g brought wants reads brings phase_is sound shut s so_far over before r =
       let (not_over, h) = stands_of s so_far over before wants r in
       let (rest, stream) = reads.reads 0 so_far h.packets h.rest h.reads in
@@ -273,7 +284,7 @@ module _ {R A : Type 0} (state : R → RepoState) (old new : Server R A) (u : Li
         reads_for = offer;
         limit = limit;
         repo = reads.answers ∙ r.repo;
-        within = omega (arith, kept_behind brought new.requests (brings.within kept), limit, ap kept_in phase_is);
+        within = omega (arith, kept_behind g.offset brought new.requests (brings.within kept), limit, ap kept_in phase_is);
         stands = subst (λ (o : Option Outcome). StandsBy o s (so_far ++ u) over (before ++ []) new) (sym (ap outcome_in phase_is))
             (packet_stands s so_far over before g brought wants not_over h rest stream sound shut offer limit begun (brings.brings h.left h.takes) phase_is);
       }
@@ -318,11 +329,11 @@ module _ {R A : Type 0} (state : R → RepoState) (old : Server R A) (used : ℕ
 
   -- a packet was judged
   pub packet_in_time : (g : Given) (brought : Brought A) (requests : RequestReader A) (phase : Phase A) → Brings old.requests g brought requests
-      → phase ≡ phase_after brought
+      → phase ≡ phase_after g.offset brought
       → StopsInTime state old used piece (outcome_in phase)
   packet_in_time g brought requests phase brings phase_is s so_far over before r wants fault ended too_long =
       let h = serves_of state old old [] s so_far over before wants r in
-      absurd (not_too_long (h.left ++ g ∷ []) brought requests (brings.brings h.left h.takes) fault (sym (ap outcome_in phase_is) ∙ ended) too_long)
+      absurd (not_too_long g.offset (h.left ++ g ∷ []) brought requests (brings.brings h.left h.takes) fault (sym (ap outcome_in phase_is) ∙ ended) too_long)
 
   -- the bytes were refused
   pub fault_in_time : (fault : Fault) (phase : Phase A) → phase ≡ refused_by fault.kind fault → (fault_of old.reader ≡ None → ShownByFeed fault used piece)

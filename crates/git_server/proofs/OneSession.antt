@@ -9,7 +9,6 @@ use Rattle.git_pkt.specs.Splits.{Given}
 use Rattle.git_pkt.proofs.Streams.{one_split}
 use Rattle.git_msg.specs.declared.offers.Offer.{Offer}
 use Rattle.git_msg.specs.Asked.{Asked, ls_refs}
-use Rattle.git_msg.specs.Holding.{asked_of}
 use Rattle.git_msg.specs.WholeRequests.{AreRequests}
 use Rattle.git_msg.proofs.WholeRequests.{NoFlush, NoRequest, none_without_flush, one_list_of_requests}
 use Rattle.git_server.specs.Repository.{Entry, Repository, RepoState}
@@ -17,9 +16,10 @@ use Rattle.git_server.specs.Answers.{AllFit, offered_line, reference_packet, sho
 use Rattle.git_server.specs.AdvertisementLines.{format_on, advertisement_from}
 use Rattle.git_server.specs.declared.advertisement.AdvertisementLine.TheVariants.{Version, Agent, LsRefs, ServerOption, ObjectFormat, End}
 use Rattle.git_server.specs.Sessions.{Setting, IsRequest, AreAnswers, IsAnswered, advertised}
-use Rattle.git_server.specs.Phases.{IsAnswerFrom, outcome_in, Owes, reads_in}
+use Rattle.git_server.specs.Phases.{outcome_in, Owes, reads_in}
 use Rattle.git_server.specs.Serving.{Running, outcome_of, wants_input}
 use Rattle.git_server.specs.declared.advertisement.AdvertisementLine.{AdvertisementLine}
+use Rattle.git_server.specs.declared.answer.Answer.TheVariants.{References}
 use Rattle.git_server.specs.declared.server.Phase.{Phase}
 use Rattle.git_server.specs.declared.server.Phase.TheVariants.{Advertising, Between, Within, Answering, Refusing, Ended}
 use Rattle.git_server.specs.declared.server.Server.{Server}
@@ -88,11 +88,9 @@ owes_flush : {A : Type 0} (offer : Offer) (repo : Repository) (phase : Phase A) 
 owes_flush offer repo Between owed none owes zero = refl
 owes_flush offer repo Within owed none owes zero = refl
 owes_flush offer repo (Advertising line) owed none owes zero = absurd (omega (arith, zero, ap flushes owes, line_owes offer line))
-owes_flush offer repo (Answering request next) owed none owes zero = absurd (answer_owes (asked_of request) repo next owed owes zero)
-  where
-    answer_owes : (q : Asked) (repo : Repository) (next : ℕ) (owed : List Pkt) → IsAnswerFrom repo q next owed → flushes owed ≡ 0 → ⊥
-    answer_owes (ls_refs q) repo next owed owes zero = omega
-        (arith, zero, ap flushes owes, ends_once q.symrefs q.peel (shown_refs q.ref_prefixes (drop next repo.refs)))
+owes_flush offer repo (Answering (References request next) offset) owed none owes zero =
+    let q = request.asked in
+    absurd (omega (arith, zero, ap flushes owes, ends_once q.symrefs q.peel (shown_refs q.ref_prefixes (drop next repo.refs))))
 owes_flush offer repo (Refusing fault) owed none owes zero = absurd (cc)
 owes_flush offer repo (Ended outcome) owed none owes zero = absurd (cc)
 

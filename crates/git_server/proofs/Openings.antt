@@ -4,7 +4,7 @@ use Rattle.git_pkt.specs.Packets.{Pkt}
 use Rattle.git_msg.specs.declared.offers.Offer.{Offer}
 use Rattle.git_server.specs.Repository.{RepoState}
 use Rattle.git_server.specs.Sessions.{Setting, advertised}
-use Rattle.git_server.specs.Phases.{LeftIn, kept_in, outcome_in, Owes}
+use Rattle.git_server.specs.Phases.{FlushIsAt, LeftIn, kept_in, outcome_in, Owes}
 use Rattle.git_server.specs.Serving.{IsFresh, Running, StandsBy}
 use Rattle.git_server.specs.declared.outcome.Outcome.{Outcome}
 use Rattle.git_server.specs.declared.server.Server.{Server}
@@ -13,9 +13,9 @@ use Rattle.git_server.proofs.Readers.{fresh_has_no_fault}
 
 module _ {R A : Type 0} (state : R → RepoState) (s : Setting) (repo : R) (phase : Phase A) (server : Server R A) where
   -- nothing was used and nothing given, and the advertisement is owed, if there is one
-  pub opens : IsFresh repo s.offer s.limit phase server → (state repo).answers ≡ s.repo → outcome_in phase ≡ None → LeftIn phase [] → kept_in phase ≡ 0
+  pub opens : IsFresh repo s.offer s.limit phase server → (state repo).answers ≡ s.repo → outcome_in phase ≡ None → LeftIn phase [] → FlushIsAt phase [] → kept_in phase ≡ 0
       → ((owed : List Pkt) → Owes s.offer s.repo phase owed → owed ≡ advertised s) → Running state s [] false [] server
-  opens fresh same none left kept owed =
+  opens fresh same none left flush kept owed =
       let owed_now : (l : List Pkt) → Owes server.offer s.repo server.phase l → l ≡ advertised s =
       λ l owes. owed l (subst (λ (p : Phase A). Owes s.offer s.repo p l) fresh.phase_is
       (subst (λ (o : Offer). Owes o s.repo server.phase l) fresh.offer_is owes)) in
@@ -38,6 +38,7 @@ module _ {R A : Type 0} (state : R → RepoState) (s : Setting) (repo : R) (phas
             requests = refl;
             takes = fresh.takes;
             left_is = subst (λ (p : Phase A). LeftIn p []) (sym fresh.phase_is) left;
+            flush_at = subst (λ (p : Phase A). FlushIsAt p []) (sym fresh.phase_is) flush;
             is_sent = λ l owes. inl (record { none = refl; parts = owed_now l owes });
             given_is = refl;
             fit = tt;

@@ -4,15 +4,17 @@ use Rattle.git_pkt.specs.Packets.{Pkt}
 use Rattle.git_pkt.specs.Splits.{Given}
 use Rattle.git_pkt.specs.declared.fault.Fault.{Fault}
 use Rattle.git_msg.specs.declared.offers.Offer.{Offer}
-use Rattle.git_msg.specs.declared.requests.Request.{Request}
-use Rattle.git_msg.specs.Holding.{asked_of}
+use Rattle.git_msg.specs.Asked.{LsRefsAsked}
+use Rattle.git_msg.specs.Kept.{Kept}
 use Rattle.git_server.specs.Repository.{Repository}
-use Rattle.git_server.specs.Answering.{answer_behind}
+use Rattle.git_server.specs.Answering.{references_after, references_from}
 use Rattle.git_server.specs.Answers.{offered_line, error_packet}
 use Rattle.git_server.specs.AdvertisementLines.{format_on, advertisement_packet, advertisement_line_after, advertisement_from, advertisement_after}
-use Rattle.git_server.specs.Phases.{LeftIn, advertising_phase, kept_in, outcome_in, Owes, most_owed, answer_from}
+use Rattle.git_server.specs.Phases.{FlushIsAt, LeftIn, advertising_phase, kept_in, outcome_in, Owes, most_owed}
 use Rattle.git_server.specs.declared.advertisement.AdvertisementLine.{AdvertisementLine}
 use Rattle.git_server.specs.declared.advertisement.AdvertisementLine.TheVariants.{Version, Agent, LsRefs, ServerOption, ObjectFormat, End}
+use Rattle.git_server.specs.declared.answer.Answer.{Answer}
+use Rattle.git_server.specs.declared.answer.Answer.TheVariants.{References}
 use Rattle.git_server.specs.declared.outcome.Outcome.TheVariants.{Refused}
 use Rattle.git_server.specs.declared.server.Phase.{Phase}
 use Rattle.git_server.specs.declared.server.Phase.TheVariants.{Advertising, Between, Answering, Refusing}
@@ -60,18 +62,21 @@ module _ {A : Type 0} where
       let after = advertising_most offer repo next new is ∙ ap (λ (o : Option AdvertisementLine). length (advertisement_after offer o)) next_is in
       omega (arith, after, ap (most_owed offer repo) was, ap length (one_line offer line))
 
-  -- a packet of an answer
-  pub answer_next : (offer : Offer) (repo : Repository) (old new : Phase A) (request : Request A) (next : ℕ) (behind : Option ℕ) (packet : Pkt)
-      → old ≡ Answering request next → answer_from (asked_of request) repo.refs next ≡ packet ∷ answer_behind (asked_of request) repo.refs behind
-      → ((later : List Pkt) → Owes offer repo new later → later ≡ answer_behind (asked_of request) repo.refs behind) → (later : List Pkt)
-      → Owes offer repo new later → Owes offer repo old (packet ∷ later)
-  answer_next offer repo old new request next behind packet was first is later owes =
-      subst (λ (p : Phase A). Owes offer repo p (packet ∷ later)) (sym was) (ap (λ (l : List Pkt). packet ∷ l) (is later owes) ∙ sym first)
+  -- an answer is of one kind
+  pub is_references : (answer : Answer A) → (request : Kept LsRefsAsked) × (next : ℕ) × (answer ≡ References request next)
+  is_references (References request next) = (request, next, refl)
 
-  pub fewer_answers : (offer : Offer) (repo : Repository) (old new : Phase A) (request : Request A) (next : ℕ) (behind : Option ℕ) (packet : Pkt)
-      → old ≡ Answering request next → answer_from (asked_of request) repo.refs next ≡ packet ∷ answer_behind (asked_of request) repo.refs behind
-      → most_owed offer repo new ≡ length (answer_behind (asked_of request) repo.refs behind) → most_owed offer repo new < most_owed offer repo old
-  fewer_answers offer repo old new request next behind packet was first most = omega (arith, most, ap (most_owed offer repo) was, ap length first)
+  module _ (offer : Offer) (repo : Repository) (old new : Phase A) (request : Kept LsRefsAsked) (next offset : ℕ) (after : Option ℕ) (packet : Pkt)
+      (was : old ≡ Answering (References request next) offset)
+      (first : references_from request.asked repo.refs next ≡ packet ∷ references_after request.asked repo.refs after) where
+    -- a packet of an answer for references
+    pub answer_next : ((later : List Pkt) → Owes offer repo new later → later ≡ references_after request.asked repo.refs after) → (later : List Pkt)
+        → Owes offer repo new later → Owes offer repo old (packet ∷ later)
+    answer_next is later owes =
+        subst (λ (p : Phase A). Owes offer repo p (packet ∷ later)) (sym was) (ap (λ (l : List Pkt). packet ∷ l) (is later owes) ∙ sym first)
+
+    pub fewer_answers : most_owed offer repo new ≡ length (references_after request.asked repo.refs after) → most_owed offer repo new < most_owed offer repo old
+    fewer_answers most = omega (arith, most, ap (most_owed offer repo) was, ap length first)
 
   -- a phase without outcome, in which no part of a request is left
   pub record IsQuiet (phase : Phase A) : Type 0 where
@@ -82,8 +87,8 @@ module _ {A : Type 0} where
   quiet_advertising : (line : AdvertisementLine) → IsQuiet (Advertising line)
   quiet_advertising line = record { none = refl; out = λ left h. h; back = λ left h. h }
 
-  quiet_answering : (request : Request A) (next : ℕ) → IsQuiet (Answering request next)
-  quiet_answering request next = record { none = refl; out = λ left h. h; back = λ left h. h }
+  quiet_answering : (answer : Answer A) (offset : ℕ) → IsQuiet (Answering answer offset)
+  quiet_answering answer offset = record { none = refl; out = λ left h. h; back = λ left h. h }
 
   quiet_between : IsQuiet Between
   quiet_between = record { none = refl; out = λ left h. h; back = λ left h. h }
@@ -95,8 +100,8 @@ module _ {A : Type 0} where
   pub is_advertising : (phase : Phase A) (line : AdvertisementLine) → phase ≡ Advertising line → IsQuiet phase
   is_advertising phase line is = subst IsQuiet (sym is) (quiet_advertising line)
 
-  pub is_answering : (phase : Phase A) (request : Request A) (next : ℕ) → phase ≡ Answering request next → IsQuiet phase
-  is_answering phase request next is = subst IsQuiet (sym is) (quiet_answering request next)
+  pub is_answering : (phase : Phase A) (answer : Answer A) (offset : ℕ) → phase ≡ Answering answer offset → IsQuiet phase
+  is_answering phase answer offset is = subst IsQuiet (sym is) (quiet_answering answer offset)
 
   pub is_between : (phase : Phase A) → phase ≡ Between → IsQuiet phase
   is_between phase is = subst IsQuiet (sym is) quiet_between
@@ -109,6 +114,15 @@ module _ {A : Type 0} where
 
   pub left_stays : (old new : Phase A) → IsQuiet old → IsQuiet new → (left : List Given) → LeftIn old left → LeftIn new left
   left_stays old new q r left h = r.back left (q.out left h)
+
+  -- while one request is answered its flush is where it was; after a line of the advertisement none is answered
+  pub flush_stays : (answer : Answer A) (offset : ℕ) (old : Phase A) (other : Answer A) → old ≡ Answering answer offset → (packets : List Given)
+      → FlushIsAt old packets → FlushIsAt (Answering other offset) packets
+  flush_stays answer offset old other was packets h = subst (λ (p : Phase A). FlushIsAt p packets) was h
+
+  pub flush_unasked : (o : Option AdvertisementLine) (phase : Phase A) → phase ≡ advertising_phase o → (packets : List Given) → FlushIsAt phase packets
+  flush_unasked (Some line) phase is packets = subst (λ (p : Phase A). FlushIsAt p packets) (sym is) tt
+  flush_unasked None phase is packets = subst (λ (p : Phase A). FlushIsAt p packets) (sym is) tt
 
   -- after the packet of a fault nothing is owed
   pub refusal_behind : (offer : Offer) (repo : Repository) (old : Phase A) (fault : Fault) (packet : Pkt) → old ≡ Refusing fault → packet ≡ error_packet fault

@@ -84,7 +84,7 @@ turn_ends : {A : Type 0} (phase : Phase A) (outcome : Outcome) → turn_in phase
 turn_ends Between outcome h = absurd (cc)
 turn_ends Within outcome h = absurd (cc)
 turn_ends (Advertising line) outcome h = absurd (cc)
-turn_ends (Answering request next) outcome h = absurd (cc)
+turn_ends (Answering answer offset) outcome h = absurd (cc)
 turn_ends (Refusing fault) outcome h = absurd (cc)
 turn_ends (Ended o) outcome h = let same : o ≡ outcome = cc in ap Ended same
 

@@ -1,5 +1,5 @@
 -- What a server gives: its advertisement, the answer to each request, and what it writes of an outcome.
-use Rattle.std.specs.Prelude.{◌≡◌, ◌≤◌, ◌+◌, length, ℕ, Bool, ◌||◌, if◌then◌else◌, None, List, [], ◌∷◌, ◌++◌, true, false, codes, filter, map, nat_eq}
+use Rattle.std.specs.Prelude.{◌≡◌, ◌≤◌, length, ℕ, Bool, ◌||◌, if◌then◌else◌, None, List, [], ◌∷◌, ◌++◌, true, false, codes, filter, map, nat_eq}
 use Rattle.std.specs.List.{list_any, flat_map, starts_with}
 use Rattle.git_pkt.specs.Packets.{Pkt, flush, spelling_of, body_of, longest_payload}
 use Rattle.git_pkt.specs.FaultNames.{fault_text}

@@ -1,15 +1,14 @@
 -- Where a server stands in its session.
-use Rattle.std.specs.Prelude.{◌≡◌, ◌≢◌, ℕ, Bool, true, false, Option, Some, None, List, [], ◌∷◌, ◌++◌, drop, length, map}
-use Rattle.git_pkt.specs.Packets.{Pkt, flush}
+use Rattle.std.specs.Prelude.{◌≡◌, ◌≢◌, ℕ, Bool, true, false, Option, Some, None, List, [], ◌∷◌, ◌++◌, length}
+use Rattle.git_pkt.specs.Packets.{Pkt}
 use Rattle.git_pkt.specs.Splits.{Given}
 use Rattle.git_pkt.specs.declared.fault.Fault.{Fault}
 use Rattle.git_pkt.specs.declared.fault.Kind.{Kind}
 use Rattle.git_pkt.specs.declared.fault.Kind.TheVariants.{RemoteError}
 use Rattle.git_msg.specs.declared.offers.Offer.{Offer}
-use Rattle.git_msg.specs.Asked.{Asked, ls_refs}
-use Rattle.git_msg.specs.Holding.{asked_of, kept_of}
-use Rattle.git_server.specs.Repository.{Entry, Repository}
-use Rattle.git_server.specs.Answers.{error_packet, reference_packet, shown_refs}
+use Rattle.git_server.specs.Repository.{Repository}
+use Rattle.git_server.specs.Answers.{error_packet}
+use Rattle.git_server.specs.Answering.{IsAnswerFrom, answer_to, kept_with, most_from}
 use Rattle.git_server.specs.AdvertisementLines.{advertisement_from}
 use Rattle.git_server.specs.declared.advertisement.AdvertisementLine.{AdvertisementLine}
 use Rattle.git_server.specs.declared.outcome.Outcome.{Outcome}
@@ -21,17 +20,9 @@ use Rattle.git_server.specs.declared.server.Turn.TheVariants.{NeedInput, Finishe
 use Rattle.git_server.specs.declared.server.Phase.{Phase}
 use Rattle.git_server.specs.declared.server.Phase.TheVariants.{Advertising, Between, Within, Answering, Refusing, Ended}
 
--- the packets of an answer from the reference at `next` on
-abbrev pub answer_from : Asked → List Entry → ℕ → List Pkt
-answer_from (ls_refs q) refs next = map (reference_packet q.symrefs q.peel) (shown_refs q.ref_prefixes (drop next refs)) ++ flush ∷ []
-
--- from this place on, the packets end an answer
-abbrev pub IsAnswerFrom : Repository → Asked → ℕ → List Pkt → Type 0
-IsAnswerFrom repo q next later = later ≡ answer_from q repo.refs next
-
--- no more packets than these end it
-abbrev pub most_from : Repository → Asked → ℕ → ℕ
-most_from repo q next = length (answer_from q repo.refs next)
+-- the last of the packets is at this offset
+abbrev pub IsLastAt : ℕ → List Given → Type 0
+IsLastAt offset packets = (front : List Given) × (last : Given) × (packets ≡ front ++ last ∷ []) × (last.offset ≡ offset)
 
 -- the fault of an outcome, if it has one
 abbrev pub refusal_in : Option Outcome → Option Fault
@@ -48,7 +39,7 @@ module _ {A : Type 0} where
   -- a packet waits to be pulled
   abbrev pub owes_in : Phase A → Bool
   owes_in (Advertising line) = true
-  owes_in (Answering request next) = true
+  owes_in (Answering answer offset) = true
   owes_in (Refusing fault) = true
   owes_in _ = false
 
@@ -61,20 +52,20 @@ module _ {A : Type 0} where
   -- in this phase these packets may wait to be pulled, and then nothing does
   abbrev pub Owes : Offer → Repository → Phase A → List Pkt → Type 0
   Owes offer repo (Advertising line) later = later ≡ advertisement_from offer line
-  Owes offer repo (Answering request next) later = IsAnswerFrom repo (asked_of request) next later
+  Owes offer repo (Answering answer offset) later = IsAnswerFrom repo answer later
   Owes offer repo (Refusing fault) later = later ≡ error_packet fault ∷ []
   Owes offer repo _ later = later ≡ []
 
   -- how many packets wait at the most
   abbrev pub most_owed : Offer → Repository → Phase A → ℕ
   most_owed offer repo (Advertising line) = length (advertisement_from offer line)
-  most_owed offer repo (Answering request next) = most_from repo (asked_of request) next
+  most_owed offer repo (Answering answer offset) = most_from repo answer
   most_owed offer repo (Refusing fault) = 1
   most_owed offer repo _ = 0
 
   -- how many bytes the argument lines of the request have that is answered
   abbrev pub kept_in : Phase A → ℕ
-  kept_in (Answering request next) = kept_of request
+  kept_in (Answering answer offset) = kept_with answer
   kept_in _ = 0
 
   -- of a request that is not whole, whether some packets came
@@ -82,17 +73,22 @@ module _ {A : Type 0} where
   LeftIn Within left = left ≢ []
   LeftIn _ left = left ≡ []
 
+  -- of a request that is answered, where its flush was: the last of the packets taken
+  abbrev pub FlushIsAt : Phase A → List Given → Type 0
+  FlushIsAt (Answering answer offset) packets = IsLastAt offset packets
+  FlushIsAt _ packets = Unit {0}
+
   -- an error packet ends the session at once; any other fault is told to the other end
   abbrev pub refused_by : Kind → Fault → Phase A
   refused_by RemoteError fault = Ended (Refused fault)
   refused_by _ fault = Refusing fault
 
-  -- the phase after a packet
-  abbrev pub phase_after : Brought A → Phase A
-  phase_after Part = Within
-  phase_after (Whole request) = Answering request 0
-  phase_after Stop = Ended Flush
-  phase_after (RefusedPacket fault) = refused_by fault.kind fault
+  -- the phase after a packet at this offset
+  abbrev pub phase_after : ℕ → Brought A → Phase A
+  phase_after offset Part = Within
+  phase_after offset (Whole request) = Answering (answer_to request) offset
+  phase_after offset Stop = Ended Flush
+  phase_after offset (RefusedPacket fault) = refused_by fault.kind fault
 
   -- the phase after a line of the advertisement
   abbrev pub advertising_phase : Option AdvertisementLine → Phase A

@@ -9,7 +9,7 @@ use Rattle.git_msg.specs.WholeRequests.{AreRequests}
 use Rattle.git_server.specs.Repository.{RepoState}
 use Rattle.git_server.specs.Answers.{AllFit, spelled}
 use Rattle.git_server.specs.Sessions.{Setting, IsRequest, IsSent, IsEnding}
-use Rattle.git_server.specs.Phases.{LeftIn, kept_in, outcome_in, Owes, reads_in}
+use Rattle.git_server.specs.Phases.{FlushIsAt, LeftIn, kept_in, outcome_in, Owes, reads_in}
 use Rattle.git_server.specs.declared.outcome.Outcome.{Outcome}
 use Rattle.git_msg.specs.declared.offers.Offer.{Offer}
 use Rattle.git_server.specs.declared.server.Phase.{Phase}
@@ -44,6 +44,7 @@ module _ {R A : Type 0} where
     pub requests : AreRequests (IsRequest s) packets asked left
     pub takes : Takes left server.requests
     pub left_is : LeftIn server.phase left
+    pub flush_at : FlushIsAt server.phase packets
     pub is_sent : (owed : List Pkt) → Owes server.offer s.repo server.phase owed → IsSent s asked sent owed
     pub given_is : given ≡ spelled sent
     pub fit : AllFit sent

@@ -4,10 +4,8 @@ ghost use Rattle.std.specs.Prelude.{◌≡◌, ℕ, List, Some, None, false, if�
 ghost use Rattle.std.specs.Option.{option_copied};
 ghost use Rattle.git_names.specs.RefName.{IsRefName};
 ghost use Rattle.git_pkt.specs.Reading.{is_open};
-ghost use Rattle.git_msg.specs.Asked.{peel_of, symrefs_of};
-ghost use Rattle.git_msg.specs.Holding.{asked_of};
 ghost use Rattle.git_msg.specs.References.{IsWritable, shown_reference};
-ghost use Rattle.git_server.specs.Answering.{AnswersOne};
+ghost use Rattle.git_server.specs.Answering.{AnswersOne, answer_to};
 ghost use Rattle.git_server.specs.Answers.{reference_packet, shown_line};
 ghost use Rattle.git_server.specs.WrittenPackets.{Writes};
 ghost use Rattle.git_server.specs.Repository.{HasOneFormat};
@@ -16,21 +14,39 @@ use crate::entry::RefEntry;
 use crate::packets::write_packet;
 use crate::repo::Repo;
 use crate::shown::next_shown;
-use git_msg::{Reference, Request, put_reference};
+use git_msg::{LsRefs, Reference, Request, put_reference};
 use git_names::Oid;
 use git_pkt::{Packet, PacketReader};
 use std::alloc::Allocator;
+
+/// A request that is answered, and the place from which on its answer is owed.
+#[derive(Drop)]
+pub(crate) enum Answer<A: Allocator + Copy> {
+    /// Of a request for references: from the reference at this place on.
+    References(LsRefs<A>, usize),
+}
+
+impl<A: Allocator + Copy> Answer<A> {
+    /// The answer to a request, of which nothing was given.
+    pub(crate) fn new(request: Request<A>) -> Answer<A>
+        ensures { result ≡ answer_to request }
+    {
+        match request {
+            Request::LsRefs(request) => Answer::References(request, 0),
+        }
+    }
+}
 
 /// Writes the next packet of the answer, from the reference at `next` on, into the reader's hold, and says where the
 /// packet after it begins. There is none after the flush that ends the answer.
 pub(crate) fn answer_one<R: Repo, A: Allocator + Copy>(
     repo: &R,
-    request: &Request<A>,
+    request: &LsRefs<A>,
     next: usize,
     reader: &mut PacketReader,
 ) -> Option<usize>
     requires { is_open reader.old ≡ false }
-    ensures { AnswersOne (asked_of request.now) (R.state repo.now).answers.refs next reader.old result reader.new }
+    ensures { AnswersOne request.now.asked (R.state repo.now).answers.refs next reader.old result reader.new }
 {
     let refs = repo.refs();
     match next_shown(refs, request, next) {
@@ -49,19 +65,19 @@ pub(crate) fn answer_one<R: Repo, A: Allocator + Copy>(
 fn write_entry<A: Allocator + Copy>(
     reader: &mut PacketReader,
     entry: &RefEntry,
-    request: &Request<A>,
+    request: &LsRefs<A>,
 )
     requires between { is_open reader.old ≡ false }
     requires format { HasOneFormat entry.now }
-    ensures { Writes reader.old (reference_packet (symrefs_of (asked_of request.now)) (peel_of (asked_of request.now)) entry.now) reader.new }
+    ensures { Writes reader.old (reference_packet request.now.asked.symrefs request.now.asked.peel entry.now) reader.new }
 {
     put_reference(reader.lend(), shown(entry, request));
 }
 
 // What the request asks for of a reference.
-fn shown<'a, A: Allocator + Copy>(entry: &'a RefEntry, request: &Request<A>) -> Reference<'a>
+fn shown<'a, A: Allocator + Copy>(entry: &'a RefEntry, request: &LsRefs<A>) -> Reference<'a>
     requires { HasOneFormat entry.now }
-    ensures shown { shown_reference result ≡ shown_line (symrefs_of (asked_of request.now)) (peel_of (asked_of request.now)) entry.now }
+    ensures shown { shown_reference result ≡ shown_line request.now.asked.symrefs request.now.asked.peel entry.now }
     ensures writable { IsWritable (shown_reference result) }
 {
     Reference {

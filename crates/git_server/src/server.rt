@@ -6,12 +6,12 @@ ghost use Rattle.git_msg.specs.Taking.{fault_of, is_waiting};
 ghost use Rattle.git_server.specs.Phases.{advertising_phase, outcome_in, owes_in, phase_after, refusal_in, refused_by, turn_in};
 
 use crate::advertisement::AdvertisementLine;
-use crate::answer::answer_one;
+use crate::answer::{Answer, answer_one};
 use crate::outcome::Outcome;
 use crate::refusal::write_error;
 use crate::repo::Repo;
 use crate::requests::{Brought, take_packet};
-use git_msg::{Limits, Offer, Request, RequestReader};
+use git_msg::{Limits, Offer, RequestReader};
 use git_pkt::{Fault, Got, Kind, PacketReader};
 use std::alloc::Allocator;
 
@@ -24,8 +24,8 @@ enum Phase<A: Allocator + Copy> {
     Between,
     // A request has begun.
     Within,
-    // A whole request is answered: what is owed begins with the reference at this place.
-    Answering(Request<A>, usize),
+    // A whole request is answered, whose flush was at this offset.
+    Answering(Answer<A>, u64),
     // A fault is owed to the other end.
     Refusing(Fault),
     Ended(Outcome),
@@ -221,12 +221,14 @@ impl<R: Repo, A: Allocator + Copy> Server<R, A> {
                 line.write(&self.offer, &mut self.reader);
                 self.phase = advertising(line.next(&self.offer));
             }
-            Phase::Answering(request, next) => {
-                match answer_one(&self.repo, request, *next, &mut self.reader) {
-                    Some(behind) => *next = behind,
-                    None => self.phase = Phase::Between,
+            Phase::Answering(answer, _) => match answer {
+                Answer::References(request, next) => {
+                    match answer_one(&self.repo, request, *next, &mut self.reader) {
+                        Some(after) => *next = after,
+                        None => self.phase = Phase::Between,
+                    }
                 }
-            }
+            },
             Phase::Refusing(fault) => {
                 let fault = *fault;
                 write_error(&mut self.reader, fault);
@@ -252,7 +254,7 @@ impl<R: Repo, A: Allocator + Copy> Server<R, A> {
             Got::More => used,
             Got::Packet(packet, offset) => {
                 let brought = take_packet(&mut self.requests, packet, offset);
-                self.phase = following(brought);
+                self.phase = following(brought, offset);
                 used
             }
             Got::Failed(fault) => {
@@ -263,13 +265,13 @@ impl<R: Repo, A: Allocator + Copy> Server<R, A> {
     }
 }
 
-// The phase after a packet.
-fn following<A: Allocator + Copy>(brought: Brought<A>) -> Phase<A>
-    ensures { result ≡ phase_after brought }
+// The phase after a packet at this offset.
+fn following<A: Allocator + Copy>(brought: Brought<A>, offset: u64) -> Phase<A>
+    ensures { result ≡ phase_after offset brought }
 {
     match brought {
         Brought::Part => Phase::Within,
-        Brought::Whole(request) => Phase::Answering(request, 0),
+        Brought::Whole(request) => Phase::Answering(Answer::new(request), offset),
         Brought::Stop => Phase::Ended(Outcome::Flush),
         Brought::Refused(fault) => refusal(fault),
     }

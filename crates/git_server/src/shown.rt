@@ -1,22 +1,20 @@
 //! Which references are shown, and how.
 
 ghost use Rattle.std.specs.Prelude.{◌≡◌, ◌+◌, ◌<◌, ◌≤◌, [], ◌∷◌, length, drop, MatchOption};
-ghost use Rattle.git_msg.specs.Asked.{ref_prefixes_of};
-ghost use Rattle.git_msg.specs.Holding.{asked_of};
 ghost use Rattle.git_server.specs.Answers.{is_shown as shows};
 ghost use Rattle.git_server.specs.NextShown.{NextShown};
 
 use crate::entry::RefEntry;
-use git_msg::Request;
+use git_msg::LsRefs;
 use std::alloc::Allocator;
 
 /// Where the first reference at `from` or after it stands that the request asks for.
 pub(crate) fn next_shown<A: Allocator + Copy>(
     refs: &[RefEntry],
-    request: &Request<A>,
+    request: &LsRefs<A>,
     from: usize,
 ) -> Option<usize>
-    ensures { NextShown (ref_prefixes_of (asked_of request.now)) refs.now from result }
+    ensures { NextShown request.now.asked.ref_prefixes refs.now from result }
 {
     for at in from..refs.len() {
         if is_shown(request, refs[at].name()) {
@@ -26,8 +24,8 @@ pub(crate) fn next_shown<A: Allocator + Copy>(
     None
 }
 
-fn is_shown<A: Allocator + Copy>(request: &Request<A>, name: &[u8]) -> bool
-    ensures { result ≡ shows (ref_prefixes_of (asked_of request.now)) name.now }
+fn is_shown<A: Allocator + Copy>(request: &LsRefs<A>, name: &[u8]) -> bool
+    ensures { result ≡ shows request.now.asked.ref_prefixes name.now }
 {
     let mut count = 0;
     while let Some(prefix) = request.ref_prefix(count) {

@@ -2,7 +2,7 @@ use Rattle.std.proofs.Common.{rules, ◌∙◌, ℕ, refl, sym}
 use Rattle.std.specs.declared.cmp.Ordering.{Ordering}
 use Rattle.std.proofs.lemmas.Fn.{always_returns_same}
 use Rattle.git_names.specs.ObjectName.{ObjectName}
-use Rattle.git_server.specs.Objects.{has_object, object_cmp}
+use Rattle.git_server.specs.Objects.{object_cmp}
 use Rattle.git_server.proofs.NameOrder.{has_at, has_means, has_none, none_is, object_total, ranks_rise}
 use Rattle.git_server.proofs.list_repo.stands_among.Goals as goal
 

@@ -1,9 +1,11 @@
-use Rattle.std.proofs.Common.{arith, refl, ap, Some, None}
+use Rattle.std.proofs.Common.{arith, refl, ap, ◌∙◌, Some, None}
 use Rattle.git_server.specs.Answers.{error_packet}
 use Rattle.git_server.specs.Phases.{kept_in, most_owed}
+use Rattle.git_server.specs.declared.answer.Answer.{Answer}
+use Rattle.git_server.specs.declared.answer.Answer.TheVariants.{References}
 use Rattle.git_server.specs.declared.server.Phase.TheVariants.{Answering, Between}
 use Rattle.git_server.proofs.Giving.{gives}
-use Rattle.git_server.proofs.Owing.{line_behind, fewer_lines, answer_next, fewer_answers, is_advertising, is_advertised, is_answering, is_between, same_outcome, left_stays, refusal_behind, refusal_outcome, refusal_left, none_kept_in_advertising}
+use Rattle.git_server.proofs.Owing.{line_behind, fewer_lines, flush_stays, flush_unasked, is_references, answer_next, fewer_answers, is_advertising, is_advertised, is_answering, is_between, same_outcome, left_stays, refusal_behind, refusal_outcome, refusal_left, none_kept_in_advertising}
 use Rattle.git_server.proofs.server.Server.give.Goals as goal
 
 pub returns-in-Advertising : goal.returns-in-Advertising
@@ -15,32 +17,41 @@ returns-in-Advertising g c =
     gives g.R.Repo.state old _ _ c.write.ensures (record { offer = refl; answers = refl; requests = refl })
     (line_behind old.offer repo old.phase c.advertising.result c.in-Advertising.line c.next.result _ c.in-Advertising.is refl c.next.ensures c.advertising.ensures)
     (fewer_lines old.offer repo old.phase c.advertising.result c.in-Advertising.line c.next.result c.in-Advertising.is c.next.ensures c.advertising.ensures)
-    (same_outcome old.phase _ was is) (left_stays old.phase _ was is) (omega (arith, none_kept_in_advertising c.next.result _ c.advertising.ensures))
+    (same_outcome old.phase _ was is) (left_stays old.phase _ was is)
+    (λ packets h. flush_unasked c.next.result _ c.advertising.ensures packets) (omega (arith, none_kept_in_advertising c.next.result _ c.advertising.ensures))
 
 pub returns-in-Some : goal.returns-in-Some
 returns-in-Some g c =
     let old = c.args.self.now in
-    let was = is_answering old.phase c.in-Answering.request c.in-Answering.next c.in-Answering.is in
-    let is = is_answering _ c.in-Answering.request c.in-Some.behind refl in
+    let offset = c.in-Answering.field-1 in
+    let (request, next, kind) = is_references c.in-Answering.answer in
+    let was = c.in-Answering.is ∙ ap (λ (a : Answer g.row.A.Denot). Answering a offset) kind in
+    let one = rw kind at c.in-Some.ensures in
+    let now = Answering (References request c.in-Some.after) offset in
+    let quiet = is_answering old.phase (References request next) offset was in
+    let quiet_now = is_answering now (References request c.in-Some.after) offset refl in
     let repo = (g.R.Repo.state old.repo).answers in
-    gives g.R.Repo.state old _ c.in-Some.ensures.packet c.in-Some.ensures.writes (record { offer = refl; answers = refl; requests = refl })
-    (answer_next old.offer repo old.phase (Answering c.in-Answering.request c.in-Some.behind) c.in-Answering.request c.in-Answering.next
-    (Some c.in-Some.behind) _ c.in-Answering.is c.in-Some.ensures.owed (λ later owes. owes))
-    (fewer_answers old.offer repo old.phase (Answering c.in-Answering.request c.in-Some.behind) c.in-Answering.request c.in-Answering.next
-    (Some c.in-Some.behind) _ c.in-Answering.is c.in-Some.ensures.owed refl) (same_outcome old.phase _ was is) (left_stays old.phase _ was is)
-    (omega (arith, ap kept_in c.in-Answering.is))
+    let after = Some c.in-Some.after in
+    rw kind (gives g.R.Repo.state old _ one.packet one.writes (record { offer = refl; answers = refl; requests = refl })
+    (answer_next old.offer repo old.phase now request next offset after _ was one.owed (λ later owes. owes))
+    (fewer_answers old.offer repo old.phase now request next offset after _ was one.owed refl)
+    (same_outcome old.phase now quiet quiet_now) (left_stays old.phase now quiet quiet_now)
+    (flush_stays (References request next) offset old.phase (References request c.in-Some.after) was) (omega (arith, ap kept_in was)))
 
 pub returns-in-None : goal.returns-in-None
 returns-in-None g c =
     let old = c.args.self.now in
-    let was = is_answering old.phase c.in-Answering.request c.in-Answering.next c.in-Answering.is in
-    let is = is_between _ refl in
+    let offset = c.in-Answering.field-1 in
+    let (request, next, kind) = is_references c.in-Answering.answer in
+    let was = c.in-Answering.is ∙ ap (λ (a : Answer g.row.A.Denot). Answering a offset) kind in
+    let one = rw kind at c.in-None.ensures in
+    let quiet = is_answering old.phase (References request next) offset was in
+    let quiet_now = is_between Between refl in
     let repo = (g.R.Repo.state old.repo).answers in
-    gives g.R.Repo.state old _ c.in-None.ensures.packet c.in-None.ensures.writes (record { offer = refl; answers = refl; requests = refl })
-    (answer_next old.offer repo old.phase Between c.in-Answering.request c.in-Answering.next None _ c.in-Answering.is c.in-None.ensures.owed
-    (λ later owes. owes))
-    (fewer_answers old.offer repo old.phase Between c.in-Answering.request c.in-Answering.next None _ c.in-Answering.is c.in-None.ensures.owed refl)
-    (same_outcome old.phase _ was is) (left_stays old.phase _ was is) (omega arith)
+    gives g.R.Repo.state old _ one.packet one.writes (record { offer = refl; answers = refl; requests = refl })
+    (answer_next old.offer repo old.phase Between request next offset None _ was one.owed (λ later owes. owes))
+    (fewer_answers old.offer repo old.phase Between request next offset None _ was one.owed refl)
+    (same_outcome old.phase Between quiet quiet_now) (left_stays old.phase Between quiet quiet_now) (λ packets h. tt) (omega arith)
 
 pub returns-in-Refusing : goal.returns-in-Refusing
 returns-in-Refusing g c =
@@ -49,4 +60,4 @@ returns-in-Refusing g c =
     gives g.R.Repo.state old _ (error_packet c.in-Refusing.fault) c.write_error.ensures (record { offer = refl; answers = refl; requests = refl })
     (refusal_behind old.offer repo old.phase c.in-Refusing.fault _ c.in-Refusing.is refl)
     (omega (arith, ap (most_owed old.offer repo) c.in-Refusing.is))
-    (refusal_outcome old.phase c.in-Refusing.fault c.in-Refusing.is) (refusal_left old.phase c.in-Refusing.fault c.in-Refusing.is) (omega arith)
+    (refusal_outcome old.phase c.in-Refusing.fault c.in-Refusing.is) (refusal_left old.phase c.in-Refusing.fault c.in-Refusing.is) (λ packets h. tt) (omega arith)
