@@ -13,6 +13,7 @@ use Rattle.git_server.specs.Moves.{ComesFirst, Gives, Keeps, most_left}
 use Rattle.git_msg.specs.Taking.{Takes, offer_of, limit_in, kept_so_far}
 use Rattle.git_server.specs.declared.outcome.Outcome.{Outcome}
 use Rattle.git_server.specs.declared.server.Server.{Server}
+use Rattle.git_server.proofs.Outcomes.{stays_as}
 use Rattle.git_server.proofs.Sent.{fit_more, sent_one, spelled_one}
 
 module _ {R A : Type 0} (state : R → RepoState) (old new : Server R A) (packet : Pkt) (writes : Writes old.reader packet new.reader) (keeps : Keeps state old new)
@@ -75,7 +76,7 @@ module _ {R A : Type 0} (state : R → RepoState) (old new : Server R A) (packet
         owed = owed;
         less = less;
         held = writes.held;
-        outcome = same;
+        outcome = stays_as (outcome_of old) (outcome_of new) same;
         goes = λ s so_far over before r.
             let stands = gives_in (outcome_of old) s so_far over before r.repo r.stands in
             record {

@@ -6,6 +6,7 @@ pub mod Readers
 pub mod Openings
 pub mod Begun
 pub mod Sent
+pub mod Outcomes
 pub mod Going
 pub mod Closing
 pub mod Formats

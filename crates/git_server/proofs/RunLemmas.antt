@@ -8,7 +8,7 @@ use Rattle.git_pkt.proofs.EngineLemmas.{AppendsFront-after, Exchanges-flush, Exc
 use Rattle.git_server.specs.Repository.{RepoState}
 use Rattle.git_server.specs.Sessions.{Setting}
 use Rattle.git_server.specs.Serving.{Running, outcome_of, wants_input}
-use Rattle.git_server.specs.Moves.{Closes, EndsAs, Goes, OwesNow, Pulls, StopsInTime, TellsPulled, given_by}
+use Rattle.git_server.specs.Moves.{Closes, EndsAs, Goes, IsAfterPull, OwesNow, Pulls, StopsInTime, TellsPulled, given_by}
 use Rattle.git_server.specs.Runs.{IsBroken, IsRun, Standing, Waits, WritesAll, WritesFront, WritesItsEnd, WritesOn}
 use Rattle.git_server.specs.declared.outcome.Outcome.{Outcome}
 use Rattle.git_server.specs.declared.outcome.Outcome.TheVariants.{Refused}
@@ -17,6 +17,7 @@ use Rattle.git_server.specs.declared.server.Pulled.TheVariants.{Packet, Finished
 use Rattle.git_server.specs.declared.server.Server.{Server}
 use Rattle.git_pkt.proofs.Pieces.{left_of, take_joined}
 use Rattle.git_server.proofs.Going.{goes_join, goes_nowhere, no_outcome}
+use Rattle.git_server.proofs.Outcomes.{ended_stays, too_long_before}
 use Rattle.git_server.proofs.SessionLaws.{all_answered, every_moment}
 use Rattle.git_server.proofs.TooLong.{ends_too_long}
 use Rattle.std.proofs.lemmas.List.{length-take}
@@ -72,8 +73,8 @@ module _ {R A : Type 0} (state : R → RepoState) (old middle new : Server R A) 
 
   -- the end was pulled
   pub writes_end : (held_before held : Option (List ℕ)) (pulled : Pulled) (outcome : Outcome) → WritesOn state [] held_before held old middle → Pulls state middle pulled new
-      → pulled ≡ Finished outcome → outcome_of middle ≡ outcome_of old → WritesItsEnd state [] held_before held old new outcome
-  writes_end held_before held pulled outcome so_far pulls is same =
+      → pulled ≡ Finished outcome → IsAfterPull (outcome_of old) (outcome_of middle) → WritesItsEnd state [] held_before held old new outcome
+  writes_end held_before held pulled outcome so_far pulls is after =
       let tells : TellsPulled state middle (Finished outcome) new = subst (λ (p : Pulled). TellsPulled state middle p new) is pulls.tells in
       record {
         used = [];
@@ -82,11 +83,12 @@ module _ {R A : Type 0} (state : R → RepoState) (old middle new : Server R A) 
         parts = refl;
         written = so_far.written;
         goes = subst (Goes state [] so_far.given old) (sym tells.2) so_far.goes;
-        ends = pulls.outcome ∙ tells.0;
+        ends = ap outcome_of tells.2 ∙ tells.0;
         owes = subst (λ (server : Server R A). OwesNow state server []) (sym tells.2) tells.1;
         session = subst (λ (server : Server R A). EndsAs state server outcome) (sym tells.2) tells.3;
         in_time = λ s used_before over before r wants fault told too_long.
-            let still : Some outcome ≡ None = sym tells.0 ∙ same ∙ no_outcome old.phase wants in
+            let before = too_long_before (outcome_of old) (outcome_of middle) fault after (tells.0 ∙ told) too_long in
+            let none : outcome_of old ≡ None = no_outcome old.phase wants in
             absurd (cc);
       }
 
@@ -106,9 +108,9 @@ module _ {R A : Type 0} (state : R → RepoState) (old middle fed new : Server R
 
   -- a part of a piece was used, and with it the session ended
   pub writes_piece_end : (outcome : Outcome) → WritesItsEnd state [] held held_after fed new outcome → wants_input middle ≡ true
-      → StopsInTime state middle used (take (length bytes - done) (drop done bytes)) (outcome_of fed) → outcome_of new ≡ outcome_of fed
+      → StopsInTime state middle used (take (length bytes - done) (drop done bytes)) (outcome_of fed) → IsAfterPull (outcome_of fed) (outcome_of new)
       → WritesItsEnd state bytes held_before held_after old new outcome
-  writes_piece_end outcome end wants in_time same =
+  writes_piece_end outcome end wants in_time after =
       let nothing : end.used ≡ [] = front_of_nothing end.used end.unused end.parts in
       let on = writes_more state old fed new held_before held held_after (take (done + used) bytes) end.used end.given fed_so_far end.written end.goes in
       record {
@@ -123,7 +125,8 @@ module _ {R A : Type 0} (state : R → RepoState) (old middle fed new : Server R
         session = end.session;
         in_time = λ s used_before over before r wants_before fault told too_long.
             let inner = so_far.goes s used_before over before r in
-            let less = in_time s (used_before ++ take done bytes) over (before ++ so_far.given) inner wants fault (sym same ∙ end.ends ∙ told) too_long in
+            let less = in_time s (used_before ++ take done bytes) over (before ++ so_far.given) inner wants fault
+            (too_long_before (outcome_of fed) (outcome_of new) fault after (end.ends ∙ told) too_long) too_long in
             omega (arith, less, ap length (left_of bytes done within), length-drop done bytes, length-take (done + used) bytes);
       }
 
@@ -173,9 +176,10 @@ keeps_same None = tt
 keeps_same (Some bytes) = refl
 
 -- a server that waits for bytes has no outcome, so it used some
-pub used_some : {R A : Type 0} (fed new : Server R A) (used : ℕ) → 0 < used ⊎ IsSome (outcome_of fed) → outcome_of new ≡ outcome_of fed → wants_input new ≡ true → 0 < used
-used_some fed new used (inl some) same wants = some
-used_some fed new used (inr ended) same wants = absurd (some_not_none (outcome_of fed) ended (sym same ∙ no_outcome new.phase wants))
+pub used_some : {R A : Type 0} (fed new : Server R A) (used : ℕ) → 0 < used ⊎ IsSome (outcome_of fed) → IsAfterPull (outcome_of fed) (outcome_of new) → wants_input new ≡ true → 0 < used
+used_some fed new used (inl some) after wants = some
+used_some fed new used (inr ended) after wants =
+    absurd (some_not_none (outcome_of new) (ended_stays (outcome_of fed) (outcome_of new) after ended) (no_outcome new.phase wants))
 
 -- bytes were read, of which a front was used
 reads_front : (left_before left left_after : Option (List ℕ)) (used bytes front unused : List ℕ) → bytes ≡ front ++ unused

@@ -15,6 +15,7 @@ use Rattle.git_server.specs.declared.server.Server.{Server}
 use Rattle.git_pkt.proofs.Holding.{sound_rest}
 use Rattle.git_server.proofs.Begun.{begins}
 use Rattle.git_server.proofs.Sent.{all_sent}
+use Rattle.git_server.proofs.Outcomes.{stays_as}
 use Rattle.git_server.proofs.Going.{goes_nowhere, goes_on, no_outcome, owes_nothing, owes_some}
 
 module _ {R A : Type 0} (state : R → RepoState) (server : Server R A) (s : Setting) (used : List ℕ) (over : Bool) (given : List ℕ) (r : Running state s used over given server) where
@@ -97,5 +98,5 @@ ends_now {A = A} state server outcome turn =
     record {
       goes = goes_nowhere state server;
       tells = (ap outcome_in is, nothing, refl, λ s used over given r. its_end state server s used over given r outcome (ap outcome_in is) nothing);
-      outcome = refl;
+      outcome = stays_as (outcome_of server) (outcome_of server) refl;
     }

@@ -1,5 +1,5 @@
 -- What each call does to all that a server used and gave.
-use Rattle.std.specs.Prelude.{◌≡◌, ◌⊎◌, ℕ, ◌<◌, Bool, true, List, [], ◌∷◌, ◌++◌, length, Option, Some}
+use Rattle.std.specs.Prelude.{◌≡◌, ◌⊎◌, ℕ, ◌<◌, Bool, true, List, [], ◌∷◌, ◌++◌, length, Option, Some, None}
 use Rattle.git_pkt.specs.Packets.{Pkt, spelling_of}
 use Rattle.git_pkt.specs.Splits.{Given}
 use Rattle.git_pkt.specs.Reading.{ReadsOn, held_of}
@@ -18,6 +18,11 @@ use Rattle.git_server.specs.declared.server.Pulled.TheVariants.{Packet, NeedInpu
 -- the outcome of a server whose input ended: it was closed between two requests, or cut short inside one
 abbrev pub IsClosing : Option Outcome → Type 0
 IsClosing o = (o ≡ Some Closed) ⊎ ((fault : Fault) × (o ≡ Some (Refused fault)) × (fault.kind ≡ Truncated))
+
+-- what a pull makes of the outcome: once there is one it stays, and none comes by a pull
+abbrev pub IsAfterPull : Option Outcome → Option Outcome → Type 0
+IsAfterPull (Some outcome) now = now ≡ Some outcome
+IsAfterPull None now = now ≡ None
 
 -- what was pulled, as bytes
 abbrev pub given_by : Pulled → List ℕ
@@ -73,7 +78,7 @@ module _ {R A : Type 0} where
   pub record Pulls (state : R → RepoState) (old : Server R A) (pulled : Pulled) (new : Server R A) : Type 0 where
     pub goes : Goes state [] (given_by pulled) old new
     pub tells : TellsPulled state old pulled new
-    pub outcome : outcome_of new ≡ outcome_of old
+    pub outcome : IsAfterPull (outcome_of old) (outcome_of new)
 
   -- the reader used these bytes, which gave these packets; the offer and what the repository answers are as they were
   pub record ReadsFor (state : R → RepoState) (old : Server R A) (used : List ℕ) (packets : List Given) (new : Server R A) : Type 0 where
@@ -94,4 +99,4 @@ module _ {R A : Type 0} where
     pub less : most_left state new < most_left state old
     pub held : held_of new.reader ≡ spelling_of packet
     pub goes : Goes state [] (held_of new.reader) old new
-    pub outcome : outcome_of new ≡ outcome_of old
+    pub outcome : IsAfterPull (outcome_of old) (outcome_of new)

@@ -4,7 +4,7 @@ ghost use Rattle.std.specs.Prelude.{◌≡◌, ◌≢◌, ◌<◌, ◌≤◌, �
 ghost use Rattle.git_pkt.specs.Told.{inner_of, reads_of, has_failed, has_ended, IsNew};
 ghost use Rattle.git_pkt.specs.Engine.{FailsAs, IsShownBy, IsSpent};
 ghost use Rattle.git_server.specs.Runs.{IsRun, RunsUntil, WritesFor, WritesFront, WritesItsEnd};
-ghost use Rattle.git_server.specs.Moves.{OwesNow};
+ghost use Rattle.git_server.specs.Moves.{IsAfterPull, OwesNow};
 ghost use Rattle.git_server.specs.Serving.{Running, outcome_of, wants_input};
 ghost use Rattle.git_server.specs.Sessions.{Setting};
 
@@ -22,7 +22,7 @@ fn drain<W: Write, R: Repo, A: Allocator + Copy>(
 ) -> Result<Option<Outcome>, RunFault>
     ensures ok { IfOk result (WritesFor R.state [] (W.contents (inner_of writer.old)) (W.contents (inner_of writer.new)) server.old server.new) }
     ensures front { OnErr result (WritesFront R.state [] (W.contents (inner_of writer.old)) (W.contents (inner_of writer.new)) server.old server.new) }
-    ensures outcome { OnOk result (outcome_of server.new ≡ outcome_of server.old) }
+    ensures outcome { OnOk result (IsAfterPull (outcome_of server.old) (outcome_of server.new)) }
     ensures fault { IfErr result (λ fault. fault ≡ RunFault.WriteFault) }
     ensures failed { has_failed writer.new ≡ (has_failed writer.old || is_err result) }
 {

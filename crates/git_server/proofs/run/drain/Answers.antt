@@ -1,4 +1,5 @@
 use Rattle.std.proofs.Common.{rules}
+use Rattle.git_server.proofs.Outcomes.{pulls_on}
 use Rattle.git_server.proofs.RunLemmas.{on_err_at, writes_packet, writes_front, writes_end}
 use Rattle.git_server.proofs.run.drain.Goals as goal
 
@@ -6,7 +7,7 @@ pub loop-bytes-preserved : goal.loop-bytes-preserved
 loop-bytes-preserved g c =
     record {
       sound = search rules;
-      outcome = search rules;
+      outcome = pulls_on _ _ _ c.loop-bytes.invariant.outcome c.pull.follows.holds-at-none.outcome;
       writes = writes_packet g.R.Repo.state _ _ _ _ _ _ _ c.in-Packet.bytes c.loop-bytes.invariant.writes c.pull.follows.holds-at-none c.in-Packet.is (search rules);
     }
 

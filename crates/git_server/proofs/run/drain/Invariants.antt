@@ -1,7 +1,7 @@
 -- What was pulled was written, and nothing has failed since the call began.
 use Rattle.std.proofs.Common.{◌≡◌, []}
 use Rattle.git_pkt.specs.Told.{inner_of, has_failed}
-use Rattle.git_server.specs.Moves.{most_left}
+use Rattle.git_server.specs.Moves.{IsAfterPull, most_left}
 use Rattle.git_server.specs.Serving.{outcome_of}
 use Rattle.git_server.specs.Runs.{WritesOn}
 use Rattle.git_server.proofs.run.drain.Given as goal
@@ -9,7 +9,7 @@ use Rattle.git_server.proofs.run.drain.Given as goal
 abbrev pub invariant-loop-bytes : goal.invariant-loop-bytes
 invariant-loop-bytes g l = record {
   sound : has_failed l.writer ≡ has_failed l.fn.writer;
-  outcome : outcome_of l.server ≡ outcome_of l.fn.server;
+  outcome : IsAfterPull (outcome_of l.fn.server) (outcome_of l.server);
   writes : WritesOn g.R.Repo.state [] (g.W.Write.contents (inner_of l.fn.writer)) (g.W.Write.contents (inner_of l.writer)) l.fn.server l.server;
 }
 
