@@ -102,7 +102,7 @@ module _ {R A : Type 0} (answers : R → Repository) (old new : Server R A) wher
   -- inside a packet
   pub closes_open : (fault : Fault) → wants_input old ≡ true → Keeps old new → new.phase ≡ refused_by fault.kind fault → requests_fault old.requests ≡ None → is_waiting old.requests ≡ false
       → (fault_of old.reader ≡ None
-          → (is_open old.reader ≡ true) × (fault.kind ≡ Truncated) × (fault.offset + open_length old.reader ≡ position_of old.reader))
+      → (is_open old.reader ≡ true) × (fault.kind ≡ Truncated) × (fault.offset + open_length old.reader ≡ position_of old.reader))
       → Closes answers old new
   closes_open fault wants keeps is requests_sound ready truncated s so_far over before r =
       let h = serves_of answers old new [] s so_far over before wants r in
