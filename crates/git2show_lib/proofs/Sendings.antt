@@ -20,6 +20,12 @@ emits_then a b c x bytes y more z one two = record {
       ∙ ap (λ (l : List ℕ). one.sent ++ l) two.all ∙ sym (append_assoc one.sent two.sent z);
 }
 
+-- a head, and the escapes of a body
+pub head_and_body : (a b c : Option (List ℕ)) (x y z head shown body : List ℕ) → shown ≡ body → Emits a b x head y → Emits b c y (escaped_of shown) z
+    → Emits a c x (head ++ escaped_of body) z
+head_and_body a b c x y z head shown body e began went =
+    subst (λ (l : List ℕ). Emits a c x (head ++ escaped_of l) z) e (emits_then a b c x head y (escaped_of shown) z began went)
+
 pub front_after : (a b c : Option (List ℕ)) (x bytes y more : List ℕ) → Emits a b x bytes y → EmitsFront b c y more → EmitsFront a c x (bytes ++ more)
 front_after a b c x bytes y more one two =
     let same : one.sent ++ (y ++ more) ≡ x ++ (bytes ++ more) =

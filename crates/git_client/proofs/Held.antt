@@ -1,5 +1,5 @@
 -- What the hold has after a packet.
-use Rattle.std.proofs.Common.{◌≡◌, ℕ, ◌-◌, List, [], ◌∷◌, ◌++◌, length, take, drop, Option, Some, None, ap, sym, ◌∙◌, refl, subst, Bor, MatchOption, inl, inr}
+use Rattle.std.proofs.Common.{◌≡◌, ℕ, ◌-◌, List, [], ◌++◌, length, take, drop, Option, Some, None, codes, ap, sym, ◌∙◌, refl, subst, Bor, MatchOption, inl, inr}
 use Rattle.git_names.specs.declared.object_format.Format.{Format}
 use Rattle.git_pkt.specs.Packets.{Pkt, flush, delim, resp_end, payload, text_of, Spells}
 use Rattle.git_pkt.specs.Splits.{Given, Splits}
@@ -61,17 +61,11 @@ refused_by_error format clean given rest end client fault failed kind stands =
           ]
     ]
 
--- the error packet that ended the conversation
+-- the error packet that ended the conversation lies in the hold
 pub record ErrorPacket (format : Format) (bytes : List ℕ) (client : Client) : Type 0 where
-  pub clean : List Given
-  pub bad : Given
-  pub rest : List ℕ
-  pub line : List ℕ
-  pub splits : Splits 0 bytes (clean ++ bad ∷ []) rest
-  pub refused : RefusesAt format (nearest clean []) bad.packet RemoteError
-  pub packet : bad.packet ≡ payload line
-  pub error : IsErrorText (text_of line)
-  pub held : Spells (payload line) (held_of (reader_of client))
+  pub message : List ℕ
+  pub ends : EndsWithError format bytes message
+  pub held : Spells (payload ends.line) (held_of (reader_of client))
 
 error_packet : (format : Format) (ending : Ending) (bytes : List ℕ) (events : List EventValue) (client : Client) (fault : Fault)
     → Hears format ending client bytes events → phase_of client ≡ Failed fault → fault.kind ≡ RemoteError → ErrorPacket format bytes client
@@ -82,31 +76,30 @@ error_packet format ending bytes events client fault h failed kind =
     subst (λ (k : Kind). RefusesAt format (nearest h.clean []) bad.packet k) kind packet.refused in
     let error = error_line refused.part format (nearest h.clean []) bad.packet refused.refuses in
     record {
-      clean = h.clean;
-      bad = bad;
-      rest = h.rest;
-      line = error.0;
-      splits = subst (λ (gs : List Given). Splits 0 bytes gs h.rest) packet.cut h.reads.splits;
-      refused = refused;
-      packet = error.1;
-      error = error.2;
+      message = error.2.message;
+      ends = record {
+        clean = h.clean;
+        bad = bad;
+        rest = h.rest;
+        line = error.0;
+        splits = subst (λ (gs : List Given). Splits 0 bytes gs h.rest) packet.cut h.reads.splits;
+        refused = refused;
+        packet = error.1;
+        text = error.2.spelled;
+      };
       held = subst (λ (p : Pkt). Spells p (held_of (reader_of client))) error.1 packet.held;
     }
 
+-- the line has one message
+same_message : (message other : List ℕ) → codes "ERR " ++ message ≡ codes "ERR " ++ other → message ≡ other
+same_message message other e = cc
+
 message_found : (format : Format) (bytes : List ℕ) (client : Client) (found : List ℕ) (r : Option (Bor (List ℕ))) (p : ErrorPacket format bytes client)
-    → found ≡ text_of p.line → MatchOption r (¬ IsErrorText found) (λ m. IsErrorOf found m.now)
+    → found ≡ text_of p.ends.line → MatchOption r (¬ IsErrorText found) (λ m. IsErrorOf found m.now)
     → MatchOption r (EndsWithoutError client) (λ m. EndsWithError format bytes m.now)
-message_found format bytes client found None p e none = absurd (none (subst IsErrorText (sym e) p.error))
-message_found format bytes client found (Some m) p e some = record {
-  clean = p.clean;
-  bad = p.bad;
-  rest = p.rest;
-  line = p.line;
-  splits = p.splits;
-  refused = p.refused;
-  packet = p.packet;
-  text = sym e ∙ some;
-}
+message_found format bytes client found None p e none = absurd (none (record { message = p.message; spelled = e ∙ p.ends.text }))
+message_found format bytes client found (Some m) p e some =
+    subst (EndsWithError format bytes) (same_message p.message m.now (sym p.ends.text ∙ sym e ∙ some)) p.ends
 
 -- what was found after `ERR ` in the hold is the message
 pub message_is : (format : Format) (ending : Ending) (bytes : List ℕ) (events : List EventValue) (client : Client) (fault : Fault) (found : List ℕ)
@@ -115,4 +108,4 @@ pub message_is : (format : Format) (ending : Ending) (bytes : List ℕ) (events 
     → MatchOption r (¬ IsErrorText found) (λ m. IsErrorOf found m.now) → MatchOption r (EndsWithoutError client) (λ m. EndsWithError format bytes m.now)
 message_is format ending bytes events client fault found r h failed kind e m =
     let packet = error_packet format ending bytes events client fault h failed kind in
-    message_found format bytes client found r packet (e ∙ ap text_of (held_payload (held_of (reader_of client)) packet.line packet.held)) m
+    message_found format bytes client found r packet (e ∙ ap text_of (held_payload (held_of (reader_of client)) packet.ends.line packet.held)) m

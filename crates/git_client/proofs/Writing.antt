@@ -11,6 +11,10 @@ pub on_err : {T E P : Type 0} → (r : Result T E) → P → OnErr r P
 on_err (Ok x) p = tt
 on_err (Err e) p = p
 
+-- three parts, one after another
+pub three_written : (a b c d : Option (List ℕ)) (x y z : List ℕ) → Appends a b x → Appends b c y → Appends c d z → Appends a d (x ++ y ++ z)
+three_written a b c d x y z one two three = Appends-trans a c d (x ++ y) z (Appends-trans a b c x y one two) three
+
 pub no_failure : (now was first : Bool) → now ≡ (was || false) → was ≡ first → now ≡ first
 no_failure now true first e h = e ∙ h
 no_failure now false first e h = e ∙ h

@@ -21,3 +21,4 @@ pub mod CheckLaws
 pub mod Rows
 pub mod Values
 pub mod PacketFaults
+pub mod WholeRequests

@@ -13,4 +13,5 @@ pub mod Requests
 pub mod Taking
 pub mod TakingSteps
 pub mod Texts
+pub mod WholeRequests
 pub mod Writing

@@ -1,5 +1,5 @@
 -- A server whose input ends.
-use Rattle.std.proofs.Common.{◌≡◌, ◌≢◌, ◌⊎◌, ℕ, ◌+◌, Bool, true, false, List, [], ◌∷◌, length, Option, Some, None, refl, sym, ap, ◌∙◌, append-nil, subst, inl, inr, arith}
+use Rattle.std.proofs.Common.{◌≡◌, ◌≢◌, ◌⊎◌, ℕ, ◌+◌, Bool, true, false, List, [], length, Option, Some, None, refl, sym, ap, ◌∙◌, append-nil, subst, inl, inr, arith}
 use Rattle.git_pkt.specs.Packets.{Pkt}
 use Rattle.git_pkt.specs.Splits.{Given}
 use Rattle.git_pkt.specs.Reading.{is_open, open_length, fault_of, position_of}
@@ -7,7 +7,7 @@ use Rattle.git_pkt.specs.declared.fault.Fault.{Fault}
 use Rattle.git_pkt.specs.declared.fault.Kind.TheVariants.{Truncated}
 use Rattle.git_pkt.proofs.Holding.{sound_rest, none_between, some_inside, rest_length}
 use Rattle.git_msg.specs.Taking.{offer_of, limit_in, kept_so_far, is_waiting, fault_of as requests_fault}
-use Rattle.git_server.specs.Repository.{Repository}
+use Rattle.git_server.specs.Repository.{RepoState}
 use Rattle.git_server.specs.Answers.{AllFit, spelled}
 use Rattle.git_server.specs.Sessions.{Setting, EndsBy, IsTail}
 use Rattle.git_server.specs.Phases.{LeftIn, outcome_in, Owes, refused_by}
@@ -18,8 +18,8 @@ use Rattle.git_server.specs.declared.outcome.Outcome.TheVariants.{Closed, Refuse
 use Rattle.git_server.specs.declared.server.Phase.{Phase}
 use Rattle.git_server.specs.declared.server.Phase.TheVariants.{Between, Within, Ended}
 use Rattle.git_server.specs.declared.server.Server.{Server}
+use Rattle.git_server.proofs.Begun.{begins}
 use Rattle.git_server.proofs.Sent.{all_sent}
-use Rattle.git_server.proofs.WholeRequests.{begins}
 use Rattle.git_server.proofs.Going.{all_sent_of, owes_at, refused_outcome_by, refused_owes_by, serves_of, none_kept_at_end}
 
 none_is_left : {A : Type 0} (phase : Phase A) (left : List Given) → phase ≡ Between → LeftIn phase left → left ≡ []
@@ -28,18 +28,18 @@ none_is_left {A = A} phase left is h = subst (λ (p : Phase A). LeftIn p left) i
 some_is_left : {A : Type 0} (phase : Phase A) (left : List Given) → phase ≡ Within → LeftIn phase left → left ≢ []
 some_is_left {A = A} phase left is h = subst (λ (p : Phase A). LeftIn p left) is h
 
-module _ {R A : Type 0} (answers : R → Repository) (old new : Server R A) where
-  ends_here : (s : Setting) (so_far : List ℕ) (over : Bool) (before : List ℕ) (outcome : Outcome) → wants_input old ≡ true → Keeps old new
-      → (r : Running answers s so_far over before old) → (h : Serves s so_far before old) → EndsBy s true h.left h.rest (length so_far) outcome
+module _ {R A : Type 0} (state : R → RepoState) (old new : Server R A) where
+  ends_here : (s : Setting) (so_far : List ℕ) (over : Bool) (before : List ℕ) (outcome : Outcome) → wants_input old ≡ true → Keeps state old new
+      → (r : Running state s so_far over before old) → (h : Serves s so_far before old) → EndsBy s true h.left h.rest (length so_far) outcome
       → outcome_of new ≡ Some outcome → ((owed : List Pkt) → Owes new.offer s.repo new.phase owed → IsTail s h.left outcome owed)
-      → Running answers s so_far true before new
+      → Running state s so_far true before new
   ends_here s so_far over before outcome wants keeps r h ends outcome_is tail =
-      let all = all_sent s h.asked h.sent (all_sent_of answers old new [] s so_far before wants h) in
+      let all = all_sent s h.asked h.sent (all_sent_of state old new [] s so_far before wants h) in
       record {
         offer = keeps.offer ∙ r.offer;
         reads_for = ap offer_of keeps.requests ∙ r.reads_for;
         limit = ap limit_in keeps.requests ∙ r.limit;
-        repo = ap answers keeps.repo ∙ r.repo;
+        repo = keeps.answers ∙ r.repo;
         within = omega (arith, r.within, ap kept_so_far keeps.requests, none_kept_at_end new.phase outcome outcome_is);
         stands = subst (λ (o : Option Outcome). StandsBy o s so_far true before new) (sym outcome_is) (λ owed owes. record {
           asked = h.asked;
@@ -47,7 +47,7 @@ module _ {R A : Type 0} (answers : R → Repository) (old new : Server R A) wher
           rest = h.rest;
           answers = all.answers;
           sent = [];
-          stream = record { packets = h.packets; splits = h.reads.splits; cuts = h.cuts };
+          stream = record { packets = h.packets; splits = h.reads.splits; requests = h.requests };
           ends = ends;
           answered = all.answered;
           parts = tail owed owes;
@@ -57,22 +57,22 @@ module _ {R A : Type 0} (answers : R → Repository) (old new : Server R A) wher
       }
 
   -- between two requests
-  pub closes_between : wants_input old ≡ true → Keeps old new → old.phase ≡ Between → new.phase ≡ Ended Closed → fault_of old.reader ≡ None → is_open old.reader ≡ false → Closes answers old new
+  pub closes_between : wants_input old ≡ true → Keeps state old new → old.phase ≡ Between → new.phase ≡ Ended Closed → fault_of old.reader ≡ None → is_open old.reader ≡ false → Closes state old new
   closes_between wants keeps was is sound shut s so_far over before r =
-      let h = serves_of answers old new [] s so_far over before wants r in
+      let h = serves_of state old new [] s so_far over before wants r in
       let known = sound_rest old.reader 0 so_far h.packets h.rest sound h.reads in (
         ends_here s so_far over before Closed wants keeps r h (
           refl,
           none_is_left old.phase h.left was h.left_is,
           none_between old.reader h.rest known.0 shut,
-        ) (ap outcome_in is) (λ owed owes. sym (owes_at answers old new [] s (Ended Closed) owed is owes)),
+        ) (ap outcome_in is) (λ owed owes. sym (owes_at state old new [] s (Ended Closed) owed is owes)),
         inl (ap outcome_in is),
       )
 
-  cut_short : (s : Setting) (so_far : List ℕ) (over : Bool) (before : List ℕ) (fault : Fault) → wants_input old ≡ true → Keeps old new
-      → (r : Running answers s so_far over before old) → (h : Serves s so_far before old) → requests_fault old.requests ≡ None → is_waiting old.requests ≡ false → fault_of old.reader ≡ None
+  cut_short : (s : Setting) (so_far : List ℕ) (over : Bool) (before : List ℕ) (fault : Fault) → wants_input old ≡ true → Keeps state old new
+      → (r : Running state s so_far over before old) → (h : Serves s so_far before old) → requests_fault old.requests ≡ None → is_waiting old.requests ≡ false → fault_of old.reader ≡ None
       → (h.left ≢ []) ⊎ (h.rest ≢ []) → fault.kind ≡ Truncated → fault.offset + length h.rest ≡ length so_far → new.phase ≡ refused_by fault.kind fault
-      → Running answers s so_far true before new
+      → Running state s so_far true before new
   cut_short s so_far over before fault wants keeps r h requests_sound ready sound inside name at is =
       let known = sound_rest old.reader 0 so_far h.packets h.rest sound h.reads in
       ends_here s so_far over before (Refused fault) wants keeps r h
@@ -85,13 +85,13 @@ module _ {R A : Type 0} (answers : R → Repository) (old new : Server R A) wher
         at = at;
       })))
       (ap outcome_in is ∙ refused_outcome_by A fault.kind fault)
-      (λ owed owes. refused_owes_by A new.offer s.repo fault.kind fault owed refl (owes_at answers old new [] s (refused_by fault.kind fault) owed is owes))
+      (λ owed owes. refused_owes_by A new.offer s.repo fault.kind fault owed refl (owes_at state old new [] s (refused_by fault.kind fault) owed is owes))
 
   -- inside a request, between two packets
-  pub closes_within : (fault : Fault) → wants_input old ≡ true → Keeps old new → old.phase ≡ Within → new.phase ≡ refused_by fault.kind fault → requests_fault old.requests ≡ None → is_waiting old.requests ≡ false
-      → fault_of old.reader ≡ None → is_open old.reader ≡ false → fault.kind ≡ Truncated → fault.offset ≡ position_of old.reader → Closes answers old new
+  pub closes_within : (fault : Fault) → wants_input old ≡ true → Keeps state old new → old.phase ≡ Within → new.phase ≡ refused_by fault.kind fault → requests_fault old.requests ≡ None → is_waiting old.requests ≡ false
+      → fault_of old.reader ≡ None → is_open old.reader ≡ false → fault.kind ≡ Truncated → fault.offset ≡ position_of old.reader → Closes state old new
   closes_within fault wants keeps was is requests_sound ready sound shut name at s so_far over before r =
-      let h = serves_of answers old new [] s so_far over before wants r in
+      let h = serves_of state old new [] s so_far over before wants r in
       let known = sound_rest old.reader 0 so_far h.packets h.rest sound h.reads in
       let empty : h.rest ≡ [] = none_between old.reader h.rest known.0 shut in
       let place : fault.offset + length h.rest ≡ length so_far = omega (arith, ap length empty, h.reads.position, at) in (
@@ -100,12 +100,12 @@ module _ {R A : Type 0} (answers : R → Repository) (old new : Server R A) wher
       )
 
   -- inside a packet
-  pub closes_open : (fault : Fault) → wants_input old ≡ true → Keeps old new → new.phase ≡ refused_by fault.kind fault → requests_fault old.requests ≡ None → is_waiting old.requests ≡ false
+  pub closes_open : (fault : Fault) → wants_input old ≡ true → Keeps state old new → new.phase ≡ refused_by fault.kind fault → requests_fault old.requests ≡ None → is_waiting old.requests ≡ false
       → (fault_of old.reader ≡ None
-          → (is_open old.reader ≡ true) × (fault.kind ≡ Truncated) × (fault.offset + open_length old.reader ≡ position_of old.reader))
-      → Closes answers old new
+      → (is_open old.reader ≡ true) × (fault.kind ≡ Truncated) × (fault.offset + open_length old.reader ≡ position_of old.reader))
+      → Closes state old new
   closes_open fault wants keeps is requests_sound ready truncated s so_far over before r =
-      let h = serves_of answers old new [] s so_far over before wants r in
+      let h = serves_of state old new [] s so_far over before wants r in
       let known = sound_rest old.reader 0 so_far h.packets h.rest h.no_fault h.reads in
       let (begun, name, at) = truncated h.no_fault in
       let place : fault.offset + length h.rest ≡ length so_far = omega (arith, rest_length old.reader h.rest known.0, h.reads.position, at) in (

@@ -3,11 +3,11 @@ use Rattle.std.proofs.Common.{arith, ◌≡◌, ◌≤◌, ◌<◌, ℕ, Bool, L
 use Rattle.git_pkt.specs.Packets.{Pkt}
 use Rattle.git_pkt.specs.Splits.{Given}
 use Rattle.git_pkt.specs.Reading.{held_of}
-use Rattle.git_server.specs.Repository.{Repository}
+use Rattle.git_server.specs.Repository.{Repository, RepoState}
 use Rattle.git_server.specs.Answers.{AllFit, spelled}
 use Rattle.git_server.specs.Sessions.{Setting, IsTail, advertised}
 use Rattle.git_server.specs.Phases.{LeftIn, kept_in, Owes}
-use Rattle.git_server.specs.Writing.{Writes}
+use Rattle.git_server.specs.WrittenPackets.{Writes}
 use Rattle.git_server.specs.Serving.{StandsBy, outcome_of}
 use Rattle.git_server.specs.Moves.{ComesFirst, Gives, Keeps, most_left}
 use Rattle.git_msg.specs.Taking.{Takes, offer_of, limit_in, kept_so_far}
@@ -15,21 +15,21 @@ use Rattle.git_server.specs.declared.outcome.Outcome.{Outcome}
 use Rattle.git_server.specs.declared.server.Server.{Server}
 use Rattle.git_server.proofs.Sent.{fit_more, sent_one, spelled_one}
 
-module _ {R A : Type 0} (answers : R → Repository) (old new : Server R A) (packet : Pkt) (writes : Writes old.reader packet new.reader) (keeps : Keeps old new)
-    (owed : ComesFirst answers packet old new) (less : most_left answers new < most_left answers old) (same : outcome_of new ≡ outcome_of old)
+module _ {R A : Type 0} (state : R → RepoState) (old new : Server R A) (packet : Pkt) (writes : Writes old.reader packet new.reader) (keeps : Keeps state old new)
+    (owed : ComesFirst state packet old new) (less : most_left state new < most_left state old) (same : outcome_of new ≡ outcome_of old)
     (left_stays : (left : List Given) → LeftIn old.phase left → LeftIn new.phase left) (no_more : kept_in new.phase ≤ kept_in old.phase) where
   -- what is owed, as the session's repository has it
-  owed_here : (s : Setting) (later : List Pkt) → answers old.repo ≡ s.repo → Owes new.offer s.repo new.phase later
+  owed_here : (s : Setting) (later : List Pkt) → (state old.repo).answers ≡ s.repo → Owes new.offer s.repo new.phase later
       → Owes old.offer s.repo old.phase (packet ∷ later)
   owed_here s later repo owes =
-      let repo_now : answers new.repo ≡ s.repo = ap answers keeps.repo ∙ repo in
+      let repo_now : (state new.repo).answers ≡ s.repo = keeps.answers ∙ repo in
       subst (λ (r : Repository). Owes old.offer r old.phase (packet ∷ later)) repo
       (owed later (subst (λ (r : Repository). Owes new.offer r new.phase later) (sym repo_now) owes))
 
   given_on : (before : List ℕ) (sent : List Pkt) → before ≡ spelled sent → before ++ held_of new.reader ≡ spelled (sent ++ packet ∷ [])
   given_on before sent is = ap (λ (l : List ℕ). l ++ held_of new.reader) is ∙ ap (λ (l : List ℕ). spelled sent ++ l) writes.held ∙ sym (spelled_one sent packet)
 
-  gives_in : (o : Option Outcome) (s : Setting) (used : List ℕ) (over : Bool) (before : List ℕ) → answers old.repo ≡ s.repo → StandsBy o s used over before old → StandsBy o s used over (before ++ held_of new.reader) new
+  gives_in : (o : Option Outcome) (s : Setting) (used : List ℕ) (over : Bool) (before : List ℕ) → (state old.repo).answers ≡ s.repo → StandsBy o s used over before old → StandsBy o s used over (before ++ held_of new.reader) new
   gives_in None s used over before repo (not_over, h) = (
     not_over,
     record {
@@ -40,7 +40,7 @@ module _ {R A : Type 0} (answers : R → Repository) (old new : Server R A) (pac
       sent = h.sent ++ packet ∷ [];
       reads = writes.reads 0 used h.packets h.rest h.reads;
       no_fault = writes.fault ∙ h.no_fault;
-      cuts = h.cuts;
+      requests = h.requests;
       takes = subst (Takes h.left) (sym keeps.requests) h.takes;
       left_is = left_stays h.left h.left_is;
       is_sent = λ later owes. sent_one s h.asked h.sent later packet (h.is_sent (packet ∷ later) (owed_here s later repo owes));
@@ -66,7 +66,7 @@ module _ {R A : Type 0} (answers : R → Repository) (old new : Server R A) (pac
             (fit_more (advertised s ++ h.answers ++ h.sent) packet h.fit writes.fits);
       }
 
-  pub gives : Gives answers old new
+  pub gives : Gives state old new
   gives =
       record {
         packet = packet;
@@ -80,7 +80,7 @@ module _ {R A : Type 0} (answers : R → Repository) (old new : Server R A) (pac
               offer = keeps.offer ∙ r.offer;
               reads_for = ap offer_of keeps.requests ∙ r.reads_for;
               limit = ap limit_in keeps.requests ∙ r.limit;
-              repo = ap answers keeps.repo ∙ r.repo;
+              repo = keeps.answers ∙ r.repo;
               within = omega (arith, r.within, ap kept_so_far keeps.requests, no_more);
               stands = subst (λ (o : Option Outcome). StandsBy o s (so_far ++ []) over (before ++ held_of new.reader) new) (sym same)
                   (subst (λ (l : List ℕ). StandsBy (outcome_of old) s l over (before ++ held_of new.reader) new) (sym (append-nil so_far)) stands);

@@ -9,16 +9,18 @@ use Rattle.git_pkt.specs.declared.fault.Kind.TheVariants.{RemoteError, Truncated
 use Rattle.git_msg.specs.Asked.{Asked, ls_refs}
 use Rattle.git_msg.specs.Holding.{asked_of, kept_of}
 use Rattle.git_msg.specs.Requests.{Asks, IsTold}
+use Rattle.git_msg.specs.WholeRequests.{AreRequests}
 use Rattle.git_msg.proofs.PacketFaults.{told_of_packets}
+use Rattle.git_msg.proofs.WholeRequests.{one_more_request, requests_more}
 use Rattle.git_msg.specs.Taking.{Takes, offer_of, limit_in, kept_so_far, is_waiting, fault_of as requests_fault}
 use Rattle.git_msg.specs.declared.offers.Offer.{Offer}
 use Rattle.git_msg.specs.declared.reader.RequestReader.{RequestReader}
-use Rattle.git_server.specs.Repository.{Repository}
+use Rattle.git_server.specs.Repository.{Repository, RepoState}
 use Rattle.git_server.specs.Answers.{AllFit, IsAnswer, error_packet, tail_of, spelled}
-use Rattle.git_server.specs.Greetings.{greetings_from}
-use Rattle.git_server.specs.Sessions.{Begins, IsTail, Setting, Cuts, IsSent, IsEnding, IsRefused, EndsBy}
+use Rattle.git_server.specs.AdvertisementLines.{advertisement_from}
+use Rattle.git_server.specs.Sessions.{Begins, IsTail, Setting, IsRequest, IsSent, IsEnding, IsRefused, EndsBy}
 use Rattle.git_server.specs.Phases.{LeftIn, answer_from, IsAnswerFrom, Owes, kept_in, outcome_in, reads_in, phase_after, refused_by}
-use Rattle.git_server.specs.Taking.{Brings, IsBrought, IsWithin}
+use Rattle.git_server.specs.Brought.{Brings, IsBrought, IsWithin}
 use Rattle.git_server.specs.Serving.{Running, Serves, StandsBy, outcome_of, wants_input}
 use Rattle.git_server.specs.Moves.{Goes, ReadsFor, StopsInTime}
 use Rattle.git_server.specs.declared.outcome.Outcome.{Outcome}
@@ -26,12 +28,12 @@ use Rattle.git_server.specs.declared.outcome.Outcome.TheVariants.{Flush, Refused
 use Rattle.git_server.specs.declared.requests.Brought.{Brought}
 use Rattle.git_server.specs.declared.requests.Brought.TheVariants.{Part, Whole, Stop, Refused as RefusedPacket}
 use Rattle.git_server.specs.declared.server.Phase.{Phase}
-use Rattle.git_server.specs.declared.server.Phase.TheVariants.{Greeting, Between, Within, Answering, Refusing, Ended}
+use Rattle.git_server.specs.declared.server.Phase.TheVariants.{Advertising, Between, Within, Answering, Refusing, Ended}
 use Rattle.git_server.specs.declared.server.Server.{Server}
 use Rattle.git_pkt.proofs.Holding.{sound_rest, none_between}
+use Rattle.git_server.proofs.Begun.{begins}
 use Rattle.git_server.proofs.Readers.{stopped_by}
 use Rattle.git_server.proofs.Sent.{all_sent, one_more_asked}
-use Rattle.git_server.proofs.WholeRequests.{begins, cuts_more, cuts_whole}
 
 -- an answer from the first reference on is the answer
 whole_answer : (repo : Repository) (q : Asked) (later : List Pkt) → IsAnswerFrom repo q 0 later → IsAnswer repo q later
@@ -47,28 +49,36 @@ refused_owes_by A offer repo RemoteError fault owed is owes = let tail : tail_of
 refused_owes_by A offer repo kind fault owed is owes = let tail : tail_of (Refused fault) ≡ error_packet fault ∷ [] = rw is refl in tail ∙ sym owes
 
 module _ {A : Type 0} where
-  -- a server that waits for bytes has no outcome, and owes nothing
+  -- a server that waits for bytes is between two requests or within one
+  waiting : (P : Phase A → Type 0) → P Between → P Within → (phase : Phase A) → reads_in phase ≡ true → P phase
+  waiting P between within Between h = between
+  waiting P between within Within h = within
+  waiting P between within (Advertising line) h = absurd (cc)
+  waiting P between within (Answering request next) h = absurd (cc)
+  waiting P between within (Refusing fault) h = absurd (cc)
+  waiting P between within (Ended outcome) h = absurd (cc)
+
+  pub is_within : (phase : Phase A) → reads_in phase ≡ true → (phase ≡ Between → ⊥) → phase ≡ Within
+  is_within = waiting (λ (p : Phase A). (p ≡ Between → ⊥) → p ≡ Within) (λ not. absurd (not refl)) (λ not. refl)
+
+  -- it has no outcome, keeps no request to answer, and owes nothing
   pub no_outcome : (phase : Phase A) → reads_in phase ≡ true → outcome_in phase ≡ None
-  no_outcome Between h = refl
-  no_outcome Within h = refl
-  no_outcome (Greeting line) h = absurd (cc)
-  no_outcome (Answering request next) h = absurd (cc)
-  no_outcome (Refusing fault) h = absurd (cc)
-  no_outcome (Ended outcome) h = absurd (cc)
+  no_outcome = waiting (λ (p : Phase A). outcome_in p ≡ None) refl refl
 
-  -- nor does it keep a request to answer, and neither does one whose session ended
   pub none_kept : (phase : Phase A) → reads_in phase ≡ true → kept_in phase ≡ 0
-  none_kept Between h = refl
-  none_kept Within h = refl
-  none_kept (Greeting line) h = absurd (cc)
-  none_kept (Answering request next) h = absurd (cc)
-  none_kept (Refusing fault) h = absurd (cc)
-  none_kept (Ended outcome) h = absurd (cc)
+  none_kept = waiting (λ (p : Phase A). kept_in p ≡ 0) refl refl
 
+  pub owes_nothing : (offer : Offer) (repo : Repository) (phase : Phase A) → reads_in phase ≡ true → Owes offer repo phase []
+  owes_nothing offer repo = waiting (λ (p : Phase A). Owes offer repo p []) refl refl
+
+  pub nothing_owed : (offer : Offer) (repo : Repository) (phase : Phase A) (owed : List Pkt) → reads_in phase ≡ true → Owes offer repo phase owed → owed ≡ []
+  nothing_owed offer repo phase owed = waiting (λ (p : Phase A). Owes offer repo p owed → owed ≡ []) (λ owes. owes) (λ owes. owes) phase
+
+  -- nor does a server keep a request whose session ended
   pub none_kept_at_end : (phase : Phase A) (outcome : Outcome) → outcome_in phase ≡ Some outcome → kept_in phase ≡ 0
   none_kept_at_end Between outcome h = refl
   none_kept_at_end Within outcome h = refl
-  none_kept_at_end (Greeting line) outcome h = refl
+  none_kept_at_end (Advertising line) outcome h = refl
   none_kept_at_end (Answering request next) outcome h = absurd (cc)
   none_kept_at_end (Refusing fault) outcome h = refl
   none_kept_at_end (Ended outcome) _ h = refl
@@ -80,33 +90,14 @@ module _ {A : Type 0} where
   kept_behind Stop requests h = omega (arith, h)
   kept_behind (RefusedPacket fault) requests h = omega (arith, h, none_kept_at_end (refused_by fault.kind fault) (Refused fault) (refused_outcome_by A fault.kind fault))
 
-  pub nothing_owed : (offer : Offer) (repo : Repository) (phase : Phase A) (owed : List Pkt) → reads_in phase ≡ true → Owes offer repo phase owed → owed ≡ []
-  nothing_owed offer repo Between owed h owes = owes
-  nothing_owed offer repo Within owed h owes = owes
-  nothing_owed offer repo (Greeting line) owed h owes = absurd (cc)
-  nothing_owed offer repo (Answering request next) owed h owes = absurd (cc)
-  nothing_owed offer repo (Refusing fault) owed h owes = absurd (cc)
-  nothing_owed offer repo (Ended outcome) owed h owes = absurd (cc)
-
-  pub owes_nothing : (offer : Offer) (repo : Repository) (phase : Phase A) → reads_in phase ≡ true → Owes offer repo phase []
-  owes_nothing offer repo Between h = refl
-  owes_nothing offer repo Within h = refl
-  owes_nothing offer repo (Greeting line) h = absurd (cc)
-  owes_nothing offer repo (Answering request next) h = absurd (cc)
-  owes_nothing offer repo (Refusing fault) h = absurd (cc)
-  owes_nothing offer repo (Ended outcome) h = absurd (cc)
-
-some_owed : {A : Type 0} (offer : Offer) (repo : Repository) (phase : Phase A) → (owed : List Pkt) × Owes offer repo phase owed
-some_owed offer repo (Greeting line) = (greetings_from offer line, refl)
-some_owed offer repo (Answering request next) = (answer_from (asked_of request) repo.refs next, refl)
-some_owed offer repo (Refusing fault) = (error_packet fault ∷ [], refl)
-some_owed offer repo Between = ([], refl)
-some_owed offer repo Within = ([], refl)
-some_owed offer repo (Ended outcome) = ([], refl)
-
 -- in each phase some packets make an end
 pub owes_some : {A : Type 0} (offer : Offer) (repo : Repository) (phase : Phase A) → (owed : List Pkt) × Owes offer repo phase owed
-owes_some offer repo phase = some_owed offer repo phase
+owes_some offer repo (Advertising line) = (advertisement_from offer line, refl)
+owes_some offer repo (Answering request next) = (answer_from (asked_of request) repo.refs next, refl)
+owes_some offer repo (Refusing fault) = (error_packet fault ∷ [], refl)
+owes_some offer repo Between = ([], refl)
+owes_some offer repo Within = ([], refl)
+owes_some offer repo (Ended outcome) = ([], refl)
 
 one_more : {X : Type 0} (xs : List X) (x : X) → xs ++ x ∷ [] ≢ []
 one_more [] x e = cc
@@ -123,13 +114,17 @@ not_too_long {A = A} packets (RefusedPacket f) requests h fault ended too_long =
     let one : f ≡ fault = cc in
     told_of_packets (offer_of requests) (limit_in requests) packets f h (ap (λ (x : Fault). x.kind) one ∙ too_long)
 
-module _ {R A : Type 0} (answers : R → Repository) (old new : Server R A) (u : List ℕ) where
-  -- what a server that waits for bytes stands for
-  stands_of : (s : Setting) (so_far : List ℕ) (over : Bool) (before : List ℕ) → wants_input old ≡ true → Running answers s so_far over before old → (over ≡ false) × Serves s so_far before old
-  stands_of s so_far over before wants r =
-      subst (λ (o : Option Outcome). StandsBy o s so_far over before old) (no_outcome old.phase wants) r.stands
+-- what a server without an outcome stands for
+pub goes_on : {R A : Type 0} (state : R → RepoState) (server : Server R A) (s : Setting) (used : List ℕ) (over : Bool) (given : List ℕ) → outcome_of server ≡ None
+    → Running state s used over given server → (over ≡ false) × Serves s used given server
+goes_on state server s used over given none r = subst (λ (o : Option Outcome). StandsBy o s used over given server) none r.stands
 
-  pub serves_of : (s : Setting) (so_far : List ℕ) (over : Bool) (before : List ℕ) → wants_input old ≡ true → Running answers s so_far over before old → Serves s so_far before old
+module _ {R A : Type 0} (state : R → RepoState) (old new : Server R A) (u : List ℕ) where
+  -- what a server that waits for bytes stands for
+  stands_of : (s : Setting) (so_far : List ℕ) (over : Bool) (before : List ℕ) → wants_input old ≡ true → Running state s so_far over before old → (over ≡ false) × Serves s so_far before old
+  stands_of s so_far over before wants r = goes_on state old s so_far over before (no_outcome old.phase wants) r
+
+  pub serves_of : (s : Setting) (so_far : List ℕ) (over : Bool) (before : List ℕ) → wants_input old ≡ true → Running state s so_far over before old → Serves s so_far before old
   serves_of s so_far over before wants r = (stands_of s so_far over before wants r).1
 
   pub all_sent_of : (s : Setting) (so_far before : List ℕ) → wants_input old ≡ true → (h : Serves s so_far before old) → IsSent s h.asked h.sent []
@@ -137,7 +132,7 @@ module _ {R A : Type 0} (answers : R → Repository) (old new : Server R A) (u :
       h.is_sent [] (owes_nothing old.offer s.repo old.phase wants)
 
   -- no packet came of the bytes
-  pub goes_open : wants_input old ≡ true → ReadsFor old u [] new → new.requests ≡ old.requests → new.phase ≡ old.phase → fault_of new.reader ≡ None → Goes answers u [] old new
+  pub goes_open : wants_input old ≡ true → ReadsFor state old u [] new → new.requests ≡ old.requests → new.phase ≡ old.phase → fault_of new.reader ≡ None → Goes state u [] old new
   goes_open wants reads same_requests same_phase sound s so_far over before r =
       let (not_over, h) = stands_of s so_far over before wants r in
       let (rest, stream) = reads.reads 0 so_far h.packets h.rest h.reads in
@@ -145,7 +140,7 @@ module _ {R A : Type 0} (answers : R → Repository) (old new : Server R A) (u :
         offer = reads.offer ∙ r.offer;
         reads_for = ap offer_of same_requests ∙ r.reads_for;
         limit = ap limit_in same_requests ∙ r.limit;
-        repo = ap answers reads.repo ∙ r.repo;
+        repo = reads.answers ∙ r.repo;
         within = omega (arith, r.within, ap kept_so_far same_requests, ap kept_in same_phase);
         stands = subst (λ (o : Option Outcome). StandsBy o s (so_far ++ u) over (before ++ []) new) (sym (ap outcome_in same_phase ∙ no_outcome old.phase wants)) (
           not_over,
@@ -157,7 +152,7 @@ module _ {R A : Type 0} (answers : R → Repository) (old new : Server R A) (u :
             sent = h.sent;
             reads = subst (λ (l : List Given). Reads new.reader 0 (so_far ++ u) l rest) (append-nil h.packets) stream;
             no_fault = sound;
-            cuts = h.cuts;
+            requests = h.requests;
             takes = subst (Takes h.left) (sym same_requests) h.takes;
             left_is = subst (λ (p : Phase A). LeftIn p h.left) (sym same_phase) h.left_is;
             is_sent = λ owed owes. subst (λ (l : List Pkt). IsSent s h.asked h.sent l)
@@ -170,10 +165,10 @@ module _ {R A : Type 0} (answers : R → Repository) (old new : Server R A) (u :
 
   -- with this packet the session ends, and nothing of its end was given yet
   ended_at : (s : Setting) (so_far : List ℕ) (over : Bool) (before : List ℕ) (left : List Given) (packets : List Given) (rest : List ℕ) (outcome : Outcome)
-      → wants_input old ≡ true → (h : Serves s so_far before old) → Reads new.reader 0 (so_far ++ u) packets rest → Cuts s packets h.asked left
+      → wants_input old ≡ true → (h : Serves s so_far before old) → Reads new.reader 0 (so_far ++ u) packets rest → AreRequests (IsRequest s) packets h.asked left
       → EndsBy s over left rest (length (so_far ++ u)) outcome → (owed : List Pkt) → IsTail s left outcome owed
       → IsEnding s (so_far ++ u) over (before ++ []) outcome owed
-  ended_at s so_far over before left packets rest outcome wants h stream cuts ends owed tail =
+  ended_at s so_far over before left packets rest outcome wants h stream requests ends owed tail =
       let all = all_sent s h.asked h.sent (all_sent_of s so_far before wants h) in
       record {
         asked = h.asked;
@@ -181,7 +176,7 @@ module _ {R A : Type 0} (answers : R → Repository) (old new : Server R A) (u :
         rest = rest;
         answers = all.answers;
         sent = [];
-        stream = record { packets = packets; splits = stream.splits; cuts = cuts };
+        stream = record { packets = packets; splits = stream.splits; requests = requests };
         ends = ends;
         answered = all.answered;
         parts = tail;
@@ -198,13 +193,18 @@ module _ {R A : Type 0} (answers : R → Repository) (old new : Server R A) (u :
   pub owes_at : (s : Setting) (phase : Phase A) (owed : List Pkt) → new.phase ≡ phase → Owes new.offer s.repo new.phase owed → Owes new.offer s.repo phase owed
   owes_at s phase owed is owes = subst (λ (p : Phase A). Owes new.offer s.repo p owed) is owes
 
+  -- with one packet more, the packets are the same requests and more is left
+  with_packet : (s : Setting) (so_far before : List ℕ) (h : Serves s so_far before old) (g : Given)
+      → AreRequests (IsRequest s) (h.packets ++ g ∷ []) h.asked (h.left ++ g ∷ [])
+  with_packet s so_far before h g = requests_more (IsRequest s) h.packets (g ∷ []) h.asked h.left h.requests
+
   -- where the session goes on after a packet
   packet_serves : (s : Setting) (so_far : List ℕ) (before : List ℕ) (asked : List Asked) (packets left : List Given) (rest : List ℕ) (sent : List Pkt)
       (phase : Phase A)
-      → Reads new.reader 0 (so_far ++ u) packets rest → fault_of new.reader ≡ None → Cuts s packets asked left → Takes left new.requests → new.phase ≡ phase
+      → Reads new.reader 0 (so_far ++ u) packets rest → fault_of new.reader ≡ None → AreRequests (IsRequest s) packets asked left → Takes left new.requests → new.phase ≡ phase
       → LeftIn phase left → ((owed : List Pkt) → Owes new.offer s.repo phase owed → IsSent s asked sent owed) → before ≡ spelled sent → AllFit sent
       → Serves s (so_far ++ u) (before ++ []) new
-  packet_serves s so_far before asked packets left rest sent phase stream sound cuts takes phase_is left_is is_sent given fit =
+  packet_serves s so_far before asked packets left rest sent phase stream sound requests takes phase_is left_is is_sent given fit =
       record {
         asked = asked;
         packets = packets;
@@ -213,7 +213,7 @@ module _ {R A : Type 0} (answers : R → Repository) (old new : Server R A) (u :
         sent = sent;
         reads = stream;
         no_fault = sound;
-        cuts = cuts;
+        requests = requests;
         takes = takes;
         left_is = subst (λ (p : Phase A). LeftIn p left) (sym phase_is) left_is;
         is_sent = λ owed owes. is_sent owed (subst (λ (p : Phase A). Owes new.offer s.repo p owed) phase_is owes);
@@ -230,36 +230,36 @@ module _ {R A : Type 0} (answers : R → Repository) (old new : Server R A) (u :
   packet_stands s so_far over before g Part wants not_over h rest stream sound shut offer limit begun takes phase_is = (
     not_over,
     packet_serves s so_far before h.asked (h.packets ++ g ∷ []) (h.left ++ g ∷ []) rest h.sent Within stream sound
-        (cuts_more s h.packets (g ∷ []) h.asked h.left h.cuts) takes phase_is (one_more h.left g)
+        (with_packet s so_far before h g) takes phase_is (one_more h.left g)
         (λ owed owes. subst (λ (l : List Pkt). IsSent s h.asked h.sent l) (sym owes) (all_sent_of s so_far before wants h)) h.given_is h.fit,
   )
   packet_stands s so_far over before g (Whole request) wants not_over h rest stream sound shut offer limit begun (takes, asks) phase_is =
-      let cuts = cuts_more s h.packets (g ∷ []) h.asked h.left h.cuts in
       let asks_here : Asks s.offer s.limit (h.left ++ g ∷ []) (asked_of request) (kept_of request) =
       subst (λ (n : ℕ). Asks s.offer n (h.left ++ g ∷ []) (asked_of request) (kept_of request)) limit
       (subst (λ (o : Offer). Asks o (limit_in new.requests) (h.left ++ g ∷ []) (asked_of request) (kept_of request)) offer asks) in (
         not_over,
         packet_serves s so_far before (h.asked ++ asked_of request ∷ []) (h.packets ++ g ∷ []) [] rest h.sent (Answering request 0) stream sound
-            (cuts_whole s (h.packets ++ g ∷ []) h.asked (h.left ++ g ∷ []) (asked_of request) (kept_of request) cuts asks_here) takes phase_is refl
+            (one_more_request (IsRequest s) (h.packets ++ g ∷ []) h.asked (h.left ++ g ∷ []) (asked_of request) (with_packet s so_far before h g)
+            (kept_of request, asks_here)) takes phase_is refl
             (λ owed owes. one_more_asked s h.asked h.sent owed (asked_of request) (all_sent_of s so_far before wants h)
             (whole_answer s.repo (asked_of request) owed owes)) h.given_is h.fit,
       )
   packet_stands s so_far over before g Stop wants not_over h rest stream sound shut offer limit begun stop phase_is =
       λ owed owes. ended_at s so_far over before (h.left ++ g ∷ []) (h.packets ++ g ∷ []) rest Flush wants h stream
-      (cuts_more s h.packets (g ∷ []) h.asked h.left h.cuts)
+      (with_packet s so_far before h g)
       (stop, no_rest _ _ rest sound shut stream) owed (sym (owes_at s (Ended Flush) owed phase_is owes))
   packet_stands s so_far over before g (RefusedPacket fault) wants not_over h rest stream sound shut offer limit begun told phase_is =
       let told_here : IsTold s.offer s.limit (h.left ++ g ∷ []) fault =
       subst (λ (n : ℕ). IsTold s.offer n (h.left ++ g ∷ []) fault) limit (subst (λ (o : Offer). IsTold o (limit_in new.requests) (h.left ++ g ∷ []) fault) offer told) in
       subst (λ (o : Option Outcome). StandsBy o s (so_far ++ u) over (before ++ []) new) (sym (refused_outcome_by A fault.kind fault))
       (λ owed owes. ended_at s so_far over before (h.left ++ g ∷ []) (h.packets ++ g ∷ []) rest (Refused fault) wants h stream
-      (cuts_more s h.packets (g ∷ []) h.asked h.left h.cuts)
+      (with_packet s so_far before h g)
       (inl (record { front = h.left; last = g; whole = refl; begins = begun; told = told_here; no_rest = no_rest _ _ rest sound shut stream })) owed
       (refused_owes_by A new.offer s.repo fault.kind fault owed refl (owes_at s (refused_by fault.kind fault) owed phase_is owes)))
 
   -- a packet came of the bytes
-  pub goes_packet : (g : Given) (brought : Brought A) → wants_input old ≡ true → ReadsFor old u (g ∷ []) new → Brings old.requests g brought new.requests
-      → new.phase ≡ phase_after brought → fault_of new.reader ≡ None → is_open new.reader ≡ false → Goes answers u [] old new
+  pub goes_packet : (g : Given) (brought : Brought A) → wants_input old ≡ true → ReadsFor state old u (g ∷ []) new → Brings old.requests g brought new.requests
+      → new.phase ≡ phase_after brought → fault_of new.reader ≡ None → is_open new.reader ≡ false → Goes state u [] old new
   goes_packet g brought wants reads brings phase_is sound shut s so_far over before r =
       let (not_over, h) = stands_of s so_far over before wants r in
       let (rest, stream) = reads.reads 0 so_far h.packets h.rest h.reads in
@@ -272,7 +272,7 @@ module _ {R A : Type 0} (answers : R → Repository) (old new : Server R A) (u :
         offer = reads.offer ∙ r.offer;
         reads_for = offer;
         limit = limit;
-        repo = ap answers reads.repo ∙ r.repo;
+        repo = reads.answers ∙ r.repo;
         within = omega (arith, kept_behind brought new.requests (brings.within kept), limit, ap kept_in phase_is);
         stands = subst (λ (o : Option Outcome). StandsBy o s (so_far ++ u) over (before ++ []) new) (sym (ap outcome_in phase_is))
             (packet_stands s so_far over before g brought wants not_over h rest stream sound shut offer limit begun (brings.brings h.left h.takes) phase_is);
@@ -280,16 +280,16 @@ module _ {R A : Type 0} (answers : R → Repository) (old new : Server R A) (u :
 
   -- the session ends with this fault, of which nothing was given yet
   ends_refused : (s : Setting) (so_far : List ℕ) (over : Bool) (before : List ℕ) (left packets : List Given) (rest : List ℕ) (fault : Fault)
-      → wants_input old ≡ true → (h : Serves s so_far before old) → Reads new.reader 0 (so_far ++ u) packets rest → Cuts s packets h.asked left
+      → wants_input old ≡ true → (h : Serves s so_far before old) → Reads new.reader 0 (so_far ++ u) packets rest → AreRequests (IsRequest s) packets h.asked left
       → IsRefused s over left rest (length (so_far ++ u)) fault → new.phase ≡ refused_by fault.kind fault → StandsBy (outcome_of new) s (so_far ++ u) over (before ++ []) new
-  ends_refused s so_far over before left packets rest fault wants h stream cuts refused phase_is =
+  ends_refused s so_far over before left packets rest fault wants h stream requests refused phase_is =
       subst (λ (o : Option Outcome). StandsBy o s (so_far ++ u) over (before ++ []) new) (sym (ap outcome_in phase_is ∙ refused_outcome_by A fault.kind fault))
-      (λ owed owes. ended_at s so_far over before left packets rest (Refused fault) wants h stream cuts refused owed
+      (λ owed owes. ended_at s so_far over before left packets rest (Refused fault) wants h stream requests refused owed
       (refused_owes_by A new.offer s.repo fault.kind fault owed refl (owes_at s (refused_by fault.kind fault) owed phase_is owes)))
 
   -- the bytes were refused
-  pub goes_refused : (fault : Fault) → wants_input old ≡ true → ReadsFor old u [] new → new.requests ≡ old.requests → requests_fault old.requests ≡ None → is_waiting old.requests ≡ false
-      → fault_of new.reader ≡ Some fault → (fault_of old.reader ≡ None → fault.kind ≢ Truncated) → new.phase ≡ refused_by fault.kind fault → Goes answers u [] old new
+  pub goes_refused : (fault : Fault) → wants_input old ≡ true → ReadsFor state old u [] new → new.requests ≡ old.requests → requests_fault old.requests ≡ None → is_waiting old.requests ≡ false
+      → fault_of new.reader ≡ Some fault → (fault_of old.reader ≡ None → fault.kind ≢ Truncated) → new.phase ≡ refused_by fault.kind fault → Goes state u [] old new
   goes_refused fault wants reads same_requests sound ready told not_the_end phase_is s so_far over before r =
       let (not_over, h) = stands_of s so_far over before wants r in
       let (rest, later) = reads.reads 0 so_far h.packets h.rest h.reads in
@@ -298,9 +298,9 @@ module _ {R A : Type 0} (answers : R → Repository) (old new : Server R A) (u :
         offer = reads.offer ∙ r.offer;
         reads_for = ap offer_of same_requests ∙ r.reads_for;
         limit = ap limit_in same_requests ∙ r.limit;
-        repo = ap answers reads.repo ∙ r.repo;
+        repo = reads.answers ∙ r.repo;
         within = omega (arith, r.within, ap kept_so_far same_requests, none_kept_at_end new.phase (Refused fault) (ap outcome_in phase_is ∙ refused_outcome_by A fault.kind fault));
-        stands = ends_refused s so_far over before h.left h.packets rest fault wants h stream h.cuts
+        stands = ends_refused s so_far over before h.left h.packets rest fault wants h stream h.requests
             (inr (inl (record {
               goes_on = not_over;
               begins = begins s h.left old.requests r.reads_for r.limit sound ready h.takes;
@@ -309,9 +309,9 @@ module _ {R A : Type 0} (answers : R → Repository) (old new : Server R A) (u :
             }))) phase_is;
       }
 
-module _ {R A : Type 0} (answers : R → Repository) (old : Server R A) (used : ℕ) (piece : List ℕ) where
+module _ {R A : Type 0} (state : R → RepoState) (old : Server R A) (used : ℕ) (piece : List ℕ) where
   -- the session went on
-  pub open_in_time : StopsInTime answers old used piece (outcome_in old.phase)
+  pub open_in_time : StopsInTime state old used piece (outcome_in old.phase)
   open_in_time s so_far over before r wants fault ended too_long =
       let none : outcome_in old.phase ≡ None = no_outcome old.phase wants in
       absurd (cc)
@@ -319,35 +319,31 @@ module _ {R A : Type 0} (answers : R → Repository) (old : Server R A) (used : 
   -- a packet was judged
   pub packet_in_time : (g : Given) (brought : Brought A) (requests : RequestReader A) (phase : Phase A) → Brings old.requests g brought requests
       → phase ≡ phase_after brought
-      → StopsInTime answers old used piece (outcome_in phase)
+      → StopsInTime state old used piece (outcome_in phase)
   packet_in_time g brought requests phase brings phase_is s so_far over before r wants fault ended too_long =
-      let h = serves_of answers old old [] s so_far over before wants r in
+      let h = serves_of state old old [] s so_far over before wants r in
       absurd (not_too_long (h.left ++ g ∷ []) brought requests (brings.brings h.left h.takes) fault (sym (ap outcome_in phase_is) ∙ ended) too_long)
 
   -- the bytes were refused
   pub fault_in_time : (fault : Fault) (phase : Phase A) → phase ≡ refused_by fault.kind fault → (fault_of old.reader ≡ None → ShownByFeed fault used piece)
-      → StopsInTime answers old used piece (outcome_in phase)
+      → StopsInTime state old used piece (outcome_in phase)
   fault_in_time fault phase phase_is shown s so_far over before r wants other ended too_long =
-      let h = serves_of answers old old [] s so_far over before wants r in
+      let h = serves_of state old old [] s so_far over before wants r in
       let same : Some (Refused fault) ≡ Some (Refused other) = sym (refused_outcome_by A fault.kind fault) ∙ sym (ap outcome_in phase_is) ∙ ended in
       let one : fault ≡ other = cc in
       (shown h.no_fault).one_more (ap (λ (f : Fault). f.kind) one ∙ too_long)
 
--- a server that waits for bytes, and has some packets of a request
-pub is_within : {A : Type 0} (phase : Phase A) → reads_in phase ≡ true → (phase ≡ Between → ⊥) → phase ≡ Within
-is_within Within h not = refl
-is_within Between h not = absurd (not refl)
-is_within (Greeting line) h not = absurd (cc)
-is_within (Answering request next) h not = absurd (cc)
-is_within (Refusing fault) h not = absurd (cc)
-is_within (Ended outcome) h not = absurd (cc)
+module _ {R A : Type 0} (state : R → RepoState) (server : Server R A) where
+  -- nothing was used or given
+  pub goes_nowhere : Goes state [] [] server server
+  goes_nowhere s so_far over before r =
+      subst (λ (l : List ℕ). Running state s l over (before ++ []) server) (sym (append-nil so_far))
+      (subst (λ (l : List ℕ). Running state s so_far over l server) (sym (append-nil before)) r)
 
-module _ {R A : Type 0} (answers : R → Repository) (old middle new : Server R A) where
-  -- one call after another, which give nothing
-  pub goes_twice : (u v : List ℕ) → Goes answers u [] old middle → Goes answers v [] middle new → Goes answers (u ++ v) [] old new
-  goes_twice u v first second s so_far over before r =
-      let one = first s so_far over before r in
-      let two = second s (so_far ++ u) over (before ++ []) one in
-      let same_used = append_assoc so_far u v in
-      let same_given : (before ++ []) ++ [] ≡ before ++ [] = append-nil (before ++ []) in
-      subst (λ (l : List ℕ). Running answers s l over (before ++ []) new) same_used (subst (λ (l : List ℕ). Running answers s ((so_far ++ u) ++ v) over l new) same_given two)
+module _ {R A : Type 0} (state : R → RepoState) (old middle new : Server R A) where
+  -- one call after another
+  pub goes_join : (u v g h : List ℕ) → Goes state u g old middle → Goes state v h middle new → Goes state (u ++ v) (g ++ h) old new
+  goes_join u v g h first second s so_far over before r =
+      let two = second s (so_far ++ u) over (before ++ g) (first s so_far over before r) in
+      subst (λ (l : List ℕ). Running state s l over (before ++ (g ++ h)) new) (append_assoc so_far u v)
+      (subst (λ (l : List ℕ). Running state s ((so_far ++ u) ++ v) over l new) (append_assoc before g h) two)

@@ -1,9 +1,10 @@
 pub mod Adjacent
+pub mod EachSoFar
 pub mod NameOrder
 pub mod Prefixes
 pub mod Readers
 pub mod Openings
-pub mod WholeRequests
+pub mod Begun
 pub mod Sent
 pub mod Going
 pub mod Closing
@@ -12,5 +13,6 @@ pub mod Giving
 pub mod Owing
 pub mod SessionLaws
 pub mod OneSession
+pub mod TooLong
 pub mod RunLemmas
 pub mod OneOutcome

@@ -12,25 +12,23 @@ use Rattle.git_msg.specs.declared.offers.Offer.{Offer}
 use Rattle.git_msg.specs.Asked.{Asked}
 use Rattle.git_msg.specs.Lines.{Line, commands_of, HasFault}
 use Rattle.git_msg.specs.Requests.{AreLines, Asks, IsTold, IsStop}
+use Rattle.git_msg.specs.WholeRequests.{AreRequests}
+use Rattle.git_msg.proofs.WholeRequests.{NoFlush, NoRequest, flush_inside, flush_is_no_line, last_same, whole_then}
 use Rattle.git_msg.proofs.FaultLaws.{no_fault_in_lines, no_fault_in_request, one_first_fault}
-use Rattle.git_server.specs.Sessions.{Setting, Begins, Cuts, EndsBy, IsRefused, IsRefusedAtPacket, IsSession, WantsMemory}
+use Rattle.git_server.specs.Sessions.{Setting, Begins, IsRequest, EndsBy, IsRefused, IsRefusedAtPacket, IsSession, WantsMemory}
 use Rattle.git_server.specs.declared.outcome.Outcome.{Outcome}
 use Rattle.git_server.specs.declared.outcome.Outcome.TheVariants.{Flush, Closed, Refused}
-use Rattle.git_server.proofs.OneSession.{NoFlush, begun_has_no_flush, flush_inside, flush_is_no_line, lines_have_no_flush, same_front, whole_then}
-use Rattle.git_server.proofs.WholeRequests.{last_same}
+use Rattle.git_server.proofs.Begun.{begun_has_no_flush}
+use Rattle.git_server.proofs.OneSession.{no_request, one_list}
 
 not_nothing : (xs more : List Given) (g : Given) → xs ++ g ∷ more ≡ [] → ⊥
 not_nothing [] more g e = cc
 not_nothing (x ∷ xs) more g e = cc
 
 -- before the only packet stands none
-alone_first : (xs more : List Given) (l m : Given) → xs ++ l ∷ more ≡ m ∷ [] → xs ≡ []
-alone_first [] more l m e = refl
-alone_first (x ∷ xs) more l m e = absurd (not_nothing xs more l (let tails : xs ++ l ∷ more ≡ [] = cc in tails))
-
-alone_same : (xs more : List Given) (l m : Given) → xs ++ l ∷ more ≡ m ∷ [] → l ≡ m
-alone_same [] more l m e = cc
-alone_same (x ∷ xs) more l m e = absurd (not_nothing xs more l (let tails : xs ++ l ∷ more ≡ [] = cc in tails))
+alone : (xs more : List Given) (l m : Given) → xs ++ l ∷ more ≡ m ∷ [] → (xs ≡ []) × (l ≡ m)
+alone [] more l m e = (refl, cc)
+alone (x ∷ xs) more l m e = absurd (not_nothing xs more l (let tails : xs ++ l ∷ more ≡ [] = cc in tails))
 
 -- what comes up to a packet ends before the last one, or is all
 last_or_before : (xs more front : List Given) (l m : Given) → xs ++ l ∷ more ≡ front ++ m ∷ []
@@ -50,6 +48,11 @@ no_lines_of_nothing : (offer : Offer) (limit : ℕ) (lines : List Line) → AreL
 no_lines_of_nothing offer limit [] are = refl
 no_lines_of_nothing offer limit (l ∷ ls) are = absurd are
 
+no_lines_alone : (offer : Offer) (limit : ℕ) (xs more : List Given) (l m : Given) (lines : List Line) → xs ++ l ∷ more ≡ m ∷ [] → AreLines offer limit [] xs lines
+    → lines ≡ []
+no_lines_alone offer limit xs more l m lines e are =
+    no_lines_of_nothing offer limit lines (subst (λ (gs : List Given). AreLines offer limit [] gs lines) (alone xs more l m e).0 are)
+
 same_fault : (f g : Fault) → f.kind ≡ g.kind → f.offset ≡ g.offset → f ≡ g
 same_fault f g kinds offsets = ap (λ (k : Kind). let h : Fault = record { kind = k; offset = f.offset } in h) kinds
     ∙ ap (λ (n : ℕ). let h : Fault = record { kind = g.kind; offset = n } in h) offsets
@@ -64,18 +67,10 @@ bytes_once p end rest StreamTooLong other m n a b h k = absurd (not_open p end r
 bytes_once p end rest kind other m n a b h k = stops_once p end rest kind other m n a (λ e. cc) h k
 
 module _ (s : Setting) where
-  -- no whole request begins the packets
-  abbrev NoRequest : List Given → Type 0
-  NoRequest left = (front more : List Given) (q : Asked) (kept : ℕ) → left ≡ front ++ more → Asks s.offer s.limit front q kept → ⊥
-
-  none_in_lines : (left : List Given) → NoFlush left → NoRequest left
-  none_in_lines left none front more q kept e asks = flush_inside asks.front more left asks.last none asks.ends (whole_then s front more left q kept asks e)
-
-  none_in_stop : (left : List Given) → IsStop left → NoRequest left
-  none_in_stop left stop front more q kept e asks =
-      let nothing : asks.front ≡ [] = alone_first asks.front more asks.last stop.last (sym (whole_then s front more left q kept asks e) ∙ stop.alone) in
-      let lines : asks.lines ≡ [] = no_lines_of_nothing s.offer s.limit asks.lines
-      (subst (λ (gs : List Given). AreLines s.offer s.limit [] gs asks.lines) nothing asks.taken) in
+  none_in_stop : (left : List Given) → IsStop left → NoRequest (IsRequest s) left
+  none_in_stop left stop front more q e (kept, asks) =
+      let lines : asks.lines ≡ [] = no_lines_alone s.offer s.limit asks.front more asks.last stop.last asks.lines
+      (sym (whole_then s.offer s.limit front more left q kept asks e) ∙ stop.alone) asks.taken in
       let once : commands_of asks.lines ≡ asks.command ∷ [] = asks.once in
       let none : commands_of asks.lines ≡ [] = ap commands_of lines in
       cc
@@ -87,9 +82,9 @@ module _ (s : Setting) where
       let same : w.last ≡ asks.last = last_same w.front asks.front w.last asks.last (sym w.whole ∙ asks.whole) in
       flush_is_no_line s.offer s.limit w.lines w.last.packet _ w.is_line (ap (λ (g : Given). g.packet) same ∙ asks.ends)
 
-  none_in_refused : (left : List Given) (rest : List ℕ) (fault : Fault) → IsRefusedAtPacket s left rest fault → NoRequest left
-  none_in_refused left rest fault r front more q kept e asks =
-      at (last_or_before asks.front more r.front asks.last r.last (sym (whole_then s front more left q kept asks e) ∙ r.whole))
+  none_in_refused : (left : List Given) (rest : List ℕ) (fault : Fault) → IsRefusedAtPacket s left rest fault → NoRequest (IsRequest s) left
+  none_in_refused left rest fault r front more q e (kept, asks) =
+      at (last_or_before asks.front more r.front asks.last r.last (sym (whole_then s.offer s.limit front more left q kept asks e) ∙ r.whole))
     where
       at : (more ≡ []) ⊎ ((others : List Given) × (r.front ≡ asks.front ++ asks.last ∷ others)) → ⊥
       at (inl none) =
@@ -97,38 +92,23 @@ module _ (s : Setting) where
           not_told_whole left q kept fault (subst (λ (gs : List Given). Asks s.offer s.limit gs q kept) (sym all) asks) r.told
       at (inr (others, inside)) = flush_inside asks.front others r.front asks.last (begun_has_no_flush s r.front r.begins) asks.ends inside
 
-  none_at_end : (over : Bool) (left : List Given) (rest : List ℕ) (end : ℕ) (outcome : Outcome) → EndsBy s over left rest end outcome → NoRequest left
+  none_at_end : (over : Bool) (left : List Given) (rest : List ℕ) (end : ℕ) (outcome : Outcome) → EndsBy s over left rest end outcome → NoRequest (IsRequest s) left
   none_at_end over left rest end Flush h = none_in_stop left h.0
-  none_at_end over left rest end Closed h = subst NoRequest (sym h.1) (none_in_lines [] tt)
+  none_at_end over left rest end Closed h = subst (NoRequest (IsRequest s)) (sym h.1) (no_request s [] tt)
   none_at_end over left rest end (Refused fault) (inl r) = none_in_refused left rest fault r
-  none_at_end over left rest end (Refused fault) (inr (inl r)) = none_in_lines left (begun_has_no_flush s left r.begins)
-  none_at_end over left rest end (Refused fault) (inr (inr r)) = none_in_lines left (begun_has_no_flush s left r.begins)
-
-  -- what is left after whole requests is one thing
-  one_left : (packets : List Given) (asked others : List Asked) (left rest : List Given) → NoRequest left → NoRequest rest → Cuts s packets asked left
-      → Cuts s packets others rest → left ≡ rest
-  one_left packets [] [] left rest none clear h k = sym h ∙ k
-  one_left packets [] (q ∷ qs) left rest none clear h (front, more, kept, whole, asks, cuts) = absurd (none front more q kept (sym h ∙ whole) asks)
-  one_left packets (q ∷ qs) [] left rest none clear (front, more, kept, whole, asks, cuts) k = absurd (clear front more q kept (sym k ∙ whole) asks)
-  one_left packets (q ∷ qs) (r ∷ rs) left rest none clear (front, more, kept, whole, asks, cuts) (other, others, long, all, is, later) =
-      let none_before = lines_have_no_flush s.offer s.limit [] asks.front asks.lines asks.taken in
-      let clear_before = lines_have_no_flush s.offer s.limit [] is.front is.lines is.taken in
-      let same = same_front asks.front is.front more others asks.last is.last none_before clear_before asks.ends is.ends
-      (sym (whole_then s front more packets q kept asks whole) ∙ whole_then s other others packets r long is all) in
-      one_left more qs rs left rest none clear cuts (subst (λ (gs : List Given). Cuts s gs rs rest) (sym same.back) later)
+  none_at_end over left rest end (Refused fault) (inr (inl r)) = no_request s left (begun_has_no_flush s left r.begins)
+  none_at_end over left rest end (Refused fault) (inr (inr r)) = no_request s left (begun_has_no_flush s left r.begins)
 
   -- a flush alone is no fault
   stop_or_told : (left : List Given) (fault : Fault) → IsStop left → IsTold s.offer s.limit left fault → ⊥
   stop_or_told left fault stop (inl first) =
-      let nothing : first.front ≡ [] = alone_first first.front first.back first.bad stop.last (sym first.whole ∙ stop.alone) in
-      let lines : first.lines ≡ [] = no_lines_of_nothing s.offer s.limit first.lines
-      (subst (λ (gs : List Given). AreLines s.offer s.limit [] gs first.lines) nothing first.taken) in
-      let packet : first.bad.packet ≡ flush = ap (λ (g : Given). g.packet) (alone_same first.front first.back first.bad stop.last (sym first.whole
-      ∙ stop.alone)) ∙ stop.ends in
-      let here : HasFault s.offer s.limit [] flush fault.kind =
+      let here = sym first.whole ∙ stop.alone in
+      let lines : first.lines ≡ [] = no_lines_alone s.offer s.limit first.front first.back first.bad stop.last first.lines here first.taken in
+      let packet : first.bad.packet ≡ flush = ap (λ (g : Given). g.packet) (alone first.front first.back first.bad stop.last here).1 ∙ stop.ends in
+      let refused : HasFault s.offer s.limit [] flush fault.kind =
       subst (λ (ls : List Line). HasFault s.offer s.limit ls flush fault.kind) lines
       (subst (λ (p : Pkt). HasFault s.offer s.limit first.lines p fault.kind) packet first.fault) in
-      here.0 refl
+      refused.0 refl
   stop_or_told left fault stop (inr w) =
       let same : w.last ≡ stop.last = last_same w.front [] w.last stop.last (sym w.whole ∙ stop.alone) in
       flush_is_no_line s.offer s.limit w.lines w.last.packet _ w.is_line (ap (λ (g : Given). g.packet) same ∙ stop.ends)
@@ -200,8 +180,8 @@ module _ (s : Setting) where
       let none = none_at_end over h.left h.rest (length used) o h.ends in
       let clear = none_at_end over k.left k.rest (length used) p k.ends in
       let left : h.left ≡ k.left =
-      one_left k.stream.packets h.asked k.asked h.left k.left none clear
-      (subst (λ (gs : List Given). Cuts s gs h.asked h.left) split.packets h.stream.cuts) k.stream.cuts in
+      (one_list s k.stream.packets h.asked k.asked h.left k.left none clear
+      (subst (λ (gs : List Given). AreRequests (IsRequest s) gs h.asked h.left) split.packets h.stream.requests) k.stream.requests).1 in
       ends_once over k.left k.rest (length used) o p a b
       (subst (λ (gs : List Given). EndsBy s over gs k.rest (length used) o) left
       (subst (λ (l : List ℕ). EndsBy s over h.left l (length used) o) split.rest_is h.ends)) k.ends

@@ -1,6 +1,6 @@
 -- What was asked by the bytes that a server used, and how it is answered, is one thing: so a server that has given all
 -- of it owes nothing.
-use Rattle.std.proofs.Common.{◌≡◌, ◌≢◌, ℕ, ◌+◌, drop, map, codes, Bool, true, false, List, [], ◌∷◌, ◌++◌, length, length-append, Option, None, refl, sym, ap, ◌∙◌, append_assoc, append-nil, subst, inl, inr, arith}
+use Rattle.std.proofs.Common.{◌≡◌, ℕ, ◌+◌, drop, map, codes, Bool, true, false, List, [], ◌∷◌, ◌++◌, length, length-append, None, refl, sym, ap, ◌∙◌, subst, arith}
 use Rattle.git_pkt.specs.Digits.{digits_of}
 use Rattle.git_pkt.specs.Packets.{Pkt, flush, flushes, delim, resp_end, payload, body_of, length_field, spelling_of}
 use Rattle.git_pkt.proofs.Spelling.{same_start}
@@ -10,105 +10,31 @@ use Rattle.git_pkt.proofs.Streams.{one_split}
 use Rattle.git_msg.specs.declared.offers.Offer.{Offer}
 use Rattle.git_msg.specs.Asked.{Asked, ls_refs}
 use Rattle.git_msg.specs.Holding.{asked_of}
-use Rattle.git_msg.specs.Lines.{Line, IsLine, IsLineIn, has_delimiter}
-use Rattle.git_msg.specs.Requests.{AreLines, Asks}
-use Rattle.git_msg.proofs.LineLaws.{one_request}
-use Rattle.git_server.specs.Repository.{Entry, Repository}
+use Rattle.git_msg.specs.WholeRequests.{AreRequests}
+use Rattle.git_msg.proofs.WholeRequests.{NoFlush, NoRequest, none_without_flush, one_list_of_requests}
+use Rattle.git_server.specs.Repository.{Entry, Repository, RepoState}
 use Rattle.git_server.specs.Answers.{AllFit, offered_line, reference_packet, shown_refs, spelled, IsAnswer}
-use Rattle.git_server.specs.Greetings.{format_on, greetings_from}
-use Rattle.git_server.specs.declared.greeting.Greeting.TheVariants.{Version, Agent, LsRefs, ServerOption, ObjectFormat, End}
-use Rattle.git_server.specs.Sessions.{Setting, Cuts, AreAnswers, Begins, IsAnswered, IsSent, advertised}
+use Rattle.git_server.specs.AdvertisementLines.{format_on, advertisement_from}
+use Rattle.git_server.specs.declared.advertisement.AdvertisementLine.TheVariants.{Version, Agent, LsRefs, ServerOption, ObjectFormat, End}
+use Rattle.git_server.specs.Sessions.{Setting, IsRequest, AreAnswers, IsAnswered, advertised}
 use Rattle.git_server.specs.Phases.{IsAnswerFrom, outcome_in, Owes, reads_in}
-use Rattle.git_server.specs.Serving.{Running, Serves, StandsBy, outcome_of, wants_input}
-use Rattle.git_server.specs.declared.greeting.Greeting.{Greeting as GreetingLine}
-use Rattle.git_server.specs.declared.outcome.Outcome.{Outcome}
+use Rattle.git_server.specs.Serving.{Running, outcome_of, wants_input}
+use Rattle.git_server.specs.declared.advertisement.AdvertisementLine.{AdvertisementLine}
 use Rattle.git_server.specs.declared.server.Phase.{Phase}
-use Rattle.git_server.specs.declared.server.Phase.TheVariants.{Greeting, Between, Within, Answering, Refusing, Ended}
+use Rattle.git_server.specs.declared.server.Phase.TheVariants.{Advertising, Between, Within, Answering, Refusing, Ended}
 use Rattle.git_server.specs.declared.server.Server.{Server}
-use Rattle.git_server.proofs.WholeRequests.{answers_more, begins}
-use Rattle.git_server.proofs.Going.{owes_some}
-
--- no packet of the list is a flush
-abbrev pub NoFlush : List Given → Type 0
-NoFlush [] = Unit {0}
-NoFlush (g ∷ gs) = (g.packet ≢ flush) × NoFlush gs
-
-flush_is_no_line_in : (part : Bool) (offer : Offer) (limit : ℕ) (before : List Line) (line : Line) → IsLineIn part offer limit before flush line → ⊥
-flush_is_no_line_in true offer limit before line h = h
-flush_is_no_line_in false offer limit before line h = h
-
-pub flush_is_no_line : (offer : Offer) (limit : ℕ) (before : List Line) (packet : Pkt) (line : Line) → IsLine offer limit before packet line → packet ≢ flush
-flush_is_no_line offer limit before packet line h is = flush_is_no_line_in (has_delimiter before) offer limit before line (subst (λ (p : Pkt). IsLine offer limit before p line) is h)
-
-pub lines_have_no_flush : (offer : Offer) (limit : ℕ) (before : List Line) (gs : List Given) (lines : List Line) → AreLines offer limit before gs lines
-    → NoFlush gs
-lines_have_no_flush offer limit before [] lines h = tt
-lines_have_no_flush offer limit before (g ∷ gs) [] h = absurd h
-lines_have_no_flush offer limit before (g ∷ gs) (l ∷ ls) h =
-    (flush_is_no_line offer limit before g.packet l h.0, lines_have_no_flush offer limit (before ++ l ∷ []) gs ls h.1)
-
-pub flush_inside : (xs more left : List Given) (last : Given) → NoFlush left → last.packet ≡ flush → left ≡ xs ++ last ∷ more → ⊥
-flush_inside [] more [] last none ends e = cc
-flush_inside (x ∷ xs) more [] last none ends e = cc
-flush_inside [] more (g ∷ gs) last none ends e = let same : g ≡ last = cc in none.0 (ap (λ (p : Given). p.packet) same ∙ ends)
-flush_inside (x ∷ xs) more (g ∷ gs) last none ends e = let same : gs ≡ xs ++ last ∷ more = cc in flush_inside xs more gs last none.1 ends same
-
--- what comes up to the first flush
-pub record SameFront (xs ys more others : List Given) (l m : Given) : Type 0 where
-  pub front : xs ++ l ∷ [] ≡ ys ++ m ∷ []
-  pub back : more ≡ others
-
-pub same_front : (xs ys more others : List Given) (l m : Given) → NoFlush xs → NoFlush ys → l.packet ≡ flush → m.packet ≡ flush
-    → xs ++ l ∷ more ≡ ys ++ m ∷ others → SameFront xs ys more others l m
-same_front [] [] more others l m none clear l_ends m_ends e = let same : l ≡ m = cc in record { front = ap (λ (g : Given). g ∷ []) same; back = cc }
-same_front [] (y ∷ ys) more others l m none clear l_ends m_ends e = let same : l ≡ y = cc in absurd (clear.0 (ap (λ (g : Given). g.packet) (sym same) ∙ l_ends))
-same_front (x ∷ xs) [] more others l m none clear l_ends m_ends e = let same : x ≡ m = cc in absurd (none.0 (ap (λ (g : Given). g.packet) same ∙ m_ends))
-same_front (x ∷ xs) (y ∷ ys) more others l m none clear l_ends m_ends e =
-    let tails : xs ++ l ∷ more ≡ ys ++ m ∷ others = cc in
-    let same : x ≡ y = cc in
-    let later = same_front xs ys more others l m none.1 clear.1 l_ends m_ends tails in
-    record { front = ap (λ (g : Given). g ∷ (xs ++ l ∷ [])) same ∙ ap (λ (gs : List Given). y ∷ gs) later.front; back = later.back }
+use Rattle.git_server.proofs.Begun.{begins, begun_has_no_flush}
+use Rattle.git_server.proofs.Sent.{is_whole}
+use Rattle.git_server.proofs.Going.{goes_on, owes_some}
 
 module _ (s : Setting) where
-  pub whole_then : (front more packets : List Given) (q : Asked) (kept : ℕ) → (a : Asks s.offer s.limit front q kept) → packets ≡ front ++ more
-      → packets ≡ a.front ++ a.last ∷ more
-  whole_then front more packets q kept a e = e ∙ ap (λ (gs : List Given). gs ++ more) a.whole ∙ append_assoc a.front (a.last ∷ []) more
+  pub no_request : (left : List Given) → NoFlush left → NoRequest (IsRequest s) left
+  no_request = none_without_flush s.offer s.limit (IsRequest s) (λ front q is. is)
 
   -- packets ask for one list of requests
-  pub one_cut : (packets : List Given) (asked others : List Asked) (left rest : List Given) → NoFlush left → NoFlush rest → Cuts s packets asked left → Cuts s packets others rest → asked ≡ others
-  one_cut packets [] [] left rest none clear h k = refl
-  one_cut packets [] (q ∷ qs) left rest none clear h (front, more, kept, whole, asks, cuts) =
-      absurd (flush_inside asks.front more left asks.last none asks.ends (sym h ∙ whole_then front more packets q kept asks whole))
-  one_cut packets (q ∷ qs) [] left rest none clear (front, more, kept, whole, asks, cuts) k =
-      absurd (flush_inside asks.front more rest asks.last clear asks.ends (sym k ∙ whole_then front more packets q kept asks whole))
-  one_cut packets (q ∷ qs) (r ∷ rs) left rest none clear (front, more, kept, whole, asks, cuts) (other, others, long, all, is, later) =
-      let none_before = lines_have_no_flush s.offer s.limit [] asks.front asks.lines asks.taken in
-      let clear_before = lines_have_no_flush s.offer s.limit [] is.front is.lines is.taken in
-      let same = same_front asks.front is.front more others asks.last is.last none_before clear_before asks.ends is.ends
-      (sym (whole_then front more packets q kept asks whole) ∙ whole_then other others packets r long is all) in
-      let fronts : front ≡ other = asks.whole ∙ same.front ∙ sym is.whole in
-      let first = (one_request s.offer s.limit other q r kept long (subst (λ (gs : List Given). Asks s.offer s.limit gs q kept) fronts asks) is).0 in
-      let tail = one_cut more qs rs left rest none clear cuts (subst (λ (gs : List Given). Cuts s gs rs rest) (sym same.back) later) in
-      ap (λ (a : Asked). a ∷ qs) first ∙ ap (λ (l : List Asked). r ∷ l) tail
-
-  pub begun_has_no_flush : (left : List Given) → Begins s left → NoFlush left
-  begun_has_no_flush left h = lines_have_no_flush s.offer s.limit [] left h.lines h.taken
-
--- what was sent and what is owed are the advertisement and an answer to each request
-record IsWhole (s : Setting) (asked : List Asked) (sent owed : List Pkt) : Type 0 where
-  pub answers : List Pkt
-  pub answered : AreAnswers s.repo asked answers
-  pub parts : sent ++ owed ≡ advertised s ++ answers
-
-is_whole : (s : Setting) (asked : List Asked) (sent owed : List Pkt) → IsSent s asked sent owed → IsWhole s asked sent owed
-is_whole s asked sent owed (inl h) =
-    record { answers = []; answered = subst (λ (qs : List Asked). AreAnswers s.repo qs []) (sym h.none) refl; parts = h.parts ∙ sym (append-nil (advertised s)) }
-is_whole s asked sent owed (inr h) =
-    record {
-      answers = h.answers ++ (h.front ++ owed);
-      answered = subst (λ (qs : List Asked). AreAnswers s.repo qs (h.answers ++ (h.front ++ owed))) (sym h.whole) (answers_more s.repo h.earlier h.answers h.last (h.front ++ owed) h.answered h.answer);
-      parts = ap (λ (l : List Pkt). l ++ owed) h.sent_is ∙ append_assoc (advertised s ++ h.answers) h.front owed ∙ append_assoc (advertised s) h.answers (h.front ++ owed);
-    }
+  pub one_list : (packets : List Given) (asked others : List Asked) (left rest : List Given) → NoRequest (IsRequest s) left → NoRequest (IsRequest s) rest
+      → AreRequests (IsRequest s) packets asked left → AreRequests (IsRequest s) packets others rest → (asked ≡ others) × (left ≡ rest)
+  one_list = one_list_of_requests s.offer s.limit (IsRequest s) (λ front q is. is)
 
 pub flushes-append : (front back : List Pkt) → flushes (front ++ back) ≡ flushes front + flushes back
 flushes-append [] back = omega arith
@@ -149,7 +75,7 @@ option_owes : (offer : Offer) (b : Bool) → flushes (offered_line b (codes "ser
 option_owes offer true = refl
 option_owes offer false = refl
 
-line_owes : (offer : Offer) (line : GreetingLine) → flushes (greetings_from offer line) ≡ 1
+line_owes : (offer : Offer) (line : AdvertisementLine) → flushes (advertisement_from offer line) ≡ 1
 line_owes offer End = refl
 line_owes offer ObjectFormat = refl
 line_owes offer ServerOption = refl
@@ -161,7 +87,7 @@ owes_flush : {A : Type 0} (offer : Offer) (repo : Repository) (phase : Phase A) 
     → flushes owed ≡ 0 → reads_in phase ≡ true
 owes_flush offer repo Between owed none owes zero = refl
 owes_flush offer repo Within owed none owes zero = refl
-owes_flush offer repo (Greeting line) owed none owes zero = absurd (omega (arith, zero, ap flushes owes, line_owes offer line))
+owes_flush offer repo (Advertising line) owed none owes zero = absurd (omega (arith, zero, ap flushes owes, line_owes offer line))
 owes_flush offer repo (Answering request next) owed none owes zero = absurd (answer_owes (asked_of request) repo next owed owes zero)
   where
     answer_owes : (q : Asked) (repo : Repository) (next : ℕ) (owed : List Pkt) → IsAnswerFrom repo q next owed → flushes owed ≡ 0 → ⊥
@@ -170,16 +96,17 @@ owes_flush offer repo (Answering request next) owed none owes zero = absurd (ans
 owes_flush offer repo (Refusing fault) owed none owes zero = absurd (cc)
 owes_flush offer repo (Ended outcome) owed none owes zero = absurd (cc)
 
-module _ {R A : Type 0} (answers : R → Repository) (server : Server R A) (s : Setting) (used : List ℕ) (over : Bool) (given : List ℕ) (r : Running answers s used over given server) where
+module _ {R A : Type 0} (state : R → RepoState) (server : Server R A) (s : Setting) (used : List ℕ) (over : Bool) (given : List ℕ) (r : Running state s used over given server) where
   -- a server without an outcome that has given all waits for bytes
   pub waits_behind_all : outcome_of server ≡ None → IsAnswered s used given → wants_input server ≡ true
   waits_behind_all none all =
-      let h : Serves s used given server = (subst (λ (o : Option Outcome). StandsBy o s used over given server) none r.stands).1 in
+      let h = (goes_on state server s used over given none r).1 in
       let begun = begins s h.left server.requests r.reads_for r.limit (server.sound none) (server.ready none) h.takes in
       let split = one_split 0 used h.packets all.stream.packets h.rest all.rest h.reads.splits.spelled all.stream.splits.spelled h.reads.splits.ends all.stream.splits.ends in
       let asked : h.asked ≡ all.asked =
-      one_cut s all.stream.packets h.asked all.asked h.left all.left (begun_has_no_flush s h.left begun) (begun_has_no_flush s all.left all.begins)
-      (subst (λ (gs : List Given). Cuts s gs h.asked h.left) split.packets h.cuts) all.stream.cuts in
+      (one_list s all.stream.packets h.asked all.asked h.left all.left (no_request s h.left (begun_has_no_flush s h.left begun))
+      (no_request s all.left (begun_has_no_flush s all.left all.begins))
+      (subst (λ (gs : List Given). AreRequests (IsRequest s) gs h.asked h.left) split.packets h.requests) all.stream.requests).0 in
       let (owed, owes) = owes_some server.offer s.repo server.phase in
       let whole = is_whole s h.asked h.sent owed (h.is_sent owed owes) in
       let sent : h.sent ≡ advertised s ++ all.answers = one_spelling h.sent (advertised s ++ all.answers) h.fit all.fit (sym h.given_is ∙ all.given_is) in

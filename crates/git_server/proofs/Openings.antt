@@ -2,7 +2,7 @@
 use Rattle.std.proofs.Common.{arith, ◌≡◌, false, List, [], Option, None, refl, sym, ◌∙◌, subst, ap, inl}
 use Rattle.git_pkt.specs.Packets.{Pkt}
 use Rattle.git_msg.specs.declared.offers.Offer.{Offer}
-use Rattle.git_server.specs.Repository.{Repository}
+use Rattle.git_server.specs.Repository.{RepoState}
 use Rattle.git_server.specs.Sessions.{Setting, advertised}
 use Rattle.git_server.specs.Phases.{LeftIn, kept_in, outcome_in, Owes}
 use Rattle.git_server.specs.Serving.{IsFresh, Running, StandsBy}
@@ -11,10 +11,10 @@ use Rattle.git_server.specs.declared.server.Server.{Server}
 use Rattle.git_server.specs.declared.server.Phase.{Phase}
 use Rattle.git_server.proofs.Readers.{fresh_has_no_fault}
 
-module _ {R A : Type 0} (answers : R → Repository) (s : Setting) (repo : R) (phase : Phase A) (server : Server R A) where
+module _ {R A : Type 0} (state : R → RepoState) (s : Setting) (repo : R) (phase : Phase A) (server : Server R A) where
   -- nothing was used and nothing given, and the advertisement is owed, if there is one
-  pub opens : IsFresh repo s.offer s.limit phase server → answers repo ≡ s.repo → outcome_in phase ≡ None → LeftIn phase [] → kept_in phase ≡ 0
-      → ((owed : List Pkt) → Owes s.offer s.repo phase owed → owed ≡ advertised s) → Running answers s [] false [] server
+  pub opens : IsFresh repo s.offer s.limit phase server → (state repo).answers ≡ s.repo → outcome_in phase ≡ None → LeftIn phase [] → kept_in phase ≡ 0
+      → ((owed : List Pkt) → Owes s.offer s.repo phase owed → owed ≡ advertised s) → Running state s [] false [] server
   opens fresh same none left kept owed =
       let owed_now : (l : List Pkt) → Owes server.offer s.repo server.phase l → l ≡ advertised s =
       λ l owes. owed l (subst (λ (p : Phase A). Owes s.offer s.repo p l) fresh.phase_is
@@ -23,7 +23,7 @@ module _ {R A : Type 0} (answers : R → Repository) (s : Setting) (repo : R) (p
         offer = fresh.offer_is;
         reads_for = fresh.reads_for;
         limit = fresh.limit_is;
-        repo = ap answers fresh.repo_is ∙ same;
+        repo = ap (λ (r : R). (state r).answers) fresh.repo_is ∙ same;
         within = omega (arith, fresh.kept, kept, ap kept_in fresh.phase_is);
         stands = subst (λ (o : Option Outcome). StandsBy o s [] false [] server) (sym (ap outcome_in fresh.phase_is ∙ none)) (
           refl,
@@ -35,7 +35,7 @@ module _ {R A : Type 0} (answers : R → Repository) (s : Setting) (repo : R) (p
             sent = [];
             reads = fresh.reads;
             no_fault = fresh_has_no_fault server.reader fresh.reads;
-            cuts = refl;
+            requests = refl;
             takes = fresh.takes;
             left_is = subst (λ (p : Phase A). LeftIn p []) (sym fresh.phase_is) left;
             is_sent = λ l owes. inl (record { none = refl; parts = owed_now l owes });

@@ -9,55 +9,55 @@ use Rattle.git_msg.specs.Holding.{asked_of}
 use Rattle.git_server.specs.Repository.{Repository}
 use Rattle.git_server.specs.Answering.{answer_behind}
 use Rattle.git_server.specs.Answers.{offered_line, error_packet}
-use Rattle.git_server.specs.Greetings.{format_on, greeting_packet, greeting_after, greetings_from, greetings_after}
-use Rattle.git_server.specs.Phases.{LeftIn, greeting_phase, kept_in, outcome_in, Owes, most_owed, answer_from}
-use Rattle.git_server.specs.declared.greeting.Greeting.{Greeting as Line}
-use Rattle.git_server.specs.declared.greeting.Greeting.TheVariants.{Version, Agent, LsRefs, ServerOption, ObjectFormat, End}
+use Rattle.git_server.specs.AdvertisementLines.{format_on, advertisement_packet, advertisement_line_after, advertisement_from, advertisement_after}
+use Rattle.git_server.specs.Phases.{LeftIn, advertising_phase, kept_in, outcome_in, Owes, most_owed, answer_from}
+use Rattle.git_server.specs.declared.advertisement.AdvertisementLine.{AdvertisementLine}
+use Rattle.git_server.specs.declared.advertisement.AdvertisementLine.TheVariants.{Version, Agent, LsRefs, ServerOption, ObjectFormat, End}
 use Rattle.git_server.specs.declared.outcome.Outcome.TheVariants.{Refused}
 use Rattle.git_server.specs.declared.server.Phase.{Phase}
-use Rattle.git_server.specs.declared.server.Phase.TheVariants.{Greeting, Between, Answering, Refusing}
+use Rattle.git_server.specs.declared.server.Phase.TheVariants.{Advertising, Between, Answering, Refusing}
 
-option_lines : (offer : Offer) (b : Bool) → offered_line b (codes "server-option") ++ format_on offer ≡ greetings_from offer (if b then ServerOption else ObjectFormat)
+option_lines : (offer : Offer) (b : Bool) → offered_line b (codes "server-option") ++ format_on offer ≡ advertisement_from offer (if b then ServerOption else ObjectFormat)
 option_lines offer true = refl
 option_lines offer false = refl
 
-pub one_line : (offer : Offer) (line : Line) → greetings_from offer line ≡ greeting_packet offer.format line ∷ greetings_after offer (greeting_after offer line)
+pub one_line : (offer : Offer) (line : AdvertisementLine) → advertisement_from offer line ≡ advertisement_packet offer.format line ∷ advertisement_after offer (advertisement_line_after offer line)
 one_line offer Version = refl
 one_line offer Agent = refl
-one_line offer LsRefs = ap (λ (l : List Pkt). greeting_packet offer.format LsRefs ∷ l) (option_lines offer offer.server_option)
+one_line offer LsRefs = ap (λ (l : List Pkt). advertisement_packet offer.format LsRefs ∷ l) (option_lines offer offer.server_option)
 one_line offer ServerOption = refl
 one_line offer ObjectFormat = refl
 one_line offer End = refl
 
 module _ {A : Type 0} where
-  greeting_owes : (offer : Offer) (repo : Repository) (o : Option Line) (phase : Phase A) (later : List Pkt) → phase ≡ greeting_phase o
-      → Owes offer repo phase later → later ≡ greetings_after offer o
-  greeting_owes offer repo (Some line) phase later is owes = subst (λ (p : Phase A). Owes offer repo p later) is owes
-  greeting_owes offer repo None phase later is owes = subst (λ (p : Phase A). Owes offer repo p later) is owes
+  advertising_owes : (offer : Offer) (repo : Repository) (o : Option AdvertisementLine) (phase : Phase A) (later : List Pkt) → phase ≡ advertising_phase o
+      → Owes offer repo phase later → later ≡ advertisement_after offer o
+  advertising_owes offer repo (Some line) phase later is owes = subst (λ (p : Phase A). Owes offer repo p later) is owes
+  advertising_owes offer repo None phase later is owes = subst (λ (p : Phase A). Owes offer repo p later) is owes
 
-  greeting_most : (offer : Offer) (repo : Repository) (o : Option Line) (phase : Phase A) → phase ≡ greeting_phase o
-      → most_owed offer repo phase ≡ length (greetings_after offer o)
-  greeting_most offer repo (Some line) phase is = ap (most_owed offer repo) is
-  greeting_most offer repo None phase is = ap (most_owed offer repo) is
+  advertising_most : (offer : Offer) (repo : Repository) (o : Option AdvertisementLine) (phase : Phase A) → phase ≡ advertising_phase o
+      → most_owed offer repo phase ≡ length (advertisement_after offer o)
+  advertising_most offer repo (Some line) phase is = ap (most_owed offer repo) is
+  advertising_most offer repo None phase is = ap (most_owed offer repo) is
 
   -- after such a line no request is kept
-  pub none_kept_in_greeting : (o : Option Line) (phase : Phase A) → phase ≡ greeting_phase o → kept_in phase ≡ 0
-  none_kept_in_greeting (Some line) phase is = ap kept_in is
-  none_kept_in_greeting None phase is = ap kept_in is
+  pub none_kept_in_advertising : (o : Option AdvertisementLine) (phase : Phase A) → phase ≡ advertising_phase o → kept_in phase ≡ 0
+  none_kept_in_advertising (Some line) phase is = ap kept_in is
+  none_kept_in_advertising None phase is = ap kept_in is
 
   -- after a line of the advertisement the other lines are owed
-  pub line_behind : (offer : Offer) (repo : Repository) (old new : Phase A) (line : Line) (next : Option Line) (packet : Pkt) → old ≡ Greeting line
-      → packet ≡ greeting_packet offer.format line
-      → next ≡ greeting_after offer line → new ≡ greeting_phase next → (later : List Pkt) → Owes offer repo new later → Owes offer repo old (packet ∷ later)
+  pub line_behind : (offer : Offer) (repo : Repository) (old new : Phase A) (line : AdvertisementLine) (next : Option AdvertisementLine) (packet : Pkt) → old ≡ Advertising line
+      → packet ≡ advertisement_packet offer.format line
+      → next ≡ advertisement_line_after offer line → new ≡ advertising_phase next → (later : List Pkt) → Owes offer repo new later → Owes offer repo old (packet ∷ later)
   line_behind offer repo old new line next packet was packet_is next_is is later owes =
       subst (λ (p : Phase A). Owes offer repo p (packet ∷ later)) (sym was)
-      (ap (λ (l : List Pkt). packet ∷ l) (greeting_owes offer repo next new later is owes ∙ ap (greetings_after offer) next_is)
-      ∙ ap (λ (p : Pkt). p ∷ greetings_after offer (greeting_after offer line)) packet_is ∙ sym (one_line offer line))
+      (ap (λ (l : List Pkt). packet ∷ l) (advertising_owes offer repo next new later is owes ∙ ap (advertisement_after offer) next_is)
+      ∙ ap (λ (p : Pkt). p ∷ advertisement_after offer (advertisement_line_after offer line)) packet_is ∙ sym (one_line offer line))
 
-  pub fewer_lines : (offer : Offer) (repo : Repository) (old new : Phase A) (line : Line) (next : Option Line) → old ≡ Greeting line
-      → next ≡ greeting_after offer line → new ≡ greeting_phase next → most_owed offer repo new < most_owed offer repo old
+  pub fewer_lines : (offer : Offer) (repo : Repository) (old new : Phase A) (line : AdvertisementLine) (next : Option AdvertisementLine) → old ≡ Advertising line
+      → next ≡ advertisement_line_after offer line → new ≡ advertising_phase next → most_owed offer repo new < most_owed offer repo old
   fewer_lines offer repo old new line next was next_is is =
-      let after = greeting_most offer repo next new is ∙ ap (λ (o : Option Line). length (greetings_after offer o)) next_is in
+      let after = advertising_most offer repo next new is ∙ ap (λ (o : Option AdvertisementLine). length (advertisement_after offer o)) next_is in
       omega (arith, after, ap (most_owed offer repo) was, ap length (one_line offer line))
 
   -- a packet of an answer
@@ -79,8 +79,8 @@ module _ {A : Type 0} where
     pub out : (left : List Given) → LeftIn phase left → left ≡ []
     pub back : (left : List Given) → left ≡ [] → LeftIn phase left
 
-  quiet_greeting : (line : Line) → IsQuiet (Greeting line)
-  quiet_greeting line = record { none = refl; out = λ left h. h; back = λ left h. h }
+  quiet_advertising : (line : AdvertisementLine) → IsQuiet (Advertising line)
+  quiet_advertising line = record { none = refl; out = λ left h. h; back = λ left h. h }
 
   quiet_answering : (request : Request A) (next : ℕ) → IsQuiet (Answering request next)
   quiet_answering request next = record { none = refl; out = λ left h. h; back = λ left h. h }
@@ -88,12 +88,12 @@ module _ {A : Type 0} where
   quiet_between : IsQuiet Between
   quiet_between = record { none = refl; out = λ left h. h; back = λ left h. h }
 
-  quiet_by : (o : Option Line) → IsQuiet (greeting_phase o)
-  quiet_by (Some line) = quiet_greeting line
+  quiet_by : (o : Option AdvertisementLine) → IsQuiet (advertising_phase o)
+  quiet_by (Some line) = quiet_advertising line
   quiet_by None = quiet_between
 
-  pub is_greeting : (phase : Phase A) (line : Line) → phase ≡ Greeting line → IsQuiet phase
-  is_greeting phase line is = subst IsQuiet (sym is) (quiet_greeting line)
+  pub is_advertising : (phase : Phase A) (line : AdvertisementLine) → phase ≡ Advertising line → IsQuiet phase
+  is_advertising phase line is = subst IsQuiet (sym is) (quiet_advertising line)
 
   pub is_answering : (phase : Phase A) (request : Request A) (next : ℕ) → phase ≡ Answering request next → IsQuiet phase
   is_answering phase request next is = subst IsQuiet (sym is) (quiet_answering request next)
@@ -101,8 +101,8 @@ module _ {A : Type 0} where
   pub is_between : (phase : Phase A) → phase ≡ Between → IsQuiet phase
   is_between phase is = subst IsQuiet (sym is) quiet_between
 
-  pub is_greeted : (phase : Phase A) (o : Option Line) → phase ≡ greeting_phase o → IsQuiet phase
-  is_greeted phase o is = subst IsQuiet (sym is) (quiet_by o)
+  pub is_advertised : (phase : Phase A) (o : Option AdvertisementLine) → phase ≡ advertising_phase o → IsQuiet phase
+  is_advertised phase o is = subst IsQuiet (sym is) (quiet_by o)
 
   pub same_outcome : (old new : Phase A) → IsQuiet old → IsQuiet new → outcome_in new ≡ outcome_in old
   same_outcome old new q r = r.none ∙ sym q.none

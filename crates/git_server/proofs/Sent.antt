@@ -5,7 +5,7 @@ use Rattle.git_pkt.specs.Packets.{Pkt, spelling_of, body_of, longest_payload}
 use Rattle.git_msg.specs.Asked.{Asked}
 use Rattle.git_server.specs.Answers.{AllFit, spelled, IsAnswer}
 use Rattle.git_server.specs.Sessions.{Setting, IsSent, AreAnswers, advertised}
-use Rattle.git_server.proofs.WholeRequests.{answers_more}
+use Rattle.git_server.specs.Repository.{Repository}
 
 pub spelled_both : (front back : List Pkt) → spelled (front ++ back) ≡ spelled front ++ spelled back
 spelled_both front back = flat_map-append spelling_of front back
@@ -16,6 +16,14 @@ spelled_one sent packet = spelled_both sent (packet ∷ []) ∙ ap (λ (l : List
 pub fit_more : (sent : List Pkt) (packet : Pkt) → AllFit sent → length (body_of packet) ≤ longest_payload → AllFit (sent ++ packet ∷ [])
 fit_more [] packet h fits = (fits, tt)
 fit_more (p ∷ ps) packet h fits = (h.0, fit_more ps packet h.1 fits)
+
+-- one more answer
+pub answers_more : (repo : Repository) (asked : List Asked) (packets : List Pkt) (q : Asked) (answer : List Pkt) → AreAnswers repo asked packets → IsAnswer repo q answer
+    → AreAnswers repo (asked ++ q ∷ []) (packets ++ answer)
+answers_more repo [] packets q answer none is =
+    (answer, [], ap (λ (l : List Pkt). l ++ answer) none ∙ sym (append-nil answer), is, refl)
+answers_more repo (p ∷ ps) packets q answer (first, more, whole, is_first, rest) is =
+    (first, more ++ answer, ap (λ (l : List Pkt). l ++ answer) whole ∙ append_assoc first more answer, is_first, answers_more repo ps more q answer rest is)
 
 -- one packet of what is owed was sent
 pub sent_one : (s : Setting) (asked : List Asked) (sent owed : List Pkt) (packet : Pkt) → IsSent s asked sent (packet ∷ owed) → IsSent s asked (sent ++ packet ∷ []) owed
@@ -32,6 +40,22 @@ sent_one s asked sent owed packet (inr h) =
       sent_is = ap (λ (l : List Pkt). l ++ packet ∷ []) h.sent_is ∙ append_assoc (advertised s ++ h.answers) h.front (packet ∷ []);
     })
 
+-- what was sent and what is owed are the advertisement and an answer to each request
+pub record IsWhole (s : Setting) (asked : List Asked) (sent owed : List Pkt) : Type 0 where
+  pub answers : List Pkt
+  pub answered : AreAnswers s.repo asked answers
+  pub parts : sent ++ owed ≡ advertised s ++ answers
+
+pub is_whole : (s : Setting) (asked : List Asked) (sent owed : List Pkt) → IsSent s asked sent owed → IsWhole s asked sent owed
+is_whole s asked sent owed (inl h) =
+    record { answers = []; answered = subst (λ (qs : List Asked). AreAnswers s.repo qs []) (sym h.none) refl; parts = h.parts ∙ sym (append-nil (advertised s)) }
+is_whole s asked sent owed (inr h) =
+    record {
+      answers = h.answers ++ (h.front ++ owed);
+      answered = subst (λ (qs : List Asked). AreAnswers s.repo qs (h.answers ++ (h.front ++ owed))) (sym h.whole) (answers_more s.repo h.earlier h.answers h.last (h.front ++ owed) h.answered h.answer);
+      parts = ap (λ (l : List Pkt). l ++ owed) h.sent_is ∙ append_assoc (advertised s ++ h.answers) h.front owed ∙ append_assoc (advertised s) h.answers (h.front ++ owed);
+    }
+
 -- all was sent: the advertisement, and an answer to each request
 pub record AllSent (s : Setting) (asked : List Asked) (sent : List Pkt) : Type 0 where
   pub answers : List Pkt
@@ -39,19 +63,9 @@ pub record AllSent (s : Setting) (asked : List Asked) (sent : List Pkt) : Type 0
   pub sent_is : sent ≡ advertised s ++ answers
 
 pub all_sent : (s : Setting) (asked : List Asked) (sent : List Pkt) → IsSent s asked sent [] → AllSent s asked sent
-all_sent s asked sent (inl h) =
-    record {
-      answers = [];
-      answered = subst (λ (qs : List Asked). AreAnswers s.repo qs []) (sym h.none) refl;
-      sent_is = sym (append-nil sent) ∙ h.parts ∙ sym (append-nil (advertised s));
-    }
-all_sent s asked sent (inr h) =
-    record {
-      answers = h.answers ++ h.front;
-      answered = subst (λ (qs : List Asked). AreAnswers s.repo qs (h.answers ++ h.front)) (sym h.whole)
-          (answers_more s.repo h.earlier h.answers h.last h.front h.answered (subst (IsAnswer s.repo h.last) (append-nil h.front) h.answer));
-      sent_is = h.sent_is ∙ append_assoc (advertised s) h.answers h.front;
-    }
+all_sent s asked sent h =
+    let whole = is_whole s asked sent [] h in
+    record { answers = whole.answers; answered = whole.answered; sent_is = sym (append-nil sent) ∙ whole.parts }
 
 -- a further request was asked, and its whole answer is owed
 pub one_more_asked : (s : Setting) (asked : List Asked) (sent owed : List Pkt) (q : Asked) → IsSent s asked sent [] → IsAnswer s.repo q owed → IsSent s (asked ++ q ∷ []) sent owed

@@ -1,23 +1,23 @@
 -- What a server's moments and its end are, without the server.
-use Rattle.std.proofs.Common.{◌≡◌, ℕ, Bool, true, List, [], ◌++◌, Option, Some, None, refl, sym, ap, ◌∙◌, append-nil, subst, inl, inr}
-use Rattle.git_server.specs.Repository.{Repository}
+use Rattle.std.proofs.Common.{◌≡◌, ℕ, Bool, true, List, [], Option, Some, None, refl, sym, ap, ◌∙◌, append-nil, subst, inl, inr}
+use Rattle.git_server.specs.Repository.{Repository, RepoState}
 use Rattle.git_server.specs.Answers.{AllFit, spelled}
 use Rattle.git_server.specs.Sessions.{Setting, IsTail, IsEnding, IsAnswered, IsRunning, IsSession}
 use Rattle.git_server.specs.Phases.{Owes, outcome_in, turn_in}
 use Rattle.git_server.specs.declared.server.Phase.{Phase}
-use Rattle.git_server.specs.declared.server.Phase.TheVariants.{Greeting, Between, Within, Answering, Refusing, Ended}
+use Rattle.git_server.specs.declared.server.Phase.TheVariants.{Advertising, Between, Within, Answering, Refusing, Ended}
 use Rattle.git_server.specs.declared.server.Turn.TheVariants.{Finished}
 use Rattle.git_server.specs.declared.server.Pulled.TheVariants.{Finished as FinishedNow}
-use Rattle.git_server.specs.Serving.{Running, Serves, StandsBy, outcome_of, wants_input}
+use Rattle.git_server.specs.Serving.{Running, StandsBy, outcome_of, wants_input}
 use Rattle.git_server.specs.Moves.{OwesNow, Pulls}
 use Rattle.git_server.specs.declared.outcome.Outcome.{Outcome}
 use Rattle.git_server.specs.declared.server.Server.{Server}
 use Rattle.git_pkt.proofs.Holding.{sound_rest}
-use Rattle.git_server.proofs.WholeRequests.{begins}
+use Rattle.git_server.proofs.Begun.{begins}
 use Rattle.git_server.proofs.Sent.{all_sent}
-use Rattle.git_server.proofs.Going.{no_outcome, owes_nothing, owes_some}
+use Rattle.git_server.proofs.Going.{goes_nowhere, goes_on, no_outcome, owes_nothing, owes_some}
 
-module _ {R A : Type 0} (answers : R → Repository) (server : Server R A) (s : Setting) (used : List ℕ) (over : Bool) (given : List ℕ) (r : Running answers s used over given server) where
+module _ {R A : Type 0} (state : R → RepoState) (server : Server R A) (s : Setting) (used : List ℕ) (over : Bool) (given : List ℕ) (r : Running state s used over given server) where
   moment : (o : Option Outcome) → outcome_of server ≡ o → StandsBy o s used over given server → IsRunning s used over given
   moment None none (not_over, h) =
       inl (
@@ -28,7 +28,7 @@ module _ {R A : Type 0} (answers : R → Repository) (server : Server R A) (s : 
           rest = h.rest;
           sent = h.sent;
           owed = (owes_some server.offer s.repo server.phase).0;
-          stream = record { packets = h.packets; splits = h.reads.splits; cuts = h.cuts };
+          stream = record { packets = h.packets; splits = h.reads.splits; requests = h.requests };
           begins = begins s h.left server.requests r.reads_for r.limit (server.sound none) (server.ready none) h.takes;
           unrefused = (sound_rest server.reader 0 used h.packets h.rest h.no_fault h.reads).1;
           is_sent = h.is_sent (owes_some server.offer s.repo server.phase).0 (owes_some server.offer s.repo server.phase).1;
@@ -41,7 +41,7 @@ module _ {R A : Type 0} (answers : R → Repository) (server : Server R A) (s : 
   pub every_moment : IsRunning s used over given
   every_moment = moment (outcome_of server) refl r.stands
 
-  pub its_end : (outcome : Outcome) → outcome_of server ≡ Some outcome → OwesNow answers server [] → IsSession s used over given outcome
+  pub its_end : (outcome : Outcome) → outcome_of server ≡ Some outcome → OwesNow state server [] → IsSession s used over given outcome
   its_end outcome some none =
       let stands : StandsBy (Some outcome) s used over given server = subst (λ (o : Option Outcome). StandsBy o s used over given server) some r.stands in
       let h : IsEnding s used over given outcome [] = stands [] (subst (λ (p : Repository). Owes server.offer p server.phase []) r.repo none) in
@@ -59,19 +59,19 @@ module _ {R A : Type 0} (answers : R → Repository) (server : Server R A) (s : 
         fit = h.fit;
       }
 
-module _ {R A : Type 0} (answers : R → Repository) (server : Server R A) (s : Setting) (used : List ℕ) (over : Bool) (given : List ℕ) (r : Running answers s used over given server) (wants : wants_input server ≡ true) where
+module _ {R A : Type 0} (state : R → RepoState) (server : Server R A) (s : Setting) (used : List ℕ) (over : Bool) (given : List ℕ) (r : Running state s used over given server) (wants : wants_input server ≡ true) where
   -- a server that waits for bytes has given the advertisement and each answer whole
   pub all_answered : IsAnswered s used given
   all_answered =
       let none = no_outcome server.phase wants in
-      let h : Serves s used given server = (subst (λ (o : Option Outcome). StandsBy o s used over given server) none r.stands).1 in
+      let h = (goes_on state server s used over given none r).1 in
       let all = all_sent s h.asked h.sent (h.is_sent [] (owes_nothing server.offer s.repo server.phase wants)) in
       record {
         asked = h.asked;
         left = h.left;
         rest = h.rest;
         answers = all.answers;
-        stream = record { packets = h.packets; splits = h.reads.splits; cuts = h.cuts };
+        stream = record { packets = h.packets; splits = h.reads.splits; requests = h.requests };
         begins = begins s h.left server.requests r.reads_for r.limit (server.sound none) (server.ready none) h.takes;
         unrefused = (sound_rest server.reader 0 used h.packets h.rest h.no_fault h.reads).1;
         answered = all.answered;
@@ -83,20 +83,19 @@ module _ {R A : Type 0} (answers : R → Repository) (server : Server R A) (s : 
 turn_ends : {A : Type 0} (phase : Phase A) (outcome : Outcome) → turn_in phase ≡ Finished outcome → phase ≡ Ended outcome
 turn_ends Between outcome h = absurd (cc)
 turn_ends Within outcome h = absurd (cc)
-turn_ends (Greeting line) outcome h = absurd (cc)
+turn_ends (Advertising line) outcome h = absurd (cc)
 turn_ends (Answering request next) outcome h = absurd (cc)
 turn_ends (Refusing fault) outcome h = absurd (cc)
 turn_ends (Ended o) outcome h = let same : o ≡ outcome = cc in ap Ended same
 
 -- what `pull` says at the end
-pub ends_now : {R A : Type 0} (answers : R → Repository) (server : Server R A) (outcome : Outcome) → turn_in server.phase ≡ Finished outcome
-    → Pulls answers server (FinishedNow outcome) server
-ends_now {A = A} answers server outcome turn =
+pub ends_now : {R A : Type 0} (state : R → RepoState) (server : Server R A) (outcome : Outcome) → turn_in server.phase ≡ Finished outcome
+    → Pulls state server (FinishedNow outcome) server
+ends_now {A = A} state server outcome turn =
     let is = turn_ends server.phase outcome turn in
-    let nothing : OwesNow answers server [] = subst (λ (p : Phase A). Owes server.offer (answers server.repo) p []) (sym is) refl in
+    let nothing : OwesNow state server [] = subst (λ (p : Phase A). Owes server.offer (state server.repo).answers p []) (sym is) refl in
     record {
-      goes = λ s so_far over before r. subst (λ (l : List ℕ). Running answers s l over (before ++ []) server) (sym (append-nil so_far))
-          (subst (λ (l : List ℕ). Running answers s so_far over l server) (sym (append-nil before)) r);
-      tells = (ap outcome_in is, nothing, refl, λ s used over given r. its_end answers server s used over given r outcome (ap outcome_in is) nothing);
+      goes = goes_nowhere state server;
+      tells = (ap outcome_in is, nothing, refl, λ s used over given r. its_end state server s used over given r outcome (ap outcome_in is) nothing);
       outcome = refl;
     }

@@ -5,7 +5,7 @@ use Rattle.git_pkt.specs.declared.reader.PacketReader.{PacketReader}
 use Rattle.git_msg.specs.Asked.{Asked}
 use Rattle.git_server.specs.Repository.{Entry}
 use Rattle.git_server.specs.Phases.{answer_from}
-use Rattle.git_server.specs.Writing.{Writes}
+use Rattle.git_server.specs.WrittenPackets.{Writes}
 
 -- the packets from the reference at a place on, or none where the answer ended
 abbrev pub answer_behind : Asked → List Entry → Option ℕ → List Pkt

@@ -4,10 +4,10 @@ pub mod Lists
 pub mod ListRepo
 pub mod Answers
 pub mod Sessions
-pub mod Greetings
-pub mod Showing
-pub mod Writing
-pub mod Taking
+pub mod AdvertisementLines
+pub mod NextShown
+pub mod WrittenPackets
+pub mod Brought
 pub mod Phases
 pub mod Answering
 pub mod Serving

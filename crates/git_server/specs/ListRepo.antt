@@ -1,6 +1,6 @@
 -- What a clause sees of a `ListRepo`.
 use Rattle.git_server.specs.declared.list_repo.ListRepo.{ListRepo}
-use Rattle.git_server.specs.Repository.{Repository}
+use Rattle.git_server.specs.Repository.{RepoState}
 use Rattle.git_server.specs.Lists.{Lists}
 
 -- the lists that it is made of
@@ -14,6 +14,6 @@ lists_of repo = record {
   pack = repo.pack.items;
 }
 
--- what it answers
-abbrev pub repository_of : ListRepo → Repository
-repository_of repo = record { format = repo.format; refs = repo.refs.items }
+-- what it answers: none of its reads fails
+abbrev pub state_of : ListRepo → RepoState
+state_of repo = record { answers = record { format = repo.format; refs = repo.refs.items }; failures = 0 }

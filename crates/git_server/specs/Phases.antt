@@ -10,8 +10,8 @@ use Rattle.git_msg.specs.Asked.{Asked, ls_refs}
 use Rattle.git_msg.specs.Holding.{asked_of, kept_of}
 use Rattle.git_server.specs.Repository.{Entry, Repository}
 use Rattle.git_server.specs.Answers.{error_packet, reference_packet, shown_refs}
-use Rattle.git_server.specs.Greetings.{greetings_from}
-use Rattle.git_server.specs.declared.greeting.Greeting.{Greeting as Line}
+use Rattle.git_server.specs.AdvertisementLines.{advertisement_from}
+use Rattle.git_server.specs.declared.advertisement.AdvertisementLine.{AdvertisementLine}
 use Rattle.git_server.specs.declared.outcome.Outcome.{Outcome}
 use Rattle.git_server.specs.declared.outcome.Outcome.TheVariants.{Flush, Refused}
 use Rattle.git_server.specs.declared.requests.Brought.{Brought}
@@ -19,7 +19,7 @@ use Rattle.git_server.specs.declared.requests.Brought.TheVariants.{Part, Whole, 
 use Rattle.git_server.specs.declared.server.Turn.{Turn}
 use Rattle.git_server.specs.declared.server.Turn.TheVariants.{NeedInput, Finished, Packet as OwesPacket}
 use Rattle.git_server.specs.declared.server.Phase.{Phase}
-use Rattle.git_server.specs.declared.server.Phase.TheVariants.{Greeting, Between, Within, Answering, Refusing, Ended}
+use Rattle.git_server.specs.declared.server.Phase.TheVariants.{Advertising, Between, Within, Answering, Refusing, Ended}
 
 -- the packets of an answer from the reference at `next` on
 abbrev pub answer_from : Asked → List Entry → ℕ → List Pkt
@@ -47,7 +47,7 @@ module _ {A : Type 0} where
 
   -- a packet waits to be pulled
   abbrev pub owes_in : Phase A → Bool
-  owes_in (Greeting line) = true
+  owes_in (Advertising line) = true
   owes_in (Answering request next) = true
   owes_in (Refusing fault) = true
   owes_in _ = false
@@ -60,14 +60,14 @@ module _ {A : Type 0} where
 
   -- in this phase these packets may wait to be pulled, and then nothing does
   abbrev pub Owes : Offer → Repository → Phase A → List Pkt → Type 0
-  Owes offer repo (Greeting line) later = later ≡ greetings_from offer line
+  Owes offer repo (Advertising line) later = later ≡ advertisement_from offer line
   Owes offer repo (Answering request next) later = IsAnswerFrom repo (asked_of request) next later
   Owes offer repo (Refusing fault) later = later ≡ error_packet fault ∷ []
   Owes offer repo _ later = later ≡ []
 
   -- how many packets wait at the most
   abbrev pub most_owed : Offer → Repository → Phase A → ℕ
-  most_owed offer repo (Greeting line) = length (greetings_from offer line)
+  most_owed offer repo (Advertising line) = length (advertisement_from offer line)
   most_owed offer repo (Answering request next) = most_from repo (asked_of request) next
   most_owed offer repo (Refusing fault) = 1
   most_owed offer repo _ = 0
@@ -95,9 +95,9 @@ module _ {A : Type 0} where
   phase_after (RefusedPacket fault) = refused_by fault.kind fault
 
   -- the phase after a line of the advertisement
-  abbrev pub greeting_phase : Option Line → Phase A
-  greeting_phase (Some next) = Greeting next
-  greeting_phase None = Between
+  abbrev pub advertising_phase : Option AdvertisementLine → Phase A
+  advertising_phase (Some next) = Advertising next
+  advertising_phase None = Between
 
   -- whether a packet is owed, and what to do if none is
   abbrev pub turn_in : Phase A → Turn

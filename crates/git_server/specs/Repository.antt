@@ -47,9 +47,15 @@ pub record Repository : Type 0 where
   pub format : Format
   pub refs : List Entry
 
+-- what a repository answers, and how many of its reads have failed
+pub record RepoState : Type 0 where
+  pub answers : Repository
+  pub failures : ℕ
+
 -- what holds of what a repository answers
 pub record IsSound (repo : Repository) : Type 0 where
   pub rising : IsRising repo.refs
+  pub named : All (λ ref. IsNamed ref.name ref.target) repo.refs
   pub of_format : All (IsOfFormat repo.format) repo.refs
 
 -- what a repository has under a name: the object, or nothing where no reference has the name

@@ -5,9 +5,10 @@ use Rattle.git_pkt.specs.Splits.{Given}
 use Rattle.git_pkt.specs.Reading.{Reads, fault_of}
 use Rattle.git_msg.specs.Asked.{Asked}
 use Rattle.git_msg.specs.Taking.{Takes, offer_of, limit_in, kept_so_far}
-use Rattle.git_server.specs.Repository.{Repository}
+use Rattle.git_msg.specs.WholeRequests.{AreRequests}
+use Rattle.git_server.specs.Repository.{RepoState}
 use Rattle.git_server.specs.Answers.{AllFit, spelled}
-use Rattle.git_server.specs.Sessions.{Setting, Cuts, IsSent, IsEnding}
+use Rattle.git_server.specs.Sessions.{Setting, IsRequest, IsSent, IsEnding}
 use Rattle.git_server.specs.Phases.{LeftIn, kept_in, outcome_in, Owes, reads_in}
 use Rattle.git_server.specs.declared.outcome.Outcome.{Outcome}
 use Rattle.git_msg.specs.declared.offers.Offer.{Offer}
@@ -40,7 +41,7 @@ module _ {R A : Type 0} where
     pub sent : List Pkt
     pub reads : Reads server.reader 0 used packets rest
     pub no_fault : fault_of server.reader ≡ None
-    pub cuts : Cuts s packets asked left
+    pub requests : AreRequests (IsRequest s) packets asked left
     pub takes : Takes left server.requests
     pub left_is : LeftIn server.phase left
     pub is_sent : (owed : List Pkt) → Owes server.offer s.repo server.phase owed → IsSent s asked sent owed
@@ -53,11 +54,11 @@ module _ {R A : Type 0} where
       (owed : List Pkt) → Owes server.offer s.repo server.phase owed → IsEnding s used over given outcome owed
 
   -- the server has used these bytes, and `over` if the input ended with them, and has given those
-  pub record Running (answers : R → Repository) (s : Setting) (used : List ℕ) (over : Bool) (given : List ℕ) (server : Server R A) : Type 0 where
+  pub record Running (state : R → RepoState) (s : Setting) (used : List ℕ) (over : Bool) (given : List ℕ) (server : Server R A) : Type 0 where
     pub offer : server.offer ≡ s.offer
     pub reads_for : offer_of server.requests ≡ s.offer
     pub limit : limit_in server.requests ≡ s.limit
-    pub repo : answers server.repo ≡ s.repo
+    pub repo : (state server.repo).answers ≡ s.repo
     pub within : kept_by server ≤ s.limit
     pub stands : StandsBy (outcome_of server) s used over given server
 

@@ -9,6 +9,7 @@ use Rattle.git_msg.specs.declared.offers.Offer.{Offer}
 use Rattle.git_msg.specs.Asked.{Asked}
 use Rattle.git_msg.specs.Lines.{Line}
 use Rattle.git_msg.specs.Requests.{AreLines, Asks, IsTold, IsStop}
+use Rattle.git_msg.specs.WholeRequests.{AreRequests}
 use Rattle.git_server.specs.Repository.{Repository}
 use Rattle.git_server.specs.Answers.{AllFit, spelled, advertisement_of, IsAnswer, tail_of}
 use Rattle.git_server.specs.declared.outcome.Outcome.{Outcome}
@@ -26,11 +27,9 @@ pub record Setting : Type 0 where
 abbrev pub advertised : Setting → List Pkt
 advertised s = if s.advertise then advertisement_of s.offer else []
 
--- the packets are whole requests, which ask for these, and then what is left
-abbrev pub Cuts : Setting → List Given → List Asked → List Given → Type 0
-Cuts s packets [] left = packets ≡ left
-Cuts s packets (q ∷ qs) left =
-    (front : List Given) × (more : List Given) × (kept : ℕ) × (packets ≡ front ++ more) × Asks s.offer s.limit front q kept × Cuts s more qs left
+-- the packets are one whole request, which asks for this
+abbrev pub IsRequest : Setting → List Given → Asked → Type 0
+IsRequest s packets q = (kept : ℕ) × Asks s.offer s.limit packets q kept
 
 -- the packets are an answer to each request, in their order
 abbrev pub AreAnswers : Repository → List Asked → List Pkt → Type 0
@@ -42,7 +41,7 @@ AreAnswers repo (q ∷ qs) packets =
 pub record Stream (s : Setting) (used : List ℕ) (asked : List Asked) (left : List Given) (rest : List ℕ) : Type 0 where
   pub packets : List Given
   pub splits : Splits 0 used packets rest
-  pub cuts : Cuts s packets asked left
+  pub requests : AreRequests (IsRequest s) packets asked left
 
 -- the packets begin a request, and none of them is refused
 pub record Begins (s : Setting) (left : List Given) : Type 0 where

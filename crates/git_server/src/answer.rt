@@ -9,7 +9,7 @@ ghost use Rattle.git_msg.specs.Holding.{asked_of};
 ghost use Rattle.git_msg.specs.References.{IsWritable, shown_reference};
 ghost use Rattle.git_server.specs.Answering.{AnswersOne};
 ghost use Rattle.git_server.specs.Answers.{reference_packet, shown_line};
-ghost use Rattle.git_server.specs.Writing.{Writes};
+ghost use Rattle.git_server.specs.WrittenPackets.{Writes};
 ghost use Rattle.git_server.specs.Repository.{HasOneFormat};
 
 use crate::entry::RefEntry;
@@ -30,7 +30,7 @@ pub(crate) fn answer_one<R: Repo, A: Allocator + Copy>(
     reader: &mut PacketReader,
 ) -> Option<usize>
     requires { is_open reader.old ≡ false }
-    ensures { AnswersOne (asked_of request.now) (R.answers repo.now).refs next reader.old result reader.new }
+    ensures { AnswersOne (asked_of request.now) (R.state repo.now).answers.refs next reader.old result reader.new }
 {
     let refs = repo.refs();
     match next_shown(refs, request, next) {

@@ -1,11 +1,11 @@
 //! A reference of a repository.
 
-ghost use Rattle.std.specs.Prelude.{◌≡◌, MatchOption, MatchResult, Some, None};
+ghost use Rattle.std.specs.Prelude.{◌≡◌, ◌↔◌, IsTrue, MatchOption, MatchResult, Some, None};
 ghost use Rattle.std.specs.Option.{option_copied, ForSome};
 ghost use Rattle.git_names.specs.RefName.{IsRefName};
-ghost use Rattle.git_server.specs.Repository.{Entry, IsNamed, bytes_of};
+ghost use Rattle.git_server.specs.Repository.{Entry, IsNamed, IsOfFormat, bytes_of};
 
-use git_names::{NameFault, Oid, RefName};
+use git_names::{Format, NameFault, Oid, RefName};
 use std::marker::Model;
 
 /// A reference of a repository: a name for an object, as gitprotocol-v2(5) shows it.
@@ -82,5 +82,19 @@ impl RefEntry {
         ensures { result ≡ self.now.peeled }
     {
         self.peeled
+    }
+
+    /// Whether its object names are of the format.
+    pub(crate) fn is_of(&self, format: Format) -> bool
+        ensures of_format { IsTrue result ↔ IsOfFormat format self.now }
+        ensures named { IsNamed self.now.name self.now.target }
+    {
+        if self.id.format() != format {
+            return false;
+        }
+        match self.peeled {
+            Some(peeled) => peeled.format() == format,
+            None => true,
+        }
     }
 }

@@ -2,9 +2,9 @@
 //! machine that reads requests and gives answers.
 #![tactic(auto)]
 
+mod advertisement;
 mod answer;
 mod entry;
-mod greeting;
 pub mod laws;
 mod list_repo;
 mod outcome;

@@ -6,7 +6,7 @@ ghost use Rattle.std.specs.Ordering.{nat_cmp};
 ghost use Rattle.std.specs.Cmp.Lexicographic.{slice_cmp};
 ghost use Rattle.git_server.specs.Lists.{repo_fault_name};
 ghost use Rattle.git_server.specs.Objects.{object_of, precedes, AreRising};
-ghost use Rattle.git_server.specs.Repository.{IsFound, IsOfFormat, IsRising, comes_before};
+ghost use Rattle.git_server.specs.Repository.{IsFound, IsNamed, IsOfFormat, IsRising, comes_before};
 
 use crate::entry::RefEntry;
 use crate::repo::Repo;
@@ -51,6 +51,7 @@ pub struct ListRepo {
     boundaries: Vec<Boundary>,
     pack: Vec<u8>,
     ghost rising: { IsRising refs.items },
+    ghost named: { All (λ ref. IsNamed ref.name ref.target) refs.items },
     ghost of_format: { All (IsOfFormat format) refs.items },
 }
 
@@ -105,11 +106,11 @@ impl ListRepo {
 }
 
 impl Repo for ListRepo {
-    ghost use Rattle.git_server.specs.ListRepo.{repository_of};
+    ghost use Rattle.git_server.specs.ListRepo.{state_of};
 
-    ghost answers = { repository_of };
+    ghost state = { state_of };
 
-    ghost sound = { λ repo. record { rising = repo.rising; of_format = repo.of_format } };
+    ghost sound = { λ repo. record { rising = repo.rising; named = repo.named; of_format = repo.of_format } };
 
     fn format(&self) -> Format {
         self.format
@@ -146,26 +147,15 @@ fn are_sorted_objects(objects: &[(Oid, u64)]) -> bool
 }
 
 fn are_refs_of(format: Format, refs: &[RefEntry]) -> bool
-    ensures { IsTrue result ↔ All (IsOfFormat format) refs.now }
+    ensures of_format { IsTrue result ↔ All (IsOfFormat format) refs.now }
+    ensures named { IsTrue result → All (λ ref. IsNamed ref.name ref.target) refs.now }
 {
     for entry in refs {
-        if !is_entry_of(format, entry) {
+        if !entry.is_of(format) {
             return false;
         }
     }
     true
-}
-
-fn is_entry_of(format: Format, entry: &RefEntry) -> bool
-    ensures { IsTrue result ↔ IsOfFormat format entry.now }
-{
-    if entry.id().format() != format {
-        return false;
-    }
-    match entry.peeled() {
-        Some(peeled) => peeled.format() == format,
-        None => true,
-    }
 }
 
 fn are_objects_of(format: Format, objects: &[(Oid, u64)]) -> bool

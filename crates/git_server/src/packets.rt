@@ -3,7 +3,7 @@
 ghost use Rattle.std.specs.Prelude.{◌≡◌, ◌≤◌, length, false};
 ghost use Rattle.git_pkt.specs.Packets.{body_of, seen, longest_payload};
 ghost use Rattle.git_pkt.specs.Reading.{is_open};
-ghost use Rattle.git_server.specs.Writing.{Writes};
+ghost use Rattle.git_server.specs.WrittenPackets.{Writes};
 
 use git_pkt::{Packet, PacketReader, put};
 

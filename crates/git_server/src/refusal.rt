@@ -1,26 +1,30 @@
 //! The packet that tells a fault to the other end.
 
-ghost use Rattle.std.specs.Prelude.{◌≡◌, ◌+◌, ◌≤◌, ◌++◌, ◌∷◌, [], codes, length};
-ghost use Rattle.git_pkt.specs.FaultNames.{fault_text};
+ghost use Rattle.std.specs.Prelude.{◌≡◌, ◌≤◌, length, false};
+ghost use Rattle.git_pkt.specs.Packets.{body_of, longest_payload, spelling_of};
+ghost use Rattle.git_pkt.specs.Reading.{is_open};
+ghost use Rattle.git_server.specs.Answers.{error_packet};
+ghost use Rattle.git_server.specs.WrittenPackets.{Writes};
 
-use arrayvec::ArrayVec;
-use git_pkt::Fault;
+use git_pkt::{Fault, Hold, PacketReader, append, begin};
 
-/// The payload of an error packet, gitprotocol-pack(5), that tells this fault by its name and offset.
-pub(crate) fn error_line(fault: Fault) -> ArrayVec<u8, 64>
-    ensures { result.items ≡ codes "ERR " ++ fault_text fault ++ 10 ∷ [] }
+/// Makes the hold the error packet of a fault, between two packets that are read.
+pub(crate) fn write_error(reader: &mut PacketReader, fault: Fault)
+    requires { is_open reader.old ≡ false }
+    ensures { Writes reader.old (error_packet fault) reader.new }
 {
-    let mut line = ArrayVec::new();
-    append(&mut line, b"ERR ");
-    append(&mut line, fault.text().as_str().as_bytes());
-    append(&mut line, b"\n");
-    line
+    put_error(reader.lend(), fault);
 }
 
-fn append(line: &mut ArrayVec<u8, 64>, bytes: &[u8])
-    requires { length line.old.items + length bytes.now ≤ 64 }
-    ensures items { line.new.items ≡ line.old.items ++ bytes.now }
-    ensures len { length line.new.items ≡ length line.old.items + length bytes.now }
+// Makes the hold the error packet, gitprotocol-pack(5), that tells this fault by its name and offset.
+fn put_error(hold: &mut Hold, fault: Fault)
+    ensures written { hold.new.items ≡ spelling_of (error_packet fault) }
+    ensures fits { length (body_of (error_packet fault)) ≤ longest_payload }
 {
-    let _ = line.try_extend_from_slice(bytes);
+    let text = fault.text();
+    let bytes = text.as_str().as_bytes();
+    begin(hold, 4 + bytes.len() + 1);
+    append(hold, b"ERR ");
+    append(hold, bytes);
+    append(hold, b"\n");
 }

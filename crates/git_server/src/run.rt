@@ -20,8 +20,8 @@ fn drain<W: Write, R: Repo, A: Allocator + Copy>(
     writer: &mut Told<W>,
     server: &mut Server<R, A>,
 ) -> Result<Option<Outcome>, RunFault>
-    ensures ok { IfOk result (WritesFor R.answers [] (W.contents (inner_of writer.old)) (W.contents (inner_of writer.new)) server.old server.new) }
-    ensures front { OnErr result (WritesFront R.answers [] (W.contents (inner_of writer.old)) (W.contents (inner_of writer.new)) server.old server.new) }
+    ensures ok { IfOk result (WritesFor R.state [] (W.contents (inner_of writer.old)) (W.contents (inner_of writer.new)) server.old server.new) }
+    ensures front { OnErr result (WritesFront R.state [] (W.contents (inner_of writer.old)) (W.contents (inner_of writer.new)) server.old server.new) }
     ensures outcome { OnOk result (outcome_of server.new ≡ outcome_of server.old) }
     ensures fault { IfErr result (λ fault. fault ≡ RunFault.WriteFault) }
     ensures failed { has_failed writer.new ≡ (has_failed writer.old || is_err result) }
@@ -43,8 +43,8 @@ fn serve_piece<W: Write, R: Repo, A: Allocator + Copy>(
     bytes: &[u8],
 ) -> Result<Option<Outcome>, RunFault>
     requires { wants_input server.old ≡ true }
-    ensures ok { IfOk result (WritesFor R.answers bytes.now (W.contents (inner_of writer.old)) (W.contents (inner_of writer.new)) server.old server.new) }
-    ensures front { OnErr result (WritesFront R.answers bytes.now (W.contents (inner_of writer.old)) (W.contents (inner_of writer.new)) server.old server.new) }
+    ensures ok { IfOk result (WritesFor R.state bytes.now (W.contents (inner_of writer.old)) (W.contents (inner_of writer.new)) server.old server.new) }
+    ensures front { OnErr result (WritesFront R.state bytes.now (W.contents (inner_of writer.old)) (W.contents (inner_of writer.new)) server.old server.new) }
     ensures fault { IfErr result (λ fault. fault ≡ RunFault.WriteFault) }
     ensures failed { has_failed writer.new ≡ (has_failed writer.old || is_err result) }
 {
@@ -76,15 +76,15 @@ pub fn serve<In: Read, W: Write, R: Repo, A: Allocator + Copy>(
     requires sound_writer { has_failed writer.old ≡ false }
 
     ensures reads { reads_of reader.new ≤ turns }
-    ensures run { IfOk result (λ outcome. (s : Setting) → Running R.answers s [] false [] server.old
-        → IsRun s (λ used over given. Running R.answers s used over given server.new) (In.remaining (inner_of reader.old)) (In.remaining (inner_of reader.new))
+    ensures run { IfOk result (λ outcome. (s : Setting) → Running R.state s [] false [] server.old
+        → IsRun s (λ used over given. Running R.state s used over given server.new) (In.remaining (inner_of reader.old)) (In.remaining (inner_of reader.new))
         (W.contents (inner_of writer.old)) (W.contents (inner_of writer.new)) (has_ended reader.new) outcome) }
-    ensures until { IfErr result (λ fault. (s : Setting) → Running R.answers s [] false [] server.old
-        → RunsUntil s (λ used over given. Running R.answers s used over given server.new) turns (In.remaining (inner_of reader.old)) (In.remaining (inner_of reader.new))
+    ensures until { IfErr result (λ fault. (s : Setting) → Running R.state s [] false [] server.old
+        → RunsUntil s (λ used over given. Running R.state s used over given server.new) turns (In.remaining (inner_of reader.old)) (In.remaining (inner_of reader.new))
         (W.contents (inner_of writer.old)) (W.contents (inner_of writer.new)) (has_ended reader.new) fault) }
     ensures fault { IfErr result (IsShownBy (IsTrue (has_failed reader.new)) (IsTrue (has_failed writer.new)) (IsSpent reader.new turns)) }
     ensures told { FailsAs result (has_failed reader.new) (has_failed writer.new) }
-    ensures ends { IfOk result (λ outcome. (outcome_of server.new ≡ Some outcome) × OwesNow R.answers server.new []) }
+    ensures ends { IfOk result (λ outcome. (outcome_of server.new ≡ Some outcome) × OwesNow R.state server.new []) }
     ensures goes_on { IfErr result (λ fault. fault ≢ RunFault.WriteFault → wants_input server.new ≡ true) }
 {
     if let Some(outcome) = drain(writer, server)? {
@@ -114,8 +114,8 @@ fn finish<W: Write, R: Repo, A: Allocator + Copy>(
     server: &mut Server<R, A>,
 ) -> Result<Outcome, RunFault>
     requires { IsSome (outcome_of server.old) }
-    ensures ok { IfOk result (WritesItsEnd R.answers [] (W.contents (inner_of writer.old)) (W.contents (inner_of writer.new)) server.old server.new) }
-    ensures front { OnErr result (WritesFront R.answers [] (W.contents (inner_of writer.old)) (W.contents (inner_of writer.new)) server.old server.new) }
+    ensures ok { IfOk result (WritesItsEnd R.state [] (W.contents (inner_of writer.old)) (W.contents (inner_of writer.new)) server.old server.new) }
+    ensures front { OnErr result (WritesFront R.state [] (W.contents (inner_of writer.old)) (W.contents (inner_of writer.new)) server.old server.new) }
     ensures fault { IfErr result (λ fault. fault ≡ RunFault.WriteFault) }
     ensures failed { has_failed writer.new ≡ (has_failed writer.old || is_err result) }
 {

@@ -3,24 +3,24 @@
 ghost use Rattle.std.specs.Prelude.{◌≡◌, true, false, None};
 ghost use Rattle.git_pkt.specs.Reading.{is_open};
 ghost use Rattle.git_msg.specs.Taking.{fault_of, is_waiting};
-ghost use Rattle.git_server.specs.Phases.{greeting_phase, outcome_in, owes_in, phase_after, refusal_in, refused_by, turn_in};
+ghost use Rattle.git_server.specs.Phases.{advertising_phase, outcome_in, owes_in, phase_after, refusal_in, refused_by, turn_in};
 
+use crate::advertisement::AdvertisementLine;
 use crate::answer::answer_one;
-use crate::greeting::Greeting as Line;
 use crate::outcome::Outcome;
 use crate::packets::write_packet;
-use crate::refusal::error_line;
+use crate::refusal::write_error;
 use crate::repo::Repo;
 use crate::requests::{Brought, take_packet};
 use git_msg::{Limits, Offer, Request, RequestReader};
-use git_pkt::{Fault, Got, Kind, Packet, PacketReader};
+use git_pkt::{Fault, Got, Kind, PacketReader};
 use std::alloc::Allocator;
 
 /// Where a session stands.
 #[derive(Drop)]
 enum Phase<A: Allocator + Copy> {
     // The advertisement is owed, from this line on.
-    Greeting(Line),
+    Advertising(AdvertisementLine),
     // All is given, and no packet of a further request has come.
     Between,
     // A request has begun.
@@ -77,13 +77,19 @@ impl<R: Repo, A: Allocator + Copy> Server<R, A> {
     /// A server at the beginning of a session over this repository. It keeps at most `limits` of a request's
     /// arguments, in memory from `alloc`, and gives the advertisement of the offer first where `advertise` is set.
     pub fn new(alloc: A, repo: R, offer: Offer, limits: Limits, advertise: bool) -> Server<R, A>
-        requires format { offer.format ≡ (R.answers repo).format }
+        requires format { offer.format ≡ (R.state repo).answers.format }
         requires no_object_info { offer.object_info ≡ false }
-        ensures running { Running R.answers (record { offer = offer; limit = limits.args; advertise = advertise; repo = R.answers repo }) [] false [] result }
+        ensures running { Running R.state (record { offer = offer; limit = limits.args; advertise = advertise; repo = (R.state repo).answers }) [] false [] result }
         ensures repo { repo_of result ≡ repo }
     {
         if advertise {
-            return Self::begin(alloc, repo, offer, limits, Phase::Greeting(Line::Version));
+            return Self::begin(
+                alloc,
+                repo,
+                offer,
+                limits,
+                Phase::Advertising(AdvertisementLine::Version),
+            );
         }
         Self::begin(alloc, repo, offer, limits, Phase::Between)
     }
@@ -112,7 +118,7 @@ impl<R: Repo, A: Allocator + Copy> Server<R, A> {
     /// Whether bytes are wanted: there is no outcome yet, and all that is owed was pulled.
     pub fn wants_input(&self) -> bool
         ensures value { result ≡ wants_input self.now }
-        ensures waits { IsTrue result ↔ ((outcome_of self.now ≡ None) × OwesNow R.answers self.now []) }
+        ensures waits { IsTrue result ↔ ((outcome_of self.now ≡ None) × OwesNow R.state self.now []) }
     {
         match self.phase {
             Phase::Between => true,
@@ -137,10 +143,10 @@ impl<R: Repo, A: Allocator + Copy> Server<R, A> {
     /// piece changes nothing.
     pub fn feed(&mut self, piece: &[u8]) -> usize
         ensures used { result ≤ length piece.now }
-        ensures goes { Goes R.answers (take result piece.now) [] self.old self.new }
+        ensures goes { Goes R.state (take result piece.now) [] self.old self.new }
         ensures whole { IsTrue (wants_input self.new) → result ≡ length piece.now }
         ensures moves { wants_input self.old ≡ true → 0 < length piece.now → 0 < result ⊎ IsSome (outcome_of self.new) }
-        ensures in_time { StopsInTime R.answers self.old result piece.now (outcome_of self.new) }
+        ensures in_time { StopsInTime R.state self.old result piece.now (outcome_of self.new) }
         ensures stays { wants_input self.old ≡ false → (result ≡ 0) × (self.new ≡ self.old) }
         ensures nothing { length piece.now ≡ 0 → (result ≡ 0) × (self.new ≡ self.old) }
     {
@@ -155,7 +161,7 @@ impl<R: Repo, A: Allocator + Copy> Server<R, A> {
     /// it is refused as truncated, at the end of the last whole packet.
     pub fn close(&mut self)
         requires { wants_input self.old ≡ true }
-        ensures closes { Closes R.answers self.old self.new }
+        ensures closes { Closes R.state self.old self.new }
         ensures ended { IsSome (outcome_of self.new) }
     {
         if let Err(fault) = self.reader.close() {
@@ -174,7 +180,7 @@ impl<R: Repo, A: Allocator + Copy> Server<R, A> {
 
     /// The next packet to be sent, or what to do in its place.
     pub fn pull(&mut self) -> Pulled<'_>
-        ensures* { sem 𝓛 (Rests (the_row R.row A.row A.Allocator) self.entry (λ new. Pulls R.answers self.old result new)) }
+        ensures* { sem 𝓛 (Rests (the_row R.row A.row A.Allocator) self.entry (λ new. Pulls R.state self.old result new)) }
     {
         match self.turn() {
             Turn::NeedInput => Pulled::NeedInput,
@@ -208,13 +214,13 @@ impl<R: Repo, A: Allocator + Copy> Server<R, A> {
     // Puts the next packet that is owed into the hold.
     fn give(&mut self)
         requires { turn_in self.old.phase ≡ Turn.Packet }
-        ensures { Gives R.answers self.old self.new }
+        ensures { Gives R.state self.old self.new }
     {
         match &mut self.phase {
-            Phase::Greeting(line) => {
+            Phase::Advertising(line) => {
                 let line = *line;
                 write_packet(&mut self.reader, line.packet(self.offer.format));
-                self.phase = greeting(line.next(&self.offer));
+                self.phase = advertising(line.next(&self.offer));
             }
             Phase::Answering(request, next) => {
                 match answer_one(&self.repo, request, *next, &mut self.reader) {
@@ -224,10 +230,7 @@ impl<R: Repo, A: Allocator + Copy> Server<R, A> {
             }
             Phase::Refusing(fault) => {
                 let fault = *fault;
-                write_packet(
-                    &mut self.reader,
-                    Packet::Payload(error_line(fault).as_slice()),
-                );
+                write_error(&mut self.reader, fault);
                 self.phase = Phase::Ended(Outcome::Refused(fault));
             }
             _ => unreachable!(),
@@ -239,10 +242,10 @@ impl<R: Repo, A: Allocator + Copy> Server<R, A> {
         requires wants { wants_input self.old ≡ true }
         requires some { 0 < length piece.now }
         ensures used { result ≤ length piece.now }
-        ensures goes { Goes R.answers (take result piece.now) [] self.old self.new }
+        ensures goes { Goes R.state (take result piece.now) [] self.old self.new }
         ensures moves { 0 < result ⊎ IsSome (outcome_of self.new) }
         ensures goes_on { wants_input self.new ≡ true → 0 < result }
-        ensures in_time { StopsInTime R.answers self.old result piece.now (outcome_of self.new) }
+        ensures in_time { StopsInTime R.state self.old result piece.now (outcome_of self.new) }
     {
         let fed = self.reader.feed(piece);
         let used = fed.used;
@@ -284,11 +287,11 @@ fn refusal<A: Allocator + Copy>(fault: Fault) -> Phase<A>
 }
 
 // The phase after a line of the advertisement.
-fn greeting<A: Allocator + Copy>(next: Option<Line>) -> Phase<A>
-    ensures { result ≡ greeting_phase next }
+fn advertising<A: Allocator + Copy>(next: Option<AdvertisementLine>) -> Phase<A>
+    ensures { result ≡ advertising_phase next }
 {
     match next {
-        Some(line) => Phase::Greeting(line),
+        Some(line) => Phase::Advertising(line),
         None => Phase::Between,
     }
 }

@@ -4,7 +4,7 @@ ghost use Rattle.std.specs.Prelude.{◌≡◌, ◌+◌, ◌<◌, ◌≤◌, [], 
 ghost use Rattle.git_msg.specs.Asked.{ref_prefixes_of};
 ghost use Rattle.git_msg.specs.Holding.{asked_of};
 ghost use Rattle.git_server.specs.Answers.{is_shown as shows};
-ghost use Rattle.git_server.specs.Showing.{NextShown};
+ghost use Rattle.git_server.specs.NextShown.{NextShown};
 
 use crate::entry::RefEntry;
 use git_msg::Request;

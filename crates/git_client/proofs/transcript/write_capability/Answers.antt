@@ -1,13 +1,11 @@
 use Rattle.std.proofs.Common.{◌++◌, codes}
 use Rattle.std.proofs.KnownBytes.{Appends-trans}
-use Rattle.std.specs.Io.KnownBytes.{Appends}
 use Rattle.std.specs.Option.{option_copied}
 use Rattle.std.proofs.lemmas.Result.{on_ok_weaker, on_err_weaker}
-use Rattle.git_pkt.specs.Told.{inner_of, AppendsFront}
 use Rattle.git_pkt.specs.Escape.{escaped_of}
 use Rattle.git_pkt.proofs.EngineLemmas.{AppendsFront-after, AppendsFront-longer}
 use Rattle.git_client.specs.Transcript.{value_shown}
-use Rattle.git_client.proofs.Writing.{on_err}
+use Rattle.git_client.proofs.Writing.{on_err, three_written}
 use Rattle.git_client.proofs.transcript.write_capability.Goals as goal
 
 pub returns-in_err-send-clause-err : goal.returns-in_err-send-clause-err
@@ -38,24 +36,16 @@ pub returns-clause-ok : goal.returns-clause-ok
 returns-clause-ok g c =
     let key = escaped_of c.args.capability.now.key.now in
     let value = value_shown (option_copied c.args.capability.now.value) in
-    let a = g.W.Write.contents (inner_of c.args.out.now) in
-    let d = g.W.Write.contents (inner_of c.write_value.new.out) in
-    let e = g.W.Write.contents (inner_of c.send-2.new.writer) in
-    let so_far : Appends a d (codes "capability " ++ key ++ value) =
-    Appends-trans _ _ _ (codes "capability " ++ key) value (Appends-trans _ _ _
-    (codes "capability ") key c.in_ok-send.ensures.ok c.in_ok-write_escaped.ensures.ok) c.in_ok-write_value.ensures.ok in
-    on_ok_weaker c.send-2.result (λ (last : Appends d e (codes "\n")). Appends-trans a d e (codes "capability " ++ key ++ value) (codes "\n") so_far last)
+    on_ok_weaker c.send-2.result
+    (Appends-trans _ _ _ (codes "capability " ++ key ++ value) (codes "\n")
+    (three_written _ _ _ _ (codes "capability ") key value c.in_ok-send.ensures.ok c.in_ok-write_escaped.ensures.ok c.in_ok-write_value.ensures.ok))
     c.send-2.ensures.ok
 
 pub returns-clause-err : goal.returns-clause-err
 returns-clause-err g c =
     let key = escaped_of c.args.capability.now.key.now in
     let value = value_shown (option_copied c.args.capability.now.value) in
-    let a = g.W.Write.contents (inner_of c.args.out.now) in
-    let d = g.W.Write.contents (inner_of c.write_value.new.out) in
-    let e = g.W.Write.contents (inner_of c.send-2.new.writer) in
-    let so_far : Appends a d (codes "capability " ++ key ++ value) =
-    Appends-trans _ _ _ (codes "capability " ++ key) value (Appends-trans _ _ _
-    (codes "capability ") key c.in_ok-send.ensures.ok c.in_ok-write_escaped.ensures.ok) c.in_ok-write_value.ensures.ok in
-    on_err_weaker c.send-2.result (λ (last : AppendsFront d e (codes "\n")). AppendsFront-after a d e (codes "capability " ++ key ++ value)
-    (codes "\n") so_far last) c.send-2.ensures.err
+    on_err_weaker c.send-2.result
+    (AppendsFront-after _ _ _ (codes "capability " ++ key ++ value) (codes "\n")
+    (three_written _ _ _ _ (codes "capability ") key value c.in_ok-send.ensures.ok c.in_ok-write_escaped.ensures.ok c.in_ok-write_value.ensures.ok))
+    c.send-2.ensures.err

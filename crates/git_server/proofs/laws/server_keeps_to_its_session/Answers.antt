@@ -4,5 +4,5 @@ use Rattle.git_server.proofs.laws.server_keeps_to_its_session.Goals as goal
 pub returns : goal.returns
 returns g c = record {
   within = λ s used over given r. r.within;
-  session = λ s used over given r. every_moment g.R.Repo.answers c.args.server.now s used over given r;
+  session = λ s used over given r. every_moment g.R.Repo.state c.args.server.now s used over given r;
 }

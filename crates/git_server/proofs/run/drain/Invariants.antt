@@ -10,8 +10,8 @@ abbrev pub invariant-loop-bytes : goal.invariant-loop-bytes
 invariant-loop-bytes g l = record {
   sound : has_failed l.writer ≡ has_failed l.fn.writer;
   outcome : outcome_of l.server ≡ outcome_of l.fn.server;
-  writes : WritesOn g.R.Repo.answers [] (g.W.Write.contents (inner_of l.fn.writer)) (g.W.Write.contents (inner_of l.writer)) l.fn.server l.server;
+  writes : WritesOn g.R.Repo.state [] (g.W.Write.contents (inner_of l.fn.writer)) (g.W.Write.contents (inner_of l.writer)) l.fn.server l.server;
 }
 
 abbrev pub decreases-loop-bytes : goal.decreases-loop-bytes
-decreases-loop-bytes g l = most_left g.R.Repo.answers l.server
+decreases-loop-bytes g l = most_left g.R.Repo.state l.server

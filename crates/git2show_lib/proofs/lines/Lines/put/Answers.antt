@@ -5,7 +5,7 @@ use Rattle.git_pkt.specs.Packets.{seen, body_of}
 use Rattle.git_pkt.specs.Escape.{escaped_of}
 use Rattle.git2show_lib.specs.PacketLines.{kind_shown}
 use Rattle.git2show_lib.specs.LineBuffer.{Emits, EmitsFront}
-use Rattle.git2show_lib.proofs.Sendings.{emits_then, front_after, front_longer}
+use Rattle.git2show_lib.proofs.Sendings.{emits_then, front_after, front_longer, head_and_body}
 use Rattle.git2show_lib.proofs.lines.Lines.put.Goals as goal
 
 pub returns-in_err-emit_head-clause-err : goal.returns-in_err-emit_head-clause-err
@@ -36,33 +36,14 @@ returns-in_err-emit_escaped-clause-err g c =
 
 pub returns-clause-ok : goal.returns-clause-ok
 returns-clause-ok g c =
-    let held : Option (List ℕ) = g.W.Write.contents (inner_of c.args.writer.now) in
-    let between : Option (List ℕ) = g.W.Write.contents (inner_of c.emit_head.new.writer) in
-    let next : Option (List ℕ) = g.W.Write.contents (inner_of c.emit_escaped.new.writer) in
-    let after : Option (List ℕ) = g.W.Write.contents (inner_of c.emit.new.writer) in
-    let head : List ℕ = decimal c.args.offset ++ kind_shown (seen c.args.packet) in
-    let body : List ℕ = escaped_of (body_of (seen c.args.packet)) in
-    let began : Emits held between c.args.self.now head c.emit_head.new.self = c.in_ok-emit_head.ensures.ok in
-    let went : Emits between next c.emit_head.new.self body c.emit_escaped.new.self =
-    subst (λ (l : List ℕ). Emits between next c.emit_head.new.self (escaped_of l) c.emit_escaped.new.self) c.body.ensures c.in_ok-emit_escaped.ensures.ok in
-    let so_far : Emits held next c.args.self.now (head ++ body) c.emit_escaped.new.self =
-    emits_then held between next c.args.self.now head c.emit_head.new.self body c.emit_escaped.new.self began went in
     on_ok_weaker c.emit.result
-    (λ last. emits_then held next after c.args.self.now (head ++ body) c.emit_escaped.new.self (10 ∷ []) c.emit.new.self so_far last)
+    (emits_then _ _ _ _ _ _ (10 ∷ []) _
+    (head_and_body _ _ _ _ _ _ _ _ _ c.body.ensures c.in_ok-emit_head.ensures.ok c.in_ok-emit_escaped.ensures.ok))
     c.emit.ensures.ok
 
 pub returns-clause-err : goal.returns-clause-err
 returns-clause-err g c =
-    let held : Option (List ℕ) = g.W.Write.contents (inner_of c.args.writer.now) in
-    let between : Option (List ℕ) = g.W.Write.contents (inner_of c.emit_head.new.writer) in
-    let next : Option (List ℕ) = g.W.Write.contents (inner_of c.emit_escaped.new.writer) in
-    let after : Option (List ℕ) = g.W.Write.contents (inner_of c.emit.new.writer) in
-    let head : List ℕ = decimal c.args.offset ++ kind_shown (seen c.args.packet) in
-    let body : List ℕ = escaped_of (body_of (seen c.args.packet)) in
-    let began : Emits held between c.args.self.now head c.emit_head.new.self = c.in_ok-emit_head.ensures.ok in
-    let went : Emits between next c.emit_head.new.self body c.emit_escaped.new.self =
-    subst (λ (l : List ℕ). Emits between next c.emit_head.new.self (escaped_of l) c.emit_escaped.new.self) c.body.ensures c.in_ok-emit_escaped.ensures.ok in
-    let so_far : Emits held next c.args.self.now (head ++ body) c.emit_escaped.new.self =
-    emits_then held between next c.args.self.now head c.emit_head.new.self body c.emit_escaped.new.self began went in
     on_err_weaker c.emit.result
-    (λ last. front_after held next after c.args.self.now (head ++ body) c.emit_escaped.new.self (10 ∷ []) so_far last) c.emit.ensures.err
+    (front_after _ _ _ _ _ _ (10 ∷ [])
+    (head_and_body _ _ _ _ _ _ _ _ _ c.body.ensures c.in_ok-emit_head.ensures.ok c.in_ok-emit_escaped.ensures.ok))
+    c.emit.ensures.err

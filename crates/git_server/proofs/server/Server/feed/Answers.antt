@@ -2,7 +2,7 @@ use Rattle.std.proofs.Common.{rules, ◌++◌, ◌⊎◌, ◌<◌, inl, inr, ℕ
 use Rattle.git_pkt.proofs.Pieces.{left_of, take_joined}
 use Rattle.git_server.specs.Moves.{Goes}
 use Rattle.git_server.specs.Serving.{wants_input}
-use Rattle.git_server.proofs.Going.{goes_twice, open_in_time}
+use Rattle.git_server.proofs.Going.{goes_join, open_in_time}
 use Rattle.git_server.proofs.server.Server.feed.Goals as goal
 
 true_not_false : true ≡ false → ⊥
@@ -24,11 +24,12 @@ pub loop-used-preserved : goal.loop-used-preserved
 loop-used-preserved g c =
     let done = c.loop-used.used in
     let piece = c.args.piece.now in
-    let both = goes_twice g.R.Repo.answers c.args.self.now c.loop-used.self c.step-used.new.self (take done piece) (take c.step-used.result (take (length piece - done) (drop done piece)))
+    let both = goes_join g.R.Repo.state c.args.self.now c.loop-used.self c.step-used.new.self (take done piece)
+    (take c.step-used.result (take (length piece - done) (drop done piece))) [] []
     c.loop-used.invariant.goes c.step-used.ensures.goes in
     record {
       within = omega (arith, c.step-used.ensures.used, ap length (left_of piece done c.loop-used.invariant.within), length-drop done piece);
-      goes = subst (λ (l : List ℕ). Goes g.R.Repo.answers l [] c.args.self.now c.step-used.new.self) (take_joined piece done c.step-used.result c.loop-used.invariant.within) both;
+      goes = subst (λ (l : List ℕ). Goes g.R.Repo.state l [] c.args.self.now c.step-used.new.self) (take_joined piece done c.step-used.result c.loop-used.invariant.within) both;
       moves = λ loud. inr (more_used done c.step-used.result _ c.step-used.ensures.moves);
       in_time =
           λ s so_far over before r wants fault ended too_long.
@@ -49,7 +50,7 @@ loop-used-init g c = record {
   within = search rules;
   goes = search rules;
   moves = search rules;
-  in_time = open_in_time g.R.Repo.answers c.args.self.now 0 c.args.piece.now;
+  in_time = open_in_time g.R.Repo.state c.args.self.now 0 c.args.piece.now;
   stays = search rules;
   nothing = search rules;
 }

@@ -7,9 +7,9 @@ use Rattle.git_server.proofs.server.Server.feed.Given as goal
 abbrev pub invariant-loop-used : goal.invariant-loop-used
 invariant-loop-used g l = record {
   within : l.used ≤ length l.piece;
-  goes : Goes g.R.Repo.answers (take l.used l.piece) [] l.fn.self l.self;
+  goes : Goes g.R.Repo.state (take l.used l.piece) [] l.fn.self l.self;
   moves : wants_input l.fn.self ≡ true → (wants_input l.self ≡ true) ⊎ (0 < l.used ⊎ IsSome (outcome_of l.self));
-  in_time : StopsInTime g.R.Repo.answers l.fn.self l.used l.piece (outcome_of l.self);
+  in_time : StopsInTime g.R.Repo.state l.fn.self l.used l.piece (outcome_of l.self);
   stays : wants_input l.fn.self ≡ false → (l.used ≡ 0) × (l.self ≡ l.fn.self);
   nothing : length l.piece ≡ 0 → (l.used ≡ 0) × (l.self ≡ l.fn.self);
 }

@@ -1,42 +1,40 @@
-use Rattle.std.proofs.Common.{refl, subst, take}
+use Rattle.std.proofs.Common.{refl, take}
 use Rattle.git_pkt.specs.Packets.{seen}
-use Rattle.git_pkt.specs.Reading.{ReadsOn, Tells, given_by}
-use Rattle.git_pkt.specs.declared.reader.Got.{Got}
 use Rattle.git_server.proofs.Going.{goes_packet, goes_refused, open_in_time, packet_in_time, fault_in_time, no_outcome}
+use Rattle.git_server.proofs.Readers.{feeds_with}
 use Rattle.git_server.proofs.server.Server.step.Goals as goal
 
 pub returns-in-Packet-clause-goes : goal.returns-in-Packet-clause-goes
 returns-in-Packet-clause-goes g c =
     let old = c.args.self.now in
-    let feeds = c.feed-fed.follows.holds-at-none in
-    let used = take c.feed-fed.result.used c.args.piece.now in
-    let reads = subst (λ (o : Got). ReadsOn old.reader used (given_by o) c.feed-fed.follows.lender-at-none) c.in-Packet.is feeds.reads in
-    let tells = subst (λ (o : Got). Tells o c.feed-fed.result.used c.args.piece.now c.feed-fed.follows.lender-at-none) c.in-Packet.is feeds.tells in
-    goes_packet g.R.Repo.answers old _ used (record { packet = seen c.in-Packet.packet; offset = c.in-Packet.offset }) _ c.requires.wants
-    (record { offer = refl; repo = refl; reads = reads }) c.take_packet-brought.ensures c.following.ensures tells.1 tells.2
+    let piece = c.args.piece.now in
+    let fed = c.feed-fed.result in
+    let feeds = feeds_with old.reader c.feed-fed.follows.lender-at-none piece fed _ c.in-Packet.is c.feed-fed.follows.holds-at-none in
+    goes_packet g.R.Repo.state old _ (take fed.used piece) (record { packet = seen c.in-Packet.packet; offset = c.in-Packet.offset }) _ c.requires.wants
+    (record { offer = refl; answers = refl; reads = feeds.reads }) c.take_packet-brought.ensures c.following.ensures feeds.tells.1 feeds.tells.2
 
 pub returns-in-Failed-clause-goes : goal.returns-in-Failed-clause-goes
 returns-in-Failed-clause-goes g c =
     let old = c.args.self.now in
-    let feeds = c.feed-fed.follows.holds-at-none in
-    let used = take c.feed-fed.result.used c.args.piece.now in
-    let reads = subst (λ (o : Got). ReadsOn old.reader used (given_by o) c.feed-fed.follows.lender-at-none) c.in-Failed.is feeds.reads in
-    let tells = subst (λ (o : Got). Tells o c.feed-fed.result.used c.args.piece.now c.feed-fed.follows.lender-at-none) c.in-Failed.is feeds.tells in
+    let piece = c.args.piece.now in
+    let fed = c.feed-fed.result in
+    let feeds = feeds_with old.reader c.feed-fed.follows.lender-at-none piece fed _ c.in-Failed.is c.feed-fed.follows.holds-at-none in
     let open_ended = no_outcome old.phase c.requires.wants in
-    goes_refused g.R.Repo.answers old _ used c.in-Failed.fault c.requires.wants (record { offer = refl; repo = refl; reads = reads }) refl (old.sound open_ended) (old.ready open_ended)
-    tells (λ none. (feeds.news c.in-Failed.fault none c.in-Failed.is).not_the_end) c.refusal.ensures
+    goes_refused g.R.Repo.state old _ (take fed.used piece) c.in-Failed.fault c.requires.wants (record { offer = refl; answers = refl; reads = feeds.reads })
+    refl (old.sound open_ended) (old.ready open_ended) feeds.tells
+    (λ none. (c.feed-fed.follows.holds-at-none.news c.in-Failed.fault none c.in-Failed.is).not_the_end) c.refusal.ensures
 
 pub returns-in-More-clause-in_time : goal.returns-in-More-clause-in_time
-returns-in-More-clause-in_time g c = open_in_time g.R.Repo.answers c.args.self.now c.feed-fed.result.used c.args.piece.now
+returns-in-More-clause-in_time g c = open_in_time g.R.Repo.state c.args.self.now c.feed-fed.result.used c.args.piece.now
 
 pub returns-in-Packet-clause-in_time : goal.returns-in-Packet-clause-in_time
 returns-in-Packet-clause-in_time g c =
-    packet_in_time g.R.Repo.answers c.args.self.now c.feed-fed.result.used c.args.piece.now
+    packet_in_time g.R.Repo.state c.args.self.now c.feed-fed.result.used c.args.piece.now
     (record { packet = seen c.in-Packet.packet; offset = c.in-Packet.offset })
     _ _ c.following.result c.take_packet-brought.ensures c.following.ensures
 
 pub returns-in-Failed-clause-in_time : goal.returns-in-Failed-clause-in_time
 returns-in-Failed-clause-in_time g c =
     let feeds = c.feed-fed.follows.holds-at-none in
-    fault_in_time g.R.Repo.answers c.args.self.now c.feed-fed.result.used c.args.piece.now c.in-Failed.fault c.refusal.result c.refusal.ensures
+    fault_in_time g.R.Repo.state c.args.self.now c.feed-fed.result.used c.args.piece.now c.in-Failed.fault c.refusal.result c.refusal.ensures
     (λ none. feeds.news c.in-Failed.fault none c.in-Failed.is)

@@ -1,0 +1,141 @@
+-- Whole requests, one more or one less at a time; and packets are whole requests in one way.
+use Rattle.std.proofs.Common.{◌≡◌, ◌≢◌, ℕ, Bool, true, false, List, [], ◌∷◌, ◌++◌, refl, sym, ap, ◌∙◌, append_assoc, append-nil, subst}
+use Rattle.git_pkt.specs.Packets.{Pkt, flush}
+use Rattle.git_pkt.specs.Splits.{Given}
+use Rattle.git_msg.specs.declared.offers.Offer.{Offer}
+use Rattle.git_msg.specs.Asked.{Asked}
+use Rattle.git_msg.specs.Lines.{Line, IsLine, IsLineIn, has_delimiter}
+use Rattle.git_msg.specs.Requests.{AreLines, Asks}
+use Rattle.git_msg.specs.WholeRequests.{AreRequests}
+use Rattle.git_msg.proofs.LineLaws.{one_request}
+
+pub last_same : (xs ys : List Given) (x y : Given) → xs ++ x ∷ [] ≡ ys ++ y ∷ [] → x ≡ y
+last_same [] [] x y e = cc
+last_same [] (b ∷ []) x y e = absurd (let t : [] ≡ y ∷ [] = cc in cc)
+last_same [] (b ∷ c ∷ ys) x y e = absurd (let t : [] ≡ c ∷ (ys ++ y ∷ []) = cc in cc)
+last_same (a ∷ []) [] x y e = absurd (let t : x ∷ [] ≡ [] = cc in cc)
+last_same (a ∷ c ∷ xs) [] x y e = absurd (let t : c ∷ (xs ++ x ∷ []) ≡ [] = cc in cc)
+last_same (a ∷ xs) (b ∷ ys) x y e = last_same xs ys x y (cc)
+
+module _ (IsOne : List Given → Asked → Type 0) where
+  -- further packets after what is left
+  pub requests_more : (packets more : List Given) (asked : List Asked) (left : List Given) → AreRequests IsOne packets asked left
+      → AreRequests IsOne (packets ++ more) asked (left ++ more)
+  requests_more packets more [] left same = ap (λ (l : List Given). l ++ more) same
+  requests_more packets more (q ∷ qs) left (front, back, whole, first, rest) =
+      (front, back ++ more, ap (λ (l : List Given). l ++ more) whole ∙ append_assoc front back more, first, requests_more back more qs left rest)
+
+  -- what is left is one more request
+  pub one_more_request : (packets : List Given) (asked : List Asked) (left : List Given) (q : Asked) → AreRequests IsOne packets asked left → IsOne left q
+      → AreRequests IsOne packets (asked ++ q ∷ []) []
+  one_more_request packets [] left q same is = (left, [], same ∙ sym (append-nil left), is, refl)
+  one_more_request packets (p ∷ ps) left q (front, back, whole, first, rest) is = (front, back, whole, first, one_more_request back ps left q rest is)
+
+  -- the last of the requests, taken back
+  pub record TakenBack (packets : List Given) (qs : List Asked) (q : Asked) : Type 0 where
+    pub left : List Given
+    pub earlier : AreRequests IsOne packets qs left
+    pub is_one : IsOne left q
+    pub before : List Given
+    pub behind : packets ≡ before ++ left
+
+  pub last_request : (packets : List Given) (qs : List Asked) (q : Asked) → AreRequests IsOne packets (qs ++ q ∷ []) [] → TakenBack packets qs q
+  last_request packets [] q (front, more, whole, is, rest) =
+      let same : packets ≡ front = whole ∙ ap (λ (l : List Given). front ++ l) rest ∙ append-nil front in
+      record { left = packets; earlier = refl; is_one = subst (λ (l : List Given). IsOne l q) (sym same) is; before = []; behind = refl }
+  last_request packets (p ∷ ps) q (front, more, whole, first, rest) =
+      let later = last_request more ps q rest in
+      record {
+        left = later.left;
+        earlier = (front, more, whole, first, later.earlier);
+        is_one = later.is_one;
+        before = front ++ later.before;
+        behind = whole ∙ ap (λ (l : List Given). front ++ l) later.behind ∙ sym (append_assoc front later.before later.left);
+      }
+
+  -- and its last packet is the last of all
+  pub last_packet : (packets : List Given) (qs : List Asked) (q : Asked) (t : TakenBack packets qs q) (front own_front : List Given) (last own : Given)
+      → packets ≡ front ++ last ∷ [] → t.left ≡ own_front ++ own ∷ [] → own ≡ last
+  last_packet packets qs q t front own_front last own e own_is =
+      let both : (t.before ++ own_front) ++ own ∷ [] ≡ front ++ last ∷ [] =
+      append_assoc t.before own_front (own ∷ []) ∙ ap (λ (l : List Given). t.before ++ l) (sym own_is) ∙ sym t.behind ∙ e in
+      last_same (t.before ++ own_front) front own last both
+
+  -- no request begins the packets
+  abbrev pub NoRequest : List Given → Type 0
+  NoRequest left = (front more : List Given) (q : Asked) → left ≡ front ++ more → IsOne front q → ⊥
+
+-- no packet of the list is a flush
+abbrev pub NoFlush : List Given → Type 0
+NoFlush [] = Unit {0}
+NoFlush (g ∷ gs) = (g.packet ≢ flush) × NoFlush gs
+
+flush_is_no_line_in : (part : Bool) (offer : Offer) (limit : ℕ) (before : List Line) (line : Line) → IsLineIn part offer limit before flush line → ⊥
+flush_is_no_line_in true offer limit before line h = h
+flush_is_no_line_in false offer limit before line h = h
+
+pub flush_is_no_line : (offer : Offer) (limit : ℕ) (before : List Line) (packet : Pkt) (line : Line) → IsLine offer limit before packet line → packet ≢ flush
+flush_is_no_line offer limit before packet line h is =
+    flush_is_no_line_in (has_delimiter before) offer limit before line (subst (λ (p : Pkt). IsLine offer limit before p line) is h)
+
+pub lines_have_no_flush : (offer : Offer) (limit : ℕ) (before : List Line) (gs : List Given) (lines : List Line) → AreLines offer limit before gs lines
+    → NoFlush gs
+lines_have_no_flush offer limit before [] lines h = tt
+lines_have_no_flush offer limit before (g ∷ gs) [] h = absurd h
+lines_have_no_flush offer limit before (g ∷ gs) (l ∷ ls) h =
+    (flush_is_no_line offer limit before g.packet l h.0, lines_have_no_flush offer limit (before ++ l ∷ []) gs ls h.1)
+
+pub flush_inside : (xs more left : List Given) (last : Given) → NoFlush left → last.packet ≡ flush → left ≡ xs ++ last ∷ more → ⊥
+flush_inside [] more [] last none ends e = cc
+flush_inside (x ∷ xs) more [] last none ends e = cc
+flush_inside [] more (g ∷ gs) last none ends e = let same : g ≡ last = cc in none.0 (ap (λ (p : Given). p.packet) same ∙ ends)
+flush_inside (x ∷ xs) more (g ∷ gs) last none ends e = let same : gs ≡ xs ++ last ∷ more = cc in flush_inside xs more gs last none.1 ends same
+
+-- what comes up to the first flush
+record SameFront (xs ys more others : List Given) (l m : Given) : Type 0 where
+  pub front : xs ++ l ∷ [] ≡ ys ++ m ∷ []
+  pub back : more ≡ others
+
+same_front : (xs ys more others : List Given) (l m : Given) → NoFlush xs → NoFlush ys → l.packet ≡ flush → m.packet ≡ flush
+    → xs ++ l ∷ more ≡ ys ++ m ∷ others → SameFront xs ys more others l m
+same_front [] [] more others l m none clear l_ends m_ends e =
+    let same : l ≡ m = cc in record { front = ap (λ (g : Given). g ∷ []) same; back = cc }
+same_front [] (y ∷ ys) more others l m none clear l_ends m_ends e =
+    let same : l ≡ y = cc in absurd (clear.0 (ap (λ (g : Given). g.packet) (sym same) ∙ l_ends))
+same_front (x ∷ xs) [] more others l m none clear l_ends m_ends e =
+    let same : x ≡ m = cc in absurd (none.0 (ap (λ (g : Given). g.packet) same ∙ m_ends))
+same_front (x ∷ xs) (y ∷ ys) more others l m none clear l_ends m_ends e =
+    let tails : xs ++ l ∷ more ≡ ys ++ m ∷ others = cc in
+    let same : x ≡ y = cc in
+    let later = same_front xs ys more others l m none.1 clear.1 l_ends m_ends tails in
+    record { front = ap (λ (g : Given). g ∷ (xs ++ l ∷ [])) same ∙ ap (λ (gs : List Given). y ∷ gs) later.front; back = later.back }
+
+-- a whole request is its lines and a flush
+pub whole_then : (offer : Offer) (limit : ℕ) (front more packets : List Given) (q : Asked) (kept : ℕ) (a : Asks offer limit front q kept)
+    → packets ≡ front ++ more → packets ≡ a.front ++ a.last ∷ more
+whole_then offer limit front more packets q kept a e = e ∙ ap (λ (gs : List Given). gs ++ more) a.whole ∙ append_assoc a.front (a.last ∷ []) more
+
+module _ (offer : Offer) (limit : ℕ) (IsOne : List Given → Asked → Type 0)
+    (asks : (front : List Given) (q : Asked) → IsOne front q → (kept : ℕ) × Asks offer limit front q kept) where
+  pub none_without_flush : (left : List Given) → NoFlush left → NoRequest IsOne left
+  none_without_flush left none front more q e is =
+      let (kept, a) = asks front q is in
+      flush_inside a.front more left a.last none a.ends (whole_then offer limit front more left q kept a e)
+
+  -- packets are one list of requests, and one thing is left after them
+  pub one_list_of_requests : (packets : List Given) (asked others : List Asked) (left rest : List Given) → NoRequest IsOne left → NoRequest IsOne rest
+      → AreRequests IsOne packets asked left → AreRequests IsOne packets others rest → (asked ≡ others) × (left ≡ rest)
+  one_list_of_requests packets [] [] left rest none clear h k = (refl, sym h ∙ k)
+  one_list_of_requests packets [] (q ∷ qs) left rest none clear h (front, more, whole, is, later) = absurd (none front more q (sym h ∙ whole) is)
+  one_list_of_requests packets (q ∷ qs) [] left rest none clear (front, more, whole, is, later) k = absurd (clear front more q (sym k ∙ whole) is)
+  one_list_of_requests packets (q ∷ qs) (r ∷ rs) left rest none clear (front, more, whole, is, later) (other, behind, all, is_other, its_later) =
+      let (kept, a) = asks front q is in
+      let (long, b) = asks other r is_other in
+      let same = same_front a.front b.front more behind a.last b.last (lines_have_no_flush offer limit [] a.front a.lines a.taken)
+      (lines_have_no_flush offer limit [] b.front b.lines b.taken) a.ends b.ends
+      (sym (whole_then offer limit front more packets q kept a whole) ∙ whole_then offer limit other behind packets r long b all) in
+      let fronts : front ≡ other = a.whole ∙ same.front ∙ sym b.whole in
+      let first = (one_request offer limit other q r kept long (subst (λ (gs : List Given). Asks offer limit gs q kept) fronts a) b).0 in
+      let tail = one_list_of_requests more qs rs left rest none clear later
+      (subst (λ (gs : List Given). AreRequests IsOne gs rs rest) (sym same.back) its_later) in
+      (ap (λ (x : Asked). x ∷ qs) first ∙ ap (λ (l : List Asked). r ∷ l) tail.0, tail.1)

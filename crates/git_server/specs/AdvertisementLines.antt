@@ -1,0 +1,50 @@
+-- The lines of an advertisement, one after another.
+use Rattle.std.specs.Prelude.{if◌then◌else◌, Option, Some, None, List, [], ◌∷◌, ◌++◌, codes}
+use Rattle.git_names.specs.declared.object_format.Format.{Format}
+use Rattle.git_pkt.specs.Packets.{Pkt, flush}
+use Rattle.git_msg.specs.declared.offers.Offer.{Offer}
+use Rattle.git_msg.specs.Writing.{text_line, agent_line, format_line}
+use Rattle.git_server.specs.Answers.{offered_line, advertisement_of}
+use Rattle.git_server.specs.declared.advertisement.AdvertisementLine.{AdvertisementLine}
+use Rattle.git_server.specs.declared.advertisement.AdvertisementLine.TheVariants.{Version, Agent, LsRefs, ServerOption, ObjectFormat, End}
+
+-- the packet of a line
+abbrev pub advertisement_packet : Format → AdvertisementLine → Pkt
+advertisement_packet format Version = text_line (codes "version 2")
+advertisement_packet format Agent = agent_line
+advertisement_packet format LsRefs = text_line (codes "ls-refs")
+advertisement_packet format ServerOption = text_line (codes "server-option")
+advertisement_packet format ObjectFormat = format_line format
+advertisement_packet format End = flush
+
+-- the line after it
+abbrev pub advertisement_line_after : Offer → AdvertisementLine → Option AdvertisementLine
+advertisement_line_after offer Version = Some Agent
+advertisement_line_after offer Agent = Some LsRefs
+advertisement_line_after offer LsRefs = Some (if offer.server_option then ServerOption else ObjectFormat)
+advertisement_line_after offer ServerOption = Some ObjectFormat
+advertisement_line_after offer ObjectFormat = Some End
+advertisement_line_after offer End = None
+
+-- the packets from the line of the format on
+abbrev pub format_on : Offer → List Pkt
+format_on offer = advertisement_packet offer.format ObjectFormat ∷ flush ∷ []
+
+-- the packets from the line of ls-refs on
+abbrev pub ls_refs_on : Offer → List Pkt
+ls_refs_on offer =
+    advertisement_packet offer.format LsRefs ∷ (offered_line offer.server_option (codes "server-option") ++ format_on offer)
+
+-- the packets from a line on
+abbrev pub advertisement_from : Offer → AdvertisementLine → List Pkt
+advertisement_from offer Version = advertisement_of offer
+advertisement_from offer Agent = advertisement_packet offer.format Agent ∷ ls_refs_on offer
+advertisement_from offer LsRefs = ls_refs_on offer
+advertisement_from offer ServerOption = advertisement_packet offer.format ServerOption ∷ format_on offer
+advertisement_from offer ObjectFormat = format_on offer
+advertisement_from offer End = flush ∷ []
+
+-- the packets after a line
+abbrev pub advertisement_after : Offer → Option AdvertisementLine → List Pkt
+advertisement_after offer (Some next) = advertisement_from offer next
+advertisement_after offer None = []
