@@ -1,21 +1,20 @@
 -- No packet of a request is told as a stream that is too long.
-use Rattle.std.proofs.Common.{◌≡◌, ◌≢◌, ℕ, ◌+◌, ◌<◌, ◌≤◌, Bool, true, false, Option, Some, List, [], ◌∷◌, ◌++◌, length, sym, ◌∙◌, subst, inl, inr}
-use Rattle.git_names.specs.ObjectFormat.{name_of as format_name}
+use Rattle.std.proofs.Common.{◌≢◌, ℕ, Bool, true, false, Option, List, [], ◌∷◌, subst, inl, inr}
 use Rattle.git_names.specs.declared.object_format.Format.{Format}
 use Rattle.git_pkt.specs.Packets.{Pkt, flush, delim, resp_end, payload, text_of}
 use Rattle.git_pkt.specs.Splits.{Given}
 use Rattle.git_pkt.specs.declared.fault.Fault.{Fault}
 use Rattle.git_pkt.specs.declared.fault.Kind.{Kind}
-use Rattle.git_pkt.specs.declared.fault.Kind.TheVariants.{BadCapability, NoCommand, NotAdvertised, OutOfMemory, RemoteError, StreamTooLong, TooMuchKept, TwoCommands, UnknownCommand, WrongFormat}
+use Rattle.git_pkt.specs.declared.fault.Kind.TheVariants.{StreamTooLong}
 use Rattle.git_msg.specs.declared.offers.Offer.{Offer}
 use Rattle.git_msg.specs.declared.arguments.Command.{Command}
 use Rattle.git_msg.specs.declared.arguments.Command.TheVariants.{LsRefs}
 use Rattle.git_msg.specs.declared.capability_key.Key.{Key}
 use Rattle.git_msg.specs.declared.capability_key.Key.TheVariants.{CommandKey, AgentKey, ServerOptionKey, ObjectFormatKey, OtherKey}
-use Rattle.git_msg.specs.Arguments.{Arg, Row, of_ref_prefix, IsArgumentFault, IsRowFault}
-use Rattle.git_msg.specs.Asked.{Asked, ls_refs, asked_by}
-use Rattle.git_msg.specs.Checks.{Check, check, Refuses}
-use Rattle.git_msg.specs.Lines.{Line, argument_checks, at_end, capability_checks, commands_of, end_checks, flush_checks_in, has_delimiter, has_format, is_none, kept_in, key_checks, part_checks, HasFault, HasFaultIn}
+use Rattle.git_msg.specs.Arguments.{Row, of_ref_prefix, IsArgumentFault, IsRowFault}
+use Rattle.git_msg.specs.Asked.{Asked, ls_refs}
+use Rattle.git_msg.specs.Checks.{Check, Refuses}
+use Rattle.git_msg.specs.Lines.{Line, argument_checks, capability_checks, commands_of, end_checks, flush_checks_in, has_delimiter, has_format, is_none, kept_in, key_checks, part_checks, HasFault, HasFaultIn}
 use Rattle.git_msg.specs.Requests.{IsTold}
 
 -- none of the checks refuses by that name

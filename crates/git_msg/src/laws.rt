@@ -19,7 +19,7 @@ ghost use Rattle.git_msg.specs.References.{Ref, IsReferenceFault, IsReferenceLin
 ghost use Rattle.git_msg.specs.Requests.{Asks, FirstFault};
 ghost use Rattle.git_msg.specs.Writing.{lines_written};
 
-use crate::requests::Limits;
+use crate::limits::Limits;
 use std::alloc::Allocator;
 
 // Texts of single lines.

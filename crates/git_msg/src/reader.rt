@@ -1,8 +1,9 @@
 //! Requests, read packet by packet.
 use crate::arguments::{Argument, Command};
 use crate::judge::{Noted, judge_capability, read_text};
+use crate::limits::Limits;
 use crate::offers::Offer;
-use crate::requests::{Limits, Request, written_length};
+use crate::requests::{Request, written_length};
 use git_names::Format;
 use git_pkt::{Fault, Kind, Packet, text};
 use std::alloc::Allocator;

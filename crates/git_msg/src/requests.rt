@@ -1,242 +1,21 @@
 //! Requests as they are kept.
-ghost use Rattle.std.specs.Prelude.{◌≡◌, ◌+◌, ◌^◌, ◌≤◌, ◌<◌, [], ◌∷◌, ◌++◌, List, Some, length, OnOk, OnSome, OnErr, IfErr, IfSome, MatchOption, MatchResult, slice_get};
+ghost use Rattle.std.specs.Prelude.{◌≡◌, ◌+◌, ◌^◌, ◌≤◌, ◌<◌, length, OnOk, OnSome, OnErr, IfErr, IfSome, MatchResult, slice_get};
 ghost use Rattle.std.specs.Option.{option_copied, option_map};
 ghost use Rattle.git_pkt.specs.Packets.{longest_payload};
-ghost use Rattle.git_msg.specs.Arguments.{Arg, most_limit, shown, written_text};
-ghost use Rattle.git_msg.specs.Asked.{where_asked};
+ghost use Rattle.git_msg.specs.Arguments.{shown, written_text};
 
 use crate::arguments::{Argument, Command, MOST_TEXT};
+use crate::limits::Limits;
+use crate::ls_refs::LsRefs;
 use git_names::Format;
 use git_pkt::Kind;
-use std::alloc::{AllocError, Allocator};
-use std::marker::Model;
-
-/// How much a request may keep.
-#[derive(Clone, Copy, Debug)]
-pub struct Limits {
-    /// The most bytes that the texts of its argument lines may have, all of them together: 1,073,741,824 at most.
-    pub args: u32,
-    ghost in_range: { args ≤ most_limit },
-}
-
-impl Limits {
-    /// The usual limit: 16,777,216 bytes.
-    pub const USUAL: u32 = 16_777_216;
-}
-
-// How many bytes the texts of a request's argument lines may have, and how many they had so far.
-#[derive(Clone, Copy, Debug)]
-struct Budget {
-    limit: u32,
-    kept: u32,
-    ghost within: { kept ≤ limit },
-    ghost in_range: { limit ≤ most_limit },
-}
-
-impl Budget {
-    fn new(limits: Limits) -> Budget
-        ensures limit { result.limit ≡ limits.args }
-        ensures kept { result.kept ≡ 0 }
-    {
-        Budget {
-            limit: limits.args,
-            kept: 0,
-        }
-    }
-
-    // Counts a text of so many bytes, if there is room for it.
-    fn charge(&mut self, text_length: usize) -> Result<(), Kind>
-        ensures charged { OnOk result ((self.new.kept ≡ self.old.kept + text_length) × (self.new.limit ≡ self.old.limit)) }
-        ensures unchanged { OnErr result (self.new ≡ self.old) }
-        ensures sides { MatchResult result (λ _. self.old.kept + text_length ≤ self.old.limit)
-            (λ kind. (self.old.limit < self.old.kept + text_length) × (kind ≡ Kind.TooMuchKept)) }
-    {
-        if text_length > (self.limit - self.kept) as usize {
-            return Err(Kind::TooMuchKept);
-        }
-        self.kept += text_length as u32;
-        Ok(())
-    }
-}
-
-// Byte strings, each in memory of its own.
-#[derive(Drop)]
-struct Texts<A: Allocator + Copy> {
-    items: Vec<Vec<u8, A>, A>,
-}
-
-impl<A: Allocator + Copy> Model for Texts<A> {
-    ghost use Rattle.std.specs.Prelude.{List, ℕ, map};
-
-    ghost Value = { List (List ℕ) };
-
-    ghost view = { λ texts. map (λ text. text.items) texts.items.items };
-}
-
-impl<A: Allocator + Copy> Texts<A> {
-    fn new(alloc: A) -> Texts<A>
-        ensures { result ≡ [] }
-    {
-        Texts {
-            items: Vec::new(alloc),
-        }
-    }
-
-    fn get(&self, i: usize) -> Option<&[u8]>
-        ensures value { option_copied result ≡ slice_get self.now i }
-        ensures bound { OnSome result (i + 1 < 2 ^ 64) }
-    {
-        match self.items.get(i) {
-            Some(text) => Some(text.as_slice()),
-            None => None,
-        }
-    }
-
-    fn push(&mut self, text: &[u8]) -> Result<(), AllocError>
-        ensures ok { OnOk result (self.new ≡ self.old ++ text.now ∷ []) }
-        ensures err { OnErr result (self.new ≡ self.old) }
-    {
-        let copy = Vec::from_slice(*self.items.allocator(), text)?;
-        self.items.push(copy)?;
-        Ok(())
-    }
-}
-
-/// A request for references, `ls-refs` of gitprotocol-v2(5).
-#[derive(Drop)]
-pub struct LsRefs<A: Allocator + Copy> {
-    format: Format,
-    budget: Budget,
-    symrefs: bool,
-    peel: bool,
-    ref_prefixes: Texts<A>,
-}
-
-impl<A: Allocator + Copy> Model for LsRefs<A> {
-    ghost use Rattle.git_msg.specs.Asked.{LsRefsAsked, ls_refs};
-    ghost use Rattle.git_msg.specs.Kept.{Kept, IsCounted};
-
-    ghost Value = { Kept LsRefsAsked };
-
-    ghost view = { λ q. record {
-      format = q.format;
-      asked = record { symrefs = q.symrefs; peel = q.peel; ref_prefixes = q.ref_prefixes };
-      kept = q.budget.kept;
-      limit = q.budget.limit;
-    } };
-
-    ghost invariant = { λ q. IsCounted q.format (ls_refs (record { symrefs = q.symrefs; peel = q.peel; ref_prefixes = q.ref_prefixes })) q.budget.kept };
-}
+use std::alloc::Allocator;
 
 /// A request of gitprotocol-v2(5), as it is kept: its arguments by their kinds.
 #[derive(Drop)]
 pub enum Request<A: Allocator + Copy> {
     /// A request for references.
     LsRefs(LsRefs<A>),
-}
-
-impl<A: Allocator + Copy> LsRefs<A> {
-    ghost use Rattle.git_msg.specs.Arguments.{IsValue, most_text};
-    ghost use Rattle.git_msg.specs.Asked.{arguments_in, ls_refs};
-    ghost use Rattle.git_msg.specs.Kept.{IsNew, IsUnkept, IsWithin, KeepsArgument, kept_as};
-
-    /// Whether symbolic references are to be shown with what they point to.
-    pub fn symrefs(&self) -> bool
-        ensures { result ≡ self.now.asked.symrefs }
-    {
-        self.symrefs
-    }
-
-    /// Whether annotated tags are to be shown with what they stand for.
-    pub fn peel(&self) -> bool
-        ensures { result ≡ self.now.asked.peel }
-    {
-        self.peel
-    }
-
-    /// The prefix at place `i`, in the order of their lines.
-    pub fn ref_prefix(&self, i: usize) -> Option<&[u8]>
-        ensures value { option_copied result ≡ slice_get self.now.asked.ref_prefixes i }
-        ensures bound { OnSome result (i + 1 < 2 ^ 64) }
-        ensures fits { IfSome result (λ prefix. length prefix.now ≤ most_text) }
-    {
-        self.ref_prefixes.get(i)
-    }
-
-    fn new(alloc: A, format: Format, limits: Limits) -> LsRefs<A>
-        ensures { IsNew Command.LsRefs format limits.args (kept_as ls_refs result) }
-    {
-        LsRefs {
-            format,
-            budget: Budget::new(limits),
-            symrefs: false,
-            peel: false,
-            ref_prefixes: Texts::new(alloc),
-        }
-    }
-
-    fn kept(&self) -> u32
-        ensures value { result ≡ self.now.kept }
-        ensures within { IsWithin (kept_as ls_refs self.now) }
-    {
-        self.budget.kept
-    }
-
-    // The argument at place `i`, in the order in which they are written.
-    fn argument(&self, i: usize) -> Option<Argument<'_>>
-        ensures value { option_map shown result ≡ slice_get (arguments_in (ls_refs self.now.asked)) i }
-        ensures within { IsWithin (kept_as ls_refs self.now) }
-    {
-        let Some(i) = past_flag(self.peel, i) else {
-            return Some(Argument::Peel);
-        };
-        let Some(i) = past_flag(self.symrefs, i) else {
-            return Some(Argument::Symrefs);
-        };
-        match self.ref_prefix(i) {
-            Some(prefix) => Some(Argument::RefPrefix(prefix)),
-            None => None,
-        }
-    }
-
-    // Keeps an argument whose line has a text of so many bytes.
-    fn keep(&mut self, argument: Argument<'_>, text_length: usize) -> Result<(), Kind>
-        requires value { IsValue Command.LsRefs self.old.format (shown argument) }
-        requires counted { length (written_text (shown argument)) ≤ text_length }
-        ensures kept { OnOk result (KeepsArgument (kept_as ls_refs self.old) (shown argument.entry) text_length (kept_as ls_refs self.new)) }
-        ensures fits { OnOk result (self.old.kept + text_length ≤ self.old.limit) }
-        ensures unchanged { OnErr result (self.new ≡ self.old) }
-        ensures refused { IfErr result (IsUnkept (kept_as ls_refs self.old) (shown argument.entry) text_length) }
-    {
-        let mut budget = self.budget;
-        budget.charge(text_length)?;
-        match argument {
-            Argument::Symrefs => self.symrefs = true,
-            Argument::Peel => self.peel = true,
-            Argument::RefPrefix(prefix) => {
-                if self.ref_prefixes.push(prefix).is_err() {
-                    return Err(Kind::OutOfMemory);
-                }
-            }
-        }
-        self.budget = budget;
-        Ok(())
-    }
-}
-
-// The place after a flag's argument, if that is among the arguments; none where the place is its own.
-fn past_flag(set: bool, i: usize) -> Option<usize>
-    ensures { MatchOption result
-        ((flag : Arg) (others : List Arg) → slice_get (where_asked set flag ++ others) i ≡ Some flag)
-        (λ next. (flag : Arg) (others : List Arg) → slice_get (where_asked set flag ++ others) i ≡ slice_get others next) }
-{
-    if !set {
-        return Some(i);
-    }
-    if i == 0 {
-        return None;
-    }
-    Some(i - 1)
 }
 
 impl<A: Allocator + Copy> Request<A> {
@@ -292,7 +71,7 @@ impl<A: Allocator + Copy> Request<A> {
         ensures { result ≡ format_of self.now }
     {
         match self {
-            Request::LsRefs(request) => request.format,
+            Request::LsRefs(request) => request.format(),
         }
     }
 
@@ -316,9 +95,7 @@ impl<A: Allocator + Copy> Request<A> {
         ensures { result.args ≡ limit_of self.now }
     {
         match self {
-            Request::LsRefs(request) => Limits {
-                args: request.budget.limit,
-            },
+            Request::LsRefs(request) => request.limits(),
         }
     }
 

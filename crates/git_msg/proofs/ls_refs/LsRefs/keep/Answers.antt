@@ -3,8 +3,8 @@ use Rattle.git_msg.specs.Arguments.{shown}
 use Rattle.git_msg.specs.Asked.{LsRefsAsked, ls_refs, with_argument}
 use Rattle.git_msg.specs.Kept.{IsCounted}
 use Rattle.git_msg.proofs.KeptBytes.{counted_more}
-use Rattle.git_msg.proofs.requests.LsRefs.keep.Goals as goal
-use Rattle.git_msg.proofs.requests.LsRefs.keep.Goals.{in-Symrefs, in-Peel, in-RefPrefix+else-is_err}
+use Rattle.git_msg.proofs.ls_refs.LsRefs.keep.Goals as goal
+use Rattle.git_msg.proofs.ls_refs.LsRefs.keep.Goals.{in-Symrefs, in-Peel, in-RefPrefix+else-is_err}
 
 pub invariant_of-self-2 : goal.invariant_of-self-2
 invariant_of-self-2 g c =

@@ -1,5 +1,5 @@
 use Rattle.git_msg.proofs.KeptBytes.{prefix_fits}
-use Rattle.git_msg.proofs.requests.LsRefs.ref_prefix.Goals as goal
+use Rattle.git_msg.proofs.ls_refs.LsRefs.ref_prefix.Goals as goal
 
 pub returns-clause-fits : goal.returns-clause-fits
 returns-clause-fits g c =

@@ -1,0 +1,139 @@
+//! Requests for references, `ls-refs` of gitprotocol-v2(5), as they are kept.
+ghost use Rattle.std.specs.Prelude.{◌≡◌, ◌+◌, ◌^◌, ◌≤◌, ◌<◌, length, OnOk, OnSome, OnErr, IfErr, IfSome, slice_get};
+ghost use Rattle.std.specs.Option.{option_copied, option_map};
+ghost use Rattle.git_msg.specs.Arguments.{shown, written_text};
+
+use crate::arguments::{Argument, Command};
+use crate::limits::{Budget, Limits};
+use crate::parts::{Texts, past_flag};
+use git_names::Format;
+use git_pkt::Kind;
+use std::alloc::Allocator;
+use std::marker::Model;
+
+/// A request for references, `ls-refs` of gitprotocol-v2(5).
+#[derive(Drop)]
+pub struct LsRefs<A: Allocator + Copy> {
+    format: Format,
+    budget: Budget,
+    symrefs: bool,
+    peel: bool,
+    ref_prefixes: Texts<A>,
+}
+
+impl<A: Allocator + Copy> Model for LsRefs<A> {
+    ghost use Rattle.git_msg.specs.Asked.{LsRefsAsked, ls_refs};
+    ghost use Rattle.git_msg.specs.Kept.{Kept, IsCounted};
+
+    ghost Value = { Kept LsRefsAsked };
+
+    ghost view = { λ q. record {
+      format = q.format;
+      asked = record { symrefs = q.symrefs; peel = q.peel; ref_prefixes = q.ref_prefixes };
+      kept = q.budget.kept;
+      limit = q.budget.limit;
+    } };
+
+    ghost invariant = { λ q. IsCounted q.format (ls_refs (record { symrefs = q.symrefs; peel = q.peel; ref_prefixes = q.ref_prefixes })) q.budget.kept };
+}
+
+impl<A: Allocator + Copy> LsRefs<A> {
+    ghost use Rattle.git_msg.specs.Arguments.{IsValue, most_text};
+    ghost use Rattle.git_msg.specs.Asked.{arguments_in, ls_refs};
+    ghost use Rattle.git_msg.specs.Kept.{IsNew, IsUnkept, IsWithin, KeepsArgument, kept_as};
+
+    /// Whether symbolic references are to be shown with what they point to.
+    pub fn symrefs(&self) -> bool
+        ensures { result ≡ self.now.asked.symrefs }
+    {
+        self.symrefs
+    }
+
+    /// Whether annotated tags are to be shown with what they stand for.
+    pub fn peel(&self) -> bool
+        ensures { result ≡ self.now.asked.peel }
+    {
+        self.peel
+    }
+
+    /// The prefix at place `i`, in the order of their lines.
+    pub fn ref_prefix(&self, i: usize) -> Option<&[u8]>
+        ensures value { option_copied result ≡ slice_get self.now.asked.ref_prefixes i }
+        ensures bound { OnSome result (i + 1 < 2 ^ 64) }
+        ensures fits { IfSome result (λ prefix. length prefix.now ≤ most_text) }
+    {
+        self.ref_prefixes.get(i)
+    }
+
+    pub(crate) fn new(alloc: A, format: Format, limits: Limits) -> LsRefs<A>
+        ensures { IsNew Command.LsRefs format limits.args (kept_as ls_refs result) }
+    {
+        LsRefs {
+            format,
+            budget: Budget::new(limits),
+            symrefs: false,
+            peel: false,
+            ref_prefixes: Texts::new(alloc),
+        }
+    }
+
+    pub(crate) fn format(&self) -> Format
+        ensures { result ≡ self.now.format }
+    {
+        self.format
+    }
+
+    pub(crate) fn limits(&self) -> Limits
+        ensures { result.args ≡ self.now.limit }
+    {
+        self.budget.limits()
+    }
+
+    pub(crate) fn kept(&self) -> u32
+        ensures value { result ≡ self.now.kept }
+        ensures within { IsWithin (kept_as ls_refs self.now) }
+    {
+        self.budget.kept()
+    }
+
+    /// The argument at place `i`, in the order in which they are written.
+    pub(crate) fn argument(&self, i: usize) -> Option<Argument<'_>>
+        ensures value { option_map shown result ≡ slice_get (arguments_in (ls_refs self.now.asked)) i }
+        ensures within { IsWithin (kept_as ls_refs self.now) }
+    {
+        let Some(i) = past_flag(self.peel, i) else {
+            return Some(Argument::Peel);
+        };
+        let Some(i) = past_flag(self.symrefs, i) else {
+            return Some(Argument::Symrefs);
+        };
+        match self.ref_prefix(i) {
+            Some(prefix) => Some(Argument::RefPrefix(prefix)),
+            None => None,
+        }
+    }
+
+    /// Keeps an argument whose line has a text of so many bytes.
+    pub(crate) fn keep(&mut self, argument: Argument<'_>, text_length: usize) -> Result<(), Kind>
+        requires value { IsValue Command.LsRefs self.old.format (shown argument) }
+        requires counted { length (written_text (shown argument)) ≤ text_length }
+        ensures kept { OnOk result (KeepsArgument (kept_as ls_refs self.old) (shown argument.entry) text_length (kept_as ls_refs self.new)) }
+        ensures fits { OnOk result (self.old.kept + text_length ≤ self.old.limit) }
+        ensures unchanged { OnErr result (self.new ≡ self.old) }
+        ensures refused { IfErr result (IsUnkept (kept_as ls_refs self.old) (shown argument.entry) text_length) }
+    {
+        let mut budget = self.budget;
+        budget.charge(text_length)?;
+        match argument {
+            Argument::Symrefs => self.symrefs = true,
+            Argument::Peel => self.peel = true,
+            Argument::RefPrefix(prefix) => {
+                if self.ref_prefixes.push(prefix).is_err() {
+                    return Err(Kind::OutOfMemory);
+                }
+            }
+        }
+        self.budget = budget;
+        Ok(())
+    }
+}
