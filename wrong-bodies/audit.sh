@@ -60,7 +60,7 @@ while read -r crate; do cat "$room/$crate.told"; done < "$room/crates" | awk -v 
         if (what ~ /^NOT REFUSED/) return "proved"
         if (what !~ /^refused/) return "unfit"
         if (what ~ /only because|record `|projects from|has no field|has no `|is not in scope|was not admitted/) return "hollow"
-        # The second is said of a type's invariant; the last is how `cc` tells that it proves nothing.
+        # The second is said of the invariant of a type; the last is how `cc` tells that it proves nothing.
         if (what ~ /it is not proved that|`search` found no proof|`(omega|search|grind|simp)`:|list the missing equation/) return "goal"
         return what ~ /: (\.\/)?proofs\// ? "proof" : "hollow"
     }
