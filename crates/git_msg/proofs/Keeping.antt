@@ -1,18 +1,18 @@
 -- A reader of requests that keeps an argument, or does not.
-use Rattle.std.proofs.Common.{arith, ◌≡◌, ℕ, ◌+◌, ◌<◌, ◌≤◌, Bool, true, Ok, Err, List, [], ◌∷◌, ◌++◌, refl, ap, sym, ◌∙◌, subst, length, max, inl, inr}
+use Rattle.std.proofs.Common.{arith, ◌≡◌, ℕ, ◌+◌, ◌<◌, ◌≤◌, Bool, true, Ok, Err, List, [], ◌∷◌, ◌++◌, refl, ap, sym, ◌∙◌, subst, length, max, inl, inr, codes, length-append}
 use Rattle.std.proofs.lemmas.List.{append-nil}
 use Rattle.git_pkt.specs.Packets.{Pkt, payload, text_of}
 use Rattle.git_pkt.specs.Splits.{Given}
 use Rattle.git_pkt.specs.declared.fault.Kind.{Kind}
-use Rattle.git_pkt.specs.declared.fault.Kind.TheVariants.{BadLine, TooMuchKept, OutOfMemory}
+use Rattle.git_pkt.specs.declared.fault.Kind.TheVariants.{TooMuchKept, OutOfMemory}
+use Rattle.git_names.specs.ObjectName.{hex_of}
 use Rattle.git_names.specs.declared.object_format.Format.{Format}
 use Rattle.git_msg.specs.declared.arguments.Command.{Command}
-use Rattle.git_msg.specs.declared.arguments.Command.TheVariants.{LsRefs}
 use Rattle.git_msg.specs.declared.requests.Request.{Request}
 use Rattle.git_msg.specs.declared.reader.Part.{Part}
 use Rattle.git_msg.specs.declared.reader.Part.TheVariants.{Arguments, Waiting, Failed}
 use Rattle.git_msg.specs.declared.reader.RequestReader.{RequestReader}
-use Rattle.git_msg.specs.Arguments.{Arg, symrefs, peel, ref_prefix, IsArgument, IsValueFault, written_text, TakesMemory}
+use Rattle.git_msg.specs.Arguments.{Arg, symrefs, peel, ref_prefix, want, done, thin_pack, no_progress, include_tag, ofs_delta, SaysArgument, IsArgument, IsOutOfRange, IsValueFault, written_text, TakesMemory}
 use Rattle.git_msg.specs.Asked.{asked_by, with_argument}
 use Rattle.git_msg.specs.Checks.{Passes}
 use Rattle.git_msg.specs.Holding.{command_of, format_of, kept_of, limit_of, Keeps, keep_checks, IsRefused}
@@ -20,6 +20,7 @@ use Rattle.git_msg.specs.Lines.{Line, argument, commands_of, arguments_of, IsLin
 use Rattle.git_msg.specs.Requests.{AreLines, FirstFault, WantsMemory, IsTold}
 use Rattle.git_msg.specs.Taking.{WaitsIn, WaitsBehind, InArguments, KeepsOn, limit_in}
 use Rattle.git_msg.proofs.ArgumentsInOrder.{asked_snoc}
+use Rattle.git_msg.proofs.WrittenNames.{length-hex_of, named_in}
 use Rattle.git_msg.proofs.LineLists.{commands_snoc, arguments_snoc, delimiter_snoc, kept_snoc, lines_snoc, argument_is_line}
 
 -- the line of an argument that waited
@@ -43,14 +44,29 @@ one_more lines arg long r q h k = record {
 }
 
 -- an argument's text is not shorter than the argument's written form
-as_written : (c : Command) (format : Format) (text : List ℕ) (arg : Arg) → IsArgument c format text arg → length (written_text arg) ≤ length text
-as_written LsRefs format text symrefs h = let e = ap length h in omega arith
-as_written LsRefs format text peel h = let e = ap length h in omega arith
-as_written LsRefs format text (ref_prefix p) h = let e = ap length h.0 in omega arith
+as_written : (format : Format) (text : List ℕ) (arg : Arg) → SaysArgument format text arg → length (written_text arg) ≤ length text
+as_written format text symrefs h = let e = ap length h in omega arith
+as_written format text peel h = let e = ap length h in omega arith
+as_written format text (ref_prefix p) h = let e = ap length h.0 in omega arith
+as_written format text (want id) h =
+    let e = ap length h.spelled in
+    omega (
+      arith,
+      e,
+      h.holds.count,
+      length-hex_of format id (named_in format h.value id h.holds),
+      length-append (codes "want ") h.value,
+      length-append (codes "want ") (hex_of id),
+    )
+as_written format text done h = let e = ap length h in omega arith
+as_written format text thin_pack h = let e = ap length h in omega arith
+as_written format text no_progress h = let e = ap length h in omega arith
+as_written format text include_tag h = let e = ap length h in omega arith
+as_written format text ofs_delta h = let e = ap length h in omega arith
 
 counted : {A : Type 0} (packets : List Given) (offset long : ℕ) (arg : Arg) (r : RequestReader A) → WaitsBehind packets offset long arg r → max long (length (written_text arg)) ≡ long
 counted packets offset long arg r w =
-    let less = as_written w.is_text.of r.offer.format (text_of w.bytes) arg w.is_text.reads.is_argument in
+    let less = as_written r.offer.format (text_of w.bytes) arg w.is_text.reads.is_argument.1 in
     let same = w.long_is in
     omega arith
 
@@ -117,15 +133,21 @@ same_command : (cs : List Command) (c d : Command) → cs ≡ c ∷ [] → cs �
 same_command cs c d h k = cc
 
 -- an argument that was read may stand there
-value_or_fault : (c : Command) (format other : Format) (text : List ℕ) (arg : Arg) (kind : Kind) → IsArgument c format text arg → IsValueFault c other arg kind → ⊥
-value_or_fault LsRefs format other text (ref_prefix p) BadLine h fault = let most = h.1 in omega arith
-value_or_fault c format other text arg kind h fault = fault
+range_or_fault : (format : Format) (text : List ℕ) (arg : Arg) (kind : Kind) → SaysArgument format text arg → IsOutOfRange format arg kind → ⊥
+range_or_fault format text (ref_prefix p) kind h fault = omega (arith, h.1, fault.0)
+range_or_fault format text (want id) kind h fault = fault.0 h.holds.of_format
+range_or_fault format text arg kind h fault = fault
+
+value_or_fault : (c : Command) (format : Format) (text : List ℕ) (arg : Arg) (kind : Kind) → IsArgument c format text arg → IsValueFault c format arg kind → ⊥
+value_or_fault c format text arg kind h (inl fault) = fault.0 h.0
+value_or_fault c format text arg kind h (inr fault) = range_or_fault format text arg kind h.1 fault.1
 
 sound_value : {A : Type 0} (packets : List Given) (offset long : ℕ) (arg : Arg) (r : RequestReader A) (kind : Kind) → WaitsBehind packets offset long arg r → IsValueFault (command_of r.request) (format_of r.request) arg kind → ⊥
 sound_value packets offset long arg r kind w fault =
     let of : w.is_text.of ≡ command_of r.request = same_command (commands_of w.lines) w.is_text.of (command_of r.request) w.is_text.asked w.in_part.command in
     let is : IsArgument (command_of r.request) r.offer.format (text_of w.bytes) arg = subst (λ (c : Command). IsArgument c r.offer.format (text_of w.bytes) arg) of w.is_text.reads.is_argument in
-    value_or_fault (command_of r.request) r.offer.format (format_of r.request) (text_of w.bytes) arg kind is fault
+    value_or_fault (command_of r.request) r.offer.format (text_of w.bytes) arg kind is
+    (subst (λ (f : Format). IsValueFault (command_of r.request) f arg kind) w.in_part.format fault)
 
 told : {A : Type 0} (packets : List Given) (offset long : ℕ) (arg : Arg) (r : RequestReader A) (kind : Kind) → WaitsBehind packets offset long arg r → IsRefused (keep_checks r.request arg long) arg kind → IsTold r.offer (limit_in r) packets (record { kind = kind; offset = offset })
 told packets offset long arg r kind w (inl (inl h)) = absurd (sound_value packets offset long arg r kind w h)

@@ -6,16 +6,19 @@ use Rattle.std.proofs.Math.Seq.{take-append_seam, drop-append_seam}
 use Rattle.std.proofs.lemmas.List.{map-append}
 use Rattle.std.proofs.lemmas.List.Elements.{All-append, All-cons, All-take, All-drop}
 use Rattle.std.proofs.lemmas.List.Sums.{sum_by-append, sum_by-cons}
-use Rattle.std.proofs.lemmas.Option.{slice_get-map, slice_get_within, get_or_from_slice_get}
+use Rattle.std.proofs.lemmas.Grind.{common_steps}
+use Rattle.std.proofs.lemmas.Option.{gets, slice_get-map, slice_get_within, get_or_from_slice_get}
+use Rattle.git_names.specs.ObjectName.{hex_of}
 use Rattle.git_names.specs.declared.object_format.Format.{Format}
 use Rattle.git_pkt.specs.Packets.{longest_payload}
 use Rattle.git_msg.specs.declared.arguments.Argument.{Argument}
 use Rattle.git_msg.specs.declared.arguments.Command.{Command}
-use Rattle.git_msg.specs.declared.arguments.Command.TheVariants.{LsRefs}
-use Rattle.git_msg.specs.Arguments.{Arg, symrefs, peel, ref_prefix, shown, most_text, IsValue, written_text}
-use Rattle.git_msg.specs.Asked.{Asked, LsRefsAsked, ls_refs, command_asked, with_argument, where_asked, arguments_in, bytes_of}
+use Rattle.git_msg.specs.declared.arguments.Command.TheVariants.{LsRefs, Fetch}
+use Rattle.git_msg.specs.Arguments.{Arg, symrefs, peel, ref_prefix, want, done, thin_pack, no_progress, include_tag, ofs_delta, shown, command_with, most_text, IsInRange, IsValue, written_text}
+use Rattle.git_msg.specs.Asked.{Asked, LsRefsAsked, FetchAsked, ls_refs, fetch, command_asked, with_ls_refs, with_fetch, with_argument, where_asked, arguments_in, bytes_of}
 use Rattle.git_msg.specs.Kept.{Kept, IsCounted, IsWithin}
 use Rattle.git_msg.proofs.ArgumentsInOrder.{same_command}
+use Rattle.git_msg.proofs.WrittenNames.{hex_of-at_most}
 
 -- a list with an argument more, which may stand in the place of others
 record Adds (old : List Arg) (arg : Arg) (new : List Arg) : Type 0 where
@@ -34,20 +37,94 @@ adds_after others old arg new h = record {
   is = ap (λ (l : List Arg). others ++ l) h.is ∙ sym (append_assoc others h.front (arg ∷ h.back));
 }
 
+adds_before : (others old : List Arg) (arg : Arg) (new : List Arg) → Adds old arg new → Adds (old ++ others) arg (new ++ others)
+adds_before others old arg new h = record {
+  front = h.front;
+  gone = h.gone;
+  back = h.back ++ others;
+  was =
+      ap (λ (l : List Arg). l ++ others) h.was
+      ∙ append_assoc h.front (h.gone ++ h.back) others
+      ∙ ap (λ (l : List Arg). h.front ++ l) (append_assoc h.gone h.back others);
+  is = ap (λ (l : List Arg). l ++ others) h.is ∙ append_assoc h.front (arg ∷ h.back) others;
+}
+
 adds_flag : (flag : Bool) (arg : Arg) (back : List Arg) → Adds (where_asked flag arg ++ back) arg (where_asked true arg ++ back)
 adds_flag flag arg back = record { front = []; gone = where_asked flag arg; back = back; was = refl; is = refl }
+
+adds_last_flag : (flag : Bool) (arg : Arg) → Adds (where_asked flag arg) arg (where_asked true arg)
+adds_last_flag flag arg =
+    record { front = []; gone = where_asked flag arg; back = []; was = sym (append-nil (where_asked flag arg)); is = refl }
 
 adds_last : {X : Type 0} (make : X → Arg) (values : List X) (value : X) → Adds (map make values) (make value) (map make (values ++ value ∷ []))
 adds_last make values value =
     record { front = map make values; gone = []; back = []; was = sym (append-nil (map make values)); is = map-append make values (value ∷ []) }
 
--- so is the list of a request's arguments with one more: a row for each kind of argument
-adds : (asked : Asked) (arg : Arg) → Adds (arguments_in asked) arg (arguments_in (with_argument asked arg))
-adds (ls_refs q) peel = adds_flag q.peel peel (where_asked q.symrefs symrefs ++ map ref_prefix q.ref_prefixes)
-adds (ls_refs q) symrefs = adds_after (where_asked q.peel peel) _ symrefs _ (adds_flag q.symrefs symrefs (map ref_prefix q.ref_prefixes))
-adds (ls_refs q) (ref_prefix prefix) =
+-- so is the list of what is asked for with one more: a row for each kind of argument
+adds_ls_refs : (q : LsRefsAsked) (arg : Arg) → command_with arg ≡ LsRefs → Adds (arguments_in (ls_refs q)) arg (arguments_in (ls_refs (with_ls_refs q arg)))
+adds_ls_refs q peel of = adds_flag q.peel peel (where_asked q.symrefs symrefs ++ map ref_prefix q.ref_prefixes)
+adds_ls_refs q symrefs of = adds_after (where_asked q.peel peel) _ symrefs _ (adds_flag q.symrefs symrefs (map ref_prefix q.ref_prefixes))
+adds_ls_refs q (ref_prefix prefix) of =
     adds_after (where_asked q.peel peel) _ (ref_prefix prefix) _
     (adds_after (where_asked q.symrefs symrefs) _ (ref_prefix prefix) _ (adds_last ref_prefix q.ref_prefixes prefix))
+adds_ls_refs q arg of = absurd (cc)
+
+-- the arguments of a fetch from a place on, the last place first
+abbrev pub from_wants : FetchAsked → List Arg
+from_wants q = map want q.wants ++ where_asked q.done done
+
+abbrev pub from_ofs_delta : FetchAsked → List Arg
+from_ofs_delta q = where_asked q.ofs_delta ofs_delta ++ from_wants q
+
+abbrev pub from_include_tag : FetchAsked → List Arg
+from_include_tag q = where_asked q.include_tag include_tag ++ from_ofs_delta q
+
+abbrev pub from_no_progress : FetchAsked → List Arg
+from_no_progress q = where_asked q.no_progress no_progress ++ from_include_tag q
+
+-- other arguments after the flags of a fetch
+abbrev behind_flags : FetchAsked → List Arg → List Arg
+behind_flags q others =
+    where_asked q.thin_pack thin_pack ++ (where_asked q.no_progress no_progress ++ (where_asked q.include_tag include_tag
+    ++ (where_asked q.ofs_delta ofs_delta ++ others)))
+
+after_flags : (q : FetchAsked) (old : List Arg) (arg : Arg) (new : List Arg) → Adds old arg new → Adds (behind_flags q old) arg (behind_flags q new)
+after_flags q old arg new h =
+    adds_after (where_asked q.thin_pack thin_pack) _ arg _
+    (adds_after (where_asked q.no_progress no_progress) _ arg _
+    (adds_after (where_asked q.include_tag include_tag) _ arg _ (adds_after (where_asked q.ofs_delta ofs_delta) old arg new h)))
+
+adds_fetch : (q : FetchAsked) (arg : Arg) → command_with arg ≡ Fetch → Adds (arguments_in (fetch q)) arg (arguments_in (fetch (with_fetch q arg)))
+adds_fetch q thin_pack of = adds_flag q.thin_pack thin_pack (from_no_progress q)
+adds_fetch q no_progress of = adds_after (where_asked q.thin_pack thin_pack) _ no_progress _ (adds_flag q.no_progress no_progress (from_include_tag q))
+adds_fetch q include_tag of =
+    adds_after (where_asked q.thin_pack thin_pack) _ include_tag _
+    (adds_after (where_asked q.no_progress no_progress) _ include_tag _ (adds_flag q.include_tag include_tag (from_ofs_delta q)))
+adds_fetch q ofs_delta of =
+    adds_after (where_asked q.thin_pack thin_pack) _ ofs_delta _
+    (adds_after (where_asked q.no_progress no_progress) _ ofs_delta _
+    (adds_after (where_asked q.include_tag include_tag) _ ofs_delta _ (adds_flag q.ofs_delta ofs_delta (from_wants q))))
+adds_fetch q (want id) of = after_flags q _ (want id) _ (adds_before (where_asked q.done done) _ (want id) _ (adds_last want q.wants id))
+adds_fetch q done of = after_flags q _ done _ (adds_after (map want q.wants) _ done _ (adds_last_flag q.done done))
+adds_fetch q arg of = absurd (cc)
+
+adds : (asked : Asked) (arg : Arg) → command_with arg ≡ command_asked asked → Adds (arguments_in asked) arg (arguments_in (with_argument asked arg))
+adds (ls_refs q) arg of = adds_ls_refs q arg of
+adds (fetch q) arg of = adds_fetch q arg of
+
+-- the places after those of a list
+past_list : {X : Type 0} (make : X → Arg) (values : List X) (back : List Arg) (i next : ℕ) → i ≡ length values + next
+    → slice_get (map make values ++ back) i ≡ slice_get back next
+past_list make values back i next at = grind (arith, common_steps, gets)
+
+-- the places after the flags and the wants of a fetch
+pub past_wants : (q : FetchAsked) (i a b c d next : ℕ) → slice_get (arguments_in (fetch q)) i ≡ slice_get (from_no_progress q) a
+    → slice_get (from_no_progress q) a ≡ slice_get (from_include_tag q) b → slice_get (from_include_tag q) b ≡ slice_get (from_ofs_delta q) c
+    → slice_get (from_ofs_delta q) c ≡ slice_get (from_wants q) d → d ≡ length q.wants + next
+    → slice_get (arguments_in (fetch q)) i ≡ slice_get (where_asked q.done done ++ []) next
+past_wants q i a b c d next first second third fourth at =
+    first ∙ second ∙ third ∙ fourth ∙ past_list want q.wants (where_asked q.done done) d next at
+    ∙ ap (λ (args : List Arg). slice_get args next) (sym (append-nil (where_asked q.done done)))
 
 -- then no more is written than its text
 added_bytes : (old : List Arg) (arg : Arg) (new : List Arg) → Adds old arg new → bytes_of new ≤ bytes_of old + length (written_text arg)
@@ -80,7 +157,7 @@ added_values P old arg new h p all =
 pub counted_more : (format : Format) (asked : Asked) (arg : Arg) (kept long : ℕ) → IsCounted format asked kept
     → IsValue (command_asked asked) format arg → length (written_text arg) ≤ long → IsCounted format (with_argument asked arg) (kept + long)
 counted_more format asked arg kept long h value counted =
-    let more = adds asked arg in
+    let more = adds asked arg value.0 in
     record {
       values = subst (λ (c : Command). All (IsValue c format) (arguments_in (with_argument asked arg))) (sym (same_command asked arg))
           (added_values (IsValue (command_asked asked) format) (arguments_in asked) arg (arguments_in (with_argument asked arg)) more value h.values);
@@ -92,16 +169,28 @@ has_text : (arg : Arg) → 1 ≤ length (written_text arg)
 has_text symrefs = omega arith
 has_text peel = omega arith
 has_text (ref_prefix prefix) = omega (arith, length-append (codes "ref-prefix ") prefix)
+has_text (want id) = omega (arith, length-append (codes "want ") (hex_of id))
+has_text done = omega arith
+has_text thin_pack = omega arith
+has_text no_progress = omega arith
+has_text include_tag = omega arith
+has_text ofs_delta = omega arith
 
 count_at_most : (args : List Arg) → length args ≤ bytes_of args
 count_at_most [] = omega arith
 count_at_most (arg ∷ args) = omega (arith, has_text arg, count_at_most args, sum_by-cons (λ a. length (written_text a)) arg args)
 
 -- an argument that may stand in a request fits into a packet
-value_fits : (c : Command) (format : Format) (arg : Arg) → IsValue c format arg → length (written_text arg) < longest_payload
-value_fits LsRefs format symrefs value = omega arith
-value_fits LsRefs format peel value = omega arith
-value_fits LsRefs format (ref_prefix prefix) value = omega (arith, value, length-append (codes "ref-prefix ") prefix)
+value_fits : (format : Format) (arg : Arg) → IsInRange format arg → length (written_text arg) < longest_payload
+value_fits format symrefs value = omega arith
+value_fits format peel value = omega arith
+value_fits format (ref_prefix prefix) value = omega (arith, value, length-append (codes "ref-prefix ") prefix)
+value_fits format (want id) value = omega (arith, hex_of-at_most format id value, length-append (codes "want ") (hex_of id))
+value_fits format done value = omega arith
+value_fits format thin_pack value = omega arith
+value_fits format no_progress value = omega arith
+value_fits format include_tag value = omega arith
+value_fits format ofs_delta value = omega arith
 
 -- so what is kept has few arguments, and each of them fits
 pub place_bound : (q : Kept Asked) (i : ℕ) (result : Option Argument) → IsWithin q → option_map shown result ≡ slice_get (arguments_in q.asked) i
@@ -124,8 +213,8 @@ pub line_fits : (q : Kept Asked) (i : ℕ) (result : Option Argument) → IsWith
     → IfSome result (λ argument. length (written_text (shown argument)) < longest_payload)
 line_fits q i None h same = tt
 line_fits q i (Some argument) h same =
-    value_fits (command_asked q.asked) q.format (shown argument)
-    (all_at (IsValue (command_asked q.asked) q.format) (arguments_in q.asked) i (shown argument) h.counted.values (sym same))
+    let value = all_at (IsValue (command_asked q.asked) q.format) (arguments_in q.asked) i (shown argument) h.counted.values (sym same) in
+    value_fits q.format (shown argument) value.1
 
 -- the prefixes are not too long
 pub prefix_fits : (format : Format) (q : LsRefsAsked) (kept i : ℕ) (found : Option (Bor (List ℕ))) → IsCounted format (ls_refs q) kept
@@ -136,4 +225,5 @@ prefix_fits format q kept i (Some prefix) h same =
     let prefixes : List Arg = map ref_prefix q.ref_prefixes in
     let values : All P prefixes =
     all_back P (where_asked q.symrefs symrefs) prefixes (all_back P (where_asked q.peel peel) (where_asked q.symrefs symrefs ++ prefixes) h.values) in
-    all_at P prefixes i (ref_prefix prefix.now) values (slice_get-map ref_prefix q.ref_prefixes i ∙ ap (option_map ref_prefix) (sym same))
+    let value = all_at P prefixes i (ref_prefix prefix.now) values (slice_get-map ref_prefix q.ref_prefixes i ∙ ap (option_map ref_prefix) (sym same)) in
+    value.1

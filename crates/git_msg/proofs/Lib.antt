@@ -20,5 +20,6 @@ pub mod ReferenceFaults
 pub mod CheckLaws
 pub mod Rows
 pub mod Values
+pub mod WrittenNames
 pub mod PacketFaults
 pub mod WholeRequests

@@ -6,16 +6,16 @@ use Rattle.git_names.specs.declared.object_format.Format.TheVariants.{Sha1, Sha2
 use Rattle.git_pkt.specs.Packets.{Pkt, flush, delim, resp_end, payload, text_of}
 use Rattle.git_pkt.specs.Splits.{Given}
 use Rattle.git_pkt.specs.declared.fault.Kind.{Kind}
-use Rattle.git_pkt.specs.declared.fault.Kind.TheVariants.{BadCapability, UnknownCommand, TwoCommands, NoCommand, NotAdvertised, WrongFormat, TooMuchKept, RemoteError}
+use Rattle.git_pkt.specs.declared.fault.Kind.TheVariants.{BadCapability, UnknownCommand, TwoCommands, NoCommand, NotAdvertised, WrongFormat, TooMuchKept, RemoteError, NoWants}
 use Rattle.git_msg.specs.declared.offers.Offer.{Offer}
 use Rattle.git_msg.specs.declared.arguments.Command.{Command}
-use Rattle.git_msg.specs.declared.arguments.Command.TheVariants.{LsRefs}
+use Rattle.git_msg.specs.declared.arguments.Command.TheVariants.{LsRefs, Fetch}
 use Rattle.git_msg.specs.declared.capability_key.Key.{Key}
 use Rattle.git_msg.specs.declared.capability_key.Key.TheVariants.{CommandKey, AgentKey, ServerOptionKey, ObjectFormatKey, OtherKey}
 use Rattle.git_msg.specs.Texts.{IsErrorText}
 use Rattle.git_msg.specs.Capability.{IsNoCapability}
-use Rattle.git_msg.specs.Arguments.{Arg, IsArgument}
-use Rattle.git_msg.specs.Asked.{Asked, ls_refs, asked_by}
+use Rattle.git_msg.specs.Arguments.{Arg, IsArgument, name_of}
+use Rattle.git_msg.specs.Asked.{Asked, ls_refs, fetch, HasWants, asked_by}
 use Rattle.git_msg.specs.Checks.{Refuses, Passes}
 use Rattle.git_msg.specs.Lines.{Line, command, agent, server_option, object_format, delimiter, argument, is_none, commands_of, arguments_of, kept_in, has_format, has_delimiter, IsWordOf, HasKey, IsAnyCapability, NamesCommand, key_checks, by_key, capability_checks, IsLineOf, IsCapabilityLine, IsFormatMeant, IsOtherFormatMeant, part_checks, argument_checks, IsArgumentLine, IsArgumentRefused, end_checks, at_end, flush_checks_in, IsLine, IsLineIn, HasFault, HasFaultIn}
 use Rattle.git_msg.specs.Requests.{AreLines, Asks}
@@ -83,6 +83,7 @@ same_command cs c d h k = cc
 fair_end_checks : (asked : Asked) → AllFair (end_checks asked)
 unfolding AllFair
 fair_end_checks (ls_refs q) = tt
+fair_end_checks (fetch q) = (fair_check (HasWants q) (¬ HasWants q) NoWants (λ p r. r p), tt)
 
 fair_at_end : (lines : List Line) → IsFair (at_end lines)
 fair_at_end lines = record {
@@ -133,9 +134,19 @@ line_or_fault_in part offer limit before packet line kind h r = absurd h
 pub line_or_fault : (offer : Offer) (limit : ℕ) (before : List Line) (packet : Pkt) (line : Line) (kind : Kind) → IsLine offer limit before packet line → HasFault offer limit before packet kind → ⊥
 line_or_fault offer limit before packet line kind h r = line_or_fault_in (has_delimiter before) offer limit before packet line kind h r
 
+-- a name is that of one command
+one_command : (c d : Command) → name_of c ≡ name_of d → c ≡ d
+one_command LsRefs LsRefs h = refl
+one_command Fetch Fetch h = refl
+one_command LsRefs Fetch h = absurd (let long = ap length h in omega arith)
+one_command Fetch LsRefs h = absurd (let long = ap length h in omega arith)
+
+named : (value : Option (List ℕ)) (c d : Command) → value ≡ Some (name_of c) → value ≡ Some (name_of d) → c ≡ d
+named value c d h k = one_command c d (let same = sym h ∙ k in cc)
+
 -- a capability is one line
 one_line_of : (key : Key) (value : Option (List ℕ)) (line other : Line) → IsLineOf key value line → IsLineOf key value other → line ≡ other
-one_line_of CommandKey value (command LsRefs) (command LsRefs) h k = refl
+one_line_of CommandKey value (command c) (command d) h k = ap command (named value c d h k)
 one_line_of AgentKey value agent agent h k = refl
 one_line_of ServerOptionKey value server_option server_option h k = refl
 one_line_of ObjectFormatKey value object_format object_format h k = refl

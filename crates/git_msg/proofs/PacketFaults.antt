@@ -8,11 +8,11 @@ use Rattle.git_pkt.specs.declared.fault.Kind.{Kind}
 use Rattle.git_pkt.specs.declared.fault.Kind.TheVariants.{StreamTooLong}
 use Rattle.git_msg.specs.declared.offers.Offer.{Offer}
 use Rattle.git_msg.specs.declared.arguments.Command.{Command}
-use Rattle.git_msg.specs.declared.arguments.Command.TheVariants.{LsRefs}
+use Rattle.git_msg.specs.declared.arguments.Command.TheVariants.{LsRefs, Fetch}
 use Rattle.git_msg.specs.declared.capability_key.Key.{Key}
 use Rattle.git_msg.specs.declared.capability_key.Key.TheVariants.{CommandKey, AgentKey, ServerOptionKey, ObjectFormatKey, OtherKey}
-use Rattle.git_msg.specs.Arguments.{Row, of_ref_prefix, IsArgumentFault, IsRowFault}
-use Rattle.git_msg.specs.Asked.{Asked, ls_refs}
+use Rattle.git_msg.specs.Arguments.{Row, of_ref_prefix, of_want, IsArgumentFault, IsRowFault}
+use Rattle.git_msg.specs.Asked.{Asked, ls_refs, fetch}
 use Rattle.git_msg.specs.Checks.{Check, Refuses}
 use Rattle.git_msg.specs.Lines.{Line, argument_checks, capability_checks, commands_of, end_checks, flush_checks_in, has_delimiter, has_format, is_none, kept_in, key_checks, part_checks, HasFault, HasFaultIn}
 use Rattle.git_msg.specs.Requests.{IsTold}
@@ -46,11 +46,13 @@ unfolding AllQuiet
 quiet_part offer commands said = ((λ r. let e = r.1 in cc), ((λ r. let e = r.1 in cc), tt))
 
 quiet_row : (c : Command) (format : Format) (row : Row) (text : List ℕ) → IsRowFault c format row text StreamTooLong → ⊥
-quiet_row LsRefs format of_ref_prefix text fault = fault
-quiet_row LsRefs format row text fault = fault
+quiet_row LsRefs format of_ref_prefix text fault = let e = fault.1 in cc
+quiet_row Fetch format of_want text fault = let e = fault.1 in cc
+quiet_row c format row text fault = fault
 
 quiet_value : (c : Command) (offer : Offer) (text : List ℕ) → IsArgumentFault c offer text StreamTooLong → ⊥
-quiet_value c offer text fault = quiet_row c offer.format fault.0 text fault.1
+quiet_value c offer text (inl fault) = let e = fault.1 in cc
+quiet_value c offer text (inr fault) = quiet_row c offer.format fault.0 text fault.1
 
 quiet_argument : (offer : Offer) (limit : ℕ) (c : Command) (kept : ℕ) (text : List ℕ) → AllQuiet (argument_checks offer limit c kept text)
 unfolding AllQuiet
@@ -59,6 +61,7 @@ quiet_argument offer limit c kept text = ((λ r. let e = r.1 in cc), (quiet_valu
 quiet_end : (asked : Asked) → AllQuiet (end_checks asked)
 unfolding AllQuiet
 quiet_end (ls_refs q) = tt
+quiet_end (fetch q) = ((λ r. let e = r.1 in cc), tt)
 
 quiet_flush : (part : Bool) (offer : Offer) (lines : List Line) → AllQuiet (flush_checks_in part offer lines)
 unfolding AllQuiet

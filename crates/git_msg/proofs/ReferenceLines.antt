@@ -6,15 +6,14 @@ use Rattle.std.proofs.lemmas.Bool.Decides.{nat_tests}
 use Rattle.std.proofs.lemmas.List.{append-nil}
 use Rattle.std.proofs.lemmas.List.Elements.{All-append, All-cons, All-nil, All-from_get_or}
 use Rattle.std.proofs.lemmas.List.Splits.{slice_split_at, slice_split_none}
-use Rattle.git_names.specs.ObjectFormat.{digits_of}
 use Rattle.git_names.specs.Digits.{IsHexDigit, digit_value}
 use Rattle.git_names.specs.ObjectName.{ObjectName, IsObjectName, hex_of}
 use Rattle.git_names.specs.RefName.{IsRefName, Lacks}
 use Rattle.git_names.specs.declared.object_format.Format.{Format}
-use Rattle.git_names.specs.declared.object_format.Format.TheVariants.{Sha1, Sha256}
 use Rattle.git_names.proofs.WrittenForms.{digits-object_name}
 use Rattle.git_msg.specs.Texts.{spaced_words}
 use Rattle.git_msg.specs.Checks.{Passes}
+use Rattle.git_msg.proofs.WrittenNames.{digits_at_most}
 use Rattle.git_msg.specs.References.{reference_of, IsAttribute, IsReferenceLine, IsMaybeObjectName, IsWritable, last_of, values_of, attribute_checks, target_text, peeled_text, peeled_count, reference_text}
 
 eq_false : (c : ℕ) → c ≢ 32 → (c == 32) ≡ false
@@ -162,17 +161,13 @@ reads_back format id name target peeled w same named others =
       };
     }
 
-few_digits : (format : Format) → digits_of format ≤ 64
-few_digits Sha1 = lit≤ tt
-few_digits Sha256 = lit≤ tt
-
 target_fits : (target : Option (List ℕ)) → ((t : List ℕ) → target ≡ Some t → IsRefName t) → length (target_text target) ≤ 32015
 target_fits None h = lit≤ tt
 target_fits (Some t) h = let most = (h t refl).at_most in omega (arith, length-append (codes " symref-target:") t)
 
 peeled_fits : (peeled : Option ObjectName) → peeled_count peeled ≤ 72
 peeled_fits None = lit≤ tt
-peeled_fits (Some p) = omega (arith, few_digits p.format)
+peeled_fits (Some p) = omega (arith, digits_at_most p.format)
 
 -- there is room for the line's end
 pub room : (id : ObjectName) (name : List ℕ) (target : Option (List ℕ)) (peeled : Option ObjectName) (a b c d e f head : List ℕ)
@@ -184,7 +179,7 @@ room id name target peeled a b c d e f head w four named count ha hb hc hd he hf
     let digits = named.count in
     omega (
       arith,
-      few_digits id.format,
+      digits_at_most id.format,
       target_fits target w.target,
       peeled_fits peeled,
       ap length ha,

@@ -1,6 +1,6 @@
 -- What is written of a request is read again.
 use Rattle.std.proofs.Common.{arith, ◌≡◌, ◌≢◌, ℕ, ◌+◌, ◌-◌, ◌<◌, ◌≤◌, ◌==◌, ◌&&◌, Bool, true, false, Some, None, List, [], ◌∷◌, ◌++◌, refl, ap, sym, ◌∙◌, subst, length, take, slice_index, codes, length-append}
-use Rattle.std.specs.Prelude.{All, map, nat_lt, if◌then◌else◌}
+use Rattle.std.specs.Prelude.{All, IsTrue, map, nat_lt, if◌then◌else◌}
 use Rattle.std.proofs.lemmas.Grind.{common_steps}
 use Rattle.std.proofs.lemmas.Bool.Decides.{nat_tests}
 use Rattle.std.proofs.lemmas.List.{append-nil}
@@ -8,23 +8,26 @@ use Rattle.std.proofs.lemmas.List.Elements.{All-head, All-tail}
 use Rattle.std.proofs.lemmas.List.Sums.{sum_by-cons}
 use Rattle.std.proofs.Math.Seq.{take-append_seam}
 use Rattle.git_names.specs.ObjectFormat.{name_of as format_name}
+use Rattle.git_names.specs.ObjectName.{hex_of}
 use Rattle.git_names.specs.declared.object_format.Format.{Format}
 use Rattle.git_names.specs.declared.object_format.Format.TheVariants.{Sha1, Sha256}
 use Rattle.git_pkt.specs.Packets.{Pkt, flush, delim, text_of}
 use Rattle.git_pkt.specs.Splits.{Given}
 use Rattle.git_msg.specs.declared.offers.Offer.{Offer}
 use Rattle.git_msg.specs.declared.arguments.Command.{Command}
-use Rattle.git_msg.specs.declared.arguments.Command.TheVariants.{LsRefs}
+use Rattle.git_msg.specs.declared.arguments.Command.TheVariants.{LsRefs, Fetch}
 use Rattle.git_msg.specs.declared.capability_key.Key.TheVariants.{CommandKey, AgentKey, ObjectFormatKey}
 use Rattle.git_msg.specs.Texts.{IsErrorText}
-use Rattle.git_msg.specs.Arguments.{Arg, symrefs, peel, ref_prefix, IsOffered, IsValue, name_of, written_text}
-use Rattle.git_msg.specs.Asked.{Asked, ls_refs, command_asked, asked_by, arguments_in, bytes_of, written_bytes, HasValues}
+use Rattle.git_msg.specs.Arguments.{Arg, symrefs, peel, ref_prefix, want, done, thin_pack, no_progress, include_tag, ofs_delta, SaysArgument, IsInRange, IsValue, name_of, written_text}
+use Rattle.git_msg.specs.Capability.{is_value}
+use Rattle.git_msg.specs.Asked.{Asked, command_asked, asked_by, arguments_in, bytes_of, written_bytes, HasValues}
 use Rattle.git_msg.specs.Lines.{Line, command, agent, object_format, delimiter, argument, is_none, is_delimiter, command_in, argument_in, commands_of, arguments_of, kept_in, has_format, has_delimiter, long_of, end_checks, flush_checks_in, IsCapabilityLine, IsArgumentLine, IsFormatMeant, IsLine, IsLineIn}
 use Rattle.git_msg.specs.Judging.{IsText}
 use Rattle.git_msg.specs.Checks.{Passes}
 use Rattle.git_msg.specs.Requests.{AreLines, Asks}
 use Rattle.git_msg.specs.Writing.{text_line, where_set, agent_line, format_line, argument_lines, lines_written}
 use Rattle.git_msg.proofs.ArgumentsInOrder.{arguments_in_order}
+use Rattle.git_msg.proofs.WrittenNames.{hex_of-reads_back}
 use Rattle.git_msg.proofs.LineLists.{commands_snoc, delimiter_snoc, format_snoc, kept_snoc, argument_is_line, capability_is_line}
 
 chosen : (a b : Bool) (x y : List ℕ) → a ≡ true → b ≡ true → (if a && b then x else y) ≡ x
@@ -113,14 +116,33 @@ only_flush offer limit before gs h =
 not_error : (text : List ℕ) → slice_index text 0 ≢ 69 → ¬ IsErrorText text
 not_error text h e = h (ap (λ (xs : List ℕ). slice_index xs 0) e.spelled)
 
--- what is written of an argument is read as that argument, and not as an error: a row for each kind of argument
-argument_reads : (c : Command) (offer : Offer) (arg : Arg) → IsValue c offer.format arg → IsOffered offer arg → IsText c offer (written_text arg) arg
-argument_reads LsRefs offer symrefs value offered =
-    record { no_error = not_error (codes "symrefs") (λ e. omega arith); reads = record { is_argument = refl; offered = offered } }
-argument_reads LsRefs offer peel value offered =
-    record { no_error = not_error (codes "peel") (λ e. omega arith); reads = record { is_argument = refl; offered = offered } }
-argument_reads LsRefs offer (ref_prefix prefix) value offered =
-    record { no_error = not_error (codes "ref-prefix " ++ prefix) (λ e. omega arith); reads = record { is_argument = (refl, value); offered = offered } }
+-- what is written of an argument is no error: a row for each kind of argument
+written_clean : (arg : Arg) → ¬ IsErrorText (written_text arg)
+written_clean symrefs = not_error (codes "symrefs") (λ e. omega arith)
+written_clean peel = not_error (codes "peel") (λ e. omega arith)
+written_clean (ref_prefix prefix) = not_error (codes "ref-prefix " ++ prefix) (λ e. omega arith)
+written_clean (want id) = not_error (codes "want " ++ hex_of id) (λ e. omega arith)
+written_clean done = not_error (codes "done") (λ e. omega arith)
+written_clean thin_pack = not_error (codes "thin-pack") (λ e. omega arith)
+written_clean no_progress = not_error (codes "no-progress") (λ e. omega arith)
+written_clean include_tag = not_error (codes "include-tag") (λ e. omega arith)
+written_clean ofs_delta = not_error (codes "ofs-delta") (λ e. omega arith)
+
+-- and says that argument
+written_says : (format : Format) (arg : Arg) → IsInRange format arg → SaysArgument format (written_text arg) arg
+written_says format symrefs value = refl
+written_says format peel value = refl
+written_says format (ref_prefix prefix) value = (refl, value)
+written_says format (want id) value = record { value = hex_of id; spelled = refl; holds = hex_of-reads_back format id value }
+written_says format done value = refl
+written_says format thin_pack value = refl
+written_says format no_progress value = refl
+written_says format include_tag value = refl
+written_says format ofs_delta value = refl
+
+argument_reads : (c : Command) (offer : Offer) (arg : Arg) → IsValue c offer.format arg → IsText c offer (written_text arg) arg
+argument_reads c offer arg value =
+    record { no_error = written_clean arg; reads = record { is_argument = (value.0, written_says offer.format arg value.1); offered = tt } }
 
 -- the line of an argument, as it is written
 abbrev written_line : Arg → Line
@@ -193,15 +215,19 @@ capability_written offer limit before text line in_front is =
     capability_is_line offer limit before (text ++ 10 ∷ []) line in_front
     (subst (λ (t : List ℕ). IsCapabilityLine offer (is_none (commands_of before)) t line) (sym (text_of_line text)) is)
 
-command_written : (offer : Offer) (c : Command) → IsCapabilityLine offer true (codes "command=" ++ name_of c) (command c)
-command_written offer LsRefs = record {
-  no_error = not_error (codes "command=ls-refs") (λ e. omega arith);
+command_line : (offer : Offer) (c : Command) → IsTrue (is_value (name_of c)) → IsCapabilityLine offer true (codes "command=" ++ name_of c) (command c)
+command_line offer c fits = record {
+  no_error = not_error (codes "command=" ++ name_of c) (λ e. omega arith);
   key = CommandKey;
-  value = Some (codes "ls-refs");
-  has_key = record { word = codes "command"; is_capability = (refl, refl, refl); is_word = refl };
-  allowed = (refl, ((LsRefs, refl), tt));
+  value = Some (name_of c);
+  has_key = record { word = codes "command"; is_capability = (refl, refl, fits); is_word = refl };
+  allowed = (refl, ((c, refl), tt));
   line_is = refl;
 }
+
+command_written : (offer : Offer) (c : Command) → IsCapabilityLine offer true (codes "command=" ++ name_of c) (command c)
+command_written offer LsRefs = command_line offer LsRefs refl
+command_written offer Fetch = command_line offer Fetch refl
 
 agent_written : (offer : Offer) → IsCapabilityLine offer false (codes "agent=git2/1") agent
 agent_written offer = record {
@@ -357,30 +383,20 @@ lines_say says_agent says_format c args =
       is_delimited = h.is_delimited;
     }
 
--- what is asked for needs no feature that is not offered
-offered_to : (offer : Offer) (arg : Arg) → IsOffered offer arg
-offered_to offer symrefs = tt
-offered_to offer peel = tt
-offered_to offer (ref_prefix prefix) = tt
-
--- and nothing refuses it at its end
-end_passes : (asked : Asked) → Passes (end_checks asked)
-end_passes (ls_refs q) = tt
-
 -- what is written of a request is a request for the same
 pub reads_back : (offer : Offer) (limit : ℕ) (says_agent says_format : Bool) (asked : Asked) (gs : List Given) → IsFormatMeant offer.format says_format
-    → HasValues offer.format asked → written_bytes asked ≤ limit → packets_of gs ≡ lines_written says_agent says_format offer.format asked
-    → Asks offer limit gs asked (written_bytes asked)
-reads_back offer limit says_agent says_format asked gs meant values fits h =
+    → HasValues offer.format asked → written_bytes asked ≤ limit → Passes (end_checks asked)
+    → packets_of gs ≡ lines_written says_agent says_format offer.format asked → Asks offer limit gs asked (written_bytes asked)
+reads_back offer limit says_agent says_format asked gs meant values fits passes h =
     let c = command_asked asked in
     let args = arguments_in asked in
     let lines = lines_read says_agent says_format c args in
-    let texts : AreTexts c offer args = λ k d within. argument_reads c offer _ (values k d within) (offered_to offer _) in
+    let texts : AreTexts c offer args = λ k d within. argument_reads c offer _ (values k d within) in
     let f = lines_finish offer limit c says_agent says_format args gs meant texts fits h in
     let says = lines_say says_agent says_format c args in
     let asks : asked ≡ asked_by c (arguments_of lines) = sym (ap (asked_by c) says.says_arguments ∙ arguments_in_order asked) in
     let checks : Passes (flush_checks_in true offer lines) =
-    ((c, says.says_commands, subst (λ (a : Asked). Passes (end_checks a)) asks (end_passes asked)), tt) in
+    ((c, says.says_commands, subst (λ (a : Asked). Passes (end_checks a)) asks passes), tt) in
     record {
       front = f.front;
       last = f.last;

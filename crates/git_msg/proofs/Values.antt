@@ -1,25 +1,35 @@
 -- An argument that a program adds passes the checks, or one name refuses it.
-use Rattle.std.proofs.Common.{arith, ◌≡◌, ◌+◌, ◌<◌, ◌≤◌, length, refl}
+use Rattle.std.proofs.Common.{arith, ◌≡◌, ◌+◌, ◌<◌, ◌≤◌, length, sym, ◌∙◌, inl, inr}
 use Rattle.git_names.specs.declared.object_format.Format.{Format}
 use Rattle.git_pkt.specs.declared.fault.Kind.{Kind}
-use Rattle.git_pkt.specs.declared.fault.Kind.TheVariants.{BadLine, TooMuchKept}
+use Rattle.git_pkt.specs.declared.fault.Kind.TheVariants.{TooMuchKept}
 use Rattle.git_msg.specs.declared.arguments.Command.{Command}
-use Rattle.git_msg.specs.declared.arguments.Command.TheVariants.{LsRefs}
 use Rattle.git_msg.specs.declared.requests.Request.{Request}
-use Rattle.git_msg.specs.Arguments.{Arg, ref_prefix, IsValue, IsValueFault, written_text}
+use Rattle.git_msg.specs.Arguments.{Arg, ref_prefix, want, IsInRange, IsOutOfRange, IsValue, IsValueFault, written_text}
 use Rattle.git_msg.specs.Checks.{Passes, Refuses}
 use Rattle.git_msg.specs.Holding.{add_checks, kept_of, limit_of, command_of, format_of}
 use Rattle.git_msg.proofs.CheckLaws.{AllFair, passes_or_refuses, one_name, fair_check}
 
+range_apart : (format : Format) (arg : Arg) (kind : Kind) → IsInRange format arg → IsOutOfRange format arg kind → ⊥
+range_apart format (ref_prefix p) kind h fault = let over = fault.0 in omega arith
+range_apart format (want id) kind h fault = fault.0 h.of_format
+range_apart format arg kind h fault = fault
+
+range_single : (format : Format) (arg : Arg) (kind other : Kind) → IsOutOfRange format arg kind → IsOutOfRange format arg other → kind ≡ other
+range_single format (ref_prefix p) kind other h k = h.1 ∙ sym k.1
+range_single format (want id) kind other h k = h.1 ∙ sym k.1
+range_single format arg kind other h k = absurd h
+
 value_apart : (c : Command) (format : Format) (arg : Arg) (kind : Kind) → IsValue c format arg → IsValueFault c format arg kind → ⊥
-value_apart LsRefs format (ref_prefix p) BadLine h fault = omega arith
-value_apart c format arg kind h fault = fault
+value_apart c format arg kind h (inl fault) = fault.0 h.0
+value_apart c format arg kind h (inr fault) = range_apart format arg kind h.1 fault.1
 
 value_single : (c : Command) (format : Format) (arg : Arg) (kind other : Kind) → IsValueFault c format arg kind → IsValueFault c format arg other
     → kind ≡ other
-value_single LsRefs format (ref_prefix p) BadLine BadLine h k = refl
-value_single LsRefs format (ref_prefix p) BadLine other h k = absurd k
-value_single c format arg kind other h k = absurd h
+value_single c format arg kind other (inl h) (inl k) = h.1 ∙ sym k.1
+value_single c format arg kind other (inl h) (inr k) = absurd (h.0 k.0)
+value_single c format arg kind other (inr h) (inl k) = absurd (k.0 h.0)
+value_single c format arg kind other (inr h) (inr k) = range_single format arg kind other h.1 k.1
 
 module _ {A : Type 0} where
   fair_adding : (request : Request A) (arg : Arg) → AllFair (add_checks request arg)

@@ -1,14 +1,15 @@
 -- The argument lines of requests, by gitprotocol-v2(5).
-use Rattle.std.specs.Prelude.{◌≡◌, ℕ, ◌<◌, ◌≤◌, ◌==◌, List, [], ◌∷◌, ◌++◌, length, codes, if◌then◌else◌}
+use Rattle.std.specs.Prelude.{◌≡◌, ◌≢◌, ◌⊎◌, ℕ, ◌<◌, ◌≤◌, ◌==◌, List, [], ◌∷◌, ◌++◌, length, codes, if◌then◌else◌}
 use Rattle.std.specs.List.{before_first}
 use Rattle.std.specs.Str.{bytes_eq}
+use Rattle.git_names.specs.ObjectName.{ObjectName, IsObjectName, IsNoObjectName, IsOid, hex_of}
 use Rattle.git_names.specs.declared.object_format.Format.{Format}
 use Rattle.git_pkt.specs.declared.fault.Kind.{Kind}
-use Rattle.git_pkt.specs.declared.fault.Kind.TheVariants.{UnknownArgument, BadLine}
+use Rattle.git_pkt.specs.declared.fault.Kind.TheVariants.{UnknownArgument, BadLine, BadObjectName}
 use Rattle.git_msg.specs.declared.arguments.Command.{Command}
-use Rattle.git_msg.specs.declared.arguments.Command.TheVariants.{LsRefs}
+use Rattle.git_msg.specs.declared.arguments.Command.TheVariants.{LsRefs, Fetch}
 use Rattle.git_msg.specs.declared.arguments.Argument.{Argument}
-use Rattle.git_msg.specs.declared.arguments.Argument.TheVariants.{Symrefs, Peel, RefPrefix}
+use Rattle.git_msg.specs.declared.arguments.Argument.TheVariants.{Symrefs, Peel, RefPrefix, Want, IsDone, ThinPack, NoProgress, IncludeTag, OfsDelta}
 use Rattle.git_msg.specs.declared.offers.Offer.{Offer}
 use Rattle.git_msg.specs.Texts.{Follows, IsNoneOf, BeginsWithNone}
 
@@ -17,16 +18,41 @@ pub data Arg : Type 0 where
   symrefs : Arg
   peel : Arg
   ref_prefix : List ℕ → Arg
+  want : ObjectName → Arg
+  done : Arg
+  thin_pack : Arg
+  no_progress : Arg
+  include_tag : Arg
+  ofs_delta : Arg
 
 -- the argument that a borrowed one shows
 abbrev pub shown : Argument → Arg
 shown Symrefs = symrefs
 shown Peel = peel
 shown (RefPrefix prefix) = ref_prefix prefix.now
+shown (Want id) = want id
+shown IsDone = done
+shown ThinPack = thin_pack
+shown NoProgress = no_progress
+shown IncludeTag = include_tag
+shown OfsDelta = ofs_delta
 
 -- the command's key, as it stands after `command=`
 abbrev pub name_of : Command → List ℕ
 name_of LsRefs = codes "ls-refs"
+name_of Fetch = codes "fetch"
+
+-- the command that has the argument
+abbrev pub command_with : Arg → Command
+command_with symrefs = LsRefs
+command_with peel = LsRefs
+command_with (ref_prefix prefix) = LsRefs
+command_with (want id) = Fetch
+command_with done = Fetch
+command_with thin_pack = Fetch
+command_with no_progress = Fetch
+command_with include_tag = Fetch
+command_with ofs_delta = Fetch
 
 -- the most bytes that a text which is kept may have
 abbrev pub most_text : ℕ
@@ -36,28 +62,51 @@ most_text = 32000
 abbrev pub most_limit : ℕ
 most_limit = 1073741824
 
--- the text is this argument of the command, and its value is one that may stand there
+-- the text says this argument, and its value is one that may stand there
+abbrev pub SaysArgument : Format → List ℕ → Arg → Type 0
+SaysArgument format text symrefs = text ≡ codes "symrefs"
+SaysArgument format text peel = text ≡ codes "peel"
+SaysArgument format text (ref_prefix prefix) = (text ≡ codes "ref-prefix " ++ prefix) × (length prefix ≤ most_text)
+SaysArgument format text (want id) = Follows (codes "want ") (λ name. IsObjectName format name id) text
+SaysArgument format text done = text ≡ codes "done"
+SaysArgument format text thin_pack = text ≡ codes "thin-pack"
+SaysArgument format text no_progress = text ≡ codes "no-progress"
+SaysArgument format text include_tag = text ≡ codes "include-tag"
+SaysArgument format text ofs_delta = text ≡ codes "ofs-delta"
+
+-- the text is this argument of the command
 abbrev pub IsArgument : Command → Format → List ℕ → Arg → Type 0
-IsArgument LsRefs format text symrefs = text ≡ codes "symrefs"
-IsArgument LsRefs format text peel = text ≡ codes "peel"
-IsArgument LsRefs format text (ref_prefix prefix) = (text ≡ codes "ref-prefix " ++ prefix) × (length prefix ≤ most_text)
+IsArgument command format text arg = (command_with arg ≡ command) × SaysArgument format text arg
+
+-- an object name of the format
+pub record IsNameIn (format : Format) (id : ObjectName) : Type 0 where
+  pub of_format : id.format ≡ format
+  pub is_oid : IsOid id
+
+-- the argument's value may stand in a request whose object names have this format
+abbrev pub IsInRange : Format → Arg → Type 0
+IsInRange format (ref_prefix prefix) = length prefix ≤ most_text
+IsInRange format (want id) = IsNameIn format id
+IsInRange format _ = Unit {0}
+
+-- by which name it may not
+abbrev pub IsOutOfRange : Format → Arg → Kind → Type 0
+IsOutOfRange format (ref_prefix prefix) kind = (most_text < length prefix) × (kind ≡ BadLine)
+IsOutOfRange format (want id) kind = (id.format ≢ format) × (kind ≡ BadObjectName)
+IsOutOfRange format _ kind = ⊥
 
 -- the argument may stand in a request of the command and the format
 abbrev pub IsValue : Command → Format → Arg → Type 0
-IsValue LsRefs format symrefs = Unit {0}
-IsValue LsRefs format peel = Unit {0}
-IsValue LsRefs format (ref_prefix prefix) = length prefix ≤ most_text
+IsValue command format arg = (command_with arg ≡ command) × IsInRange format arg
 
--- by which name the argument may not stand there
+-- by which name the argument may not stand there: that of another command is judged before its value
 abbrev pub IsValueFault : Command → Format → Arg → Kind → Type 0
-IsValueFault LsRefs format (ref_prefix prefix) BadLine = most_text < length prefix
-IsValueFault _ format _ _ = ⊥
+IsValueFault command format arg kind =
+    ((command_with arg ≢ command) × (kind ≡ UnknownArgument)) ⊎ ((command_with arg ≡ command) × IsOutOfRange format arg kind)
 
--- the feature that the argument needs is offered
+-- the feature that the argument needs is offered: so far none needs one
 abbrev pub IsOffered : Offer → Arg → Type 0
-IsOffered offer symrefs = Unit {0}
-IsOffered offer peel = Unit {0}
-IsOffered offer (ref_prefix prefix) = Unit {0}
+IsOffered offer arg = Unit {0}
 
 -- the text is an argument that a request of this command may have
 pub record ReadsAs (command : Command) (offer : Offer) (text : List ℕ) (arg : Arg) : Type 0 where
@@ -67,16 +116,24 @@ pub record ReadsAs (command : Command) (offer : Offer) (text : List ℕ) (arg : 
 -- the arguments of the command that are a word alone
 abbrev pub flags_of : Command → List (List ℕ)
 flags_of LsRefs = codes "symrefs" ∷ codes "peel" ∷ []
+flags_of Fetch = codes "done" ∷ codes "thin-pack" ∷ codes "no-progress" ∷ codes "include-tag" ∷ codes "ofs-delta" ∷ []
 
 -- what stands before a value in the command's other arguments
 abbrev pub keywords_of : Command → List (List ℕ)
 keywords_of LsRefs = codes "ref-prefix " ∷ []
+keywords_of Fetch = codes "want " ∷ []
 
 -- the rows of the table of arguments
 pub data Row : Type 0 where
   of_symrefs : Row
   of_peel : Row
   of_ref_prefix : Row
+  of_want : Row
+  of_done : Row
+  of_thin_pack : Row
+  of_no_progress : Row
+  of_include_tag : Row
+  of_ofs_delta : Row
   of_none : Row
 
 -- the row that a word stands for
@@ -85,6 +142,12 @@ row_by word =
     if bytes_eq word (codes "symrefs") then of_symrefs
     else if bytes_eq word (codes "peel") then of_peel
     else if bytes_eq word (codes "ref-prefix") then of_ref_prefix
+    else if bytes_eq word (codes "want") then of_want
+    else if bytes_eq word (codes "done") then of_done
+    else if bytes_eq word (codes "thin-pack") then of_thin_pack
+    else if bytes_eq word (codes "no-progress") then of_no_progress
+    else if bytes_eq word (codes "include-tag") then of_include_tag
+    else if bytes_eq word (codes "ofs-delta") then of_ofs_delta
     else of_none
 
 -- the row of a text, by its first word
@@ -96,11 +159,18 @@ abbrev pub row_in : Arg → Row
 row_in symrefs = of_symrefs
 row_in peel = of_peel
 row_in (ref_prefix prefix) = of_ref_prefix
+row_in (want id) = of_want
+row_in done = of_done
+row_in thin_pack = of_thin_pack
+row_in no_progress = of_no_progress
+row_in include_tag = of_include_tag
+row_in ofs_delta = of_ofs_delta
 
 -- by which name a text of this row is refused for its value
 abbrev pub IsRowFault : Command → Format → Row → List ℕ → Kind → Type 0
-IsRowFault LsRefs format of_ref_prefix text BadLine = Follows (codes "ref-prefix ") (λ prefix. most_text < length prefix) text
-IsRowFault _ format _ text _ = ⊥
+IsRowFault LsRefs format of_ref_prefix text kind = Follows (codes "ref-prefix ") (λ prefix. most_text < length prefix) text × (kind ≡ BadLine)
+IsRowFault Fetch format of_want text kind = Follows (codes "want ") (IsNoObjectName format) text × (kind ≡ BadObjectName)
+IsRowFault _ format _ text kind = ⊥
 
 -- the text is no argument of the command
 abbrev pub IsNoArgument : Command → List ℕ → Type 0
@@ -108,17 +178,23 @@ IsNoArgument command text = IsNoneOf (flags_of command) text × BeginsWithNone (
 
 -- the text is no argument of the command, or one whose value may not stand there
 abbrev pub IsArgumentFault : Command → Offer → List ℕ → Kind → Type 0
-IsArgumentFault command offer text UnknownArgument = IsNoArgument command text
-IsArgumentFault command offer text kind = (row : Row) × IsRowFault command offer.format row text kind
+IsArgumentFault command offer text kind =
+    (IsNoArgument command text × (kind ≡ UnknownArgument)) ⊎ ((row : Row) × IsRowFault command offer.format row text kind)
 
 -- the line of an argument, as it is written
 abbrev pub written_text : Arg → List ℕ
 written_text symrefs = codes "symrefs"
 written_text peel = codes "peel"
 written_text (ref_prefix prefix) = codes "ref-prefix " ++ prefix
+written_text (want id) = codes "want " ++ hex_of id
+written_text done = codes "done"
+written_text thin_pack = codes "thin-pack"
+written_text no_progress = codes "no-progress"
+written_text include_tag = codes "include-tag"
+written_text ofs_delta = codes "ofs-delta"
 
--- the argument has a text, for which memory is taken
+-- the argument has a value for which memory is taken
 abbrev pub TakesMemory : Arg → Type 0
-TakesMemory symrefs = ⊥
-TakesMemory peel = ⊥
 TakesMemory (ref_prefix prefix) = Unit {0}
+TakesMemory (want id) = Unit {0}
+TakesMemory _ = ⊥

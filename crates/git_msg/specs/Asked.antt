@@ -1,10 +1,11 @@
 -- What requests ask for: their arguments by kind, and as a list in the order in which they are written.
-use Rattle.std.specs.Prelude.{ℕ, Bool, true, false, List, [], ◌∷◌, ◌++◌, Option, Some, None, All, length, map, sum_by}
+use Rattle.std.specs.Prelude.{◌<◌, ℕ, Bool, true, false, List, [], ◌∷◌, ◌++◌, Option, Some, None, All, length, map, sum_by}
 use Rattle.std.specs.List.{list_any, filter_map}
+use Rattle.git_names.specs.ObjectName.{ObjectName}
 use Rattle.git_names.specs.declared.object_format.Format.{Format}
 use Rattle.git_msg.specs.declared.arguments.Command.{Command}
-use Rattle.git_msg.specs.declared.arguments.Command.TheVariants.{LsRefs}
-use Rattle.git_msg.specs.Arguments.{Arg, symrefs, peel, ref_prefix, IsValue, written_text}
+use Rattle.git_msg.specs.declared.arguments.Command.TheVariants.{LsRefs, Fetch}
+use Rattle.git_msg.specs.Arguments.{Arg, symrefs, peel, ref_prefix, want, done, thin_pack, no_progress, include_tag, ofs_delta, IsValue, written_text}
 
 abbrev pub is_symrefs : Arg → Bool
 is_symrefs symrefs = true
@@ -18,50 +19,144 @@ abbrev pub prefix_in : Arg → Option (List ℕ)
 prefix_in (ref_prefix prefix) = Some prefix
 prefix_in _ = None
 
+abbrev pub want_in : Arg → Option ObjectName
+want_in (want id) = Some id
+want_in _ = None
+
+abbrev pub is_done : Arg → Bool
+is_done done = true
+is_done _ = false
+
+abbrev pub is_thin_pack : Arg → Bool
+is_thin_pack thin_pack = true
+is_thin_pack _ = false
+
+abbrev pub is_no_progress : Arg → Bool
+is_no_progress no_progress = true
+is_no_progress _ = false
+
+abbrev pub is_include_tag : Arg → Bool
+is_include_tag include_tag = true
+is_include_tag _ = false
+
+abbrev pub is_ofs_delta : Arg → Bool
+is_ofs_delta ofs_delta = true
+is_ofs_delta _ = false
+
 -- what an ls-refs request asks for: the flags, and the prefixes in their order
 pub record LsRefsAsked : Type 0 where
   pub symrefs : Bool
   pub peel : Bool
   pub ref_prefixes : List (List ℕ)
 
+-- what a fetch request asks for: the objects that are wanted, in the order of their lines, and the flags
+pub record FetchAsked : Type 0 where
+  pub wants : List ObjectName
+  pub done : Bool
+  pub thin_pack : Bool
+  pub no_progress : Bool
+  pub include_tag : Bool
+  pub ofs_delta : Bool
+
 -- what a request asks for
 pub data Asked : Type 0 where
   ls_refs : LsRefsAsked → Asked
+  fetch : FetchAsked → Asked
 
 -- the command of a request for this
 abbrev pub command_asked : Asked → Command
 command_asked (ls_refs q) = LsRefs
+command_asked (fetch q) = Fetch
 
 -- a request for nothing yet
 abbrev pub nothing_asked : Command → Asked
 nothing_asked LsRefs = ls_refs (record { symrefs = false; peel = false; ref_prefixes = [] })
+nothing_asked Fetch =
+    fetch (record { wants = []; done = false; thin_pack = false; no_progress = false; include_tag = false; ofs_delta = false })
 
 -- what the arguments ask for: each list is the values of its kind in their order, and a flag is set where one sets it
 abbrev pub asked_by : Command → List Arg → Asked
 asked_by LsRefs args =
     ls_refs (record { symrefs = list_any is_symrefs args; peel = list_any is_peel args; ref_prefixes = filter_map prefix_in args })
+asked_by Fetch args = fetch (record {
+  wants = filter_map want_in args;
+  done = list_any is_done args;
+  thin_pack = list_any is_thin_pack args;
+  no_progress = list_any is_no_progress args;
+  include_tag = list_any is_include_tag args;
+  ofs_delta = list_any is_ofs_delta args;
+})
 
--- what ls-refs is asked for with one more argument after the others
+-- what ls-refs is asked for with one more argument after the others; that of another command changes nothing
 abbrev pub with_ls_refs : LsRefsAsked → Arg → LsRefsAsked
 with_ls_refs q symrefs = record q { symrefs = true }
 with_ls_refs q peel = record q { peel = true }
 with_ls_refs q (ref_prefix prefix) = record q { ref_prefixes = q.ref_prefixes ++ prefix ∷ [] }
+with_ls_refs q _ = q
+
+-- what fetch is asked for with one more argument after the others
+abbrev pub with_fetch : FetchAsked → Arg → FetchAsked
+with_fetch q (want id) = record q { wants = q.wants ++ id ∷ [] }
+with_fetch q done = record q { done = true }
+with_fetch q thin_pack = record q { thin_pack = true }
+with_fetch q no_progress = record q { no_progress = true }
+with_fetch q include_tag = record q { include_tag = true }
+with_fetch q ofs_delta = record q { ofs_delta = true }
+with_fetch q _ = q
 
 -- what is asked for with one more argument after the others
 abbrev pub with_argument : Asked → Arg → Asked
 with_argument (ls_refs q) arg = ls_refs (with_ls_refs q arg)
+with_argument (fetch q) arg = fetch (with_fetch q arg)
 
 -- the flag `symrefs` of an ls-refs request
 abbrev pub symrefs_of : Asked → Bool
 symrefs_of (ls_refs q) = q.symrefs
+symrefs_of _ = false
 
 -- the flag `peel` of an ls-refs request
 abbrev pub peel_of : Asked → Bool
 peel_of (ls_refs q) = q.peel
+peel_of _ = false
 
 -- the prefixes of an ls-refs request
 abbrev pub ref_prefixes_of : Asked → List (List ℕ)
 ref_prefixes_of (ls_refs q) = q.ref_prefixes
+ref_prefixes_of _ = []
+
+-- the objects that a fetch request wants
+abbrev pub wants_of : Asked → List ObjectName
+wants_of (fetch q) = q.wants
+wants_of _ = []
+
+-- the flag `done` of a fetch request
+abbrev pub done_of : Asked → Bool
+done_of (fetch q) = q.done
+done_of _ = false
+
+-- the flag `thin-pack` of a fetch request
+abbrev pub thin_pack_of : Asked → Bool
+thin_pack_of (fetch q) = q.thin_pack
+thin_pack_of _ = false
+
+-- the flag `no-progress` of a fetch request
+abbrev pub no_progress_of : Asked → Bool
+no_progress_of (fetch q) = q.no_progress
+no_progress_of _ = false
+
+-- the flag `include-tag` of a fetch request
+abbrev pub include_tag_of : Asked → Bool
+include_tag_of (fetch q) = q.include_tag
+include_tag_of _ = false
+
+-- the flag `ofs-delta` of a fetch request
+abbrev pub ofs_delta_of : Asked → Bool
+ofs_delta_of (fetch q) = q.ofs_delta
+ofs_delta_of _ = false
+
+-- a fetch request wants something
+abbrev pub HasWants : FetchAsked → Type 0
+HasWants q = 0 < length q.wants
 
 -- a flag's argument, where it is set
 abbrev pub where_asked : Bool → Arg → List Arg
@@ -71,6 +166,9 @@ where_asked false arg = []
 -- the arguments of a request, in the order in which they are written
 abbrev pub arguments_in : Asked → List Arg
 arguments_in (ls_refs q) = where_asked q.peel peel ++ (where_asked q.symrefs symrefs ++ map ref_prefix q.ref_prefixes)
+arguments_in (fetch q) =
+    where_asked q.thin_pack thin_pack ++ (where_asked q.no_progress no_progress ++ (where_asked q.include_tag include_tag
+    ++ (where_asked q.ofs_delta ofs_delta ++ (map want q.wants ++ where_asked q.done done))))
 
 -- how many bytes the texts of the lines of these arguments have, as they are written
 abbrev pub bytes_of : List Arg → ℕ

@@ -4,6 +4,7 @@ pub mod Asked
 pub mod Capability
 pub mod Checks
 pub mod Holding
+pub mod Insides
 pub mod Judging
 pub mod Kept
 pub mod Lines

@@ -76,6 +76,9 @@ fn read_command(value: Option<&[u8]>) -> Option<Command>
     if is_value(value, b"ls-refs") {
         return Some(Command::LsRefs);
     }
+    if is_value(value, b"fetch") {
+        return Some(Command::Fetch);
+    }
     None
 }
 

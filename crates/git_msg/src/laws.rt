@@ -14,7 +14,7 @@ ghost use Rattle.git_msg.specs.Asked.{Asked, HasValues, arguments_in, asked_by, 
 ghost use Rattle.git_msg.specs.Capability.{IsCapability};
 ghost use Rattle.git_msg.specs.Checks.{Passes, Refuses};
 ghost use Rattle.git_msg.specs.Holding.{IsEmpty, AddsAll, add_checks, asked_of, kept_of};
-ghost use Rattle.git_msg.specs.Lines.{Line, IsFormatMeant, IsLine, HasFault};
+ghost use Rattle.git_msg.specs.Lines.{Line, IsFormatMeant, IsLine, HasFault, end_checks};
 ghost use Rattle.git_msg.specs.References.{Ref, IsReferenceFault, IsReferenceLine};
 ghost use Rattle.git_msg.specs.Requests.{Asks, FirstFault};
 ghost use Rattle.git_msg.specs.Writing.{lines_written};
@@ -98,12 +98,13 @@ pub fn one_first_fault()
 {}
 
 /// The packets that are written of a request are a request for the same, whatever their offsets: where the format is
-/// that of the reader, each argument may stand in such a request, and the texts of its lines are within the limit. For
-/// SHA-256 the format has to be among what was advertised.
+/// that of the reader, each argument may stand in such a request, the texts of its lines are within the limit, and
+/// nothing refuses what is asked for at its end, as a fetch without a want is. For SHA-256 the format has to be among
+/// what was advertised.
 pub fn written_request_reads_back()
     ensures { (offer : Offer) (limit : ℕ) (caps : Caps) (asked : Asked) (packets : List Given)
         → IsFormatMeant offer.format caps.object_format → HasValues offer.format asked → written_bytes asked ≤ limit
-        → map (λ g. g.packet) packets ≡ lines_written caps.agent caps.object_format offer.format asked
+        → Passes (end_checks asked) → map (λ g. g.packet) packets ≡ lines_written caps.agent caps.object_format offer.format asked
         → Asks offer limit packets asked (written_bytes asked) }
 {}
 

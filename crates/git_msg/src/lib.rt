@@ -5,6 +5,7 @@
 mod arguments;
 mod capabilities;
 mod capability_key;
+mod fetch;
 mod judge;
 pub mod laws;
 mod limits;
@@ -21,6 +22,7 @@ mod writing;
 
 pub use crate::arguments::{Argument, Command, read_argument};
 pub use crate::capabilities::{AGENT_LINE, Capability, read_capability};
+pub use crate::fetch::Fetch;
 pub use crate::limits::Limits;
 pub use crate::ls_refs::LsRefs;
 pub use crate::offers::{Caps, Offer};

@@ -3,7 +3,7 @@ ghost use Rattle.std.specs.Prelude.{◌≡◌, ◌+◌, ◌^◌, ◌≤◌, ◌<
 ghost use Rattle.std.specs.Option.{option_copied, option_map};
 ghost use Rattle.git_msg.specs.Arguments.{shown, written_text};
 
-use crate::arguments::{Argument, Command};
+use crate::arguments::{Argument, Command, MOST_TEXT};
 use crate::limits::{Budget, Limits};
 use crate::parts::{Texts, past_flag};
 use git_names::Format;
@@ -27,18 +27,15 @@ impl<A: Allocator + Copy> Model for LsRefs<A> {
 
     ghost Value = { Kept LsRefsAsked };
 
-    ghost view = { λ q. record {
-      format = q.format;
-      asked = record { symrefs = q.symrefs; peel = q.peel; ref_prefixes = q.ref_prefixes };
-      kept = q.budget.kept;
-      limit = q.budget.limit;
-    } };
+    ghost use Rattle.git_msg.specs.Insides.{ls_refs_inside};
 
-    ghost invariant = { λ q. IsCounted q.format (ls_refs (record { symrefs = q.symrefs; peel = q.peel; ref_prefixes = q.ref_prefixes })) q.budget.kept };
+    ghost view = { λ q. record { format = q.format; asked = ls_refs_inside q; kept = q.budget.kept; limit = q.budget.limit } };
+
+    ghost invariant = { λ q. IsCounted q.format (ls_refs (ls_refs_inside q)) q.budget.kept };
 }
 
 impl<A: Allocator + Copy> LsRefs<A> {
-    ghost use Rattle.git_msg.specs.Arguments.{IsValue, most_text};
+    ghost use Rattle.git_msg.specs.Arguments.{IsValue, IsValueFault, most_text};
     ghost use Rattle.git_msg.specs.Asked.{arguments_in, ls_refs};
     ghost use Rattle.git_msg.specs.Kept.{IsNew, IsUnkept, IsWithin, KeepsArgument, kept_as};
 
@@ -113,14 +110,28 @@ impl<A: Allocator + Copy> LsRefs<A> {
         }
     }
 
+    /// Whether the argument may stand in a request of this command.
+    pub(crate) fn check_value(&self, argument: &Argument<'_>) -> Result<(), Kind>
+        ensures ok { OnOk result (IsValue Command.LsRefs self.now.format (shown argument.now)) }
+        ensures err { IfErr result (IsValueFault Command.LsRefs self.now.format (shown argument.now)) }
+    {
+        match argument {
+            Argument::Symrefs => Ok(()),
+            Argument::Peel => Ok(()),
+            Argument::RefPrefix(prefix) if prefix.len() > MOST_TEXT => Err(Kind::BadLine),
+            Argument::RefPrefix(_) => Ok(()),
+            _ => Err(Kind::UnknownArgument),
+        }
+    }
+
     /// Keeps an argument whose line has a text of so many bytes.
-    pub(crate) fn keep(&mut self, argument: Argument<'_>, text_length: usize) -> Result<(), Kind>
-        requires value { IsValue Command.LsRefs self.old.format (shown argument) }
-        requires counted { length (written_text (shown argument)) ≤ text_length }
-        ensures kept { OnOk result (KeepsArgument (kept_as ls_refs self.old) (shown argument.entry) text_length (kept_as ls_refs self.new)) }
+    pub(crate) fn keep(&mut self, argument: &Argument<'_>, text_length: usize) -> Result<(), Kind>
+        requires value { IsValue Command.LsRefs self.old.format (shown argument.now) }
+        requires counted { length (written_text (shown argument.now)) ≤ text_length }
+        ensures kept { OnOk result (KeepsArgument (kept_as ls_refs self.old) (shown argument.now) text_length (kept_as ls_refs self.new)) }
         ensures fits { OnOk result (self.old.kept + text_length ≤ self.old.limit) }
         ensures unchanged { OnErr result (self.new ≡ self.old) }
-        ensures refused { IfErr result (IsUnkept (kept_as ls_refs self.old) (shown argument.entry) text_length) }
+        ensures refused { IfErr result (IsUnkept (kept_as ls_refs self.old) (shown argument.now) text_length) }
     {
         let mut budget = self.budget;
         budget.charge(text_length)?;
@@ -132,6 +143,7 @@ impl<A: Allocator + Copy> LsRefs<A> {
                     return Err(Kind::OutOfMemory);
                 }
             }
+            _ => unreachable!(),
         }
         self.budget = budget;
         Ok(())

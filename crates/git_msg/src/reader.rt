@@ -1,5 +1,5 @@
 //! Requests, read packet by packet.
-use crate::arguments::{Argument, Command};
+use crate::arguments::{Argument, Command, put_together};
 use crate::judge::{Noted, judge_capability, read_text};
 use crate::limits::Limits;
 use crate::offers::Offer;
@@ -55,7 +55,8 @@ impl<A: Allocator + Copy> RequestReader<A> {
     ghost use Rattle.git_msg.specs.Taking.{Takes, TakesOn, KeepsOn, offer_of, limit_in, kept_so_far, fault_of, is_waiting};
     ghost use Rattle.git_msg.specs.TakingSteps.{Notes, IsDue, IsUndue, StepsOn, is_first, restarted};
 
-    /// A reader at the beginning of a request. It takes memory from `alloc` when an argument with a text is kept.
+    /// A reader at the beginning of a request. It takes memory from `alloc` when an argument with a text or an object
+    /// name is kept.
     pub fn new(alloc: A, offer: Offer, limits: Limits) -> RequestReader<A>
         ensures takes { Takes [] result }
         ensures open { fault_of result ≡ None }
@@ -95,17 +96,25 @@ impl<A: Allocator + Copy> RequestReader<A> {
 
     /// Makes the argument that [`RequestReader::take`] gave last a part of the request, whose lines then count the bytes
     /// that its text had on the wire. The fault names its packet: `TooMuchKept` where the limit has no room for so many
-    /// bytes, or else `OutOfMemory` where no memory is left for its text.
+    /// bytes, or else `OutOfMemory` where no memory is left for its value.
     pub fn keep(&mut self, argument: Argument<'_>) -> Result<(), Fault>
         requires { is_waiting self.old ≡ true }
         ensures { KeepsOn self.old (shown argument.entry) result self.new }
+    {
+        let argument = put_together!(argument);
+        self.settle(&argument)
+    }
+
+    fn settle(&mut self, argument: &Argument<'_>) -> Result<(), Fault>
+        requires { is_waiting self.old ≡ true }
+        ensures { KeepsOn self.old (shown argument.now) result self.new }
     {
         let Part::Waiting(offset, length) = self.part else {
             unreachable!()
         };
         // Nothing here says that the argument is the one that waits, and a request counts no text by less than it is
         // written. For the one that waits this is the length of its text as it came, which is never less.
-        let length = length.max(written_length(&argument));
+        let length = length.max(written_length(argument));
         match self.request.keep(argument, length) {
             Ok(()) => {
                 self.part = Part::Arguments;
@@ -160,9 +169,13 @@ impl<A: Allocator + Copy> RequestReader<A> {
         match packet {
             Packet::Payload(payload) => {
                 let text = text(payload);
-                let argument = read_text(self.request.command(), &self.offer, text)?;
-                self.part = Part::Waiting(offset, text.len());
-                Ok(Taken::Argument(argument))
+                match read_text(self.request.command(), &self.offer, text) {
+                    Ok(argument) => {
+                        self.part = Part::Waiting(offset, text.len());
+                        Ok(Taken::Argument(argument))
+                    }
+                    Err(kind) => Err(kind),
+                }
             }
             Packet::Flush => {
                 self.request.check_end()?;

@@ -4,10 +4,11 @@ ghost use Rattle.std.specs.Option.{option_copied, option_map};
 ghost use Rattle.git_pkt.specs.Packets.{longest_payload};
 ghost use Rattle.git_msg.specs.Arguments.{shown, written_text};
 
-use crate::arguments::{Argument, Command, MOST_TEXT};
+use crate::arguments::{Argument, Command, put_together};
+use crate::fetch::Fetch;
 use crate::limits::Limits;
 use crate::ls_refs::LsRefs;
-use git_names::Format;
+use git_names::{Format, Oid};
 use git_pkt::Kind;
 use std::alloc::Allocator;
 
@@ -16,44 +17,55 @@ use std::alloc::Allocator;
 pub enum Request<A: Allocator + Copy> {
     /// A request for references.
     LsRefs(LsRefs<A>),
+    /// A request for objects.
+    Fetch(Fetch<A>),
 }
 
 impl<A: Allocator + Copy> Request<A> {
     ghost use Rattle.git_msg.specs.Arguments.{most_text, IsValue, IsValueFault};
-    ghost use Rattle.git_msg.specs.Asked.{arguments_in, symrefs_of, peel_of, ref_prefixes_of, written_bytes, HasValues};
+    ghost use Rattle.git_msg.specs.Asked.{arguments_in, symrefs_of, peel_of, ref_prefixes_of, wants_of, done_of, thin_pack_of, no_progress_of, include_tag_of, ofs_delta_of, written_bytes, HasValues};
     ghost use Rattle.git_msg.specs.Checks.{Passes, Refuses};
     ghost use Rattle.git_msg.specs.Lines.{end_checks};
     ghost use Rattle.git_msg.specs.Holding.{IsEmpty, asked_of, command_of, format_of, kept_of, limit_of, Keeps, add_checks, keep_checks, IsRefused};
 
-    /// A request without arguments. Later calls take memory from `alloc`, and only where an argument with a text is
-    /// kept.
+    /// A request without arguments. Later calls take memory from `alloc`, and only where an argument with a text or an
+    /// object name is kept.
     pub fn new(alloc: A, command: Command, format: Format, limits: Limits) -> Request<A>
         ensures { IsEmpty command format limits.args result }
     {
         match command {
             Command::LsRefs => Request::LsRefs(LsRefs::new(alloc, format, limits)),
+            Command::Fetch => Request::Fetch(Fetch::new(alloc, format, limits)),
         }
     }
 
-    /// Adds an argument after the others. Refused in this order: a value that may not stand there (`BadLine` for a
-    /// text of more than 32,000 bytes), `TooMuchKept` where the texts of all lines, as they are written, would pass
-    /// the limit, and `OutOfMemory`. Then the request stays as it was.
+    /// Adds an argument after the others. Refused in this order: `UnknownArgument` for an argument of another command, a
+    /// value that may not stand there (`BadObjectName` for an object name of another format, `BadLine` for a text of more
+    /// than 32,000 bytes), `TooMuchKept` where the texts of all lines, as they are written, would pass the limit, and
+    /// `OutOfMemory`. Then the request stays as it was.
     pub fn add(&mut self, argument: Argument<'_>) -> Result<(), Kind>
         ensures added { OnOk result (Keeps self.old (shown argument.entry) (length (written_text (shown argument.entry))) self.new) }
         ensures passes { OnOk result (Passes (add_checks self.old (shown argument.entry))) }
         ensures unchanged { OnErr result (self.new ≡ self.old) }
         ensures refused { IfErr result (IsRefused (add_checks self.old (shown argument.entry)) (shown argument.entry)) }
     {
+        let argument = put_together!(argument);
         let length = written_length(&argument);
-        self.keep(argument, length)
+        self.keep(&argument, length)
     }
 
-    /// Judges what the request asks for, at its end: by what it is refused, if by something.
+    /// Judges what the request asks for, at its end: `NoWants` for a fetch that wants nothing.
     pub fn check_end(&self) -> Result<(), Kind>
         ensures { MatchResult result (λ _. Passes (end_checks (asked_of self.now))) (Refuses (end_checks (asked_of self.now))) }
     {
         match self {
             Request::LsRefs(_) => Ok(()),
+            Request::Fetch(request) => {
+                if request.wants().is_empty() {
+                    return Err(Kind::NoWants);
+                }
+                Ok(())
+            }
         }
     }
 
@@ -63,6 +75,7 @@ impl<A: Allocator + Copy> Request<A> {
     {
         match self {
             Request::LsRefs(_) => Command::LsRefs,
+            Request::Fetch(_) => Command::Fetch,
         }
     }
 
@@ -72,6 +85,7 @@ impl<A: Allocator + Copy> Request<A> {
     {
         match self {
             Request::LsRefs(request) => request.format(),
+            Request::Fetch(request) => request.format(),
         }
     }
 
@@ -87,6 +101,7 @@ impl<A: Allocator + Copy> Request<A> {
     {
         match self {
             Request::LsRefs(request) => request.kept(),
+            Request::Fetch(request) => request.kept(),
         }
     }
 
@@ -96,6 +111,7 @@ impl<A: Allocator + Copy> Request<A> {
     {
         match self {
             Request::LsRefs(request) => request.limits(),
+            Request::Fetch(request) => request.limits(),
         }
     }
 
@@ -105,6 +121,7 @@ impl<A: Allocator + Copy> Request<A> {
     {
         match self {
             Request::LsRefs(request) => request.symrefs(),
+            Request::Fetch(_) => false,
         }
     }
 
@@ -114,6 +131,7 @@ impl<A: Allocator + Copy> Request<A> {
     {
         match self {
             Request::LsRefs(request) => request.peel(),
+            Request::Fetch(_) => false,
         }
     }
 
@@ -125,6 +143,67 @@ impl<A: Allocator + Copy> Request<A> {
     {
         match self {
             Request::LsRefs(request) => request.ref_prefix(i),
+            Request::Fetch(_) => None,
+        }
+    }
+
+    /// The objects of the `want` lines of `fetch`, in their order.
+    pub fn wants(&self) -> &[Oid]
+        ensures { result.now ≡ wants_of (asked_of self.now) }
+    {
+        match self {
+            Request::LsRefs(_) => &[],
+            Request::Fetch(request) => request.wants(),
+        }
+    }
+
+    /// The flag `done` of `fetch`.
+    pub fn done(&self) -> bool
+        ensures { result ≡ done_of (asked_of self.now) }
+    {
+        match self {
+            Request::LsRefs(_) => false,
+            Request::Fetch(request) => request.done(),
+        }
+    }
+
+    /// The flag `thin-pack` of `fetch`.
+    pub fn thin_pack(&self) -> bool
+        ensures { result ≡ thin_pack_of (asked_of self.now) }
+    {
+        match self {
+            Request::LsRefs(_) => false,
+            Request::Fetch(request) => request.thin_pack(),
+        }
+    }
+
+    /// The flag `no-progress` of `fetch`.
+    pub fn no_progress(&self) -> bool
+        ensures { result ≡ no_progress_of (asked_of self.now) }
+    {
+        match self {
+            Request::LsRefs(_) => false,
+            Request::Fetch(request) => request.no_progress(),
+        }
+    }
+
+    /// The flag `include-tag` of `fetch`.
+    pub fn include_tag(&self) -> bool
+        ensures { result ≡ include_tag_of (asked_of self.now) }
+    {
+        match self {
+            Request::LsRefs(_) => false,
+            Request::Fetch(request) => request.include_tag(),
+        }
+    }
+
+    /// The flag `ofs-delta` of `fetch`.
+    pub fn ofs_delta(&self) -> bool
+        ensures { result ≡ ofs_delta_of (asked_of self.now) }
+    {
+        match self {
+            Request::LsRefs(_) => false,
+            Request::Fetch(request) => request.ofs_delta(),
         }
     }
 
@@ -136,20 +215,22 @@ impl<A: Allocator + Copy> Request<A> {
     {
         match self {
             Request::LsRefs(request) => request.argument(i),
+            Request::Fetch(request) => request.argument(i),
         }
     }
 
     /// Keeps an argument whose line has a text of so many bytes.
-    pub(crate) fn keep(&mut self, argument: Argument<'_>, text_length: usize) -> Result<(), Kind>
-        requires { length (written_text (shown argument)) ≤ text_length }
-        ensures kept { OnOk result (Keeps self.old (shown argument.entry) text_length self.new) }
-        ensures passes { OnOk result (Passes (keep_checks self.old (shown argument.entry) text_length)) }
+    pub(crate) fn keep(&mut self, argument: &Argument<'_>, text_length: usize) -> Result<(), Kind>
+        requires { length (written_text (shown argument.now)) ≤ text_length }
+        ensures kept { OnOk result (Keeps self.old (shown argument.now) text_length self.new) }
+        ensures passes { OnOk result (Passes (keep_checks self.old (shown argument.now) text_length)) }
         ensures unchanged { OnErr result (self.new ≡ self.old) }
-        ensures refused { IfErr result (IsRefused (keep_checks self.old (shown argument.entry) text_length) (shown argument.entry)) }
+        ensures refused { IfErr result (IsRefused (keep_checks self.old (shown argument.now) text_length) (shown argument.now)) }
     {
-        self.check_value(&argument)?;
+        self.check_value(argument)?;
         match self {
             Request::LsRefs(request) => request.keep(argument, text_length),
+            Request::Fetch(request) => request.keep(argument, text_length),
         }
     }
 
@@ -159,22 +240,25 @@ impl<A: Allocator + Copy> Request<A> {
         ensures err { IfErr result (IsValueFault (command_of self.now) (format_of self.now) (shown argument.now)) }
     {
         match self {
-            Request::LsRefs(_) => match argument {
-                Argument::RefPrefix(prefix) if prefix.len() > MOST_TEXT => Err(Kind::BadLine),
-                _ => Ok(()),
-            },
+            Request::LsRefs(request) => request.check_value(argument),
+            Request::Fetch(request) => request.check_value(argument),
         }
     }
 }
 
 /// How many bytes the argument's text has, as it is written.
 pub(crate) fn written_length(argument: &Argument<'_>) -> usize
-    requires { length (written_text (shown argument.now)) < 2 ^ 64 }
     ensures { result ≡ length (written_text (shown argument.now)) }
 {
     match argument {
         Argument::Symrefs => 7,
         Argument::Peel => 4,
         Argument::RefPrefix(prefix) => 11 + prefix.len(),
+        Argument::Want(id) => 5 + id.format().digits(),
+        Argument::IsDone => 4,
+        Argument::ThinPack => 9,
+        Argument::NoProgress => 11,
+        Argument::IncludeTag => 11,
+        Argument::OfsDelta => 9,
     }
 }

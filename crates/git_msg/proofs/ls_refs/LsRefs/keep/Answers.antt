@@ -1,18 +1,20 @@
-use Rattle.std.proofs.Common.{rules, ◌≡◌, ◌+◌, ◌++◌, ◌∷◌, []}
+use Rattle.std.proofs.Common.{rules, ◌≡◌, ◌+◌, ◌++◌, ◌∷◌, [], sym}
 use Rattle.git_msg.specs.Arguments.{shown}
 use Rattle.git_msg.specs.Asked.{LsRefsAsked, ls_refs, with_argument}
 use Rattle.git_msg.specs.Kept.{IsCounted}
+use Rattle.git_msg.specs.Insides.{ls_refs_inside}
 use Rattle.git_msg.proofs.KeptBytes.{counted_more}
 use Rattle.git_msg.proofs.ls_refs.LsRefs.keep.Goals as goal
 use Rattle.git_msg.proofs.ls_refs.LsRefs.keep.Goals.{in-Symrefs, in-Peel, in-RefPrefix+else-is_err}
 
 pub invariant_of-self-2 : goal.invariant_of-self-2
 invariant_of-self-2 g c =
-    let q : LsRefsAsked = record { symrefs = c.self.inside.symrefs; peel = c.self.inside.peel; ref_prefixes = c.self.inside.ref_prefixes } in
+    let q : LsRefsAsked = ls_refs_inside c.self.inside in
     let charged : c.charge.new.self.kept ≡ c.self.inside.budget.kept + c.args.text_length = search rules in
-    let more : IsCounted c.self.inside.format (with_argument (ls_refs q) (shown c.args.argument)) c.charge.new.self.kept =
-    rw charged (counted_more c.self.inside.format (ls_refs q) (shown c.args.argument) c.self.inside.budget.kept c.args.text_length c.self.invariant
-    c.requires.value c.requires.counted) in
+    let value = rw (sym c.self.view_is) at c.requires.value in
+    let more : IsCounted c.self.inside.format (with_argument (ls_refs q) (shown c.args.argument.now)) c.charge.new.self.kept =
+    rw charged (counted_more c.self.inside.format (ls_refs q) (shown c.args.argument.now) c.self.inside.budget.kept c.args.text_length c.self.invariant
+    value c.requires.counted) in
     elim c.match-argument.branch [
       | in-Symrefs w ↦ rw w.self-inside-is (rw w.in-Symrefs.is at more)
       | in-Peel w ↦ rw w.self-inside-is (rw w.in-Peel.is at more)

@@ -1,0 +1,26 @@
+-- How long the written forms of object names are, and what they say.
+use Rattle.std.proofs.Common.{arith, ◌≡◌, ℕ, ◌≤◌, List, length, subst}
+use Rattle.git_names.specs.ObjectFormat.{digits_of}
+use Rattle.git_names.specs.ObjectName.{ObjectName, IsObjectName, hex_of}
+use Rattle.git_names.specs.declared.object_format.Format.{Format}
+use Rattle.git_names.specs.declared.object_format.Format.TheVariants.{Sha1, Sha256}
+use Rattle.git_names.proofs.ObjectNames.{IsOid-of_text, reads_back-hex_of}
+use Rattle.git_msg.specs.Arguments.{IsNameIn}
+
+pub digits_at_most : (format : Format) → digits_of format ≤ 64
+digits_at_most Sha1 = omega arith
+digits_at_most Sha256 = omega arith
+
+-- what is written of a name of the format reads back as that name
+pub hex_of-reads_back : (format : Format) (id : ObjectName) → IsNameIn format id → IsObjectName format (hex_of id) id
+hex_of-reads_back format id h = subst (λ (f : Format). IsObjectName f (hex_of id) id) h.of_format (reads_back-hex_of id h.is_oid)
+
+-- a text that names it has the format of the name
+pub named_in : (format : Format) (text : List ℕ) (id : ObjectName) → IsObjectName format text id → IsNameIn format id
+named_in format text id h = record { of_format = h.of_format; is_oid = IsOid-of_text format text id h }
+
+pub length-hex_of : (format : Format) (id : ObjectName) → IsNameIn format id → length (hex_of id) ≡ digits_of format
+length-hex_of format id h = (hex_of-reads_back format id h).count
+
+pub hex_of-at_most : (format : Format) (id : ObjectName) → IsNameIn format id → length (hex_of id) ≤ 64
+hex_of-at_most format id h = omega (arith, length-hex_of format id h, digits_at_most format)

@@ -1,0 +1,18 @@
+-- What the structs that keep a request hold of what it asks for.
+use Rattle.git_msg.specs.declared.fetch.Fetch.TheInside.{Inside as FetchInside}
+use Rattle.git_msg.specs.declared.ls_refs.LsRefs.TheInside.{Inside as LsRefsInside}
+use Rattle.git_msg.specs.Asked.{LsRefsAsked, FetchAsked}
+
+module _ {A : Type 0} where
+  abbrev pub ls_refs_inside : LsRefsInside A → LsRefsAsked
+  ls_refs_inside q = record { symrefs = q.symrefs; peel = q.peel; ref_prefixes = q.ref_prefixes }
+
+  abbrev pub fetch_inside : FetchInside A → FetchAsked
+  fetch_inside q = record {
+    wants = q.wants.items;
+    done = q.done;
+    thin_pack = q.thin_pack;
+    no_progress = q.no_progress;
+    include_tag = q.include_tag;
+    ofs_delta = q.ofs_delta;
+  }
