@@ -1,6 +1,6 @@
 -- A server that takes bytes goes on in its session, or ends it.
 use Rattle.std.proofs.Common.{arith, ◌≡◌, ◌≢◌, ℕ, ◌+◌, ◌≤◌, Bool, true, false, List, [], ◌∷◌, ◌++◌, length, Option, Some, None, refl, sym, ap, ◌∙◌, append_assoc, append-nil, subst, inl, inr}
-use Rattle.git_pkt.specs.Packets.{Pkt}
+use Rattle.git_pkt.specs.Packets.{Pkt, flush}
 use Rattle.git_pkt.specs.Splits.{Given}
 use Rattle.git_pkt.specs.Reading.{Reads, is_open, fault_of, ShownByFeed}
 use Rattle.git_pkt.specs.declared.fault.Fault.{Fault}
@@ -16,8 +16,8 @@ use Rattle.git_msg.specs.Taking.{Takes, offer_of, limit_in, kept_so_far, is_wait
 use Rattle.git_msg.specs.declared.offers.Offer.{Offer}
 use Rattle.git_msg.specs.declared.reader.RequestReader.{RequestReader}
 use Rattle.git_msg.specs.declared.requests.Request.{Request}
-use Rattle.git_msg.specs.declared.requests.Request.TheVariants.{LsRefs as OfLsRefs}
-use Rattle.git_server.specs.declared.answer.Answer.TheVariants.{References}
+use Rattle.git_msg.specs.declared.requests.Request.TheVariants.{LsRefs as OfLsRefs, Fetch as OfFetch}
+use Rattle.git_server.specs.declared.answer.Answer.TheVariants.{References, Fetching}
 use Rattle.git_server.specs.Repository.{Repository, RepoState}
 use Rattle.git_server.specs.Answers.{AllFit, IsAnswer, error_packet, tail_of, spelled}
 use Rattle.git_server.specs.AdvertisementLines.{advertisement_from}
@@ -43,9 +43,11 @@ use Rattle.git_server.proofs.Sent.{all_sent, one_more_asked}
 whole_answer : {A : Type 0} (repo : Repository) (request : Request A) (later : List Pkt) → IsAnswerFrom repo (answer_to request) later
     → IsAnswer repo (asked_of request) later
 whole_answer repo (OfLsRefs request) later h = h
+whole_answer repo (OfFetch request) later h = h
 
 kept_to_answer : {A : Type 0} (request : Request A) → kept_with (answer_to request) ≡ kept_of request
 kept_to_answer (OfLsRefs request) = refl
+kept_to_answer (OfFetch request) = refl
 
 pub refused_outcome_by : (A : Type 0) (kind : Kind) (fault : Fault) → outcome_in {A = A} (refused_by kind fault) ≡ Some (Refused fault)
 refused_outcome_by A RemoteError fault = refl
@@ -103,6 +105,7 @@ module _ {A : Type 0} where
 pub owes_some : {A : Type 0} (offer : Offer) (repo : Repository) (phase : Phase A) → (owed : List Pkt) × Owes offer repo phase owed
 owes_some offer repo (Advertising line) = (advertisement_from offer line, refl)
 owes_some offer repo (Answering (References request next) offset) = (references_from request.asked repo.refs next, refl)
+owes_some offer repo (Answering (Fetching request) offset) = (flush ∷ [], refl)
 owes_some offer repo (Refusing fault) = (error_packet fault ∷ [], refl)
 owes_some offer repo Between = ([], refl)
 owes_some offer repo Within = ([], refl)

@@ -8,7 +8,7 @@ use Rattle.git_pkt.proofs.Written.{spells_written}
 use Rattle.git_pkt.specs.Splits.{Given}
 use Rattle.git_pkt.proofs.Streams.{one_split}
 use Rattle.git_msg.specs.declared.offers.Offer.{Offer}
-use Rattle.git_msg.specs.Asked.{Asked, ls_refs}
+use Rattle.git_msg.specs.Asked.{Asked, ls_refs, fetch}
 use Rattle.git_msg.specs.WholeRequests.{AreRequests}
 use Rattle.git_msg.proofs.WholeRequests.{NoFlush, NoRequest, none_without_flush, one_list_of_requests}
 use Rattle.git_server.specs.Repository.{Entry, Repository, RepoState}
@@ -19,7 +19,7 @@ use Rattle.git_server.specs.Sessions.{Setting, IsRequest, AreAnswers, IsAnswered
 use Rattle.git_server.specs.Phases.{outcome_in, Owes, reads_in}
 use Rattle.git_server.specs.Serving.{Running, outcome_of, wants_input}
 use Rattle.git_server.specs.declared.advertisement.AdvertisementLine.{AdvertisementLine}
-use Rattle.git_server.specs.declared.answer.Answer.TheVariants.{References}
+use Rattle.git_server.specs.declared.answer.Answer.TheVariants.{References, Fetching}
 use Rattle.git_server.specs.declared.server.Phase.{Phase}
 use Rattle.git_server.specs.declared.server.Phase.TheVariants.{Advertising, Between, Within, Answering, Refusing, Ended}
 use Rattle.git_server.specs.declared.server.Server.{Server}
@@ -53,6 +53,7 @@ ends_once symrefs peel refs = omega (arith, flushes-append (map (reference_packe
 -- an answer has one flush
 answer_ends : (repo : Repository) (q : Asked) (answer : List Pkt) → IsAnswer repo q answer → flushes answer ≡ 1
 answer_ends repo (ls_refs q) answer h = ap flushes h ∙ ends_once q.symrefs q.peel (shown_refs q.ref_prefixes repo.refs)
+answer_ends repo (fetch q) answer h = ap flushes h
 
 answers_end : (repo : Repository) (asked : List Asked) (packets : List Pkt) → AreAnswers repo asked packets → flushes packets ≡ length asked
 answers_end repo [] packets h = ap flushes h
@@ -91,6 +92,7 @@ owes_flush offer repo (Advertising line) owed none owes zero = absurd (omega (ar
 owes_flush offer repo (Answering (References request next) offset) owed none owes zero =
     let q = request.asked in
     absurd (omega (arith, zero, ap flushes owes, ends_once q.symrefs q.peel (shown_refs q.ref_prefixes (drop next repo.refs))))
+owes_flush offer repo (Answering (Fetching request) offset) owed none owes zero = absurd (omega (arith, zero, ap flushes owes))
 owes_flush offer repo (Refusing fault) owed none owes zero = absurd (cc)
 owes_flush offer repo (Ended outcome) owed none owes zero = absurd (cc)
 

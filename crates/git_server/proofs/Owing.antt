@@ -62,10 +62,6 @@ module _ {A : Type 0} where
       let after = advertising_most offer repo next new is ∙ ap (λ (o : Option AdvertisementLine). length (advertisement_after offer o)) next_is in
       omega (arith, after, ap (most_owed offer repo) was, ap length (one_line offer line))
 
-  -- an answer is of one kind
-  pub is_references : (answer : Answer A) → (request : Kept LsRefsAsked) × (next : ℕ) × (answer ≡ References request next)
-  is_references (References request next) = (request, next, refl)
-
   module _ (offer : Offer) (repo : Repository) (old new : Phase A) (request : Kept LsRefsAsked) (next offset : ℕ) (after : Option ℕ) (packet : Pkt)
       (was : old ≡ Answering (References request next) offset)
       (first : references_from request.asked repo.refs next ≡ packet ∷ references_after request.asked repo.refs after) where

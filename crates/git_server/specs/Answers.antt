@@ -7,7 +7,7 @@ use Rattle.git_pkt.specs.declared.fault.Fault.{Fault}
 use Rattle.git_pkt.specs.declared.fault.Kind.{Kind}
 use Rattle.git_pkt.specs.declared.fault.Kind.TheVariants.{RemoteError}
 use Rattle.git_msg.specs.declared.offers.Offer.{Offer}
-use Rattle.git_msg.specs.Asked.{Asked, LsRefsAsked, ls_refs}
+use Rattle.git_msg.specs.Asked.{Asked, LsRefsAsked, ls_refs, fetch}
 use Rattle.git_msg.specs.Writing.{text_line, agent_line, format_line}
 use Rattle.git_msg.specs.References.{Ref, reference_text}
 use Rattle.git_server.specs.Repository.{Entry, Repository}
@@ -65,6 +65,7 @@ ls_refs_answer q refs = map (reference_packet q.symrefs q.peel) (shown_refs q.re
 -- the packets are an answer of the repository to the request
 abbrev pub IsAnswer : Repository → Asked → List Pkt → Type 0
 IsAnswer repo (ls_refs q) packets = packets ≡ ls_refs_answer q repo.refs
+IsAnswer repo (fetch q) packets = packets ≡ flush ∷ []
 
 -- the error packet that tells a fault by its name and offset
 abbrev pub error_packet : Fault → Pkt

@@ -9,6 +9,7 @@ pub mod NextShown
 pub mod WrittenPackets
 pub mod Brought
 pub mod Answering
+pub mod Packs
 pub mod Phases
 pub mod Serving
 pub mod Moves

@@ -18,6 +18,6 @@ lists_of repo = record {
 -- what it answers: none of its reads fails
 abbrev pub state_of : ListRepo → RepoState
 state_of repo = record {
-  answers = record { format = repo.format; refs = repo.refs.items; has = has_object repo.objects.items };
+  answers = record { format = repo.format; refs = repo.refs.items; has = has_object repo.objects.items; pack = λ request. repo.pack.items };
   failures = 0;
 }

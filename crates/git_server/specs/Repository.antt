@@ -7,6 +7,7 @@ use Rattle.std.specs.Cmp.Lexicographic.{slice_cmp}
 use Rattle.git_names.specs.declared.object_format.Format.{Format}
 use Rattle.git_names.specs.ObjectName.{ObjectName}
 use Rattle.git_names.specs.RefName.{IsRefName}
+use Rattle.git_msg.specs.Asked.{FetchAsked}
 
 -- a reference: its name, what it names, for a symbolic one its target, for a tag object what it peels to
 pub record Entry : Type 0 where
@@ -42,11 +43,12 @@ pub record IsOfFormat (format : Format) (ref : Entry) : Type 0 where
 pub record HasOneFormat (ref : Entry) : Type 0 where
   pub by_peeled : (id : ObjectName) → ref.peeled ≡ Some id → id.format ≡ ref.id.format
 
--- what a repository answers: its format, its references, and which objects it has
+-- what a repository answers: its format, its references, which objects it has, and the pack for a request
 pub record Repository : Type 0 where
   pub format : Format
   pub refs : List Entry
   pub has : ObjectName → Bool
+  pub pack : FetchAsked → List ℕ
 
 -- what a repository answers, and how many of its reads have failed
 pub record RepoState : Type 0 where

@@ -14,7 +14,7 @@ use crate::entry::RefEntry;
 use crate::packets::write_packet;
 use crate::repo::Repo;
 use crate::shown::next_shown;
-use git_msg::{LsRefs, Reference, Request, put_reference};
+use git_msg::{Fetch, LsRefs, Reference, Request, put_reference};
 use git_names::Oid;
 use git_pkt::{Packet, PacketReader};
 use std::alloc::Allocator;
@@ -24,6 +24,8 @@ use std::alloc::Allocator;
 pub(crate) enum Answer<A: Allocator + Copy> {
     /// Of a request for references: from the reference at this place on.
     References(LsRefs<A>, usize),
+    /// Of a request for objects.
+    Fetching(Fetch<A>),
 }
 
 impl<A: Allocator + Copy> Answer<A> {
@@ -33,6 +35,7 @@ impl<A: Allocator + Copy> Answer<A> {
     {
         match request {
             Request::LsRefs(request) => Answer::References(request, 0),
+            Request::Fetch(request) => Answer::Fetching(request),
         }
     }
 }

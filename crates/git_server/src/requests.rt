@@ -32,13 +32,15 @@ pub(crate) fn take_packet<A: Allocator + Copy>(
     ensures { Brings requests.old (record { packet = seen packet.entry; offset = offset }) result requests.new }
 {
     match requests.take(packet, offset) {
-        Ok(Taken::More) => Brought::Part,
-        Ok(Taken::Argument(argument)) => match requests.keep(argument) {
-            Ok(()) => Brought::Part,
-            Err(fault) => Brought::Refused(fault),
+        Ok(taken) => match taken {
+            Taken::More => return Brought::Part,
+            Taken::Argument(argument) => match requests.keep(argument) {
+                Ok(()) => return Brought::Part,
+                Err(fault) => return Brought::Refused(fault),
+            },
+            Taken::Request(request) => return Brought::Whole(request),
+            Taken::Stop => return Brought::Stop,
         },
-        Ok(Taken::Request(request)) => Brought::Whole(request),
-        Ok(Taken::Stop) => Brought::Stop,
-        Err(fault) => Brought::Refused(fault),
+        Err(fault) => return Brought::Refused(fault),
     }
 }

@@ -8,11 +8,12 @@ ghost use Rattle.git_server.specs.Phases.{advertising_phase, outcome_in, owes_in
 use crate::advertisement::AdvertisementLine;
 use crate::answer::{Answer, answer_one};
 use crate::outcome::Outcome;
+use crate::packets::write_packet;
 use crate::refusal::write_error;
 use crate::repo::Repo;
 use crate::requests::{Brought, take_packet};
 use git_msg::{Limits, Offer, RequestReader};
-use git_pkt::{Fault, Got, Kind, PacketReader};
+use git_pkt::{Fault, Got, Kind, Packet, PacketReader};
 use std::alloc::Allocator;
 
 /// Where a session stands.
@@ -227,6 +228,10 @@ impl<R: Repo, A: Allocator + Copy> Server<R, A> {
                         Some(after) => *next = after,
                         None => self.phase = Phase::Between,
                     }
+                }
+                Answer::Fetching(_) => {
+                    write_packet(&mut self.reader, Packet::Flush);
+                    self.phase = Phase::Between;
                 }
             },
             Phase::Refusing(fault) => {
