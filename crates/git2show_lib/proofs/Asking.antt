@@ -7,7 +7,7 @@ use Rattle.git_pkt.specs.Packets.{Pkt, seen}
 use Rattle.git_pkt.specs.Splits.{NoneBegins}
 use Rattle.git_pkt.proofs.Spelling.{none_begins_nothing}
 use Rattle.git_pkt.specs.Faults.{StopsBy}
-use Rattle.git_pkt.specs.Reading.{Reads, StandsAt, Feeds, Tells, given_by, fault_of}
+use Rattle.git_pkt.specs.PacketReader.{Reads, StandsAt, Feeds, Tells, given_by, fault_of}
 use Rattle.git_pkt.specs.declared.fault.Fault.{Fault}
 use Rattle.git_pkt.specs.declared.fault.Kind.TheVariants.{UnexpectedPacket}
 use Rattle.git_pkt.specs.declared.packet.Packet.{Packet}

@@ -7,7 +7,7 @@ use Rattle.std.specs.Io.KnownBytes.{Appends}
 use Rattle.git_pkt.specs.Splits.{Given}
 use Rattle.git_pkt.specs.Faults.{StopsBy}
 use Rattle.git_pkt.specs.Packets.{seen}
-use Rattle.git_pkt.specs.Reading.{Reads, ReadsOn, StandsAt, fault_of, Feeds, Tells, given_by}
+use Rattle.git_pkt.specs.PacketReader.{Reads, ReadsOn, StandsAt, fault_of, Feeds, Tells, given_by}
 use Rattle.git_pkt.specs.declared.packet.Packet.{Packet}
 use Rattle.git_pkt.specs.declared.reader.Fed.{Fed}
 use Rattle.git_pkt.specs.declared.reader.Got.{Got}

@@ -9,7 +9,7 @@ use Rattle.git_pkt.specs.Engine.{Relation, Exchanges, ExchangesFront}
 use Rattle.git_pkt.specs.Packets.{Pkt, flush, Spells, seen}
 use Rattle.git_pkt.specs.Splits.{NoneBegins}
 use Rattle.git_pkt.specs.Faults.{IsOpen, StopsBy}
-use Rattle.git_pkt.specs.Reading.{Reads, ShownByFeed}
+use Rattle.git_pkt.specs.PacketReader.{Reads, ShownByFeed}
 use Rattle.git_pkt.specs.declared.packet.Packet.{Packet}
 use Rattle.git_pkt.specs.declared.reader.PacketReader.{PacketReader}
 use Rattle.git_pkt.specs.declared.fault.Fault.{Fault}

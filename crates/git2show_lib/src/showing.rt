@@ -4,7 +4,7 @@ ghost use Rattle.std.specs.Prelude.{◌≡◌, ◌<◌, ◌≤◌, [], ◌||◌,
 ghost use Rattle.std.specs.Io.KnownBytes.{IsAtEnd};
 ghost use Rattle.git_pkt.specs.Told.{inner_of, reads_of, has_failed, has_ended, IsNew};
 ghost use Rattle.git_pkt.specs.Engine.{EndsExchange, FailsAs, Gives, GivesUntil, HasRead, IsShownBy, IsSpent};
-ghost use Rattle.git_pkt.specs.Reading.{fault_of};
+ghost use Rattle.git_pkt.specs.PacketReader.{fault_of};
 ghost use Rattle.git2show_lib.specs.ShownStream.{Shows, ShowsSoFar, PrintsPiece, PrintsInto};
 
 use crate::lines::Lines;

@@ -1,6 +1,6 @@
 //! Memory that runs out at each growth in turn.
 ghost use Rattle.std.specs.Prelude.{◌≡◌, false};
-ghost use Rattle.git_msg.specs.Taking.{is_waiting};
+ghost use Rattle.git_msg.specs.RequestReader.{is_waiting};
 
 use git_msg::{Argument, Command, Limits, Offer, Request, RequestReader, Taken};
 use git_names::Format;

@@ -2,8 +2,8 @@
 use Rattle.std.proofs.Common.{arith, ◌≡◌, ℕ, ◌+◌, List, length, true, false, ap, subst}
 use Rattle.git_names.specs.declared.object_format.Format.{Format}
 use Rattle.git_pkt.specs.Splits.{Given, Splits}
-use Rattle.git_pkt.specs.Reading.{Holds, is_open, open_length, position_of}
-use Rattle.git_pkt.proofs.Holding.{sound_rest, none_between, rest_length}
+use Rattle.git_pkt.specs.PacketReader.{Holds, is_open, open_length, position_of}
+use Rattle.git_pkt.proofs.KnownRest.{sound_rest, none_between, rest_length}
 use Rattle.git_pkt.proofs.Streams.{one_split}
 use Rattle.git_client.specs.Events.{EventValue}
 use Rattle.git_client.specs.Client.{Hears, phase_of, reader_of, wants_input}

@@ -2,7 +2,7 @@
 use Rattle.std.proofs.Common.{Some, ◌≡◌, ℕ, ◌+◌, ◌<◌, List, [], ◌∷◌, length, true, false, None, Result, Ok, Err, ap, sym, ◌∙◌, refl, subst, take}
 use Rattle.git_pkt.specs.Packets.{Pkt, flush, delim, resp_end, payload, Spells}
 use Rattle.git_pkt.specs.Splits.{Given}
-use Rattle.git_pkt.specs.Reading.{ShownByFeed, ReadsOn, position_of, is_open, held_of, fault_of as reader_fault_of}
+use Rattle.git_pkt.specs.PacketReader.{ShownByFeed, ReadsOn, position_of, is_open, held_of, fault_of as reader_fault_of}
 use Rattle.git_pkt.specs.declared.fault.Fault.{Fault}
 use Rattle.git_pkt.specs.declared.fault.Kind.{Kind}
 use Rattle.git_pkt.specs.declared.reader.PacketReader.{PacketReader}

@@ -5,7 +5,7 @@ use Rattle.git_names.specs.declared.object_format.Format.{Format}
 use Rattle.git_pkt.specs.Packets.{Pkt, payload, Spells, text_of, flushes}
 use Rattle.git_pkt.specs.Splits.{Given, Splits}
 use Rattle.git_pkt.specs.Faults.{StopsBy}
-use Rattle.git_pkt.specs.Reading.{Reads, position_of, ShownByFeed, is_open, held_of, fault_of as reader_fault_of}
+use Rattle.git_pkt.specs.PacketReader.{Reads, position_of, ShownByFeed, is_open, held_of, fault_of as reader_fault_of}
 use Rattle.git_pkt.specs.declared.fault.Fault.{Fault}
 use Rattle.git_pkt.specs.declared.fault.Kind.{Kind}
 use Rattle.git_pkt.specs.declared.fault.Kind.TheVariants.{RemoteError, Truncated}

@@ -6,7 +6,7 @@ ghost use Rattle.std.specs.Borrow.{sem};
 ghost use Rattle.std.specs.Io.BufRead.{Rests};
 ghost use Rattle.git_names.specs.declared.object_format.Format.{Format};
 ghost use Rattle.git_pkt.specs.Splits.{Given, Splits};
-ghost use Rattle.git_pkt.specs.Reading.{fault_of as reader_fault_of, held_of};
+ghost use Rattle.git_pkt.specs.PacketReader.{fault_of as reader_fault_of, held_of};
 ghost use Rattle.git_client.specs.Turns.{takes_packets};
 ghost use Rattle.git_client.specs.Events.{EventValue, turns_of};
 ghost use Rattle.git_client.specs.Conversation.{HasNoted};

@@ -22,10 +22,10 @@ use Rattle.git_msg.specs.Arguments.{Arg, symrefs, peel, ref_prefix, want, done, 
 use Rattle.git_msg.specs.Capability.{is_value}
 use Rattle.git_msg.specs.Asked.{Asked, command_asked, asked_by, arguments_in, bytes_of, written_bytes, HasValues}
 use Rattle.git_msg.specs.Lines.{Line, command, agent, object_format, delimiter, argument, is_none, is_delimiter, command_in, argument_in, commands_of, arguments_of, kept_in, has_format, has_delimiter, long_of, end_checks, flush_checks_in, IsCapabilityLine, IsArgumentLine, IsFormatMeant, IsLine, IsLineIn}
-use Rattle.git_msg.specs.Judging.{IsText}
+use Rattle.git_msg.specs.JudgedLine.{IsText}
 use Rattle.git_msg.specs.Checks.{Passes}
 use Rattle.git_msg.specs.Requests.{AreLines, Asks}
-use Rattle.git_msg.specs.Writing.{text_line, where_set, agent_line, format_line, argument_lines, lines_written}
+use Rattle.git_msg.specs.WrittenRequest.{text_line, where_set, agent_line, format_line, argument_lines, lines_written}
 use Rattle.git_msg.proofs.ArgumentsInOrder.{arguments_in_order}
 use Rattle.git_msg.proofs.WrittenNames.{hex_of-reads_back}
 use Rattle.git_msg.proofs.LineLists.{commands_snoc, delimiter_snoc, format_snoc, kept_snoc, argument_is_line, capability_is_line}

@@ -17,10 +17,10 @@ use Rattle.git_msg.specs.declared.reader.Taken.TheVariants.{More, Request as Tak
 use Rattle.git_msg.specs.Arguments.{Arg}
 use Rattle.git_msg.specs.Asked.{Asked, nothing_asked, asked_by}
 use Rattle.git_msg.specs.Checks.{Refuses, Passes}
-use Rattle.git_msg.specs.Holding.{IsEmpty, asked_of, command_of, limit_of}
+use Rattle.git_msg.specs.HeldRequest.{IsEmpty, asked_of, command_of, limit_of}
 use Rattle.git_msg.specs.Lines.{Line, command, agent, server_option, object_format, delimiter, argument, is_none, commands_of, arguments_of, kept_in, has_format, is_object_format, command_in, argument_in, long_of, is_delimiter, IsLineOf, key_checks, IsCapabilityLine, argument_checks, text_checks, capability_checks, part_checks, end_checks, flush_checks_in, IsLineIn, HasFaultIn}
-use Rattle.git_msg.specs.Taking.{InCapabilities, InArguments, is_nil, fault_in, waits_in, limit_in, kept_so_far}
-use Rattle.git_msg.specs.TakingSteps.{InLines, Advances, StepsOn, Notes, IsDue, is_first, with_line, restarted}
+use Rattle.git_msg.specs.RequestReader.{InCapabilities, InArguments, is_nil, fault_in, waits_in, limit_in, kept_so_far}
+use Rattle.git_msg.specs.RequestReaderSteps.{InLines, Advances, StepsOn, Notes, IsDue, is_first, with_line, restarted}
 use Rattle.git_msg.proofs.LineLists.{commands_snoc, arguments_snoc, format_snoc, delimiter_snoc, kept_snoc, capability_is_line}
 
 -- no command came, by both words

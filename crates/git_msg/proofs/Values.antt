@@ -7,7 +7,7 @@ use Rattle.git_msg.specs.declared.arguments.Command.{Command}
 use Rattle.git_msg.specs.declared.requests.Request.{Request}
 use Rattle.git_msg.specs.Arguments.{Arg, ref_prefix, want, IsInRange, IsOutOfRange, IsValue, IsValueFault, written_text}
 use Rattle.git_msg.specs.Checks.{Passes, Refuses}
-use Rattle.git_msg.specs.Holding.{add_checks, kept_of, limit_of, command_of, format_of}
+use Rattle.git_msg.specs.HeldRequest.{add_checks, kept_of, limit_of, command_of, format_of}
 use Rattle.git_msg.proofs.CheckLaws.{AllFair, passes_or_refuses, one_name, fair_check}
 
 range_apart : (format : Format) (arg : Arg) (kind : Kind) → IsInRange format arg → IsOutOfRange format arg kind → ⊥

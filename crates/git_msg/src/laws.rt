@@ -13,11 +13,11 @@ ghost use Rattle.git_msg.specs.Arguments.{Arg, IsArgumentFault, ReadsAs, written
 ghost use Rattle.git_msg.specs.Asked.{Asked, HasValues, arguments_in, asked_by, command_asked, written_bytes};
 ghost use Rattle.git_msg.specs.Capability.{IsCapability};
 ghost use Rattle.git_msg.specs.Checks.{Passes, Refuses};
-ghost use Rattle.git_msg.specs.Holding.{IsEmpty, AddsAll, add_checks, asked_of, kept_of};
+ghost use Rattle.git_msg.specs.HeldRequest.{IsEmpty, AddsAll, add_checks, asked_of, kept_of};
 ghost use Rattle.git_msg.specs.Lines.{Line, IsFormatMeant, IsLine, HasFault, end_checks};
 ghost use Rattle.git_msg.specs.References.{Ref, IsReferenceFault, IsReferenceLine};
 ghost use Rattle.git_msg.specs.Requests.{Asks, FirstFault};
-ghost use Rattle.git_msg.specs.Writing.{lines_written};
+ghost use Rattle.git_msg.specs.WrittenRequest.{lines_written};
 
 use crate::limits::Limits;
 use std::alloc::Allocator;

@@ -50,10 +50,10 @@ impl<A: Allocator + Copy> RequestReader<A> {
     ghost use Rattle.git_pkt.specs.Packets.{seen};
     ghost use Rattle.git_msg.specs.Arguments.{shown};
     ghost use Rattle.git_msg.specs.Checks.{Refuses};
-    ghost use Rattle.git_msg.specs.Holding.{IsEmpty};
+    ghost use Rattle.git_msg.specs.HeldRequest.{IsEmpty};
     ghost use Rattle.git_msg.specs.Lines.{capability_checks};
-    ghost use Rattle.git_msg.specs.Taking.{Takes, TakesOn, KeepsOn, offer_of, limit_in, kept_so_far, fault_of, is_waiting};
-    ghost use Rattle.git_msg.specs.TakingSteps.{Notes, IsDue, IsUndue, StepsOn, is_first, restarted};
+    ghost use Rattle.git_msg.specs.RequestReader.{Takes, TakesOn, KeepsOn, offer_of, limit_in, kept_so_far, fault_of, is_waiting};
+    ghost use Rattle.git_msg.specs.RequestReaderSteps.{Notes, IsDue, IsUndue, StepsOn, is_first, restarted};
 
     /// A reader at the beginning of a request. It takes memory from `alloc` when an argument with a text or an object
     /// name is kept.

@@ -26,7 +26,7 @@ impl<A: Allocator + Copy> Request<A> {
     ghost use Rattle.git_msg.specs.Asked.{arguments_in, symrefs_of, peel_of, ref_prefixes_of, wants_of, done_of, thin_pack_of, no_progress_of, include_tag_of, ofs_delta_of, written_bytes, HasValues};
     ghost use Rattle.git_msg.specs.Checks.{Passes, Refuses};
     ghost use Rattle.git_msg.specs.Lines.{end_checks};
-    ghost use Rattle.git_msg.specs.Holding.{IsEmpty, asked_of, command_of, format_of, kept_of, limit_of, Keeps, add_checks, keep_checks, IsRefused};
+    ghost use Rattle.git_msg.specs.HeldRequest.{IsEmpty, asked_of, command_of, format_of, kept_of, limit_of, Keeps, add_checks, keep_checks, IsRefused};
 
     /// A request without arguments. Later calls take memory from `alloc`, and only where an argument with a text or an
     /// object name is kept.

@@ -3,8 +3,8 @@ ghost use Rattle.std.specs.Prelude.{◌≡◌, [], Bool, MatchOption};
 ghost use Rattle.std.specs.Bool.{OnTrue, OnFalse};
 ghost use Rattle.git_names.specs.declared.object_format.Format.{Format};
 ghost use Rattle.git_msg.specs.Asked.{Asked};
-ghost use Rattle.git_msg.specs.Holding.{asked_of};
-ghost use Rattle.git_msg.specs.Writing.{agent_line, argument_part, format_line, lines_from, left_at, left_to_write, where_set, written_of, PutsFirst};
+ghost use Rattle.git_msg.specs.HeldRequest.{asked_of};
+ghost use Rattle.git_msg.specs.WrittenRequest.{agent_line, argument_part, format_line, lines_from, left_at, left_to_write, where_set, written_of, PutsFirst};
 
 use crate::capabilities::AGENT_LINE;
 use crate::offers::Caps;

@@ -3,7 +3,7 @@ ghost use Rattle.std.specs.Prelude.{◌≡◌, ◌+◌, ◌<◌, ◌++◌, lengt
 ghost use Rattle.git_names.specs.ObjectName.{hex_of};
 ghost use Rattle.git_pkt.specs.Packets.{longest_payload, spelling_of};
 ghost use Rattle.git_msg.specs.Arguments.{shown, written_text};
-ghost use Rattle.git_msg.specs.Writing.{text_line};
+ghost use Rattle.git_msg.specs.WrittenRequest.{text_line};
 
 use crate::arguments::Argument;
 use git_names::Oid;

@@ -4,7 +4,7 @@ use Rattle.std.proofs.lemmas.Bool.{cases_lt}
 use Rattle.std.proofs.lemmas.List.{get_or_append_left, get_or-take, length-append, length-take-le}
 use Rattle.std.proofs.Math.Seq.{get_or-append_right}
 use Rattle.bstr.specs.Find.{OccursAt}
-use Rattle.git_names.specs.Following.{MayFollow}
+use Rattle.git_names.specs.NextByte.{MayFollow}
 use Rattle.git_names.specs.RefName.{BeginsWith, EndsWith, IsRefName}
 
 -- a byte after a part that ends there

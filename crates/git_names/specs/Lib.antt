@@ -1,7 +1,7 @@
 pub mod Digits
-pub mod Following
 pub mod NameBytes
 pub mod NameFaults
+pub mod NextByte
 pub mod ObjectFormat
 pub mod ObjectName
 pub mod RefName

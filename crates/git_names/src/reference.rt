@@ -1,6 +1,6 @@
 ghost use Rattle.std.specs.Prelude.{◌≡◌, ◌≢◌, ℕ, ◌<◌, ◌↔◌, codes, length, slice_index, take, IsTrue, MatchResult};
 ghost use Rattle.git_names.specs.RefName.{BeginsWith, IsRefName};
-ghost use Rattle.git_names.specs.Following.{IsPlain, MayFollow};
+ghost use Rattle.git_names.specs.NextByte.{IsPlain, MayFollow};
 
 use crate::fault::NameFault;
 use bstr::ByteSlice;

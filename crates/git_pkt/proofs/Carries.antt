@@ -4,15 +4,15 @@ use Rattle.std.proofs.lemmas.List.{append-nil}
 use Rattle.git_pkt.specs.Packets.{Spells}
 use Rattle.git_pkt.specs.Splits.{Given, NoneBegins}
 use Rattle.git_pkt.specs.Faults.{IsOpen, StopsBy}
-use Rattle.git_pkt.specs.Reading.{position_of, held_of, rest_of, fault_of, StandsAt, ReadsOn}
-use Rattle.git_pkt.specs.ReaderSteps.{Moves}
+use Rattle.git_pkt.specs.PacketReader.{position_of, held_of, rest_of, fault_of, StandsAt, ReadsOn}
+use Rattle.git_pkt.specs.PacketReaderSteps.{Moves}
 use Rattle.git_pkt.specs.declared.fault.Fault.{Fault}
 use Rattle.git_pkt.specs.declared.reader.PacketReader.{PacketReader}
 use Rattle.git_pkt.specs.declared.reader.Progress.TheVariants.{Open, Whole, Failed}
 use Rattle.git_pkt.proofs.Spelling.{none_begins_nothing}
 use Rattle.git_pkt.proofs.Streams.{spells_all_more, spells_all_whole}
 use Rattle.git_pkt.proofs.ReaderMoves.{rest_of_shut, rest_is_open, rest_is_partial}
-use Rattle.git_pkt.proofs.Holding.{sound_rest}
+use Rattle.git_pkt.proofs.KnownRest.{sound_rest}
 
 stands_open : (r : PacketReader) (p end : ℕ) (rest : List ℕ) → fault_of r ≡ None → rest_of r ≡ rest → StandsAt (fault_of r) p end rest r
 stands_open r p end rest sound same =

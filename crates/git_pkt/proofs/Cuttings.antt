@@ -2,12 +2,12 @@
 use Rattle.std.proofs.Common.{◌≡◌, ◌≢◌, ℕ, ◌+◌, ◌-◌, List, length, Option, Some, None, sym, ◌∙◌, ap, subst, refl}
 use Rattle.git_pkt.specs.Splits.{Given}
 use Rattle.git_pkt.specs.Faults.{IsOpen, IsRefused, RestFault, StopsBy}
-use Rattle.git_pkt.specs.Reading.{Reads, StandsAt, HoldsAll, fault_of, rest_of}
+use Rattle.git_pkt.specs.PacketReader.{Reads, StandsAt, HoldsAll, fault_of, rest_of}
 use Rattle.git_pkt.specs.declared.fault.Fault.{Fault}
 use Rattle.git_pkt.specs.declared.fault.Kind.{Kind}
 use Rattle.git_pkt.specs.declared.fault.Kind.TheVariants.{Truncated, StreamTooLong}
 use Rattle.git_pkt.specs.declared.reader.PacketReader.{PacketReader}
-use Rattle.git_pkt.proofs.Holding.{sound_rest}
+use Rattle.git_pkt.proofs.KnownRest.{sound_rest}
 use Rattle.git_pkt.proofs.Streams.{one_split, SameSplit}
 use Rattle.git_pkt.proofs.Rests.{not_open_and_faulty, one_fault, same_fault}
 

@@ -4,7 +4,7 @@ pub mod Spelling
 pub mod Streams
 pub mod Gathered
 pub mod ReaderMoves
-pub mod Holding
+pub mod KnownRest
 pub mod Carries
 pub mod Pieces
 pub mod Written

@@ -1,8 +1,8 @@
 -- What a step of the reader comes to, from what its parts do.
 use Rattle.std.proofs.Common.{take, arith, ◌≡◌, ℕ, ◌+◌, ◌-◌, ◌≤◌, ◌<◌, List, [], ◌∷◌, ◌++◌, length, false, true, None, Bool, cond, ap, sym, ◌∙◌, refl, subst, append_assoc, length-append}
 use Rattle.std.proofs.lemmas.List.{append-nil, length-take}
-use Rattle.git_pkt.specs.Reading.{position_of, is_open, held_of, rest_of, fault_of}
-use Rattle.git_pkt.specs.ReaderSteps.{Moves, Arrives, IsStopped}
+use Rattle.git_pkt.specs.PacketReader.{position_of, is_open, held_of, rest_of, fault_of}
+use Rattle.git_pkt.specs.PacketReaderSteps.{Moves, Arrives, IsStopped}
 use Rattle.git_pkt.specs.declared.fault.Kind.{Kind}
 use Rattle.git_pkt.specs.declared.reader.PacketReader.{PacketReader}
 use Rattle.git_pkt.specs.declared.reader.Progress.{Progress}
@@ -11,7 +11,7 @@ use Rattle.git_pkt.specs.declared.fault.Kind.TheVariants.{StreamTooLong}
 use Rattle.git_pkt.specs.Packets.{Pkt, Spells}
 use Rattle.git_pkt.specs.Splits.{NoneBegins}
 use Rattle.git_pkt.specs.Faults.{IsOpen, last_position}
-use Rattle.git_pkt.specs.Gathering.{IsGathering}
+use Rattle.git_pkt.specs.HeldPacket.{IsGathering}
 use Rattle.git_pkt.proofs.Spelling.{none_begins_nothing}
 use Rattle.git_pkt.proofs.Gathered.{EndsWith, open_nothing, none_in_gathering}
 

@@ -3,10 +3,10 @@ pub mod TellsDigits
 pub mod Packets
 pub mod Splits
 pub mod Faults
-pub mod Gathering
-pub mod Reading
-pub mod ReaderSteps
-pub mod Lending
+pub mod HeldPacket
+pub mod PacketReader
+pub mod PacketReaderSteps
+pub mod LentHold
 pub mod Escape
 pub mod FaultNames
 pub mod NameFaults

@@ -4,7 +4,7 @@ ghost use Rattle.std.specs.Prelude.{◌≡◌, ◌≢◌, ◌⊎◌, ◌≤◌, 
 ghost use Rattle.git_pkt.specs.Packets.{Pkt, Spells, body_of, spelling_of, text_of, longest_payload};
 ghost use Rattle.git_pkt.specs.Splits.{Given, NoneBegins, Splits};
 ghost use Rattle.git_pkt.specs.Faults.{IsOpen, RestFault, ShowsAtEnd};
-ghost use Rattle.git_pkt.specs.Reading.{Holds, HoldsAll, Reads, fault_of, is_open, open_length, position_of, rest_of};
+ghost use Rattle.git_pkt.specs.PacketReader.{Holds, HoldsAll, Reads, fault_of, is_open, open_length, position_of, rest_of};
 ghost use Rattle.git_pkt.specs.declared.fault.Fault.{Fault};
 ghost use Rattle.git_pkt.specs.declared.fault.Kind.TheVariants.{StreamTooLong, Truncated};
 ghost use Rattle.git_pkt.specs.declared.reader.PacketReader.{PacketReader};

@@ -7,7 +7,7 @@ ghost use Rattle.git_pkt.specs.Packets.{Spells, seen};
 ghost use Rattle.git_pkt.specs.Splits.{Given};
 ghost use Rattle.git_pkt.specs.declared.fault.Fault.{Fault};
 ghost use Rattle.git_pkt.specs.Faults.{last_position};
-ghost use Rattle.git_pkt.specs.Gathering.{IsGathering, IsLengthField, IsWhole, TellsField};
+ghost use Rattle.git_pkt.specs.HeldPacket.{IsGathering, IsLengthField, IsWhole, TellsField};
 ghost use Rattle.git_pkt.specs.declared.fault.Kind.TheVariants.{Truncated};
 
 use crate::digits::{Digits, read_digits};
@@ -76,10 +76,10 @@ pub struct PacketReader {
 }
 
 impl PacketReader {
-    ghost use Rattle.git_pkt.specs.Reading.{Reads, ReadsOn, Feeds, Holds, position_of, fault_of, rest_of, open_length, held_of, is_open};
+    ghost use Rattle.git_pkt.specs.PacketReader.{Reads, ReadsOn, Feeds, Holds, position_of, fault_of, rest_of, open_length, held_of, is_open};
     ghost use Rattle.git_pkt.specs.contracts.reader.PacketReader.{the_row};
-    ghost use Rattle.git_pkt.specs.Lending.{LendsHold};
-    ghost use Rattle.git_pkt.specs.ReaderSteps.{Moves, IsStopped, IsOfPacket, IsShown};
+    ghost use Rattle.git_pkt.specs.LentHold.{LendsHold};
+    ghost use Rattle.git_pkt.specs.PacketReaderSteps.{Moves, IsStopped, IsOfPacket, IsShown};
 
     /// A reader of a stream that starts at offset 0.
     pub fn new() -> Self

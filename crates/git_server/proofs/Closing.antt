@@ -2,17 +2,17 @@
 use Rattle.std.proofs.Common.{◌≡◌, ◌≢◌, ◌⊎◌, ℕ, ◌+◌, Bool, true, false, List, [], length, Option, Some, None, refl, sym, ap, ◌∙◌, append-nil, subst, inl, inr, arith}
 use Rattle.git_pkt.specs.Packets.{Pkt}
 use Rattle.git_pkt.specs.Splits.{Given}
-use Rattle.git_pkt.specs.Reading.{is_open, open_length, fault_of, position_of}
+use Rattle.git_pkt.specs.PacketReader.{is_open, open_length, fault_of, position_of}
 use Rattle.git_pkt.specs.declared.fault.Fault.{Fault}
 use Rattle.git_pkt.specs.declared.fault.Kind.TheVariants.{Truncated}
-use Rattle.git_pkt.proofs.Holding.{sound_rest, none_between, some_inside, rest_length}
-use Rattle.git_msg.specs.Taking.{offer_of, limit_in, kept_so_far, is_waiting, fault_of as requests_fault}
+use Rattle.git_pkt.proofs.KnownRest.{sound_rest, none_between, some_inside, rest_length}
+use Rattle.git_msg.specs.RequestReader.{offer_of, limit_in, kept_so_far, is_waiting, fault_of as requests_fault}
 use Rattle.git_server.specs.Repository.{RepoState}
 use Rattle.git_server.specs.Answers.{AllFit, spelled}
 use Rattle.git_server.specs.Sessions.{Setting, EndsBy, IsTail}
 use Rattle.git_server.specs.Phases.{LeftIn, outcome_in, Owes, refused_by}
-use Rattle.git_server.specs.Serving.{Running, Serves, StandsBy, outcome_of, wants_input}
-use Rattle.git_server.specs.Moves.{Closes, Keeps}
+use Rattle.git_server.specs.Server.{Running, Serves, StandsBy, outcome_of, wants_input}
+use Rattle.git_server.specs.ServerCalls.{Closes, Keeps}
 use Rattle.git_server.specs.declared.outcome.Outcome.{Outcome}
 use Rattle.git_server.specs.declared.outcome.Outcome.TheVariants.{Closed, Refused}
 use Rattle.git_server.specs.declared.server.Phase.{Phase}

@@ -2,15 +2,15 @@
 use Rattle.std.proofs.Common.{arith, ◌≡◌, ◌≤◌, ◌<◌, ℕ, Bool, List, [], ◌∷◌, ◌++◌, Option, Some, None, sym, ap, ◌∙◌, append_assoc, append-nil, subst}
 use Rattle.git_pkt.specs.Packets.{Pkt}
 use Rattle.git_pkt.specs.Splits.{Given}
-use Rattle.git_pkt.specs.Reading.{held_of}
+use Rattle.git_pkt.specs.PacketReader.{held_of}
 use Rattle.git_server.specs.Repository.{Repository, RepoState}
 use Rattle.git_server.specs.Answers.{AllFit, spelled}
 use Rattle.git_server.specs.Sessions.{Setting, IsTail, advertised}
 use Rattle.git_server.specs.Phases.{FlushIsAt, LeftIn, kept_in, Owes}
 use Rattle.git_server.specs.WrittenPackets.{Writes}
-use Rattle.git_server.specs.Serving.{StandsBy, outcome_of}
-use Rattle.git_server.specs.Moves.{ComesFirst, Gives, Keeps, most_left}
-use Rattle.git_msg.specs.Taking.{Takes, offer_of, limit_in, kept_so_far}
+use Rattle.git_server.specs.Server.{StandsBy, outcome_of}
+use Rattle.git_server.specs.ServerCalls.{ComesFirst, Gives, Keeps, most_left}
+use Rattle.git_msg.specs.RequestReader.{Takes, offer_of, limit_in, kept_so_far}
 use Rattle.git_server.specs.declared.outcome.Outcome.{Outcome}
 use Rattle.git_server.specs.declared.server.Server.{Server}
 use Rattle.git_server.proofs.Outcomes.{stays_as}

@@ -2,17 +2,17 @@
 use Rattle.std.proofs.Common.{arith, ◌≡◌, ◌≢◌, ℕ, ◌+◌, ◌≤◌, Bool, true, false, List, [], ◌∷◌, ◌++◌, length, Option, Some, None, refl, sym, ap, ◌∙◌, append_assoc, append-nil, subst, inl, inr}
 use Rattle.git_pkt.specs.Packets.{Pkt, flush}
 use Rattle.git_pkt.specs.Splits.{Given}
-use Rattle.git_pkt.specs.Reading.{Reads, is_open, fault_of, ShownByFeed}
+use Rattle.git_pkt.specs.PacketReader.{Reads, is_open, fault_of, ShownByFeed}
 use Rattle.git_pkt.specs.declared.fault.Fault.{Fault}
 use Rattle.git_pkt.specs.declared.fault.Kind.{Kind}
 use Rattle.git_pkt.specs.declared.fault.Kind.TheVariants.{RemoteError, Truncated, StreamTooLong}
 use Rattle.git_msg.specs.Asked.{Asked}
-use Rattle.git_msg.specs.Holding.{asked_of, kept_of}
+use Rattle.git_msg.specs.HeldRequest.{asked_of, kept_of}
 use Rattle.git_msg.specs.Requests.{Asks, IsTold}
 use Rattle.git_msg.specs.WholeRequests.{AreRequests}
 use Rattle.git_msg.proofs.PacketFaults.{told_of_packets}
 use Rattle.git_msg.proofs.WholeRequests.{one_more_request, requests_more}
-use Rattle.git_msg.specs.Taking.{Takes, offer_of, limit_in, kept_so_far, is_waiting, fault_of as requests_fault}
+use Rattle.git_msg.specs.RequestReader.{Takes, offer_of, limit_in, kept_so_far, is_waiting, fault_of as requests_fault}
 use Rattle.git_msg.specs.declared.offers.Offer.{Offer}
 use Rattle.git_msg.specs.declared.reader.RequestReader.{RequestReader}
 use Rattle.git_msg.specs.declared.requests.Request.{Request}
@@ -23,10 +23,10 @@ use Rattle.git_server.specs.Answers.{AllFit, IsAnswer, error_packet, tail_of, sp
 use Rattle.git_server.specs.AdvertisementLines.{advertisement_from}
 use Rattle.git_server.specs.Sessions.{Begins, IsTail, Setting, IsRequest, IsSent, IsEnding, IsRefused, EndsBy}
 use Rattle.git_server.specs.Phases.{FlushIsAt, LeftIn, Owes, kept_in, outcome_in, reads_in, phase_after, refused_by}
-use Rattle.git_server.specs.Answering.{IsAnswerFrom, answer_to, kept_with, references_from}
+use Rattle.git_server.specs.AnsweredRequest.{IsAnswerFrom, answer_to, kept_with, references_from}
 use Rattle.git_server.specs.Brought.{Brings, IsBrought, IsWithin}
-use Rattle.git_server.specs.Serving.{Running, Serves, StandsBy, outcome_of, wants_input}
-use Rattle.git_server.specs.Moves.{Goes, ReadsFor, StopsInTime}
+use Rattle.git_server.specs.Server.{Running, Serves, StandsBy, outcome_of, wants_input}
+use Rattle.git_server.specs.ServerCalls.{Goes, ReadsFor, StopsInTime}
 use Rattle.git_server.specs.declared.outcome.Outcome.{Outcome}
 use Rattle.git_server.specs.declared.outcome.Outcome.TheVariants.{Flush, Refused}
 use Rattle.git_server.specs.declared.requests.Brought.{Brought}
@@ -34,7 +34,7 @@ use Rattle.git_server.specs.declared.requests.Brought.TheVariants.{Part, Whole, 
 use Rattle.git_server.specs.declared.server.Phase.{Phase}
 use Rattle.git_server.specs.declared.server.Phase.TheVariants.{Advertising, Between, Within, Answering, Refusing, Ended}
 use Rattle.git_server.specs.declared.server.Server.{Server}
-use Rattle.git_pkt.proofs.Holding.{sound_rest, none_between}
+use Rattle.git_pkt.proofs.KnownRest.{sound_rest, none_between}
 use Rattle.git_server.proofs.Begun.{begins}
 use Rattle.git_server.proofs.Readers.{stopped_by}
 use Rattle.git_server.proofs.Sent.{all_sent, one_more_asked}

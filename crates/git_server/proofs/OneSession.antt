@@ -17,7 +17,7 @@ use Rattle.git_server.specs.AdvertisementLines.{format_on, advertisement_from}
 use Rattle.git_server.specs.declared.advertisement.AdvertisementLine.TheVariants.{Version, Agent, LsRefs, ServerOption, ObjectFormat, End}
 use Rattle.git_server.specs.Sessions.{Setting, IsRequest, AreAnswers, IsAnswered, advertised}
 use Rattle.git_server.specs.Phases.{outcome_in, Owes, reads_in}
-use Rattle.git_server.specs.Serving.{Running, outcome_of, wants_input}
+use Rattle.git_server.specs.Server.{Running, outcome_of, wants_input}
 use Rattle.git_server.specs.declared.advertisement.AdvertisementLine.{AdvertisementLine}
 use Rattle.git_server.specs.declared.answer.Answer.TheVariants.{References, Fetching}
 use Rattle.git_server.specs.declared.server.Phase.{Phase}

@@ -5,7 +5,7 @@ use Rattle.git_msg.specs.declared.offers.Offer.{Offer}
 use Rattle.git_server.specs.Repository.{RepoState}
 use Rattle.git_server.specs.Sessions.{Setting, advertised}
 use Rattle.git_server.specs.Phases.{FlushIsAt, LeftIn, kept_in, outcome_in, Owes}
-use Rattle.git_server.specs.Serving.{IsFresh, Running, StandsBy}
+use Rattle.git_server.specs.Server.{IsFresh, Running, StandsBy}
 use Rattle.git_server.specs.declared.outcome.Outcome.{Outcome}
 use Rattle.git_server.specs.declared.server.Server.{Server}
 use Rattle.git_server.specs.declared.server.Phase.{Phase}

@@ -2,7 +2,7 @@
 use Rattle.std.proofs.Common.{◌≡◌, IsSome, Option, Some, None, sym, ◌∙◌, subst}
 use Rattle.git_pkt.specs.declared.fault.Fault.{Fault}
 use Rattle.git_pkt.specs.declared.fault.Kind.TheVariants.{StreamTooLong}
-use Rattle.git_server.specs.Moves.{IsAfterPull}
+use Rattle.git_server.specs.ServerCalls.{IsAfterPull}
 use Rattle.git_server.specs.declared.outcome.Outcome.{Outcome}
 use Rattle.git_server.specs.declared.outcome.Outcome.TheVariants.{Refused}
 

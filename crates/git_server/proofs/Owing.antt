@@ -7,7 +7,7 @@ use Rattle.git_msg.specs.declared.offers.Offer.{Offer}
 use Rattle.git_msg.specs.Asked.{LsRefsAsked}
 use Rattle.git_msg.specs.Kept.{Kept}
 use Rattle.git_server.specs.Repository.{Repository}
-use Rattle.git_server.specs.Answering.{references_after, references_from}
+use Rattle.git_server.specs.AnsweredRequest.{references_after, references_from}
 use Rattle.git_server.specs.Answers.{offered_line, error_packet}
 use Rattle.git_server.specs.AdvertisementLines.{format_on, advertisement_packet, advertisement_line_after, advertisement_from, advertisement_after}
 use Rattle.git_server.specs.Phases.{FlushIsAt, LeftIn, advertising_phase, kept_in, outcome_in, Owes, most_owed}

@@ -2,7 +2,7 @@
 use Rattle.std.proofs.Common.{◌≡◌, ℕ, ◌+◌, ◌-◌, List, [], length, take, Option, Some, None, refl, arith, subst, zero-add}
 use Rattle.git_pkt.specs.Faults.{StopsBy}
 use Rattle.git_pkt.specs.Splits.{Given}
-use Rattle.git_pkt.specs.Reading.{Feeds, Reads, ReadsOn, StandsAt, Tells, fault_of, given_by}
+use Rattle.git_pkt.specs.PacketReader.{Feeds, Reads, ReadsOn, StandsAt, Tells, fault_of, given_by}
 use Rattle.git_pkt.specs.declared.fault.Fault.{Fault}
 use Rattle.git_pkt.specs.declared.fault.Kind.{Kind}
 use Rattle.git_pkt.specs.declared.fault.Kind.TheVariants.{BadDigit, BadLength, TooLong, Truncated, StreamTooLong}

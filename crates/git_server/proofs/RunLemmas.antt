@@ -7,8 +7,8 @@ use Rattle.git_pkt.specs.Told.{AppendsFront}
 use Rattle.git_pkt.proofs.EngineLemmas.{AppendsFront-after, Exchanges-flush, Exchanges-more, Exchanges-nothing}
 use Rattle.git_server.specs.Repository.{RepoState}
 use Rattle.git_server.specs.Sessions.{Setting}
-use Rattle.git_server.specs.Serving.{Running, outcome_of, wants_input}
-use Rattle.git_server.specs.Moves.{Closes, EndsAs, Goes, IsAfterPull, OwesNow, Pulls, StopsInTime, TellsPulled, given_by}
+use Rattle.git_server.specs.Server.{Running, outcome_of, wants_input}
+use Rattle.git_server.specs.ServerCalls.{Closes, EndsAs, Goes, IsAfterPull, OwesNow, Pulls, StopsInTime, TellsPulled, given_by}
 use Rattle.git_server.specs.Runs.{IsBroken, IsRun, Standing, Waits, WritesAll, WritesFront, WritesItsEnd, WritesOn}
 use Rattle.git_server.specs.declared.outcome.Outcome.{Outcome}
 use Rattle.git_server.specs.declared.outcome.Outcome.TheVariants.{Refused}

@@ -8,11 +8,11 @@ use Rattle.git_server.specs.declared.server.Phase.{Phase}
 use Rattle.git_server.specs.declared.server.Phase.TheVariants.{Advertising, Between, Within, Answering, Refusing, Ended}
 use Rattle.git_server.specs.declared.server.Turn.TheVariants.{Finished}
 use Rattle.git_server.specs.declared.server.Pulled.TheVariants.{Finished as FinishedNow}
-use Rattle.git_server.specs.Serving.{Running, StandsBy, outcome_of, wants_input}
-use Rattle.git_server.specs.Moves.{OwesNow, Pulls}
+use Rattle.git_server.specs.Server.{Running, StandsBy, outcome_of, wants_input}
+use Rattle.git_server.specs.ServerCalls.{OwesNow, Pulls}
 use Rattle.git_server.specs.declared.outcome.Outcome.{Outcome}
 use Rattle.git_server.specs.declared.server.Server.{Server}
-use Rattle.git_pkt.proofs.Holding.{sound_rest}
+use Rattle.git_pkt.proofs.KnownRest.{sound_rest}
 use Rattle.git_server.proofs.Begun.{begins}
 use Rattle.git_server.proofs.Sent.{all_sent}
 use Rattle.git_server.proofs.Outcomes.{stays_as}

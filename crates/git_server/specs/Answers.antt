@@ -8,7 +8,7 @@ use Rattle.git_pkt.specs.declared.fault.Kind.{Kind}
 use Rattle.git_pkt.specs.declared.fault.Kind.TheVariants.{RemoteError}
 use Rattle.git_msg.specs.declared.offers.Offer.{Offer}
 use Rattle.git_msg.specs.Asked.{Asked, LsRefsAsked, ls_refs, fetch}
-use Rattle.git_msg.specs.Writing.{text_line, agent_line, format_line}
+use Rattle.git_msg.specs.WrittenRequest.{text_line, agent_line, format_line}
 use Rattle.git_msg.specs.References.{Ref, reference_text}
 use Rattle.git_server.specs.Repository.{Entry, Repository}
 use Rattle.git_server.specs.declared.outcome.Outcome.{Outcome}

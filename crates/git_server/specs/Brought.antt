@@ -2,9 +2,9 @@
 use Rattle.std.specs.Prelude.{◌≡◌, ◌≤◌, Bool, true, false, None, List, [], ◌∷◌, ◌++◌}
 use Rattle.git_pkt.specs.Splits.{Given}
 use Rattle.git_msg.specs.declared.reader.RequestReader.{RequestReader}
-use Rattle.git_msg.specs.Holding.{asked_of, kept_of}
+use Rattle.git_msg.specs.HeldRequest.{asked_of, kept_of}
 use Rattle.git_msg.specs.Requests.{Asks, IsTold, IsStop}
-use Rattle.git_msg.specs.Taking.{Takes, offer_of, limit_in, kept_so_far, fault_of, is_waiting}
+use Rattle.git_msg.specs.RequestReader.{Takes, offer_of, limit_in, kept_so_far, fault_of, is_waiting}
 use Rattle.git_server.specs.declared.requests.Brought.{Brought}
 use Rattle.git_server.specs.declared.requests.Brought.TheVariants.{Part, Whole, Stop, Refused}
 

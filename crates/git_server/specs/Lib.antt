@@ -8,9 +8,9 @@ pub mod AdvertisementLines
 pub mod NextShown
 pub mod WrittenPackets
 pub mod Brought
-pub mod Answering
+pub mod AnsweredRequest
 pub mod Packs
 pub mod Phases
-pub mod Serving
-pub mod Moves
+pub mod Server
+pub mod ServerCalls
 pub mod Runs

@@ -3,7 +3,7 @@ use Rattle.std.specs.Prelude.{◌≡◌, ℕ, ◌-◌, ◌≤◌, List, [], ◌�
 use Rattle.git_pkt.specs.Packets.{Pkt, flush}
 use Rattle.git_pkt.specs.Bands.{AreBands, band_packet}
 use Rattle.git_pkt.specs.declared.band.Band.TheVariants.{Pack, Fatal}
-use Rattle.git_msg.specs.Writing.{text_line}
+use Rattle.git_msg.specs.WrittenRequest.{text_line}
 
 -- so many bytes of the pack from an offset on were put in front: some, or none where the pack has no more
 pub record IsPackPart (pack : List ℕ) (offset count : ℕ) (out : List ℕ) : Type 0 where

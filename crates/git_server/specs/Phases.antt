@@ -8,7 +8,7 @@ use Rattle.git_pkt.specs.declared.fault.Kind.TheVariants.{RemoteError}
 use Rattle.git_msg.specs.declared.offers.Offer.{Offer}
 use Rattle.git_server.specs.Repository.{Repository}
 use Rattle.git_server.specs.Answers.{error_packet}
-use Rattle.git_server.specs.Answering.{IsAnswerFrom, answer_to, kept_with, most_from}
+use Rattle.git_server.specs.AnsweredRequest.{IsAnswerFrom, answer_to, kept_with, most_from}
 use Rattle.git_server.specs.AdvertisementLines.{advertisement_from}
 use Rattle.git_server.specs.declared.advertisement.AdvertisementLine.{AdvertisementLine}
 use Rattle.git_server.specs.declared.outcome.Outcome.{Outcome}

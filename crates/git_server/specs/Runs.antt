@@ -9,8 +9,8 @@ use Rattle.git_pkt.specs.declared.fault.RunFault.{RunFault}
 use Rattle.git_pkt.specs.declared.fault.RunFault.TheVariants.{ReadFault, WriteFault, ReadLimit, Refused as RefusedRun}
 use Rattle.git_server.specs.Repository.{RepoState}
 use Rattle.git_server.specs.Sessions.{Setting, IsAnswered, IsRunning, IsSession}
-use Rattle.git_server.specs.Serving.{outcome_of, wants_input}
-use Rattle.git_server.specs.Moves.{EndsAs, Goes, OwesNow, StopsInTime}
+use Rattle.git_server.specs.Server.{outcome_of, wants_input}
+use Rattle.git_server.specs.ServerCalls.{EndsAs, Goes, OwesNow, StopsInTime}
 use Rattle.git_server.specs.declared.outcome.Outcome.{Outcome}
 use Rattle.git_server.specs.declared.outcome.Outcome.TheVariants.{Refused}
 use Rattle.git_server.specs.declared.server.Server.{Server}

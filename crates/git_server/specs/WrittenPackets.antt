@@ -2,7 +2,7 @@
 use Rattle.std.specs.Prelude.{◌≡◌, ◌≤◌, ℕ, false, List, length}
 use Rattle.git_pkt.specs.Packets.{Pkt, spelling_of, body_of, longest_payload}
 use Rattle.git_pkt.specs.Splits.{Given}
-use Rattle.git_pkt.specs.Reading.{Reads, held_of, fault_of, is_open, position_of}
+use Rattle.git_pkt.specs.PacketReader.{Reads, held_of, fault_of, is_open, position_of}
 use Rattle.git_pkt.specs.declared.reader.PacketReader.{PacketReader}
 
 -- the packet's spelling is in the hold, and the reader reads on as before

@@ -1,7 +1,7 @@
 //! The capability advertisement, a line at a time.
 
 ghost use Rattle.std.specs.Prelude.{◌≡◌, false};
-ghost use Rattle.git_pkt.specs.Reading.{is_open};
+ghost use Rattle.git_pkt.specs.PacketReader.{is_open};
 ghost use Rattle.git_server.specs.AdvertisementLines.{advertisement_line_after, advertisement_packet};
 ghost use Rattle.git_server.specs.WrittenPackets.{Writes};
 

@@ -3,7 +3,7 @@
 ghost use Rattle.std.specs.Prelude.{◌≡◌, ◌≤◌, ◌↔◌, ℕ, Bool, true, None, List};
 ghost use Rattle.git_server.specs.Sessions.{IsAnswered, IsRunning, IsSession, Setting, WantsMemory};
 ghost use Rattle.git_server.specs.declared.outcome.Outcome.{Outcome};
-ghost use Rattle.git_server.specs.Serving.{Running, kept_by, outcome_of, wants_input};
+ghost use Rattle.git_server.specs.Server.{Running, kept_by, outcome_of, wants_input};
 
 use crate::repo::Repo;
 use crate::server::Server;

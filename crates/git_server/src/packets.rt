@@ -2,8 +2,8 @@
 
 ghost use Rattle.std.specs.Prelude.{◌≡◌, ◌≤◌, ◌<◌, ◌+◌, ◌++◌, length, false};
 ghost use Rattle.git_pkt.specs.Packets.{body_of, seen, longest_payload, spelling_of};
-ghost use Rattle.git_pkt.specs.Reading.{is_open};
-ghost use Rattle.git_msg.specs.Writing.{text_line};
+ghost use Rattle.git_pkt.specs.PacketReader.{is_open};
+ghost use Rattle.git_msg.specs.WrittenRequest.{text_line};
 ghost use Rattle.git_server.specs.WrittenPackets.{Writes};
 
 use git_pkt::{Hold, Packet, PacketReader, append, begin, put};

@@ -1,7 +1,7 @@
 //! The packet that tells a fault to the other end.
 
 ghost use Rattle.std.specs.Prelude.{◌≡◌, false};
-ghost use Rattle.git_pkt.specs.Reading.{is_open};
+ghost use Rattle.git_pkt.specs.PacketReader.{is_open};
 ghost use Rattle.git_server.specs.Answers.{error_packet};
 ghost use Rattle.git_server.specs.WrittenPackets.{Writes};
 

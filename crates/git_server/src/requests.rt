@@ -2,7 +2,7 @@
 
 ghost use Rattle.std.specs.Prelude.{◌≡◌, false, None};
 ghost use Rattle.git_pkt.specs.Packets.{seen};
-ghost use Rattle.git_msg.specs.Taking.{fault_of, is_waiting};
+ghost use Rattle.git_msg.specs.RequestReader.{fault_of, is_waiting};
 ghost use Rattle.git_server.specs.Brought.{Brings};
 
 use git_msg::{Request, RequestReader, Taken};

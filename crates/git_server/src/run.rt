@@ -4,8 +4,8 @@ ghost use Rattle.std.specs.Prelude.{◌≡◌, ◌≢◌, ◌<◌, ◌≤◌, �
 ghost use Rattle.git_pkt.specs.Told.{inner_of, reads_of, has_failed, has_ended, IsNew};
 ghost use Rattle.git_pkt.specs.Engine.{FailsAs, IsShownBy, IsSpent};
 ghost use Rattle.git_server.specs.Runs.{IsRun, RunsUntil, WritesFor, WritesFront, WritesItsEnd};
-ghost use Rattle.git_server.specs.Moves.{IsAfterPull, OwesNow};
-ghost use Rattle.git_server.specs.Serving.{Running, outcome_of, wants_input};
+ghost use Rattle.git_server.specs.ServerCalls.{IsAfterPull, OwesNow};
+ghost use Rattle.git_server.specs.Server.{Running, outcome_of, wants_input};
 ghost use Rattle.git_server.specs.Sessions.{Setting};
 
 use crate::outcome::Outcome;

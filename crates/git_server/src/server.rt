@@ -1,8 +1,8 @@
 //! The server's end of a conversation, as a machine that takes bytes in pieces and gives packets.
 
 ghost use Rattle.std.specs.Prelude.{◌≡◌, true, false, None};
-ghost use Rattle.git_pkt.specs.Reading.{is_open};
-ghost use Rattle.git_msg.specs.Taking.{fault_of, is_waiting};
+ghost use Rattle.git_pkt.specs.PacketReader.{is_open};
+ghost use Rattle.git_msg.specs.RequestReader.{fault_of, is_waiting};
 ghost use Rattle.git_server.specs.Phases.{advertising_phase, outcome_in, owes_in, phase_after, refusal_in, refused_by, turn_in};
 
 use crate::advertisement::AdvertisementLine;
@@ -70,9 +70,9 @@ impl<R: Repo, A: Allocator + Copy> Server<R, A> {
     ghost use Rattle.std.specs.Io.BufRead.{Rests};
     ghost use Rattle.git_server.specs.contracts.server.Server.{the_row};
     ghost use Rattle.git_server.specs.Sessions.{Setting};
-    ghost use Rattle.git_server.specs.Serving.{IsFresh, Running, repo_of, wants_input, outcome_of};
-    ghost use Rattle.git_server.specs.Moves.{Closes, Gives, Goes, OwesNow, Pulls, StopsInTime};
-    ghost use Rattle.git_pkt.specs.Reading.{held_of};
+    ghost use Rattle.git_server.specs.Server.{IsFresh, Running, repo_of, wants_input, outcome_of};
+    ghost use Rattle.git_server.specs.ServerCalls.{Closes, Gives, Goes, OwesNow, Pulls, StopsInTime};
+    ghost use Rattle.git_pkt.specs.PacketReader.{held_of};
 
     /// A server at the beginning of a session over this repository. It keeps at most `limits` of a request's
     /// arguments, in memory from `alloc`, and gives the advertisement of the offer first where `advertise` is set.

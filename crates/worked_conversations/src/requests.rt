@@ -1,7 +1,7 @@
 //! A request reader that keeps each argument, fed by a packet reader.
 
 ghost use Rattle.std.specs.Prelude.{◌≡◌, false};
-ghost use Rattle.git_msg.specs.Taking.{is_waiting};
+ghost use Rattle.git_msg.specs.RequestReader.{is_waiting};
 
 use crate::escapes::escaped;
 use crate::runs::Run;

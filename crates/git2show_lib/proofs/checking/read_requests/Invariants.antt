@@ -1,6 +1,6 @@
 use Rattle.std.proofs.Common.{◌≡◌, ◌<◌, length, false, None}
 use Rattle.git_pkt.specs.Told.{inner_of, reads_of, has_failed, has_ended}
-use Rattle.git_pkt.specs.Reading.{fault_of}
+use Rattle.git_pkt.specs.PacketReader.{fault_of}
 use Rattle.git2show_lib.specs.CheckedStreams.{AsksSoFar}
 use Rattle.git2show_lib.proofs.checking.read_requests.Given as goal
 

@@ -1,6 +1,6 @@
 use Rattle.std.proofs.Common.{◌≡◌, ◌-◌, ◌≤◌, length, take, None}
 use Rattle.git_pkt.specs.Told.{inner_of, has_failed}
-use Rattle.git_pkt.specs.Reading.{fault_of}
+use Rattle.git_pkt.specs.PacketReader.{fault_of}
 use Rattle.git2show_lib.specs.ShownStream.{Prints}
 use Rattle.git2show_lib.proofs.showing.print_piece.Given as goal
 

@@ -2,7 +2,7 @@
 use Rattle.std.proofs.Common.{◌≡◌, false, None, []}
 use Rattle.git_pkt.specs.Told.{inner_of, reads_of, has_failed, has_ended}
 use Rattle.git_pkt.specs.Engine.{Exchanges, HasRead}
-use Rattle.git_pkt.specs.Reading.{fault_of}
+use Rattle.git_pkt.specs.PacketReader.{fault_of}
 use Rattle.git2show_lib.specs.ShownStream.{ShowsSoFar}
 use Rattle.git2show_lib.proofs.showing.show.Given as goal
 

@@ -1,4 +1,4 @@
-use Rattle.git_msg.proofs.Adding.{added_asked, added_kept}
+use Rattle.git_msg.proofs.AddedArguments.{added_asked, added_kept}
 use Rattle.git_msg.proofs.laws.added_arguments_are_asked_for.Goals as goal
 
 pub returns-clause-asked : goal.returns-clause-asked

@@ -2,9 +2,9 @@ use Rattle.std.proofs.Common.{◌∙◌, sym, ap, option_map}
 use Rattle.git_pkt.specs.Packets.{flush}
 use Rattle.git_msg.specs.Arguments.{shown, written_text}
 use Rattle.git_msg.specs.Asked.{arguments_in}
-use Rattle.git_msg.specs.Holding.{asked_of}
-use Rattle.git_msg.specs.Writing.{text_line}
-use Rattle.git_msg.proofs.WritingSteps.{argument_step, flush_left}
+use Rattle.git_msg.specs.HeldRequest.{asked_of}
+use Rattle.git_msg.specs.WrittenRequest.{text_line}
+use Rattle.git_msg.proofs.LinesLeft.{argument_step, flush_left}
 use Rattle.git_msg.proofs.writer.put_from.Goals as goal
 
 pub returns-in-Some : goal.returns-in-Some

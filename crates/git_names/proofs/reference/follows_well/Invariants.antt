@@ -1,5 +1,5 @@
 use Rattle.std.proofs.Common.{ℕ, ◌<◌, take, slice_index}
-use Rattle.git_names.specs.Following.{MayFollow}
+use Rattle.git_names.specs.NextByte.{MayFollow}
 use Rattle.git_names.proofs.reference.follows_well.Given as goal
 
 abbrev pub invariant-loop-i : goal.invariant-loop-i

@@ -1,7 +1,7 @@
 -- The table is held against the rules at each of the 256 bytes, by computing.
 use Rattle.std.proofs.Common.{◌≡◌, ℕ, ◌<◌, ◌==◌, Bool, true, false, not, ◌&&◌, ◌||◌, nat_le, List, slice_index, refl, arith}
 use Rattle.git_names.specs.declared.reference.TheConstants.{PLAIN_BYTES}
-use Rattle.git_names.specs.Following.{IsPlain}
+use Rattle.git_names.specs.NextByte.{IsPlain}
 use Rattle.git_names.proofs.Tables.{all_pass, all_pass-at}
 use Rattle.git_names.proofs.reference.is_plain.Goals as goal
 

@@ -1,4 +1,4 @@
-use Rattle.git_pkt.proofs.Holding.{none_between, some_inside, rest_length, all_is_held}
+use Rattle.git_pkt.proofs.KnownRest.{none_between, some_inside, rest_length, all_is_held}
 use Rattle.git_pkt.proofs.laws.reader_knows_its_rest.Goals as goal
 
 pub returns : goal.returns

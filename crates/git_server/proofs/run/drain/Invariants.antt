@@ -1,8 +1,8 @@
 -- What was pulled was written, and nothing has failed since the call began.
 use Rattle.std.proofs.Common.{◌≡◌, []}
 use Rattle.git_pkt.specs.Told.{inner_of, has_failed}
-use Rattle.git_server.specs.Moves.{IsAfterPull, most_left}
-use Rattle.git_server.specs.Serving.{outcome_of}
+use Rattle.git_server.specs.ServerCalls.{IsAfterPull, most_left}
+use Rattle.git_server.specs.Server.{outcome_of}
 use Rattle.git_server.specs.Runs.{WritesOn}
 use Rattle.git_server.proofs.run.drain.Given as goal
 

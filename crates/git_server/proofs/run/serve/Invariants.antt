@@ -3,7 +3,7 @@ use Rattle.std.proofs.Common.{◌≡◌, false, true, []}
 use Rattle.git_pkt.specs.Told.{inner_of, reads_of, has_failed, has_ended}
 use Rattle.git_pkt.specs.Engine.{Exchanges, HasRead}
 use Rattle.git_server.specs.Sessions.{Setting}
-use Rattle.git_server.specs.Serving.{Running, wants_input}
+use Rattle.git_server.specs.Server.{Running, wants_input}
 use Rattle.git_server.proofs.run.serve.Given as goal
 
 abbrev pub invariant-loop : goal.invariant-loop

@@ -1,7 +1,7 @@
 use Rattle.std.proofs.Common.{◌≡◌, ◌∙◌, ap, List, ℕ, take, drop, length, ◌-◌}
 use Rattle.std.specs.Option.{option_copied}
 use Rattle.git_pkt.specs.Packets.{text_of}
-use Rattle.git_pkt.specs.Reading.{held_of}
+use Rattle.git_pkt.specs.PacketReader.{held_of}
 use Rattle.git_client.specs.Client.{reader_of}
 use Rattle.git_client.proofs.Held.{held_capability}
 use Rattle.git_client.proofs.conversation.Client.capability.Goals as goal

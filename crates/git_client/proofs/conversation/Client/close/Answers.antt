@@ -1,5 +1,5 @@
 use Rattle.std.proofs.Common.{rules, ◌≡◌, ◌+◌, ap, sym, subst}
-use Rattle.git_pkt.specs.Reading.{position_of, open_length}
+use Rattle.git_pkt.specs.PacketReader.{position_of, open_length}
 use Rattle.git_pkt.specs.declared.fault.Fault.{Fault}
 use Rattle.git_client.specs.Client.{reader_of}
 use Rattle.git_client.proofs.Closed.{ends_between, ends_inside}

@@ -1,6 +1,6 @@
 use Rattle.std.proofs.Common.{◌≡◌, ◌∙◌, ap, List, ℕ, take, drop, length, ◌-◌}
 use Rattle.git_pkt.specs.Packets.{text_of}
-use Rattle.git_pkt.specs.Reading.{held_of}
+use Rattle.git_pkt.specs.PacketReader.{held_of}
 use Rattle.git_client.specs.Client.{reader_of}
 use Rattle.git_client.proofs.Held.{message_is}
 use Rattle.git_client.proofs.conversation.Client.message.Goals as goal

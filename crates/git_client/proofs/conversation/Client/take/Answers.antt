@@ -1,7 +1,7 @@
 use Rattle.std.proofs.Common.{◌≡◌, Some, [], ◌∷◌, refl, sym, subst, take}
 use Rattle.git_pkt.specs.Packets.{seen}
 use Rattle.git_pkt.specs.Splits.{Given}
-use Rattle.git_pkt.specs.Reading.{ReadsOn, Tells, given_by, fault_of as reader_fault_of}
+use Rattle.git_pkt.specs.PacketReader.{ReadsOn, Tells, given_by, fault_of as reader_fault_of}
 use Rattle.git_pkt.specs.declared.reader.Got.{Got}
 use Rattle.git_pkt.specs.declared.reader.Got.TheVariants.{Packet}
 use Rattle.git_client.specs.Client.{Takes, phase_of, reader_of}

@@ -2,7 +2,7 @@ use Rattle.std.proofs.Common.{◌≡◌, subst, Bool}
 use Rattle.std.proofs.lemmas.Result.{err_from_is_err_and}
 use Rattle.git_msg.specs.Checks.{Refuses}
 use Rattle.git_msg.specs.Lines.{capability_checks}
-use Rattle.git_msg.specs.TakingSteps.{is_first}
+use Rattle.git_msg.specs.RequestReaderSteps.{is_first}
 use Rattle.git_msg.proofs.StepFacts.{first_by}
 use Rattle.git_msg.proofs.reader.RequestReader.note.Goals as goal
 

@@ -1,8 +1,8 @@
 use Rattle.std.proofs.Common.{rules, ◌≡◌, ◌∙◌, ℕ, ap, length, max, subst}
 use Rattle.git_msg.specs.Arguments.{shown, written_text}
 use Rattle.git_msg.specs.Checks.{Passes}
-use Rattle.git_msg.specs.Holding.{Keeps, IsRefused, keep_checks}
-use Rattle.git_msg.proofs.Keeping.{keeps_ok, keeps_err}
+use Rattle.git_msg.specs.HeldRequest.{Keeps, IsRefused, keep_checks}
+use Rattle.git_msg.proofs.KeptArguments.{keeps_ok, keeps_err}
 use Rattle.git_msg.proofs.reader.RequestReader.settle.Goals as goal
 
 pub returns-in-Ok : goal.returns-in-Ok

@@ -1,8 +1,8 @@
 use Rattle.std.proofs.Common.{◌≡◌, ap, Ok, Err, None}
 use Rattle.git_pkt.specs.Packets.{seen}
-use Rattle.git_msg.specs.Taking.{fault_of, fault_in}
-use Rattle.git_msg.specs.TakingSteps.{StepsOn}
-use Rattle.git_msg.proofs.TakingOn.{takes_ok, takes_err}
+use Rattle.git_msg.specs.RequestReader.{fault_of, fault_in}
+use Rattle.git_msg.specs.RequestReaderSteps.{StepsOn}
+use Rattle.git_msg.proofs.TakenPackets.{takes_ok, takes_err}
 use Rattle.git_msg.proofs.reader.RequestReader.take.Goals as goal
 use Rattle.git_msg.proofs.reader.RequestReader.take.Goals.{in-Capabilities, in-Arguments}
 

@@ -1,6 +1,6 @@
 use Rattle.std.proofs.Common.{◌≡◌, take}
-use Rattle.git_pkt.specs.Reading.{held_of}
-use Rattle.git_pkt.specs.ReaderSteps.{Moves}
+use Rattle.git_pkt.specs.PacketReader.{held_of}
+use Rattle.git_pkt.specs.PacketReaderSteps.{Moves}
 use Rattle.git_pkt.specs.declared.reader.Progress.TheVariants.{Open}
 use Rattle.git_pkt.proofs.reader.PacketReader.gather.Given as goal
 

@@ -1,5 +1,5 @@
 use Rattle.std.proofs.Common.{rules, refl, ap, ◌∙◌}
-use Rattle.git_pkt.specs.Reading.{position_of}
+use Rattle.git_pkt.specs.PacketReader.{position_of}
 use Rattle.git_pkt.specs.declared.fault.Kind.TheVariants.{Truncated}
 use Rattle.git_server.proofs.Closing.{closes_between, closes_open, closes_within}
 use Rattle.git_server.proofs.Going.{is_within, no_outcome}

@@ -1,7 +1,7 @@
 use Rattle.std.proofs.Common.{rules, ◌++◌, ◌⊎◌, ◌<◌, inl, inr, ℕ, List, ◌≡◌, ◌+◌, ◌-◌, true, false, take, drop, length, arith, subst, ap, sym, ◌∙◌, [], length-drop}
 use Rattle.git_pkt.proofs.Pieces.{left_of, take_joined}
-use Rattle.git_server.specs.Moves.{Goes}
-use Rattle.git_server.specs.Serving.{wants_input}
+use Rattle.git_server.specs.ServerCalls.{Goes}
+use Rattle.git_server.specs.Server.{wants_input}
 use Rattle.git_server.proofs.Going.{goes_join, open_in_time}
 use Rattle.git_server.proofs.server.Server.feed.Goals as goal
 

@@ -1,6 +1,6 @@
 use Rattle.std.proofs.Common.{◌⊎◌, IsSome, length, ◌-◌, ◌+◌, ◌≡◌, true, false, ◌≤◌, ◌<◌, [], take, if◌then◌else◌}
-use Rattle.git_server.specs.Moves.{Goes, StopsInTime}
-use Rattle.git_server.specs.Serving.{wants_input, outcome_of}
+use Rattle.git_server.specs.ServerCalls.{Goes, StopsInTime}
+use Rattle.git_server.specs.Server.{wants_input, outcome_of}
 use Rattle.git_server.proofs.server.Server.feed.Given as goal
 
 -- what was used so far was used well, and a server that does not wait for bytes, or got none, is as it was

@@ -11,7 +11,7 @@ use Rattle.git_msg.specs.declared.reader.Taken.{Taken}
 use Rattle.git_msg.specs.declared.reader.Taken.TheVariants.{More, Argument as TakenArgument, Request as TakenRequest, Stop}
 use Rattle.git_msg.specs.Arguments.{Arg, shown}
 use Rattle.git_msg.specs.Asked.{asked_by}
-use Rattle.git_msg.specs.Holding.{asked_of, command_of, format_of, kept_of, limit_of}
+use Rattle.git_msg.specs.HeldRequest.{asked_of, command_of, format_of, kept_of, limit_of}
 use Rattle.git_msg.specs.Lines.{Line, commands_of, arguments_of, kept_in, has_format, has_delimiter, IsArgumentText}
 use Rattle.git_msg.specs.Requests.{AreLines, IsPlainLine, Asks, FirstFault, IsTold, IsStop}
 

@@ -2,11 +2,11 @@
 use Rattle.std.specs.Prelude.{◌≡◌, ◌⊎◌, ℕ, ◌<◌, Bool, true, List, [], ◌∷◌, ◌++◌, length, Option, Some, None}
 use Rattle.git_pkt.specs.Packets.{Pkt, spelling_of}
 use Rattle.git_pkt.specs.Splits.{Given}
-use Rattle.git_pkt.specs.Reading.{ReadsOn, held_of}
+use Rattle.git_pkt.specs.PacketReader.{ReadsOn, held_of}
 use Rattle.git_server.specs.Repository.{RepoState}
 use Rattle.git_server.specs.Sessions.{Setting, IsSession}
 use Rattle.git_server.specs.Phases.{Owes, most_owed}
-use Rattle.git_server.specs.Serving.{Running, outcome_of, wants_input}
+use Rattle.git_server.specs.Server.{Running, outcome_of, wants_input}
 use Rattle.git_pkt.specs.declared.fault.Fault.{Fault}
 use Rattle.git_pkt.specs.declared.fault.Kind.TheVariants.{StreamTooLong, Truncated}
 use Rattle.git_server.specs.declared.outcome.Outcome.{Outcome}

@@ -5,7 +5,7 @@ use Rattle.std.proofs.lemmas.Grind.{common_steps}
 use Rattle.std.proofs.lemmas.Option.{gets}
 use Rattle.git_pkt.specs.Packets.{flush}
 use Rattle.git_msg.specs.Arguments.{Arg, written_text}
-use Rattle.git_msg.specs.Writing.{argument_lines, text_line}
+use Rattle.git_msg.specs.WrittenRequest.{argument_lines, text_line}
 
 drop_from : (args : List Arg) (i : ℕ) (arg : Arg) → slice_get args i ≡ Some arg → drop i args ≡ arg ∷ drop (i + 1) args
 drop_from args i arg h = grind (arith, common_steps, gets)

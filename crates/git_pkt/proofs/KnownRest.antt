@@ -3,7 +3,7 @@ use Rattle.std.proofs.Common.{arith, ◌≡◌, ◌≢◌, ℕ, ◌+◌, ◌-◌
 use Rattle.std.proofs.lemmas.List.{length-take-le}
 use Rattle.git_pkt.specs.Splits.{Given}
 use Rattle.git_pkt.specs.Faults.{IsOpen}
-use Rattle.git_pkt.specs.Reading.{Reads, StandsAt, Holds, HoldsAll, fault_of, is_open, open_length}
+use Rattle.git_pkt.specs.PacketReader.{Reads, StandsAt, Holds, HoldsAll, fault_of, is_open, open_length}
 use Rattle.git_pkt.specs.declared.fault.Fault.{Fault}
 use Rattle.git_pkt.specs.declared.reader.PacketReader.{PacketReader}
 use Rattle.git_pkt.proofs.ReaderMoves.{rest_of_open, rest_of_shut}

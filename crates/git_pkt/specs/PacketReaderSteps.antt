@@ -2,9 +2,9 @@
 use Rattle.std.specs.Prelude.{◌≡◌, ◌≢◌, ℕ, ◌+◌, ◌-◌, false, List, ◌++◌, length, Some, None}
 use Rattle.git_pkt.specs.Splits.{NoneBegins}
 use Rattle.git_pkt.specs.Faults.{StopsBy}
-use Rattle.git_pkt.specs.Gathering.{IsWhole}
+use Rattle.git_pkt.specs.HeldPacket.{IsWhole}
 use Rattle.git_pkt.specs.declared.fault.Kind.TheVariants.{Truncated, StreamTooLong}
-use Rattle.git_pkt.specs.Reading.{ShownByFeed, position_of, is_open, held_of, rest_of, fault_of}
+use Rattle.git_pkt.specs.PacketReader.{ShownByFeed, position_of, is_open, held_of, rest_of, fault_of}
 use Rattle.git_pkt.specs.declared.fault.Fault.{Fault}
 use Rattle.git_pkt.specs.declared.fault.Kind.{Kind}
 use Rattle.git_pkt.specs.declared.reader.PacketReader.{PacketReader}

@@ -10,7 +10,7 @@ use Rattle.git_msg.specs.declared.writer.Next.TheVariants.{CommandLine, Agent, O
 use Rattle.git_msg.specs.declared.writer.RequestWriter.{RequestWriter}
 use Rattle.git_msg.specs.Arguments.{Arg, name_of, written_text}
 use Rattle.git_msg.specs.Asked.{Asked, command_asked, arguments_in}
-use Rattle.git_msg.specs.Holding.{asked_of, format_of}
+use Rattle.git_msg.specs.HeldRequest.{asked_of, format_of}
 
 -- a line, with LF at its end
 abbrev pub text_line : List ℕ → Pkt
