@@ -5,7 +5,8 @@ use Rattle.std.proofs.lemmas.List.Sums.{fold-append}
 use Rattle.git_msg.specs.declared.arguments.Command.{Command}
 use Rattle.git_msg.specs.declared.arguments.Command.TheVariants.{LsRefs}
 use Rattle.git_msg.specs.Arguments.{Arg, symrefs, peel, ref_prefix}
-use Rattle.git_msg.specs.Asked.{Asked, ls_refs, LsRefsAsked, is_symrefs, is_peel, prefix_in, command_asked, nothing_asked, asked_by, with_argument, where_asked, arguments_in}
+use Rattle.git_msg.specs.Asked.{Asked, ls_refs, LsRefsAsked, is_symrefs, is_peel, prefix_in, command_asked}
+use Rattle.git_msg.specs.Asked.{nothing_asked, asked_by, with_argument, where_asked, arguments_in}
 
 pub same_command : (asked : Asked) (arg : Arg) → command_asked (with_argument asked arg) ≡ command_asked asked
 same_command (ls_refs q) arg = refl

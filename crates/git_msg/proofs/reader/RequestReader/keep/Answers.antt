@@ -7,14 +7,18 @@ use Rattle.git_msg.proofs.reader.RequestReader.keep.Goals as goal
 
 pub returns-in-Ok : goal.returns-in-Ok
 returns-in-Ok g c =
-    let same : c.max-length.result ≡ max c.in-Waiting.length (length (written_text (shown c.args.argument))) = c.max-length.ensures ∙ ap (λ (n : ℕ). max c.in-Waiting.length n) c.written_length.ensures in
+    let same : c.max-length.result ≡ max c.in-Waiting.length (length (written_text (shown c.args.argument))) =
+    c.max-length.ensures ∙ ap (λ (n : ℕ). max c.in-Waiting.length n) c.written_length.ensures in
     keeps_ok c.args.self.now c.in-Waiting.offset c.in-Waiting.length (shown c.args.argument) c.keep.new.self c.in-Waiting.is
     (subst (λ (n : ℕ). Keeps c.args.self.now.request (shown c.args.argument) n c.keep.new.self) same c.in-Ok.ensures.kept)
     (subst (λ (n : ℕ). Passes (keep_checks c.args.self.now.request (shown c.args.argument) n)) same c.in-Ok.ensures.passes)
 
 pub returns-in-Err : goal.returns-in-Err
 returns-in-Err g c =
-    let same : c.max-length.result ≡ max c.in-Waiting.length (length (written_text (shown c.args.argument))) = c.max-length.ensures ∙ ap (λ (n : ℕ). max c.in-Waiting.length n) c.written_length.ensures in
-    let h = keeps_err c.args.self.now c.in-Waiting.offset c.in-Waiting.length (shown c.args.argument) c.keep.new.self c.in-Err.kind c.in-Waiting.is c.in-Err.ensures.unchanged
-    (subst (λ (n : ℕ). IsRefused (keep_checks c.args.self.now.request (shown c.args.argument) n) (shown c.args.argument) c.in-Err.kind) same c.in-Err.ensures.refused) in
+    let same : c.max-length.result ≡ max c.in-Waiting.length (length (written_text (shown c.args.argument))) =
+    c.max-length.ensures ∙ ap (λ (n : ℕ). max c.in-Waiting.length n) c.written_length.ensures in
+    let h = keeps_err c.args.self.now c.in-Waiting.offset c.in-Waiting.length
+    (shown c.args.argument) c.keep.new.self c.in-Err.kind c.in-Waiting.is c.in-Err.ensures.unchanged
+    (subst (λ (n : ℕ). IsRefused (keep_checks c.args.self.now.request (shown c.args.argument) n) (shown c.args.argument) c.in-Err.kind)
+    same c.in-Err.ensures.refused) in
     rw (c.refuse.ensures.ends, c.refuse.ensures.fault) (search (rules, h))

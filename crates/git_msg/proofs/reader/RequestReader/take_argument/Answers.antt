@@ -7,7 +7,8 @@ returns-in_err-argument-in-Payload g c =
     let p = err_from_is_err_and c.from_residual.result c.from_residual.ensures.1 in
     let h = c.in_err-argument-in-Payload.ensures in
     rw (p.1, p.2, c.in-Payload.is)
-    (unread c.args.self.now c.in-Payload.payload.now c.args.offset c.in_err-argument-in-Payload.field-0.0 c.requires (rw (c.command.ensures, c.text-text.ensures) at h))
+    (unread c.args.self.now c.in-Payload.payload.now c.args.offset c.in_err-argument-in-Payload.field-0.0 c.requires
+    (rw (c.command.ensures, c.text-text.ensures) at h))
 
 pub returns-in_ok-check_end-in-Flush : goal.returns-in_ok-check_end-in-Flush
 returns-in_ok-check_end-in-Flush g c =
