@@ -125,7 +125,7 @@ not_too_long offset packets Stop requests h fault ended too_long = cc
 not_too_long {A = A} offset packets (RefusedPacket f) requests h fault ended too_long =
     let same : Some (Refused f) ≡ Some (Refused fault) = sym (refused_outcome_by A f.kind f) ∙ ended in
     let one : f ≡ fault = cc in
-    told_of_packets (offer_of requests) (limit_in requests) packets f h (ap (λ (x : Fault). x.kind) one ∙ too_long)
+    told_of_packets StreamTooLong tt (offer_of requests) (limit_in requests) packets f h (ap (λ (x : Fault). x.kind) one ∙ too_long)
 
 -- what a server without an outcome stands for
 pub goes_on : {R A : Type 0} (state : R → RepoState) (server : Server R A) (s : Setting) (used : List ℕ) (over : Bool) (given : List ℕ)
