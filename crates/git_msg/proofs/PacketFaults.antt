@@ -14,7 +14,8 @@ use Rattle.git_msg.specs.declared.capability_key.Key.TheVariants.{CommandKey, Ag
 use Rattle.git_msg.specs.Arguments.{Row, of_ref_prefix, of_want, IsArgumentFault, IsRowFault}
 use Rattle.git_msg.specs.Asked.{Asked, ls_refs, fetch}
 use Rattle.git_msg.specs.Checks.{Check, Refuses}
-use Rattle.git_msg.specs.Lines.{Line, argument_checks, capability_checks, commands_of, end_checks, flush_checks_in, has_delimiter, has_format, by_key, is_none, kept_in, key_checks, part_checks, HasFault, HasFaultIn}
+use Rattle.git_msg.specs.Lines.{Line, argument_checks, capability_checks, commands_of, end_checks, flush_checks_in, has_delimiter, has_format, by_key}
+use Rattle.git_msg.specs.Lines.{is_none, kept_in, key_checks, part_checks, HasFault, HasFaultIn}
 use Rattle.git_msg.specs.Requests.{IsTold}
 
 -- what a stream of bytes, a repository or the source of a pack is refused for, and no packet by itself

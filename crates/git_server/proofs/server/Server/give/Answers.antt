@@ -7,7 +7,9 @@ use Rattle.git_server.specs.declared.answer.Answer.TheVariants.{References}
 use Rattle.git_server.specs.declared.server.Phase.{Phase}
 use Rattle.git_server.specs.declared.server.Phase.TheVariants.{Answering, Between}
 use Rattle.git_server.proofs.Giving.{gives}
-use Rattle.git_server.proofs.Owing.{line_behind, fewer_lines, flush_stays, flush_unasked, answer_next, fewer_answers, is_advertising, is_advertised, is_answering, is_between, same_outcome, left_stays, refusal_behind, refusal_outcome, refusal_left, none_kept_in_advertising}
+use Rattle.git_server.proofs.Owing.{line_behind, fewer_lines, flush_stays, flush_unasked, answer_next, fewer_answers}
+use Rattle.git_server.proofs.Owing.{is_advertising, is_advertised, is_answering, is_between, same_outcome, left_stays}
+use Rattle.git_server.proofs.Owing.{refusal_behind, refusal_outcome, refusal_left, none_kept_in_advertising}
 use Rattle.git_server.proofs.server.Server.give.Goals as goal
 
 pub returns-in-Advertising : goal.returns-in-Advertising
