@@ -19,6 +19,6 @@ mod shown;
 pub use entry::RefEntry;
 pub use list_repo::{ListRepo, RepoFault};
 pub use outcome::Outcome;
-pub use repo::Repo;
+pub use repo::{PackFault, Repo};
 pub use run::serve;
 pub use server::{Pulled, Server};
