@@ -4,7 +4,7 @@ use Rattle.git_pkt.specs.Packets.{Pkt}
 use Rattle.git_pkt.specs.Splits.{Given}
 use Rattle.git_pkt.specs.declared.fault.Fault.{Fault}
 use Rattle.git_pkt.specs.declared.fault.Kind.{Kind}
-use Rattle.git_pkt.specs.declared.fault.Kind.TheVariants.{RemoteError}
+use Rattle.git_pkt.specs.declared.fault.Kind.TheVariants.{PackSource, RemoteError}
 use Rattle.git_msg.specs.declared.offers.Offer.{Offer}
 use Rattle.git_server.specs.Repository.{Repository}
 use Rattle.git_server.specs.Answers.{error_packet}
@@ -26,6 +26,10 @@ use Rattle.git_server.specs.declared.server.Phase.TheVariants.{Advertising, Betw
 abbrev pub refusal_in : Option Outcome → Option Fault
 refusal_in (Some (Refused fault)) = Some fault
 refusal_in _ = None
+
+-- the outcome where the source of a pack failed
+abbrev pub lost_pack : ℕ → Outcome
+lost_pack flush_offset = Refused (record { kind = PackSource; offset = flush_offset })
 
 module _ {A : Type 0} where
   -- the server waits for bytes

@@ -90,10 +90,14 @@ pub record IsWithoutPack (s : Setting) (over : Bool) (left : List Given) (rest :
   pub at : IsLastAt fault.offset left
   pub no_rest : rest ≡ []
 
+-- what was read is refused, at a packet, at a byte or at its end
+abbrev pub IsRefusedAsRead : Setting → Bool → List Given → List ℕ → ℕ → Fault → Type 0
+IsRefusedAsRead s over left rest end fault =
+    IsRefusedAtPacket s left rest fault ⊎ (IsRefusedAtByte s over left rest end fault ⊎ IsCutShort s over left rest end fault)
+
+-- what was read is refused, or the pack that it asks for cannot be had
 abbrev pub IsRefused : Setting → Bool → List Given → List ℕ → ℕ → Fault → Type 0
-IsRefused s over left rest end fault =
-    IsRefusedAtPacket s left rest fault
-    ⊎ (IsRefusedAtByte s over left rest end fault ⊎ (IsCutShort s over left rest end fault ⊎ IsWithoutPack s over left rest fault))
+IsRefused s over left rest end fault = IsRefusedAsRead s over left rest end fault ⊎ IsWithoutPack s over left rest fault
 
 -- a session ends so, where this is left after the whole requests and `end` bytes were used
 abbrev pub EndsBy : Setting → Bool → List Given → List ℕ → ℕ → Outcome → Type 0
