@@ -21,7 +21,8 @@ module _ {R A : Type 0} (state : R → RepoState) (old new : Server R A) (packet
     (writes : Writes old.reader packet new.reader) (keeps : Keeps state old new)
     (owed : (later : List Pkt) → Owes new.offer (state old.repo).answers new.phase later → Owes old.offer (state old.repo).answers old.phase (packet ∷ later))
     (breaks : (later : List Pkt) → MayBreak (state old.repo).answers new.phase later → MayBreak (state old.repo).answers old.phase (packet ∷ later))
-    (less : most_owed new.offer (state old.repo).answers new.phase < most_owed old.offer (state old.repo).answers old.phase) (same : outcome_of new ≡ outcome_of old)
+    (less : most_owed new.offer (state old.repo).answers new.phase < most_owed old.offer (state old.repo).answers old.phase)
+        (same : outcome_of new ≡ outcome_of old)
     (left_stays : (left : List Given) → LeftIn old.phase left → LeftIn new.phase left)
     (flush_stays : (packets : List Given) → FlushIsAt old.phase packets → FlushIsAt new.phase packets) (no_more : kept_in new.phase ≤ kept_in old.phase) where
   -- what is owed, as the session's repository has it

@@ -99,7 +99,8 @@ module _ {A : Type 0} where
       part_less = omega (arith, follows.1, ap (most_owed offer repo) was)
 
     -- the last one
-    pub last_owes : IsAnswerFrom whole repo answer (packet ∷ []) → (later : List Pkt) → Owes {A = A} offer repo Between later → Owes offer repo old (packet ∷ later)
+    pub last_owes : IsAnswerFrom whole repo answer (packet ∷ [])
+        → (later : List Pkt) → Owes {A = A} offer repo Between later → Owes offer repo old (packet ∷ later)
     last_owes follows later nothing =
         subst (λ (p : Phase A). Owes offer repo p (packet ∷ later)) (sym was)
         (subst (λ (l : List Pkt). IsAnswerFrom whole repo answer (packet ∷ l)) (sym nothing) follows)
