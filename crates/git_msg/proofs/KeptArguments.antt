@@ -1,5 +1,6 @@
 -- A reader of requests that keeps an argument, or does not.
-use Rattle.std.proofs.Common.{arith, ◌≡◌, ℕ, ◌+◌, ◌<◌, ◌≤◌, Bool, true, Ok, Err, List, [], ◌∷◌, ◌++◌, refl, ap, sym, ◌∙◌, subst, length, max, inl, inr, codes, length-append}
+use Rattle.std.proofs.Common.{arith, ◌≡◌, ℕ, ◌+◌, ◌<◌, ◌≤◌, Bool, true, Ok, Err, List, [], ◌∷◌, ◌++◌}
+use Rattle.std.proofs.Common.{refl, ap, sym, ◌∙◌, subst, length, max, inl, inr, codes, length-append}
 use Rattle.std.proofs.lemmas.List.{append-nil}
 use Rattle.git_pkt.specs.Packets.{Pkt, payload, text_of}
 use Rattle.git_pkt.specs.Splits.{Given}
@@ -12,7 +13,8 @@ use Rattle.git_msg.specs.declared.requests.Request.{Request}
 use Rattle.git_msg.specs.declared.reader.Part.{Part}
 use Rattle.git_msg.specs.declared.reader.Part.TheVariants.{Arguments, Waiting, Failed}
 use Rattle.git_msg.specs.declared.reader.RequestReader.{RequestReader}
-use Rattle.git_msg.specs.Arguments.{Arg, symrefs, peel, ref_prefix, want, done, thin_pack, no_progress, include_tag, ofs_delta, SaysArgument, IsArgument, IsOutOfRange, IsValueFault, written_text, TakesMemory}
+use Rattle.git_msg.specs.Arguments.{Arg, symrefs, peel, ref_prefix, want, done, thin_pack, no_progress, include_tag, ofs_delta, SaysArgument}
+use Rattle.git_msg.specs.Arguments.{IsArgument, IsOutOfRange, IsValueFault, written_text, TakesMemory}
 use Rattle.git_msg.specs.Asked.{asked_by, with_argument}
 use Rattle.git_msg.specs.Checks.{Passes}
 use Rattle.git_msg.specs.HeldRequest.{command_of, format_of, kept_of, limit_of, Keeps, keep_checks, IsRefused}
@@ -160,7 +162,8 @@ sound_value : {A : Type 0} (packets : List Given) (offset long : ℕ) (arg : Arg
     → WaitsBehind packets offset long arg r → IsValueFault (command_of r.request) (format_of r.request) arg kind → ⊥
 sound_value packets offset long arg r kind w fault =
     let of : w.is_text.of ≡ command_of r.request = same_command (commands_of w.lines) w.is_text.of (command_of r.request) w.is_text.asked w.in_part.command in
-    let is : IsArgument (command_of r.request) r.offer.format (text_of w.bytes) arg = subst (λ (c : Command). IsArgument c r.offer.format (text_of w.bytes) arg) of w.is_text.reads.is_argument in
+    let is : IsArgument (command_of r.request) r.offer.format (text_of w.bytes) arg =
+        subst (λ (c : Command). IsArgument c r.offer.format (text_of w.bytes) arg) of w.is_text.reads.is_argument in
     value_or_fault (command_of r.request) r.offer.format (text_of w.bytes) arg kind is
     (subst (λ (f : Format). IsValueFault (command_of r.request) f arg kind) w.in_part.format fault)
 

@@ -9,9 +9,10 @@ ghost use Rattle.git_server.specs.Objects.{object_cmp, object_of, has_object, pr
 ghost use Rattle.git_server.specs.Repository.{IsFound, IsNamed, IsOfFormat, IsRising, comes_before};
 
 use crate::entry::RefEntry;
-use crate::repo::Repo;
-use git_msg::Boundary;
+use crate::repo::{PackFault, Repo};
+use git_msg::{Boundary, Fetch};
 use git_names::{Format, Oid};
+use std::alloc::Allocator;
 use std::cmp::Ordering;
 use std::error::Error;
 use std::fmt;
@@ -54,6 +55,7 @@ pub struct ListRepo {
     ghost rising_objects: { AreRising objects.items },
     ghost named: { All (λ ref. IsNamed ref.name ref.target) refs.items },
     ghost of_format: { All (IsOfFormat format) refs.items },
+    ghost short: { length pack.items < 9223372036854775808 },
 }
 
 impl ListRepo {
@@ -113,6 +115,8 @@ impl Repo for ListRepo {
 
     ghost sound = { λ repo. record { rising = repo.rising; named = repo.named; of_format = repo.of_format } };
 
+    ghost short = { λ repo request. repo.short };
+
     fn format(&self) -> Format {
         self.format
     }
@@ -131,6 +135,18 @@ impl Repo for ListRepo {
         ensures among { IsTrue result ↔ Any (λ object. object.0 ≡ id.now) (lists_of self.now).objects }
     {
         stands_among(&self.objects, id)
+    }
+
+    fn pack_read<A: Allocator + Copy>(
+        &mut self,
+        _request: &Fetch<A>,
+        offset: u64,
+        out: &mut [u8],
+    ) -> Result<usize, PackFault> {
+        let at = (offset as usize).min(self.pack.len());
+        let count = (self.pack.len() - at).min(out.len());
+        out[..count].copy_from_slice(&self.pack[at..at + count]);
+        Ok(count)
     }
 }
 

@@ -1,10 +1,30 @@
 //! What a server asks of a repository.
 
-ghost use Rattle.std.specs.Prelude.{◌≡◌};
+ghost use Rattle.std.specs.Prelude.{◌≡◌, ◌<◌, Some, codes, length, IfOk, OnErr, OnOk};
+ghost use Rattle.git_msg.specs.Asked.{FetchAsked};
+ghost use Rattle.git_server.specs.Packs.{IsPackPart};
 ghost use Rattle.git_server.specs.Repository.{RepoState, IsFound, IsSound};
 
 use crate::entry::RefEntry;
+use git_msg::Fetch;
 use git_names::{Format, Oid};
+use std::alloc::Allocator;
+use std::error::Error;
+use std::fmt;
+
+/// A read of a pack failed.
+#[derive(Clone, Copy, Debug, PartialEq, Eq, Hash)]
+pub struct PackFault;
+
+impl fmt::Display for PackFault {
+    ghost output = { λ fault. Some (codes "PackSource") };
+
+    fn fmt<W: fmt::Write>(&self, f: &mut fmt::Formatter<W>) -> fmt::Result {
+        f.write_str("PackSource")
+    }
+}
+
+impl Error for PackFault {}
 
 /// A repository, as a server sees it.
 pub trait Repo {
@@ -27,7 +47,24 @@ pub trait Repo {
     fn has(&self, id: &Oid) -> bool
         ensures { result ≡ (state self.now).answers.has id.now };
 
+    /// Reads bytes of the pack for the request, from an offset on, to the front of `out`: at least one before the
+    /// pack's end, and none at its end or after it. It answers how many. The pack for a request stays the same.
+    fn pack_read<A: Allocator + Copy>(
+        &mut self,
+        request: &Fetch<A>,
+        offset: u64,
+        out: &mut [u8],
+    ) -> Result<usize, PackFault>
+        requires room { 0 < length out.old }
+        ensures part { IfOk result (λ count. IsPackPart ((state self.old).answers.pack request.now.asked) offset count out.new) }
+        ensures cause { OnErr result ((state self.old).failures < (state self.new).failures) }
+        ensures fine { OnOk result ((state self.new).failures ≡ (state self.old).failures) }
+        ensures same { (state self.new).answers ≡ (state self.old).answers };
+
     /// The names of the references rise, they and the targets are names that a reference may have, and all object names
     /// are of the format.
     ghost sound: { (repo : Self) → IsSound (state repo).answers };
+
+    /// A pack has less than 2^63 bytes.
+    ghost short: { (repo : Self) (request : FetchAsked) → length ((state repo).answers.pack request) < 9223372036854775808 };
 }
