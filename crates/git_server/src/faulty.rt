@@ -90,7 +90,7 @@ impl<R: Repo> Repo for Faulty<R> {
         ensures due { OnErr result ((reads_left self.old ≡ 0)
             ⊎ ((R.state (inner_of self.old)).failures < (R.state (inner_of self.new)).failures)) }
         ensures reads { reads_left self.new ≡ reads_left self.old - 1 }
-        ensures short { IfOk result (λ count. count ≤ most_of self.old) }
+        ensures at_most { IfOk result (λ count. count ≤ most_of self.old) }
         ensures most { most_of self.new ≡ most_of self.old }
     {
         if self.reads_left == 0 {
