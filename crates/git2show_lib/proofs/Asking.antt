@@ -1,5 +1,6 @@
 -- The requests, of which the first packet alone is read.
-use Rattle.std.proofs.Common.{◌≡◌, ℕ, ◌+◌, ◌-◌, Bool, false, List, [], ◌++◌, length, take, drop, Option, Some, None, Ok, Err, Result, IfErr, inl, inr, arith, ap, sym, ◌∙◌, subst, append_assoc, length-drop, take-append-drop, zero-add, refl}
+use Rattle.std.proofs.Common.{◌≡◌, ℕ, ◌+◌, ◌-◌, Bool, false, List, [], ◌++◌, length, take, drop, Option, Some, None, Ok, Err, Result, IfErr, inl, inr}
+use Rattle.std.proofs.Common.{arith, ap, sym, ◌∙◌, subst, append_assoc, length-drop, take-append-drop, zero-add, refl}
 use Rattle.std.proofs.Math.Seq.{take-length}
 use Rattle.std.proofs.KnownBytes.{Consumes-nil, Consumes-trans}
 use Rattle.std.specs.Io.KnownBytes.{Consumes}

@@ -11,7 +11,8 @@ use Rattle.git_server.specs.Objects.{AreRising, object_of, precedes}
 use Rattle.git_server.specs.Lists.{Lists}
 use Rattle.git2show_lib.specs.RepositoryLines.{Said, reference, object, ready, boundary}
 use Rattle.git2show_lib.specs.RepositoryText.{MayStand, boundaries_in, counts_in, entry_of, first_of, lists_said, objects_in, refs_in}
-use Rattle.git2show_lib.specs.Drafts.{Adds, AddsBoundary, AddsCount, AddsObject, AddsReference, AddsSaid, ComesLast, ComesLastObject, Holds, IsFit, IsLineFault, with_boundary, with_count, with_object, with_ref}
+use Rattle.git2show_lib.specs.Drafts.{Adds, AddsBoundary, AddsCount, AddsObject, AddsReference, AddsSaid, ComesLast, ComesLastObject, Holds, IsFit}
+use Rattle.git2show_lib.specs.Drafts.{IsLineFault, with_boundary, with_count, with_object, with_ref}
 use Rattle.git2show_lib.specs.declared.drafts.LineFault.{LineFault}
 use Rattle.git2show_lib.specs.declared.drafts.LineFault.TheVariants.{Refused, OutOfMemory}
 use Rattle.git2show_lib.proofs.Rising.{last_rises, rising_more}

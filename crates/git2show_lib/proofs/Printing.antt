@@ -1,5 +1,6 @@
 -- Packets printed one after another, and what that comes to.
-use Rattle.std.proofs.Common.{◌≡◌, ℕ, ◌+◌, ◌-◌, ◌<◌, ◌≤◌, Bool, List, [], ◌∷◌, ◌++◌, length, take, drop, Option, Some, None, Err, Result, IfErr, IsErrAnd, arith, ap, sym, ◌∙◌, refl, subst, append_assoc, append-nil, length-drop, take-append-drop, zero-add}
+use Rattle.std.proofs.Common.{◌≡◌, ℕ, ◌+◌, ◌-◌, ◌<◌, ◌≤◌, Bool, List, [], ◌∷◌, ◌++◌, length, take, drop, Option, Some, None, Err, Result, IfErr}
+use Rattle.std.proofs.Common.{IsErrAnd, arith, ap, sym, ◌∙◌, refl, subst, append_assoc, append-nil, length-drop, take-append-drop, zero-add}
 use Rattle.std.proofs.Math.Seq.{take-length}
 use Rattle.std.proofs.lemmas.Grind.{flat_map-append}
 use Rattle.std.proofs.KnownBytes.{Appends-trans}

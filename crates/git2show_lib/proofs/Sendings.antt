@@ -1,5 +1,6 @@
 -- One thing after another goes through a buffer.
-use Rattle.std.proofs.Common.{arith, length, length-drop, min, ◌≤◌, ◌≡◌, ℕ, List, [], ◌++◌, Option, ap, sym, ◌∙◌, subst, append_assoc, append-nil, ◌+◌, ◌-◌, take, drop}
+use Rattle.std.proofs.Common.{arith, length, length-drop, min, ◌≤◌, ◌≡◌, ℕ, List, [], ◌++◌, Option, ap, sym, ◌∙◌, subst, append_assoc, append-nil}
+use Rattle.std.proofs.Common.{◌+◌, ◌-◌, take, drop}
 use Rattle.std.proofs.KnownBytes.{Appends-nil, Appends-trans}
 use Rattle.git_pkt.specs.Told.{AppendsFront}
 use Rattle.git_pkt.proofs.EngineLemmas.{AppendsFront-after, AppendsFront-longer}

@@ -12,7 +12,8 @@ use Rattle.git_server.specs.Objects.{AreRising, precedes}
 use Rattle.git_server.specs.Lists.{Lists}
 use Rattle.git_msg.proofs.ReferenceLaws.{same_heads}
 use Rattle.git2show_lib.specs.RepositoryLines.{Said, reference, object, ready, boundary, Says, format_line, lines_of}
-use Rattle.git2show_lib.specs.RepositoryText.{Begins, HasBadLine, HasNoFormat, IsFirstBad, IsRepositoryText, MayStand, SayAll, counts_in, entry_of, lists_said, objects_in, refs_in}
+use Rattle.git2show_lib.specs.RepositoryText.{Begins, HasBadLine, HasNoFormat, IsFirstBad, IsRepositoryText}
+use Rattle.git2show_lib.specs.RepositoryText.{MayStand, SayAll, counts_in, entry_of, lists_said, objects_in, refs_in}
 use Rattle.git2show_lib.proofs.Saying.{one_said}
 
 one_format : (f g : Format) → format_line f ≡ format_line g → f ≡ g

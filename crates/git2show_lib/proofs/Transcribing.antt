@@ -1,5 +1,7 @@
 -- Events written one after another, and what that comes to.
-use Rattle.std.proofs.Common.{◌≡◌, ℕ, ◌+◌, ◌-◌, ◌<◌, ◌≤◌, Bool, true, List, [], ◌∷◌, ◌++◌, length, take, drop, Option, Some, None, Ok, Err, Result, IfOk, IfErr, IsErrAnd, inl, inr, arith, ap, sym, ◌∙◌, refl, subst, append_assoc, append-nil, length-drop, take-append-drop, false}
+use Rattle.std.proofs.Common.{◌≡◌, ℕ, ◌+◌, ◌-◌, ◌<◌, ◌≤◌, Bool, true, List, [], ◌∷◌, ◌++◌, length, take, drop}
+use Rattle.std.proofs.Common.{Option, Some, None, Ok, Err, Result, IfOk, IfErr, IsErrAnd, inl, inr, arith, ap, sym}
+use Rattle.std.proofs.Common.{◌∙◌, refl, subst, append_assoc, append-nil, length-drop, take-append-drop, false}
 use Rattle.std.proofs.lemmas.Grind.{flat_map-append, common_steps}
 use Rattle.std.proofs.lemmas.List.{drop-take}
 use Rattle.std.proofs.lemmas.Result.{err_from_is_err_and}
@@ -33,7 +35,10 @@ use Rattle.git_client.proofs.EventsHeard.{has_events, goes_well, goes_on_asking,
 use Rattle.git2show_lib.specs.declared.checking.CheckFault.{CheckFault}
 use Rattle.git2show_lib.specs.declared.checking.CheckFault.TheVariants.{Requests, Responses, ReadFault, WriteFault, ReadLimit}
 use Rattle.git2show_lib.specs.ShownStream.{IsTimely}
-use Rattle.git2show_lib.specs.CheckedStreams.{Judgement, unread, nothing_asked, judgement_of, IsCutOffAt, IsCutOff, transcript_of, Transcribes, TranscribesFront, TranscribesUpTo, TranscribesInto, TranscribesUntil, Transcribed, TranscribedFront, TranscribedUpTo, TranscribedAll, TranscribedUntil, Checks, EndsAs, EndsCheck, IsShownInRequests, broken, unfinished}
+use Rattle.git2show_lib.specs.CheckedStreams.{Judgement, unread, nothing_asked, judgement_of, IsCutOffAt, IsCutOff}
+use Rattle.git2show_lib.specs.CheckedStreams.{transcript_of, Transcribes, TranscribesFront, TranscribesUpTo, TranscribesInto}
+use Rattle.git2show_lib.specs.CheckedStreams.{TranscribesUntil, Transcribed, TranscribedFront, TranscribedUpTo, TranscribedAll}
+use Rattle.git2show_lib.specs.CheckedStreams.{TranscribedUntil, Checks, EndsAs, EndsCheck, IsShownInRequests, broken, unfinished}
 use Rattle.git2show_lib.proofs.Printing.{left, timely}
 
 transcript-append : (es fs : List EventValue) → transcript_of (es ++ fs) ≡ transcript_of es ++ transcript_of fs

@@ -1,5 +1,6 @@
 -- A step of the client carries what it stands for.
-use Rattle.std.proofs.Common.{arith, ◌≡◌, inl, inr, Option, Some, ◌+◌, ◌-◌, ℕ, List, [], ◌∷◌, ◌++◌, length, true, false, None, ap, sym, ◌∙◌, refl, subst, append_assoc}
+use Rattle.std.proofs.Common.{arith, ◌≡◌, inl, inr, Option, Some, ◌+◌, ◌-◌, ℕ, List, [], ◌∷◌, ◌++◌}
+use Rattle.std.proofs.Common.{length, true, false, None, ap, sym, ◌∙◌, refl, subst, append_assoc}
 use Rattle.std.proofs.lemmas.List.{append-nil}
 use Rattle.git_names.specs.declared.object_format.Format.{Format}
 use Rattle.git_pkt.specs.Packets.{Pkt, Spells, flushes}
@@ -14,7 +15,8 @@ use Rattle.git_client.specs.Parts.{nearest, advertisement_of}
 use Rattle.git_client.specs.Events.{EventValue, turns_of}
 use Rattle.git_client.specs.Conversation.{GivesAt, GiveAll, RefusesAt}
 use Rattle.git_client.specs.Turns.{takes_packets}
-use Rattle.git_client.specs.Client.{Hears, HearsOn, StandsIn, Goes, Behind, RefusedPacket, RefusedBytes, fault_in, is_ready, phase_of, reader_of, format_of, ending_of, caps_of, wants_input, fault_of}
+use Rattle.git_client.specs.Client.{Hears, HearsOn, StandsIn, Goes, Behind, RefusedPacket, RefusedBytes, fault_in, is_ready, phase_of, reader_of}
+use Rattle.git_client.specs.Client.{format_of, ending_of, caps_of, wants_input, fault_of}
 use Rattle.git_client.specs.declared.phase.Phase.{Phase}
 use Rattle.git_client.specs.declared.phase.Phase.TheVariants.{Opening, Advertisement, Ready, Failed}
 use Rattle.git_client.specs.declared.conversation.Client.{Client}

@@ -10,14 +10,16 @@ use Rattle.git_msg.specs.Advertisement.{is_spoken}
 use Rattle.git_msg.specs.declared.offers.Caps.{Caps}
 use Rattle.git_client.specs.Events.{capability, offered, IsVersion}
 use Rattle.git_client.specs.Turns.{takes_packets, Judges, NotesLine}
-use Rattle.git_client.specs.Client.{Behind, Takes, fault_in, is_ready, phase_after, caps_after, outcome_of, phase_of, reader_of, format_of, ending_of, caps_of, wants_input}
+use Rattle.git_client.specs.Client.{Behind, Takes, fault_in, is_ready, phase_after, caps_after, outcome_of}
+use Rattle.git_client.specs.Client.{phase_of, reader_of, format_of, ending_of, caps_of, wants_input}
 use Rattle.git_client.specs.declared.phase.Phase.{Phase}
 use Rattle.git_client.specs.declared.phase.Phase.TheVariants.{Opening, Advertisement, Ready, Failed}
 use Rattle.git_client.specs.declared.phase.Turn.{Turn}
 use Rattle.git_client.specs.declared.phase.Turn.TheVariants.{Version, Capability, Offered}
 use Rattle.git_client.specs.declared.conversation.Client.{Client}
 use Rattle.git_client.specs.declared.conversation.Outcome.{Outcome}
-use Rattle.git_client.specs.declared.conversation.Outcome.TheVariants.{More as Nothing, Capability as CapabilityLine, Offered as OfferedNow, Failed as FailedNow}
+use Rattle.git_client.specs.declared.conversation.Outcome.TheVariants.{More as Nothing, Capability as CapabilityLine}
+use Rattle.git_client.specs.declared.conversation.Outcome.TheVariants.{Offered as OfferedNow, Failed as FailedNow}
 use Rattle.git_client.proofs.Carries.{hears_packet, hears_refused, hears_failed}
 use Rattle.git_client.proofs.Judged.{says_version, says_line, says_offered, says_refused, refused_by}
 

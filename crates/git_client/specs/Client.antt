@@ -25,7 +25,8 @@ use Rattle.git_client.specs.declared.phase.Turn.TheVariants.{Version, Capability
 use Rattle.git_client.specs.declared.conversation.Advance.{Advance}
 use Rattle.git_client.specs.declared.conversation.Client.{Client}
 use Rattle.git_client.specs.declared.conversation.Outcome.{Outcome}
-use Rattle.git_client.specs.declared.conversation.Outcome.TheVariants.{More as Nothing, Capability as CapabilityLine, Offered as OfferedNow, Failed as FailedNow}
+use Rattle.git_client.specs.declared.conversation.Outcome.TheVariants.{More as Nothing, Capability as CapabilityLine}
+use Rattle.git_client.specs.declared.conversation.Outcome.TheVariants.{Offered as OfferedNow, Failed as FailedNow}
 use Rattle.git_client.specs.declared.events.Ending.{Ending}
 use Rattle.git_client.specs.declared.events.Event.{Event}
 use Rattle.git_client.specs.declared.events.Event.TheVariants.{Capability as CapabilityEvent, Offered}

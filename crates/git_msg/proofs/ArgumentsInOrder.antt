@@ -6,7 +6,9 @@ use Rattle.git_msg.specs.declared.arguments.Command.{Command}
 use Rattle.git_msg.specs.declared.arguments.Command.TheVariants.{LsRefs, Fetch}
 use Rattle.git_names.specs.ObjectName.{ObjectName}
 use Rattle.git_msg.specs.Arguments.{Arg, symrefs, peel, ref_prefix, want, done, thin_pack, no_progress, include_tag, ofs_delta}
-use Rattle.git_msg.specs.Asked.{Asked, ls_refs, fetch, LsRefsAsked, FetchAsked, is_symrefs, is_peel, prefix_in, want_in, is_done, is_thin_pack, is_no_progress, is_include_tag, is_ofs_delta, command_asked, nothing_asked, asked_by, with_argument, where_asked, arguments_in}
+use Rattle.git_msg.specs.Asked.{Asked, ls_refs, fetch, LsRefsAsked, FetchAsked, is_symrefs, is_peel, prefix_in}
+use Rattle.git_msg.specs.Asked.{want_in, is_done, is_thin_pack, is_no_progress, is_include_tag, is_ofs_delta}
+use Rattle.git_msg.specs.Asked.{command_asked, nothing_asked, asked_by, with_argument, where_asked, arguments_in}
 
 pub same_command : (asked : Asked) (arg : Arg) → command_asked (with_argument asked arg) ≡ command_asked asked
 same_command (ls_refs q) arg = refl

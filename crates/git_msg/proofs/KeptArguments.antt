@@ -1,5 +1,6 @@
 -- A reader of requests that keeps an argument, or does not.
-use Rattle.std.proofs.Common.{arith, ◌≡◌, ℕ, ◌+◌, ◌<◌, ◌≤◌, Bool, true, Ok, Err, List, [], ◌∷◌, ◌++◌, refl, ap, sym, ◌∙◌, subst, length, max, inl, inr, codes, length-append}
+use Rattle.std.proofs.Common.{arith, ◌≡◌, ℕ, ◌+◌, ◌<◌, ◌≤◌, Bool, true, Ok, Err, List, [], ◌∷◌, ◌++◌}
+use Rattle.std.proofs.Common.{refl, ap, sym, ◌∙◌, subst, length, max, inl, inr, codes, length-append}
 use Rattle.std.proofs.lemmas.List.{append-nil}
 use Rattle.git_pkt.specs.Packets.{Pkt, payload, text_of}
 use Rattle.git_pkt.specs.Splits.{Given}
@@ -12,7 +13,8 @@ use Rattle.git_msg.specs.declared.requests.Request.{Request}
 use Rattle.git_msg.specs.declared.reader.Part.{Part}
 use Rattle.git_msg.specs.declared.reader.Part.TheVariants.{Arguments, Waiting, Failed}
 use Rattle.git_msg.specs.declared.reader.RequestReader.{RequestReader}
-use Rattle.git_msg.specs.Arguments.{Arg, symrefs, peel, ref_prefix, want, done, thin_pack, no_progress, include_tag, ofs_delta, SaysArgument, IsArgument, IsOutOfRange, IsValueFault, written_text, TakesMemory}
+use Rattle.git_msg.specs.Arguments.{Arg, symrefs, peel, ref_prefix, want, done, thin_pack, no_progress, include_tag, ofs_delta, SaysArgument}
+use Rattle.git_msg.specs.Arguments.{IsArgument, IsOutOfRange, IsValueFault, written_text, TakesMemory}
 use Rattle.git_msg.specs.Asked.{asked_by, with_argument}
 use Rattle.git_msg.specs.Checks.{Passes}
 use Rattle.git_msg.specs.HeldRequest.{command_of, format_of, kept_of, limit_of, Keeps, keep_checks, IsRefused}
@@ -24,21 +26,27 @@ use Rattle.git_msg.proofs.WrittenNames.{length-hex_of, named_in}
 use Rattle.git_msg.proofs.LineLists.{commands_snoc, arguments_snoc, delimiter_snoc, kept_snoc, lines_snoc, argument_is_line}
 
 -- the line of an argument that waited
-waited_line : {A : Type 0} (packets : List Given) (offset long : ℕ) (arg : Arg) (r : RequestReader A) → (w : WaitsBehind packets offset long arg r) → kept_of r.request + long ≤ limit_of r.request → IsLine r.offer (limit_in r) w.lines w.last.packet (argument arg long)
+waited_line : {A : Type 0} (packets : List Given) (offset long : ℕ) (arg : Arg) (r : RequestReader A)
+    → (w : WaitsBehind packets offset long arg r) → kept_of r.request + long ≤ limit_of r.request
+    → IsLine r.offer (limit_in r) w.lines w.last.packet (argument arg long)
 waited_line packets offset long arg r w fits =
     let line : IsArgumentLine r.offer (limit_in r) w.lines (text_of w.bytes) arg long = record {
       is_text = w.is_text;
       long_is = w.long_is;
       fits = omega (arith, fits, w.in_part.kept);
     } in
-    subst (λ (p : Pkt). IsLine r.offer (limit_in r) w.lines p (argument arg long)) (sym w.data_packet) (argument_is_line r.offer (limit_in r) w.lines w.bytes arg long w.in_part.behind line)
+    subst (λ (p : Pkt). IsLine r.offer (limit_in r) w.lines p (argument arg long)) (sym w.data_packet)
+    (argument_is_line r.offer (limit_in r) w.lines w.bytes arg long w.in_part.behind line)
 
 -- the argument part with one argument more
-one_more : {A : Type 0} (lines : List Line) (arg : Arg) (long : ℕ) (r : RequestReader A) (q : Request A) → InArguments lines r → Keeps r.request arg long q → InArguments (lines ++ argument arg long ∷ []) (record r { part = Arguments; request = q })
+one_more : {A : Type 0} (lines : List Line) (arg : Arg) (long : ℕ) (r : RequestReader A) (q : Request A)
+    → InArguments lines r → Keeps r.request arg long q → InArguments (lines ++ argument arg long ∷ []) (record r { part = Arguments; request = q })
 one_more lines arg long r q h k = record {
   behind = delimiter_snoc lines (argument arg long) ∙ h.behind;
   command = commands_snoc lines (argument arg long) ∙ append-nil (commands_of lines) ∙ h.command ∙ ap (λ c. c ∷ []) (sym k.command);
-  asked = k.asked ∙ ap (λ a. with_argument a arg) h.asked ∙ sym (asked_snoc (command_of r.request) (arguments_of lines) arg) ∙ ap (λ args. asked_by (command_of r.request) args) (sym (arguments_snoc lines (argument arg long))) ∙ ap (λ c. asked_by c (arguments_of (lines ++ argument arg long ∷ []))) (sym k.command);
+  asked = k.asked ∙ ap (λ a. with_argument a arg) h.asked ∙ sym (asked_snoc (command_of r.request) (arguments_of lines) arg)
+      ∙ ap (λ args. asked_by (command_of r.request) args) (sym (arguments_snoc lines (argument arg long)))
+      ∙ ap (λ c. asked_by c (arguments_of (lines ++ argument arg long ∷ []))) (sym k.command);
   kept = k.kept ∙ ap (λ n. n + long) h.kept ∙ sym (kept_snoc lines (argument arg long));
   format = k.format ∙ h.format;
 }
@@ -64,13 +72,16 @@ as_written format text no_progress h = let e = ap length h in omega arith
 as_written format text include_tag h = let e = ap length h in omega arith
 as_written format text ofs_delta h = let e = ap length h in omega arith
 
-counted : {A : Type 0} (packets : List Given) (offset long : ℕ) (arg : Arg) (r : RequestReader A) → WaitsBehind packets offset long arg r → max long (length (written_text arg)) ≡ long
+counted : {A : Type 0} (packets : List Given) (offset long : ℕ) (arg : Arg) (r : RequestReader A)
+    → WaitsBehind packets offset long arg r → max long (length (written_text arg)) ≡ long
 counted packets offset long arg r w =
     let less = as_written r.offer.format (text_of w.bytes) arg w.is_text.reads.is_argument.1 in
     let same = w.long_is in
     omega arith
 
-pub keeps_ok : {A : Type 0} (r : RequestReader A) (offset long : ℕ) (arg : Arg) (q : Request A) → r.part ≡ Waiting offset long → Keeps r.request arg (max long (length (written_text arg))) q → Passes (keep_checks r.request arg (max long (length (written_text arg)))) → KeepsOn r arg (Ok tt) (record r { part = Arguments; request = q })
+pub keeps_ok : {A : Type 0} (r : RequestReader A) (offset long : ℕ) (arg : Arg) (q : Request A)
+    → r.part ≡ Waiting offset long → Keeps r.request arg (max long (length (written_text arg))) q
+    → Passes (keep_checks r.request arg (max long (length (written_text arg)))) → KeepsOn r arg (Ok tt) (record r { part = Arguments; request = q })
 keeps_ok {A} r offset long arg q part k passes = record {
   settles = λ packets w.
       let waits : WaitsBehind packets offset long arg r = subst (λ (p : Part). WaitsIn p packets arg r) part w.waits in
@@ -79,7 +90,8 @@ keeps_ok {A} r offset long arg q part k passes = record {
       let fine : Passes (keep_checks r.request arg long) = subst (λ (n : ℕ). Passes (keep_checks r.request arg n)) same passes in
       let line = waited_line packets offset long arg r waits fine.1.0 in
       let all : AreLines r.offer (limit_in r) [] packets (waits.lines ++ argument arg long ∷ []) =
-      subst (λ (gs : List Given). AreLines r.offer (limit_in r) [] gs (waits.lines ++ argument arg long ∷ [])) (sym waits.whole) (lines_snoc r.offer (limit_in r) [] waits.front waits.lines waits.last (argument arg long) waits.taken line) in
+      subst (λ (gs : List Given). AreLines r.offer (limit_in r) [] gs (waits.lines ++ argument arg long ∷ [])) (sym waits.whole)
+      (lines_snoc r.offer (limit_in r) [] waits.front waits.lines waits.last (argument arg long) waits.taken line) in
       record {
         stands = record {
           lines = waits.lines ++ argument arg long ∷ [];
@@ -94,14 +106,16 @@ keeps_ok {A} r offset long arg q part k passes = record {
 }
 
 -- an argument that the limit refuses
-too_much : {A : Type 0} (packets : List Given) (offset long : ℕ) (arg : Arg) (r : RequestReader A) → WaitsBehind packets offset long arg r → limit_of r.request < kept_of r.request + long → FirstFault r.offer (limit_in r) packets TooMuchKept offset
+too_much : {A : Type 0} (packets : List Given) (offset long : ℕ) (arg : Arg) (r : RequestReader A)
+    → WaitsBehind packets offset long arg r → limit_of r.request < kept_of r.request + long → FirstFault r.offer (limit_in r) packets TooMuchKept offset
 too_much packets offset long arg r w over =
     let fault : HasFaultIn true r.offer (limit_in r) w.lines (payload w.bytes) TooMuchKept = record {
       of = w.is_text.of;
       asked = w.is_text.asked;
       refuses = inr (w.is_text.no_error, inr ((arg, w.is_text.reads), inl (omega (arith, over, w.long_is, w.in_part.kept), refl)));
     } in
-    let there : HasFault r.offer (limit_in r) w.lines (payload w.bytes) TooMuchKept = subst (λ (b : Bool). HasFaultIn b r.offer (limit_in r) w.lines (payload w.bytes) TooMuchKept) (sym w.in_part.behind) fault in
+    let there : HasFault r.offer (limit_in r) w.lines (payload w.bytes) TooMuchKept =
+    subst (λ (b : Bool). HasFaultIn b r.offer (limit_in r) w.lines (payload w.bytes) TooMuchKept) (sym w.in_part.behind) fault in
     record {
       front = w.front;
       bad = w.last;
@@ -114,7 +128,9 @@ too_much packets offset long arg r w over =
     }
 
 -- an argument for which there is no memory
-no_memory : {A : Type 0} (packets : List Given) (offset long : ℕ) (arg : Arg) (r : RequestReader A) → WaitsBehind packets offset long arg r → kept_of r.request + long ≤ limit_of r.request → TakesMemory arg → WantsMemory r.offer (limit_in r) packets OutOfMemory offset
+no_memory : {A : Type 0} (packets : List Given) (offset long : ℕ) (arg : Arg) (r : RequestReader A)
+    → WaitsBehind packets offset long arg r → kept_of r.request + long ≤ limit_of r.request
+    → TakesMemory arg → WantsMemory r.offer (limit_in r) packets OutOfMemory offset
 no_memory packets offset long arg r w fits takes = record {
   front = w.front;
   last = w.last;
@@ -142,25 +158,37 @@ value_or_fault : (c : Command) (format : Format) (text : List ℕ) (arg : Arg) (
 value_or_fault c format text arg kind h (inl fault) = fault.0 h.0
 value_or_fault c format text arg kind h (inr fault) = range_or_fault format text arg kind h.1 fault.1
 
-sound_value : {A : Type 0} (packets : List Given) (offset long : ℕ) (arg : Arg) (r : RequestReader A) (kind : Kind) → WaitsBehind packets offset long arg r → IsValueFault (command_of r.request) (format_of r.request) arg kind → ⊥
+sound_value : {A : Type 0} (packets : List Given) (offset long : ℕ) (arg : Arg) (r : RequestReader A) (kind : Kind)
+    → WaitsBehind packets offset long arg r → IsValueFault (command_of r.request) (format_of r.request) arg kind → ⊥
 sound_value packets offset long arg r kind w fault =
     let of : w.is_text.of ≡ command_of r.request = same_command (commands_of w.lines) w.is_text.of (command_of r.request) w.is_text.asked w.in_part.command in
-    let is : IsArgument (command_of r.request) r.offer.format (text_of w.bytes) arg = subst (λ (c : Command). IsArgument c r.offer.format (text_of w.bytes) arg) of w.is_text.reads.is_argument in
+    let is : IsArgument (command_of r.request) r.offer.format (text_of w.bytes) arg =
+        subst (λ (c : Command). IsArgument c r.offer.format (text_of w.bytes) arg) of w.is_text.reads.is_argument in
     value_or_fault (command_of r.request) r.offer.format (text_of w.bytes) arg kind is
     (subst (λ (f : Format). IsValueFault (command_of r.request) f arg kind) w.in_part.format fault)
 
-told : {A : Type 0} (packets : List Given) (offset long : ℕ) (arg : Arg) (r : RequestReader A) (kind : Kind) → WaitsBehind packets offset long arg r → IsRefused (keep_checks r.request arg long) arg kind → IsTold r.offer (limit_in r) packets (record { kind = kind; offset = offset })
+told : {A : Type 0} (packets : List Given) (offset long : ℕ) (arg : Arg) (r : RequestReader A) (kind : Kind)
+    → WaitsBehind packets offset long arg r → IsRefused (keep_checks r.request arg long) arg kind
+    → IsTold r.offer (limit_in r) packets (record { kind = kind; offset = offset })
 told packets offset long arg r kind w (inl (inl h)) = absurd (sound_value packets offset long arg r kind w h)
-told packets offset long arg r kind w (inl (inr (value, inl h))) = inl (subst (λ (k : Kind). FirstFault r.offer (limit_in r) packets k offset) (sym h.1) (too_much packets offset long arg r w h.0))
+told packets offset long arg r kind w (inl (inr (value, inl h))) =
+    inl (subst (λ (k : Kind). FirstFault r.offer (limit_in r) packets k offset) (sym h.1) (too_much packets offset long arg r w h.0))
 told packets offset long arg r kind w (inl (inr (value, inr h))) = absurd h.1
-told packets offset long arg r kind w (inr h) = inr (subst (λ (k : Kind). WantsMemory r.offer (limit_in r) packets k offset) (sym h.name) (no_memory packets offset long arg r w h.passes.1.0 h.takes_memory))
+told packets offset long arg r kind w (inr h) =
+    inr (subst (λ (k : Kind). WantsMemory r.offer (limit_in r) packets k offset) (sym h.name)
+    (no_memory packets offset long arg r w h.passes.1.0 h.takes_memory))
 
-pub keeps_err : {A : Type 0} (r : RequestReader A) (offset long : ℕ) (arg : Arg) (q : Request A) (kind : Kind) → r.part ≡ Waiting offset long → q ≡ r.request → IsRefused (keep_checks r.request arg (max long (length (written_text arg)))) arg kind → KeepsOn r arg (Err (record { kind = kind; offset = offset })) (record r { part = Failed (record { kind = kind; offset = offset }); request = q })
+pub keeps_err : {A : Type 0} (r : RequestReader A) (offset long : ℕ) (arg : Arg) (q : Request A) (kind : Kind)
+    → r.part ≡ Waiting offset long → q ≡ r.request → IsRefused (keep_checks r.request arg (max long (length (written_text arg)))) arg kind
+    → KeepsOn r arg (Err (record { kind = kind; offset = offset })) (record r { part = Failed (record { kind = kind; offset = offset }); request = q })
 keeps_err {A} r offset long arg q kind part same refused =
-    subst (λ (x : Request A). KeepsOn r arg (Err (record { kind = kind; offset = offset })) (record r { part = Failed (record { kind = kind; offset = offset }); request = x })) (sym same) (record {
+    subst (λ (x : Request A). KeepsOn r arg (Err (record { kind = kind; offset = offset }))
+    (record r { part = Failed (record { kind = kind; offset = offset }); request = x })) (sym same) (record {
       settles = λ packets w.
           let waits : WaitsBehind packets offset long arg r = subst (λ (p : Part). WaitsIn p packets arg r) part w.waits in
-          let it : IsTold r.offer (limit_in r) packets (record { kind = kind; offset = offset }) = told packets offset long arg r kind waits (subst (λ (n : ℕ). IsRefused (keep_checks r.request arg n) arg kind) (counted packets offset long arg r waits) refused) in
+          let it : IsTold r.offer (limit_in r) packets (record { kind = kind; offset = offset }) =
+          told packets offset long arg r kind waits
+          (subst (λ (n : ℕ). IsRefused (keep_checks r.request arg n) arg kind) (counted packets offset long arg r waits) refused) in
           (record { stands = it }, it);
       leaves = (refl, refl);
       offer = refl;

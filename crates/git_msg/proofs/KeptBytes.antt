@@ -1,5 +1,6 @@
 -- What is kept of a request stays counted with each argument more, and what follows for its arguments in their order.
-use Rattle.std.proofs.Common.{arith, ◌≡◌, ℕ, ◌+◌, ◌<◌, ◌≤◌, ◌^◌, Bool, true, Bor, Option, Some, None, List, [], ◌∷◌, ◌++◌, refl, ap, sym, ◌∙◌, subst, length, map, option_map, codes, append_assoc, append-nil, length-append}
+use Rattle.std.proofs.Common.{arith, ◌≡◌, ℕ, ◌+◌, ◌<◌, ◌≤◌, ◌^◌, Bool, true, Bor, Option, Some, None, List, [], ◌∷◌, ◌++◌, refl, ap, sym, ◌∙◌, subst}
+use Rattle.std.proofs.Common.{length, map, option_map, codes, append_assoc, append-nil, length-append}
 use Rattle.std.specs.Prelude.{All, IfSome, OnSome, slice_get}
 use Rattle.std.specs.Option.{option_copied}
 use Rattle.std.proofs.Math.Seq.{take-append_seam, drop-append_seam}
@@ -14,8 +15,10 @@ use Rattle.git_pkt.specs.Packets.{longest_payload}
 use Rattle.git_msg.specs.declared.arguments.Argument.{Argument}
 use Rattle.git_msg.specs.declared.arguments.Command.{Command}
 use Rattle.git_msg.specs.declared.arguments.Command.TheVariants.{LsRefs, Fetch}
-use Rattle.git_msg.specs.Arguments.{Arg, symrefs, peel, ref_prefix, want, done, thin_pack, no_progress, include_tag, ofs_delta, shown, command_with, most_text, IsInRange, IsValue, written_text}
-use Rattle.git_msg.specs.Asked.{Asked, LsRefsAsked, FetchAsked, ls_refs, fetch, command_asked, with_ls_refs, with_fetch, with_argument, where_asked, arguments_in, bytes_of}
+use Rattle.git_msg.specs.Arguments.{Arg, symrefs, peel, ref_prefix, want, done, thin_pack, no_progress, include_tag, ofs_delta, shown, command_with}
+use Rattle.git_msg.specs.Arguments.{most_text, IsInRange, IsValue, written_text}
+use Rattle.git_msg.specs.Asked.{Asked, LsRefsAsked, FetchAsked, ls_refs, fetch, command_asked, with_ls_refs}
+use Rattle.git_msg.specs.Asked.{with_fetch, with_argument, where_asked, arguments_in, bytes_of}
 use Rattle.git_msg.specs.Kept.{Kept, IsCounted, IsWithin}
 use Rattle.git_msg.proofs.ArgumentsInOrder.{same_command}
 use Rattle.git_msg.proofs.WrittenNames.{hex_of-at_most}

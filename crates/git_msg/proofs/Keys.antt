@@ -1,5 +1,6 @@
 -- Where the key of a capability line ends.
-use Rattle.std.proofs.Common.{arith, tests, ◌≡◌, ℕ, ◌+◌, ◌≢◌, ◌<◌, ◌≤◌, List, [], ◌∷◌, ◌++◌, length, true, false, Bool, ◌&&◌, not, cond, eqb, refl, ap, ◌∙◌, sym, take, drop, Option, Some, None, unwrap_or, ltb, get_or, subst, length-append, suc, Bor}
+use Rattle.std.proofs.Common.{arith, tests, ◌≡◌, ℕ, ◌+◌, ◌≢◌, ◌<◌, ◌≤◌, List, [], ◌∷◌, ◌++◌, length, true, false, Bool, ◌&&◌, not, cond, eqb, refl}
+use Rattle.std.proofs.Common.{ap, ◌∙◌, sym, take, drop, Option, Some, None, unwrap_or, ltb, get_or, subst, length-append, suc, Bor}
 use Rattle.std.specs.Option.{option_copied}
 use Rattle.std.specs.List.{list_all, position_or_len}
 use Rattle.std.proofs.lemmas.Grind.{common_steps}
@@ -91,7 +92,8 @@ no_key text n at e key value h =
     cc
 
 -- what stands after the first `=` is no value
-pub no_value : (text value : List ℕ) (n : ℕ) → n ≡ position_or_len (λ c. eqb c 61) text → n ≢ length text → value ≡ drop (n + 1) text → is_value value ≡ false → IsNoCapability text
+pub no_value : (text value : List ℕ) (n : ℕ)
+    → n ≡ position_or_len (λ c. eqb c 61) text → n ≢ length text → value ≡ drop (n + 1) text → is_value value ≡ false → IsNoCapability text
 no_value text value n at short v e key None h = short (at ∙ key_ends text key None h ∙ ap length (sym h.1))
 no_value text value n at short v e key (Some other) h =
     let same : value ≡ other = v ∙ ap (λ (m : ℕ). drop (m + 1) text) at ∙ value_is text key other h in
@@ -102,11 +104,15 @@ no_value text value n at short v e key (Some other) h =
 pub key_alone : (text : List ℕ) (n : ℕ) → n ≡ length text → is_key (take n text) ≡ true → IsCapability text (take n text) None
 key_alone text n at e = (e, sym (ap (λ (m : ℕ). take m text) at ∙ taken_whole text))
 
-joined : (text value : List ℕ) (n : ℕ) → get_or text (position_or_len (λ c. eqb c 61) text) 0 ≡ 61 → n ≡ position_or_len (λ c. eqb c 61) text → value ≡ drop (n + 1) text → key_of text ++ (get_or text (position_or_len (λ c. eqb c 61) text) 0 ∷ value_of text) ≡ take n text ++ 61 ∷ value
+joined : (text value : List ℕ) (n : ℕ)
+    → get_or text (position_or_len (λ c. eqb c 61) text) 0 ≡ 61 → n ≡ position_or_len (λ c. eqb c 61) text → value ≡ drop (n + 1) text
+    → key_of text ++ (get_or text (position_or_len (λ c. eqb c 61) text) 0 ∷ value_of text) ≡ take n text ++ 61 ∷ value
 joined text value n found at v = rw (v, at, found) refl
 
 -- a key, the first `=` and a value
-pub key_and_value : (text value : List ℕ) (n : ℕ) → n ≡ position_or_len (λ c. eqb c 61) text → n ≤ length text → n ≢ length text → value ≡ drop (n + 1) text → is_key (take n text) ≡ true → is_value value ≡ true → IsCapability text (take n text) (Some value)
+pub key_and_value : (text value : List ℕ) (n : ℕ)
+    → n ≡ position_or_len (λ c. eqb c 61) text → n ≤ length text → n ≢ length text → value ≡ drop (n + 1) text
+    → is_key (take n text) ≡ true → is_value value ≡ true → IsCapability text (take n text) (Some value)
 key_and_value text value n at within short v k e =
     let there : position_or_len (λ c. eqb c 61) text < length text = omega (arith, at) in
     let found = eqb-true _ _ (passes_at_first (λ c. eqb c 61) text 0 there) in
@@ -122,7 +128,8 @@ alone_or_not : (text key other value : List ℕ) → IsCapability text key None 
 alone_or_not text key other value h k =
     omega (arith, ap length k.1, length-append other (61 ∷ value), key_ends text key None h, key_ends text other (Some value) k, ap length h.1)
 
-pub one_capability : (text key other : List ℕ) (value other_value : Option (List ℕ)) → IsCapability text key value → IsCapability text other other_value → (key ≡ other) × (value ≡ other_value)
+pub one_capability : (text key other : List ℕ) (value other_value : Option (List ℕ))
+    → IsCapability text key value → IsCapability text other other_value → (key ≡ other) × (value ≡ other_value)
 one_capability text key other None None h k = (sym h.1 ∙ k.1, refl)
 one_capability text key other None (Some y) h k = absurd (alone_or_not text key other y h k)
 one_capability text key other (Some x) None h k = absurd (alone_or_not text other key x k h)
@@ -133,6 +140,7 @@ one_capability text key other (Some x) (Some y) h k =
 pub value_none : (text key : List ℕ) → IsCapability text key None → value_of text ≡ []
 value_none text key h = rw (key_ends text key None h, h.1) (dropped_all key)
 
-pub value_or_empty : (text key : List ℕ) (value : Option (Bor (List ℕ))) (empty : Bor (List ℕ)) → empty.now ≡ [] → IsCapability text key (option_copied value) → (unwrap_or value empty).now ≡ value_of text
+pub value_or_empty : (text key : List ℕ) (value : Option (Bor (List ℕ))) (empty : Bor (List ℕ))
+    → empty.now ≡ [] → IsCapability text key (option_copied value) → (unwrap_or value empty).now ≡ value_of text
 value_or_empty text key None empty e h = e ∙ sym (value_none text key h)
 value_or_empty text key (Some v) empty e h = sym (value_is text key v.now h)

@@ -6,7 +6,8 @@ use Rattle.git_names.specs.declared.object_format.Format.TheVariants.{Sha1, Sha2
 use Rattle.git_pkt.specs.Packets.{Pkt, flush, delim, resp_end, payload, text_of}
 use Rattle.git_pkt.specs.Splits.{Given}
 use Rattle.git_pkt.specs.declared.fault.Kind.{Kind}
-use Rattle.git_pkt.specs.declared.fault.Kind.TheVariants.{BadCapability, UnknownCommand, TwoCommands, NoCommand, NotAdvertised, WrongFormat, TooMuchKept, RemoteError, NoWants}
+use Rattle.git_pkt.specs.declared.fault.Kind.TheVariants.{BadCapability, UnknownCommand, TwoCommands, NoCommand}
+use Rattle.git_pkt.specs.declared.fault.Kind.TheVariants.{NotAdvertised, WrongFormat, TooMuchKept, RemoteError, NoWants}
 use Rattle.git_msg.specs.declared.offers.Offer.{Offer}
 use Rattle.git_msg.specs.declared.arguments.Command.{Command}
 use Rattle.git_msg.specs.declared.arguments.Command.TheVariants.{LsRefs, Fetch}
@@ -17,7 +18,10 @@ use Rattle.git_msg.specs.Capability.{IsNoCapability}
 use Rattle.git_msg.specs.Arguments.{Arg, IsArgument, name_of}
 use Rattle.git_msg.specs.Asked.{Asked, ls_refs, fetch, HasWants, asked_by}
 use Rattle.git_msg.specs.Checks.{Refuses, Passes}
-use Rattle.git_msg.specs.Lines.{Line, command, agent, server_option, object_format, delimiter, argument, is_none, commands_of, arguments_of, kept_in, has_format, has_delimiter, IsWordOf, HasKey, IsAnyCapability, NamesCommand, key_checks, by_key, capability_checks, IsLineOf, IsCapabilityLine, IsFormatMeant, IsOtherFormatMeant, part_checks, argument_checks, IsArgumentLine, IsArgumentRefused, end_checks, at_end, flush_checks_in, IsLine, IsLineIn, HasFault, HasFaultIn}
+use Rattle.git_msg.specs.Lines.{Line, command, agent, server_option, object_format, delimiter, argument, is_none, commands_of, arguments_of, kept_in}
+use Rattle.git_msg.specs.Lines.{has_format, has_delimiter, IsWordOf, HasKey, IsAnyCapability, NamesCommand, key_checks, by_key, capability_checks}
+use Rattle.git_msg.specs.Lines.{IsLineOf, IsCapabilityLine, IsFormatMeant, IsOtherFormatMeant, part_checks, argument_checks, IsArgumentLine}
+use Rattle.git_msg.specs.Lines.{IsArgumentRefused, end_checks, at_end, flush_checks_in, IsLine, IsLineIn, HasFault, HasFaultIn}
 use Rattle.git_msg.specs.Requests.{AreLines, Asks}
 use Rattle.git_msg.proofs.CheckLaws.{IsFair, AllFair, passes_or_refuses, one_name, fair_check}
 use Rattle.git_msg.proofs.Keys.{one_capability}
@@ -34,29 +38,39 @@ true_false b h k = cc
 
 fair_keys : (offer : Offer) (first : Bool) (key : Key) (value : Option (List ℕ)) → AllFair (key_checks offer first key value)
 unfolding AllFair
-fair_keys offer first CommandKey value =
-    (fair_check (first ≡ true) (first ≡ false) TwoCommands (λ p q. true_false first p q), (fair_check (NamesCommand value) (¬ NamesCommand value) UnknownCommand (λ p q. q p), tt))
+fair_keys offer first CommandKey value = (
+  fair_check (first ≡ true) (first ≡ false) TwoCommands (λ p q. true_false first p q),
+  (fair_check (NamesCommand value) (¬ NamesCommand value) UnknownCommand (λ p q. q p), tt),
+)
 fair_keys offer first AgentKey value = tt
-fair_keys offer first ServerOptionKey value = (fair_check (offer.server_option ≡ true) (offer.server_option ≡ false) NotAdvertised (λ p q. true_false offer.server_option p q), tt)
-fair_keys offer first ObjectFormatKey value = (fair_check (value ≡ Some (format_name offer.format)) (value ≢ Some (format_name offer.format)) WrongFormat (λ p q. q p), tt)
+fair_keys offer first ServerOptionKey value =
+    (fair_check (offer.server_option ≡ true) (offer.server_option ≡ false) NotAdvertised (λ p q. true_false offer.server_option p q), tt)
+fair_keys offer first ObjectFormatKey value =
+    (fair_check (value ≡ Some (format_name offer.format)) (value ≢ Some (format_name offer.format)) WrongFormat (λ p q. q p), tt)
 fair_keys offer first OtherKey value = (fair_check ⊥ (Unit {0}) NotAdvertised (λ p q. p), tt)
 
 fair_by_key : (offer : Offer) (first : Bool) (text : List ℕ) → IsFair (by_key offer first text)
 fair_by_key offer first text = record {
   apart = λ kind p r.
       let same = same_key text p.0 r.0 p.1 r.1 p.2 r.2 in
-      let there : Passes (key_checks offer first r.0 r.1) = subst (λ (v : Option (List ℕ)). Passes (key_checks offer first r.0 v)) same.1 (subst (λ (k : Key). Passes (key_checks offer first k p.1)) same.0 p.3) in
+      let there : Passes (key_checks offer first r.0 r.1) =
+      subst (λ (v : Option (List ℕ)). Passes (key_checks offer first r.0 v)) same.1
+      (subst (λ (k : Key). Passes (key_checks offer first k p.1)) same.0 p.3) in
       passes_or_refuses (key_checks offer first r.0 r.1) (fair_keys offer first r.0 r.1) kind there r.3;
   single = λ kind other r s.
       let same = same_key text r.0 s.0 r.1 s.1 r.2 s.2 in
-      let there : Refuses (key_checks offer first s.0 s.1) kind = subst (λ (v : Option (List ℕ)). Refuses (key_checks offer first s.0 v) kind) same.1 (subst (λ (k : Key). Refuses (key_checks offer first k r.1) kind) same.0 r.3) in
+      let there : Refuses (key_checks offer first s.0 s.1) kind =
+      subst (λ (v : Option (List ℕ)). Refuses (key_checks offer first s.0 v) kind) same.1
+      (subst (λ (k : Key). Refuses (key_checks offer first k r.1) kind) same.0 r.3) in
       one_name (key_checks offer first s.0 s.1) (fair_keys offer first s.0 s.1) kind other there s.3;
 }
 
 fair_capability : (offer : Offer) (first : Bool) (text : List ℕ) → AllFair (capability_checks offer first text)
 unfolding AllFair
-fair_capability offer first text =
-    (fair_check (¬ IsErrorText text) (IsErrorText text) RemoteError (λ p q. p q), (fair_check (IsAnyCapability text) (IsNoCapability text) BadCapability (λ p q. q p.0 p.1 p.2), (fair_by_key offer first text, tt)))
+fair_capability offer first text = (
+  fair_check (¬ IsErrorText text) (IsErrorText text) RemoteError (λ p q. p q),
+  (fair_check (IsAnyCapability text) (IsNoCapability text) BadCapability (λ p q. q p.0 p.1 p.2), (fair_by_key offer first text, tt)),
+)
 
 format_or_other : (format : Format) (said : Bool) → IsFormatMeant format said → IsOtherFormatMeant format said → ⊥
 format_or_other Sha1 said p q = q
@@ -64,15 +78,20 @@ format_or_other Sha256 said p q = true_false said p q
 
 fair_part : (offer : Offer) (commands : List Command) (said : Bool) → AllFair (part_checks offer commands said)
 unfolding AllFair
-fair_part offer commands said =
-    (fair_check (is_none commands ≡ false) (is_none commands ≡ true) NoCommand (λ p q. true_false (is_none commands) q p), (fair_check (IsFormatMeant offer.format said) (IsOtherFormatMeant offer.format said) WrongFormat (λ p q. format_or_other offer.format said p q), tt))
+fair_part offer commands said = (
+  fair_check (is_none commands ≡ false) (is_none commands ≡ true) NoCommand (λ p q. true_false (is_none commands) q p),
+  (fair_check (IsFormatMeant offer.format said) (IsOtherFormatMeant offer.format said) WrongFormat (λ p q. format_or_other offer.format said p q), tt),
+)
 
 fair_argument : (offer : Offer) (limit : ℕ) (c : Command) (kept : ℕ) (text : List ℕ) → AllFair (argument_checks offer limit c kept text)
 unfolding AllFair
 fair_argument offer limit c kept text = (
   fair_check (¬ IsErrorText text) (IsErrorText text) RemoteError (λ p q. p q),
   (
-    record { apart = λ kind p r. argument_or_fault c offer text p.0 kind p.1.is_argument r; single = λ kind other r s. one_argument_fault c offer text kind other r s },
+    record {
+      apart = λ kind p r. argument_or_fault c offer text p.0 kind p.1.is_argument r;
+      single = λ kind other r s. one_argument_fault c offer text kind other r s;
+    },
     (fair_check (kept + length text ≤ limit) (limit < kept + length text) TooMuchKept (λ p q. omega arith), tt),
   ),
 )
@@ -107,31 +126,43 @@ fair_flush false offer lines =
     (part.0, (part.1.0, (fair_at_end lines, tt)))
 
 -- a capability line passes all its checks
-line_passes : (offer : Offer) (first : Bool) (text : List ℕ) (line : Line) → IsCapabilityLine offer first text line → Passes (capability_checks offer first text)
+line_passes : (offer : Offer) (first : Bool) (text : List ℕ) (line : Line)
+    → IsCapabilityLine offer first text line → Passes (capability_checks offer first text)
 line_passes offer first text line h = (h.no_error, ((h.has_key.word, h.value, h.has_key.is_capability), ((h.key, h.value, h.has_key, h.allowed), tt)))
 
-argument_passes : (offer : Offer) (limit : ℕ) (before : List Line) (text : List ℕ) (arg : Arg) (long : ℕ) → (h : IsArgumentLine offer limit before text arg long) → Passes (argument_checks offer limit h.is_text.of (kept_in before) text)
+argument_passes : (offer : Offer) (limit : ℕ) (before : List Line) (text : List ℕ) (arg : Arg) (long : ℕ)
+    → (h : IsArgumentLine offer limit before text arg long) → Passes (argument_checks offer limit h.is_text.of (kept_in before) text)
 argument_passes offer limit before text arg long h =
     let same = h.long_is in
     let most = h.fits in
     (h.is_text.no_error, ((arg, h.is_text.reads), (omega arith, tt)))
 
-argument_line_or_fault : (offer : Offer) (limit : ℕ) (before : List Line) (text : List ℕ) (arg : Arg) (long : ℕ) (kind : Kind) → IsArgumentLine offer limit before text arg long → IsArgumentRefused offer limit before text kind → ⊥
+argument_line_or_fault : (offer : Offer) (limit : ℕ) (before : List Line) (text : List ℕ) (arg : Arg) (long : ℕ) (kind : Kind)
+    → IsArgumentLine offer limit before text arg long → IsArgumentRefused offer limit before text kind → ⊥
 argument_line_or_fault offer limit before text arg long kind h r =
     let same = same_command (commands_of before) h.is_text.of r.of h.is_text.asked r.asked in
-    passes_or_refuses (argument_checks offer limit r.of (kept_in before) text) (fair_argument offer limit r.of (kept_in before) text) kind (subst (λ (c : Command). Passes (argument_checks offer limit c (kept_in before) text)) same (argument_passes offer limit before text arg long h)) r.refuses
+    passes_or_refuses (argument_checks offer limit r.of (kept_in before) text) (fair_argument offer limit r.of (kept_in before) text) kind
+    (subst (λ (c : Command). Passes (argument_checks offer limit c (kept_in before) text)) same
+    (argument_passes offer limit before text arg long h)) r.refuses
 
-capability_line_or_fault : (offer : Offer) (first : Bool) (text : List ℕ) (line : Line) (kind : Kind) → IsCapabilityLine offer first text line → Refuses (capability_checks offer first text) kind → ⊥
-capability_line_or_fault offer first text line kind h r = passes_or_refuses (capability_checks offer first text) (fair_capability offer first text) kind (line_passes offer first text line h) r
+capability_line_or_fault : (offer : Offer) (first : Bool) (text : List ℕ) (line : Line) (kind : Kind)
+    → IsCapabilityLine offer first text line → Refuses (capability_checks offer first text) kind → ⊥
+capability_line_or_fault offer first text line kind h r =
+    passes_or_refuses (capability_checks offer first text) (fair_capability offer first text) kind (line_passes offer first text line h) r
 
 -- in either part
-line_or_fault_in : (part : Bool) (offer : Offer) (limit : ℕ) (before : List Line) (packet : Pkt) (line : Line) (kind : Kind) → IsLineIn part offer limit before packet line → HasFaultIn part offer limit before packet kind → ⊥
-line_or_fault_in false offer limit before (payload bytes) line kind h r = capability_line_or_fault offer (is_none (commands_of before)) (text_of bytes) line kind h r
-line_or_fault_in false offer limit before delim delimiter kind h r = passes_or_refuses (part_checks offer (commands_of before) (has_format before)) (fair_part offer (commands_of before) (has_format before)) kind h r
-line_or_fault_in true offer limit before (payload bytes) (argument arg long) kind h r = argument_line_or_fault offer limit before (text_of bytes) arg long kind h r
+line_or_fault_in : (part : Bool) (offer : Offer) (limit : ℕ) (before : List Line) (packet : Pkt) (line : Line) (kind : Kind)
+    → IsLineIn part offer limit before packet line → HasFaultIn part offer limit before packet kind → ⊥
+line_or_fault_in false offer limit before (payload bytes) line kind h r =
+    capability_line_or_fault offer (is_none (commands_of before)) (text_of bytes) line kind h r
+line_or_fault_in false offer limit before delim delimiter kind h r =
+    passes_or_refuses (part_checks offer (commands_of before) (has_format before)) (fair_part offer (commands_of before) (has_format before)) kind h r
+line_or_fault_in true offer limit before (payload bytes) (argument arg long) kind h r =
+    argument_line_or_fault offer limit before (text_of bytes) arg long kind h r
 line_or_fault_in part offer limit before packet line kind h r = absurd h
 
-pub line_or_fault : (offer : Offer) (limit : ℕ) (before : List Line) (packet : Pkt) (line : Line) (kind : Kind) → IsLine offer limit before packet line → HasFault offer limit before packet kind → ⊥
+pub line_or_fault : (offer : Offer) (limit : ℕ) (before : List Line) (packet : Pkt) (line : Line) (kind : Kind)
+    → IsLine offer limit before packet line → HasFault offer limit before packet kind → ⊥
 line_or_fault offer limit before packet line kind h r = line_or_fault_in (has_delimiter before) offer limit before packet line kind h r
 
 -- a name is that of one command
@@ -156,12 +187,15 @@ one_line_of ServerOptionKey value server_option other h k = absurd k
 one_line_of ObjectFormatKey value object_format other h k = absurd k
 one_line_of key value line other h k = absurd h
 
-one_capability_line : (offer : Offer) (first : Bool) (text : List ℕ) (line other : Line) → IsCapabilityLine offer first text line → IsCapabilityLine offer first text other → line ≡ other
+one_capability_line : (offer : Offer) (first : Bool) (text : List ℕ) (line other : Line)
+    → IsCapabilityLine offer first text line → IsCapabilityLine offer first text other → line ≡ other
 one_capability_line offer first text line other h k =
     let same = same_key text h.key k.key h.value k.value h.has_key k.has_key in
-    one_line_of k.key k.value line other (subst (λ (v : Option (List ℕ)). IsLineOf k.key v line) same.1 (subst (λ (x : Key). IsLineOf x h.value line) same.0 h.line_is)) k.line_is
+    one_line_of k.key k.value line other
+    (subst (λ (v : Option (List ℕ)). IsLineOf k.key v line) same.1 (subst (λ (x : Key). IsLineOf x h.value line) same.0 h.line_is)) k.line_is
 
-one_argument_line : (offer : Offer) (limit : ℕ) (before : List Line) (text : List ℕ) (a b : Arg) (m n : ℕ) → IsArgumentLine offer limit before text a m → IsArgumentLine offer limit before text b n → argument a m ≡ argument b n
+one_argument_line : (offer : Offer) (limit : ℕ) (before : List Line) (text : List ℕ) (a b : Arg) (m n : ℕ)
+    → IsArgumentLine offer limit before text a m → IsArgumentLine offer limit before text b n → argument a m ≡ argument b n
 one_argument_line offer limit before text a b m n h k =
     let c = same_command (commands_of before) h.is_text.of k.is_text.of h.is_text.asked k.is_text.asked in
     let there : IsArgument k.is_text.of offer.format text a = subst (λ (x : Command). IsArgument x offer.format text a) c h.is_text.reads.is_argument in
@@ -169,7 +203,8 @@ one_argument_line offer limit before text a b m n h k =
     let long : m ≡ n = h.long_is ∙ sym k.long_is in
     cc
 
-one_line_in : (part : Bool) (offer : Offer) (limit : ℕ) (before : List Line) (packet : Pkt) (line other : Line) → IsLineIn part offer limit before packet line → IsLineIn part offer limit before packet other → line ≡ other
+one_line_in : (part : Bool) (offer : Offer) (limit : ℕ) (before : List Line) (packet : Pkt) (line other : Line)
+    → IsLineIn part offer limit before packet line → IsLineIn part offer limit before packet other → line ≡ other
 one_line_in false offer limit before (payload bytes) line other h k = one_capability_line offer (is_none (commands_of before)) (text_of bytes) line other h k
 one_line_in false offer limit before delim delimiter delimiter h k = refl
 one_line_in true offer limit before (payload bytes) (argument a m) (argument b n) h k = one_argument_line offer limit before (text_of bytes) a b m n h k
@@ -177,27 +212,35 @@ one_line_in false offer limit before delim delimiter other h k = absurd k
 one_line_in true offer limit before (payload bytes) (argument a m) other h k = absurd k
 one_line_in part offer limit before packet line other h k = absurd h
 
-pub one_line : (offer : Offer) (limit : ℕ) (before : List Line) (packet : Pkt) (line other : Line) → IsLine offer limit before packet line → IsLine offer limit before packet other → line ≡ other
+pub one_line : (offer : Offer) (limit : ℕ) (before : List Line) (packet : Pkt) (line other : Line)
+    → IsLine offer limit before packet line → IsLine offer limit before packet other → line ≡ other
 one_line offer limit before packet line other h k = one_line_in (has_delimiter before) offer limit before packet line other h k
 
 -- a packet has one fault
-one_fault_in : (part : Bool) (offer : Offer) (limit : ℕ) (before : List Line) (packet : Pkt) (kind other : Kind) → HasFaultIn part offer limit before packet kind → HasFaultIn part offer limit before packet other → kind ≡ other
-one_fault_in false offer limit before (payload bytes) kind other h k = one_name (capability_checks offer (is_none (commands_of before)) (text_of bytes)) (fair_capability offer (is_none (commands_of before)) (text_of bytes)) kind other h k
-one_fault_in false offer limit before delim kind other h k = one_name (part_checks offer (commands_of before) (has_format before)) (fair_part offer (commands_of before) (has_format before)) kind other h k
+one_fault_in : (part : Bool) (offer : Offer) (limit : ℕ) (before : List Line) (packet : Pkt) (kind other : Kind)
+    → HasFaultIn part offer limit before packet kind → HasFaultIn part offer limit before packet other → kind ≡ other
+one_fault_in false offer limit before (payload bytes) kind other h k =
+    one_name (capability_checks offer (is_none (commands_of before)) (text_of bytes))
+    (fair_capability offer (is_none (commands_of before)) (text_of bytes)) kind other h k
+one_fault_in false offer limit before delim kind other h k =
+    one_name (part_checks offer (commands_of before) (has_format before)) (fair_part offer (commands_of before) (has_format before)) kind other h k
 one_fault_in false offer limit before flush kind other h k = one_name (flush_checks_in false offer before) (fair_flush false offer before) kind other h.1 k.1
 one_fault_in false offer limit before resp_end kind other h k = h ∙ sym k
 one_fault_in true offer limit before (payload bytes) kind other h k =
     let same = same_command (commands_of before) h.of k.of h.asked k.asked in
-    one_name (argument_checks offer limit k.of (kept_in before) (text_of bytes)) (fair_argument offer limit k.of (kept_in before) (text_of bytes)) kind other (subst (λ (c : Command). Refuses (argument_checks offer limit c (kept_in before) (text_of bytes)) kind) same h.refuses) k.refuses
+    one_name (argument_checks offer limit k.of (kept_in before) (text_of bytes)) (fair_argument offer limit k.of (kept_in before) (text_of bytes)) kind other
+    (subst (λ (c : Command). Refuses (argument_checks offer limit c (kept_in before) (text_of bytes)) kind) same h.refuses) k.refuses
 one_fault_in true offer limit before flush kind other h k = one_name (flush_checks_in true offer before) (fair_flush true offer before) kind other h k
 one_fault_in true offer limit before delim kind other h k = h ∙ sym k
 one_fault_in true offer limit before resp_end kind other h k = h ∙ sym k
 
-pub one_fault : (offer : Offer) (limit : ℕ) (before : List Line) (packet : Pkt) (kind other : Kind) → HasFault offer limit before packet kind → HasFault offer limit before packet other → kind ≡ other
+pub one_fault : (offer : Offer) (limit : ℕ) (before : List Line) (packet : Pkt) (kind other : Kind)
+    → HasFault offer limit before packet kind → HasFault offer limit before packet other → kind ≡ other
 one_fault offer limit before packet kind other h k = one_fault_in (has_delimiter before) offer limit before packet kind other h k
 
 -- packets are lines in one way
-pub one_list_of_lines : (offer : Offer) (limit : ℕ) (before : List Line) (gs : List Given) (lines others : List Line) → AreLines offer limit before gs lines → AreLines offer limit before gs others → lines ≡ others
+pub one_list_of_lines : (offer : Offer) (limit : ℕ) (before : List Line) (gs : List Given) (lines others : List Line)
+    → AreLines offer limit before gs lines → AreLines offer limit before gs others → lines ≡ others
 one_list_of_lines offer limit before [] [] [] h k = refl
 one_list_of_lines offer limit before [] [] (m ∷ ms) h k = absurd k
 one_list_of_lines offer limit before [] (l ∷ ls) others h k = absurd h
@@ -221,14 +264,20 @@ front_of_snoc (a ∷ []) g = refl
 front_of_snoc (a ∷ b ∷ gs) g = ap (λ (xs : List Given). a ∷ xs) (front_of_snoc (b ∷ gs) g)
 
 -- packets are one request
-pub one_request : (offer : Offer) (limit : ℕ) (packets : List Given) (asked other : Asked) (kept other_kept : ℕ) → Asks offer limit packets asked kept → Asks offer limit packets other other_kept → (asked ≡ other) × (kept ≡ other_kept)
+pub one_request : (offer : Offer) (limit : ℕ) (packets : List Given) (asked other : Asked) (kept other_kept : ℕ)
+    → Asks offer limit packets asked kept → Asks offer limit packets other other_kept → (asked ≡ other) × (kept ≡ other_kept)
 one_request offer limit packets asked other kept other_kept h k =
     let fronts : h.front ≡ k.front = sym (front_of_snoc h.front h.last) ∙ ap front_of (sym h.whole ∙ k.whole) ∙ front_of_snoc k.front k.last in
-    let lines : h.lines ≡ k.lines = one_list_of_lines offer limit [] k.front h.lines k.lines (subst (λ (gs : List Given). AreLines offer limit [] gs h.lines) fronts h.taken) k.taken in
-    let c : h.command ≡ k.command = same_command (commands_of h.lines) h.command k.command h.once (ap commands_of lines ∙ k.once) in
-    (h.asked_is ∙ ap (λ x. asked_by x (arguments_of h.lines)) c ∙ ap (λ ls. asked_by k.command (arguments_of ls)) lines ∙ sym k.asked_is, h.kept_is ∙ ap kept_in lines ∙ sym k.kept_is)
+    let lines : h.lines ≡ k.lines =
+    one_list_of_lines offer limit [] k.front h.lines k.lines
+    (subst (λ (gs : List Given). AreLines offer limit [] gs h.lines) fronts h.taken) k.taken in
+    let c : h.command ≡ k.command = same_command (commands_of h.lines) h.command k.command h.once (ap commands_of lines ∙ k.once) in (
+      h.asked_is ∙ ap (λ x. asked_by x (arguments_of h.lines)) c ∙ ap (λ ls. asked_by k.command (arguments_of ls)) lines ∙ sym k.asked_is,
+      h.kept_is ∙ ap kept_in lines ∙ sym k.kept_is,
+    )
 
 -- a flush that passes has no fault
-pub flush_or_fault_in : (part : Bool) (offer : Offer) (limit : ℕ) (before : List Line) (kind : Kind) → Passes (flush_checks_in part offer before) → HasFaultIn part offer limit before flush kind → ⊥
+pub flush_or_fault_in : (part : Bool) (offer : Offer) (limit : ℕ) (before : List Line) (kind : Kind)
+    → Passes (flush_checks_in part offer before) → HasFaultIn part offer limit before flush kind → ⊥
 flush_or_fault_in false offer limit before kind p r = passes_or_refuses (flush_checks_in false offer before) (fair_flush false offer before) kind p r.1
 flush_or_fault_in true offer limit before kind p r = passes_or_refuses (flush_checks_in true offer before) (fair_flush true offer before) kind p r

@@ -1,5 +1,6 @@
 -- Lines, one more after the others.
-use Rattle.std.proofs.Common.{arith, ◌≡◌, ℕ, ◌+◌, Bool, true, false, ◌||◌, Option, Some, None, option_to_list, List, [], ◌∷◌, ◌++◌, refl, ap, sym, ◌∙◌, subst, append_assoc, inl, inr}
+use Rattle.std.proofs.Common.{arith, ◌≡◌, ℕ, ◌+◌, Bool, true, false, ◌||◌, Option, Some, None, option_to_list, List, [], ◌∷◌, ◌++◌, refl, ap, sym}
+use Rattle.std.proofs.Common.{◌∙◌, subst, append_assoc, inl, inr}
 use Rattle.std.specs.List.{list_any, filter_map}
 use Rattle.std.proofs.lemmas.List.{append-nil}
 use Rattle.std.proofs.lemmas.List.Elements.{filter_map-append}
@@ -11,7 +12,8 @@ use Rattle.git_pkt.specs.declared.fault.Kind.{Kind}
 use Rattle.git_msg.specs.declared.offers.Offer.{Offer}
 use Rattle.git_msg.specs.Arguments.{Arg}
 use Rattle.git_msg.specs.Checks.{Check, Refuses}
-use Rattle.git_msg.specs.Lines.{Line, argument, command_in, argument_in, long_of, is_object_format, is_delimiter, commands_of, arguments_of, kept_in, has_format, has_delimiter, is_none, IsLine, IsLineIn, IsArgumentLine, IsCapabilityLine}
+use Rattle.git_msg.specs.Lines.{Line, argument, command_in, argument_in, long_of, is_object_format, is_delimiter, commands_of, arguments_of, kept_in}
+use Rattle.git_msg.specs.Lines.{has_format, has_delimiter, is_none, IsLine, IsLineIn, IsArgumentLine, IsCapabilityLine}
 use Rattle.git_msg.specs.Requests.{AreLines}
 
 or_false : (a b : Bool) → (a || (b || false)) ≡ (b || a)
@@ -46,21 +48,28 @@ pub kept_snoc : (lines : List Line) (line : Line) → kept_in (lines ++ line ∷
 kept_snoc lines line = omega (arith, sum_by-append long_of lines (line ∷ []))
 
 -- one more packet, which is a line
-pub lines_snoc : (offer : Offer) (limit : ℕ) (before : List Line) (gs : List Given) (lines : List Line) (g : Given) (line : Line) → AreLines offer limit before gs lines → IsLine offer limit (before ++ lines) g.packet line → AreLines offer limit before (gs ++ g ∷ []) (lines ++ line ∷ [])
+pub lines_snoc : (offer : Offer) (limit : ℕ) (before : List Line) (gs : List Given) (lines : List Line) (g : Given) (line : Line)
+    → AreLines offer limit before gs lines → IsLine offer limit (before ++ lines) g.packet line
+    → AreLines offer limit before (gs ++ g ∷ []) (lines ++ line ∷ [])
 lines_snoc offer limit before [] [] g line are is = (subst (λ (ls : List Line). IsLine offer limit ls g.packet line) (append-nil before) is, tt)
 lines_snoc offer limit before [] (l ∷ ls) g line are is = absurd are
 lines_snoc offer limit before (h ∷ hs) [] g line are is = absurd are
 lines_snoc offer limit before (h ∷ hs) (l ∷ ls) g line are is =
-    let behind : IsLine offer limit ((before ++ l ∷ []) ++ ls) g.packet line = subst (λ (xs : List Line). IsLine offer limit xs g.packet line) (sym (append_assoc before (l ∷ []) ls)) is in
+    let behind : IsLine offer limit ((before ++ l ∷ []) ++ ls) g.packet line =
+    subst (λ (xs : List Line). IsLine offer limit xs g.packet line) (sym (append_assoc before (l ∷ []) ls)) is in
     (are.0, lines_snoc offer limit (before ++ l ∷ []) hs ls g line are.1 behind)
 
 -- the argument part's lines are argument lines
-pub argument_is_line : (offer : Offer) (limit : ℕ) (lines : List Line) (bytes : List ℕ) (arg : Arg) (long : ℕ) → has_delimiter lines ≡ true → IsArgumentLine offer limit lines (text_of bytes) arg long → IsLine offer limit lines (payload bytes) (argument arg long)
+pub argument_is_line : (offer : Offer) (limit : ℕ) (lines : List Line) (bytes : List ℕ) (arg : Arg) (long : ℕ)
+    → has_delimiter lines ≡ true → IsArgumentLine offer limit lines (text_of bytes) arg long
+    → IsLine offer limit lines (payload bytes) (argument arg long)
 argument_is_line offer limit lines bytes arg long behind h =
     subst (λ (b : Bool). IsLineIn b offer limit lines (payload bytes) (argument arg long)) (sym behind) h
 
 -- a capability line is a line of the capability part
-pub capability_is_line : (offer : Offer) (limit : ℕ) (lines : List Line) (bytes : List ℕ) (line : Line) → has_delimiter lines ≡ false → IsCapabilityLine offer (is_none (commands_of lines)) (text_of bytes) line → IsLine offer limit lines (payload bytes) line
+pub capability_is_line : (offer : Offer) (limit : ℕ) (lines : List Line) (bytes : List ℕ) (line : Line)
+    → has_delimiter lines ≡ false → IsCapabilityLine offer (is_none (commands_of lines)) (text_of bytes) line
+    → IsLine offer limit lines (payload bytes) line
 capability_is_line offer limit lines bytes line before h =
     subst (λ (b : Bool). IsLineIn b offer limit lines (payload bytes) line) (sym before) h
 

@@ -12,10 +12,12 @@ no_pass false fails = refl
 pub first_place : (test : ℕ → Bool) (hay : List ℕ) (r : Option ℕ) → IsFirst (Passes test hay) 0 (length hay) r → r ≡ position test hay
 first_place test hay None none =
     let all : position_or_len test hay ≡ length hay =
-    position_or_len_is test hay (length hay) 0 (omega arith) (λ k low. no_pass (test (get_or hay k 0)) (none k (omega arith) low)) (λ below. absurd (omega (arith, below))) in
+    position_or_len_is test hay (length hay) 0 (omega arith)
+    (λ k low. no_pass (test (get_or hay k 0)) (none k (omega arith) low)) (λ below. absurd (omega (arith, below))) in
     grind (arith, common_steps, all)
 first_place test hay (Some k) found =
     let within : k < length hay = found.0.high in
     let at : position_or_len test hay ≡ k =
-    position_or_len_is test hay k 0 (omega (arith, within)) (λ i low. no_pass (test (get_or hay i 0)) (found.0.before i (omega arith) low)) (λ below. found.1) in
+    position_or_len_is test hay k 0 (omega (arith, within))
+    (λ i low. no_pass (test (get_or hay i 0)) (found.0.before i (omega arith) low)) (λ below. found.1) in
     grind (arith, common_steps, at, within)

@@ -1,5 +1,6 @@
 -- Reference lines, as they are written.
-use Rattle.std.proofs.Common.{arith, ◌≡◌, ◌≢◌, ℕ, ◌+◌, ◌≤◌, ◌==◌, Bool, true, false, not, ◌&&◌, Option, Some, None, List, [], ◌∷◌, ◌++◌, refl, ap, ◌∙◌, subst, append_assoc, length, drop, slice_index, codes, length-append, lit≤}
+use Rattle.std.proofs.Common.{arith, ◌≡◌, ◌≢◌, ℕ, ◌+◌, ◌≤◌, ◌==◌, Bool, true, false, not, ◌&&◌, Option, Some, None, List, [], ◌∷◌, ◌++◌, refl, ap}
+use Rattle.std.proofs.Common.{◌∙◌, subst, append_assoc, length, drop, slice_index, codes, length-append, lit≤}
 use Rattle.std.specs.Prelude.{All}
 use Rattle.std.specs.List.{list_all}
 use Rattle.std.proofs.lemmas.Bool.Decides.{nat_tests}
@@ -14,7 +15,8 @@ use Rattle.git_names.proofs.WrittenForms.{digits-object_name}
 use Rattle.git_msg.specs.Texts.{spaced_words}
 use Rattle.git_msg.specs.Checks.{Passes}
 use Rattle.git_msg.proofs.WrittenNames.{digits_at_most}
-use Rattle.git_msg.specs.References.{reference_of, IsAttribute, IsReferenceLine, IsMaybeObjectName, IsWritable, last_of, values_of, attribute_checks, target_text, peeled_text, peeled_count, reference_text}
+use Rattle.git_msg.specs.References.{reference_of, IsAttribute, IsReferenceLine, IsMaybeObjectName, IsWritable, last_of, values_of, attribute_checks}
+use Rattle.git_msg.specs.References.{target_text, peeled_text, peeled_count, reference_text}
 
 eq_false : (c : ℕ) → c ≢ 32 → (c == 32) ≡ false
 eq_false c h = grind (arith, nat_tests)

@@ -1,5 +1,6 @@
 -- What single packets do, from what the parts of the reader promise.
-use Rattle.std.proofs.Common.{arith, ◌≡◌, ℕ, Bool, true, false, not, Option, Some, None, Ok, Err, option_to_list, List, [], ◌∷◌, ◌++◌, refl, ap, sym, ◌∙◌, subst, inl, inr}
+use Rattle.std.proofs.Common.{arith, ◌≡◌, ℕ, Bool, true, false, not, Option, Some, None, Ok, Err, option_to_list, List, [], ◌∷◌, ◌++◌, refl, ap, sym}
+use Rattle.std.proofs.Common.{◌∙◌, subst, inl, inr}
 use Rattle.std.specs.Prelude.{is_some}
 use Rattle.std.proofs.lemmas.List.{append-nil}
 use Rattle.git_pkt.specs.Packets.{flush, delim, payload, text_of}
@@ -18,7 +19,9 @@ use Rattle.git_msg.specs.Arguments.{Arg}
 use Rattle.git_msg.specs.Asked.{Asked, nothing_asked, asked_by}
 use Rattle.git_msg.specs.Checks.{Refuses, Passes}
 use Rattle.git_msg.specs.HeldRequest.{IsEmpty, asked_of, command_of, limit_of}
-use Rattle.git_msg.specs.Lines.{Line, command, agent, server_option, object_format, delimiter, argument, is_none, commands_of, arguments_of, kept_in, has_format, is_object_format, command_in, argument_in, long_of, is_delimiter, IsLineOf, key_checks, IsCapabilityLine, argument_checks, text_checks, capability_checks, part_checks, end_checks, flush_checks_in, IsLineIn, HasFaultIn}
+use Rattle.git_msg.specs.Lines.{Line, command, agent, server_option, object_format, delimiter, argument, is_none, commands_of, arguments_of, kept_in}
+use Rattle.git_msg.specs.Lines.{has_format, is_object_format, command_in, argument_in, long_of, is_delimiter, IsLineOf, key_checks, IsCapabilityLine}
+use Rattle.git_msg.specs.Lines.{argument_checks, text_checks, capability_checks, part_checks, end_checks, flush_checks_in, IsLineIn, HasFaultIn}
 use Rattle.git_msg.specs.RequestReader.{InCapabilities, InArguments, is_nil, fault_in, waits_in, limit_in, kept_so_far}
 use Rattle.git_msg.specs.RequestReaderSteps.{InLines, Advances, StepsOn, Notes, IsDue, is_first, with_line, restarted}
 use Rattle.git_msg.proofs.LineLists.{commands_snoc, arguments_snoc, format_snoc, delimiter_snoc, kept_snoc, capability_is_line}
@@ -62,7 +65,8 @@ no_argument_in key value delimiter h = refl
 no_argument_in key value (argument arg long) h = absurd (no_argument key value arg long h)
 
 -- a command line is the first
-first_command : (offer : Offer) (first : Bool) (key : Key) (value : Option (List ℕ)) (c : Command) → Passes (key_checks offer first key value) → IsLineOf key value (command c) → first ≡ true
+first_command : (offer : Offer) (first : Bool) (key : Key) (value : Option (List ℕ)) (c : Command)
+    → Passes (key_checks offer first key value) → IsLineOf key value (command c) → first ≡ true
 first_command offer first CommandKey value c h is = h.0
 first_command offer first AgentKey value c h is = absurd is
 first_command offer first ServerOptionKey value c h is = absurd is
@@ -77,14 +81,17 @@ nothing_asked_by LsRefs = refl
 nothing_asked_by Fetch = refl
 
 -- an argument's text that is refused
-text_refused : (c : Command) (offer : Offer) (limit kept : ℕ) (text : List ℕ) (kind : Kind) → Refuses (text_checks c offer text) kind → Refuses (argument_checks offer limit c kept text) kind
+text_refused : (c : Command) (offer : Offer) (limit kept : ℕ) (text : List ℕ) (kind : Kind)
+    → Refuses (text_checks c offer text) kind → Refuses (argument_checks offer limit c kept text) kind
 text_refused c offer limit kept text kind (inl h) = inl h
 text_refused c offer limit kept text kind (inr (no_error, inl h)) = inr (no_error, inl h)
 text_refused c offer limit kept text kind (inr (no_error, inr h)) = absurd h.1
 
 module _ {A : Type 0} where
   -- a line that is neither a command nor a format
-  other_line : (lines : List Line) (line : Line) (r : RequestReader A) → command_in line ≡ None → argument_in line ≡ None → long_of line ≡ 0 → is_object_format line ≡ false → is_delimiter line ≡ false → InCapabilities lines r → InCapabilities (lines ++ line ∷ []) (record r { begun = true })
+  other_line : (lines : List Line) (line : Line) (r : RequestReader A)
+      → command_in line ≡ None → argument_in line ≡ None → long_of line ≡ 0 → is_object_format line ≡ false
+      → is_delimiter line ≡ false → InCapabilities lines r → InCapabilities (lines ++ line ∷ []) (record r { begun = true })
   other_line lines line r no_cmd no_arg no_long no_format no_bound h = record {
     before = delimiter_snoc lines line ∙ rw no_bound h.before;
     begun = snoc_is_some lines line;
@@ -94,7 +101,8 @@ module _ {A : Type 0} where
     nothing_kept = omega (arith, kept_snoc lines line, no_long, h.nothing_kept);
   }
 
-  noted_in : (text : List ℕ) (line : Line) (lines : List Line) (r : RequestReader A) → IsCapabilityLine r.offer (is_first r) text line → InCapabilities lines r → InCapabilities (lines ++ line ∷ []) (with_line line r)
+  noted_in : (text : List ℕ) (line : Line) (lines : List Line) (r : RequestReader A)
+      → IsCapabilityLine r.offer (is_first r) text line → InCapabilities lines r → InCapabilities (lines ++ line ∷ []) (with_line line r)
   noted_in text (command c) lines r is h =
       let first = first_command r.offer (is_first r) is.key is.value c is.allowed is.line_is in
       let none : commands_of lines ≡ [] = no_command_list (commands_of lines) (ap is_none h.command ∙ first) in
@@ -158,18 +166,23 @@ module _ {A : Type 0} where
   in_arguments lines r part h = subst (λ (x : Part). InLines x lines r) part h
 
   -- a line that is noted
-  advance : (r : RequestReader A) (bytes : List ℕ) (line : Line) (lines : List Line) → r.part ≡ Capabilities → IsCapabilityLine r.offer (is_first r) (text_of bytes) line → InCapabilities lines r → Advances lines r (payload bytes) (with_line line r)
+  advance : (r : RequestReader A) (bytes : List ℕ) (line : Line) (lines : List Line)
+      → r.part ≡ Capabilities → IsCapabilityLine r.offer (is_first r) (text_of bytes) line
+      → InCapabilities lines r → Advances lines r (payload bytes) (with_line line r)
   advance r bytes line lines part is h =
       let same : is_none (commands_of lines) ≡ is_first r = ap is_none h.command in
-      let there : IsCapabilityLine r.offer (is_none (commands_of lines)) (text_of bytes) line = subst (λ (b : Bool). IsCapabilityLine r.offer b (text_of bytes) line) (sym same) is in
+      let there : IsCapabilityLine r.offer (is_none (commands_of lines)) (text_of bytes) line =
+      subst (λ (b : Bool). IsCapabilityLine r.offer b (text_of bytes) line) (sym same) is in
       record {
         line = line;
         is_line = capability_is_line r.offer (limit_in r) lines bytes line h.before there;
         no_argument = no_argument_in is.key is.value line is.line_is;
-        in_lines = subst (λ (x : Part). InLines x (lines ++ line ∷ []) (with_line line r)) (sym (with_line_part line r ∙ part)) (noted_in (text_of bytes) line lines r is h);
+        in_lines = subst (λ (x : Part). InLines x (lines ++ line ∷ []) (with_line line r))
+            (sym (with_line_part line r ∙ part)) (noted_in (text_of bytes) line lines r is h);
       }
 
-  noted_plain : (r : RequestReader A) (bytes : List ℕ) (offset : ℕ) (line : Line) → r.part ≡ Capabilities → IsCapabilityLine r.offer (is_first r) (text_of bytes) line → StepsOn r (payload bytes) offset (Ok More) (with_line line r)
+  noted_plain : (r : RequestReader A) (bytes : List ℕ) (offset : ℕ) (line : Line)
+      → r.part ≡ Capabilities → IsCapabilityLine r.offer (is_first r) (text_of bytes) line → StepsOn r (payload bytes) offset (Ok More) (with_line line r)
   noted_plain r bytes offset line part is = record {
     goes = λ lines h. advance r bytes line lines part is (in_capabilities lines r part h);
     leaves = stands_ready (with_line line r).part (with_line_part line r ∙ part);
@@ -178,15 +191,19 @@ module _ {A : Type 0} where
     within = λ h. omega (arith, h, with_line_limit line r, with_line_kept line r);
   }
 
-  pub noted : (r new : RequestReader A) (bytes : List ℕ) (offset : ℕ) → r.part ≡ Capabilities → Notes r (text_of bytes) new → StepsOn r (payload bytes) offset (Ok More) new
-  noted r new bytes offset part h = subst (λ (n : RequestReader A). StepsOn r (payload bytes) offset (Ok More) n) (sym h.new_is) (noted_plain r bytes offset h.line part h.is_line)
+  pub noted : (r new : RequestReader A) (bytes : List ℕ) (offset : ℕ)
+      → r.part ≡ Capabilities → Notes r (text_of bytes) new → StepsOn r (payload bytes) offset (Ok More) new
+  noted r new bytes offset part h =
+      subst (λ (n : RequestReader A). StepsOn r (payload bytes) offset (Ok More) n) (sym h.new_is) (noted_plain r bytes offset h.line part h.is_line)
 
-  refused_plain : (r : RequestReader A) (bytes : List ℕ) (offset : ℕ) (kind : Kind) → r.part ≡ Capabilities → Refuses (capability_checks r.offer (is_first r) (text_of bytes)) kind → StepsOn r (payload bytes) offset (Err kind) r
+  refused_plain : (r : RequestReader A) (bytes : List ℕ) (offset : ℕ) (kind : Kind)
+      → r.part ≡ Capabilities → Refuses (capability_checks r.offer (is_first r) (text_of bytes)) kind → StepsOn r (payload bytes) offset (Err kind) r
   refused_plain r bytes offset kind part refuses = record {
     goes = λ lines there.
         let h = in_capabilities lines r part there in
         let same : is_none (commands_of lines) ≡ is_first r = ap is_none h.command in
-        let fault : HasFaultIn false r.offer (limit_in r) lines (payload bytes) kind = subst (λ (b : Bool). Refuses (capability_checks r.offer b (text_of bytes)) kind) (sym same) refuses in
+        let fault : HasFaultIn false r.offer (limit_in r) lines (payload bytes) kind =
+        subst (λ (b : Bool). Refuses (capability_checks r.offer b (text_of bytes)) kind) (sym same) refuses in
         subst (λ (b : Bool). HasFaultIn b r.offer (limit_in r) lines (payload bytes) kind) (sym h.before) fault;
     leaves = tt;
     offer = refl;
@@ -194,11 +211,15 @@ module _ {A : Type 0} where
     within = λ h. h;
   }
 
-  pub refused : (r new : RequestReader A) (bytes : List ℕ) (offset : ℕ) (kind : Kind) → r.part ≡ Capabilities → new ≡ r → Refuses (capability_checks r.offer (is_first r) (text_of bytes)) kind → StepsOn r (payload bytes) offset (Err kind) new
-  refused r new bytes offset kind part same h = subst (λ (n : RequestReader A). StepsOn r (payload bytes) offset (Err kind) n) (sym same) (refused_plain r bytes offset kind part h)
+  pub refused : (r new : RequestReader A) (bytes : List ℕ) (offset : ℕ) (kind : Kind)
+      → r.part ≡ Capabilities → new ≡ r → Refuses (capability_checks r.offer (is_first r) (text_of bytes)) kind
+      → StepsOn r (payload bytes) offset (Err kind) new
+  refused r new bytes offset kind part same h =
+      subst (λ (n : RequestReader A). StepsOn r (payload bytes) offset (Err kind) n) (sym same) (refused_plain r bytes offset kind part h)
 
   -- what is judged at the end of the capability part, by the lines
-  judged : (lines : List Line) (r : RequestReader A) (c : Command) → InCapabilities lines r → IsDue r c → Passes (part_checks r.offer (commands_of lines) (has_format lines))
+  judged : (lines : List Line) (r : RequestReader A) (c : Command)
+      → InCapabilities lines r → IsDue r c → Passes (part_checks r.offer (commands_of lines) (has_format lines))
   judged lines r c h due =
       let P : List Command → Bool → Type 0 = λ cs b. Passes (part_checks r.offer cs b) in
       subst (λ (cs : List Command). P cs (has_format lines)) (sym h.command) (subst (λ (b : Bool). P (option_to_list r.command) b) (sym h.format) due.passes)
@@ -207,7 +228,9 @@ module _ {A : Type 0} where
   commands_due lines r c h due = h.command ∙ ap option_to_list due.there
 
   -- the delimiter
-  pub delimited : (r : RequestReader A) (offset : ℕ) (c : Command) (q : Request A) → r.part ≡ Capabilities → IsDue r c → IsEmpty c r.offer.format (limit_in r) q → StepsOn r delim offset (Ok More) (record r { part = Arguments; request = q })
+  pub delimited : (r : RequestReader A) (offset : ℕ) (c : Command) (q : Request A)
+      → r.part ≡ Capabilities → IsDue r c → IsEmpty c r.offer.format (limit_in r) q
+      → StepsOn r delim offset (Ok More) (record r { part = Arguments; request = q })
   delimited r offset c q part due empty = record {
     goes = λ lines there.
         let h = in_capabilities lines r part there in
@@ -219,7 +242,8 @@ module _ {A : Type 0} where
           in_lines = record {
             behind = delimiter_snoc lines delimiter;
             command = commands_snoc lines delimiter ∙ rw append-nil (commands_due lines r c h due) ∙ ap (λ x. x ∷ []) (sym empty.command_is);
-            asked = empty.asked ∙ nothing_asked_by c ∙ ap (λ args. asked_by c args) (sym (arguments_snoc lines delimiter ∙ rw append-nil h.no_argument)) ∙ ap (λ x. asked_by x (arguments_of (lines ++ delimiter ∷ []))) (sym empty.command_is);
+            asked = empty.asked ∙ nothing_asked_by c ∙ ap (λ args. asked_by c args) (sym (arguments_snoc lines delimiter ∙ rw append-nil h.no_argument))
+                ∙ ap (λ x. asked_by x (arguments_of (lines ++ delimiter ∷ []))) (sym empty.command_is);
             kept = omega (arith, empty.kept, kept_snoc lines delimiter, h.nothing_kept);
             format = empty.format_is;
           };
@@ -325,7 +349,8 @@ module _ {A : Type 0} where
     within = λ h. h;
   }
 
-  pub unread : (r : RequestReader A) (bytes : List ℕ) (offset : ℕ) (kind : Kind) → r.part ≡ Arguments → Refuses (text_checks (command_of r.request) r.offer (text_of bytes)) kind → StepsOn r (payload bytes) offset (Err kind) r
+  pub unread : (r : RequestReader A) (bytes : List ℕ) (offset : ℕ) (kind : Kind)
+      → r.part ≡ Arguments → Refuses (text_checks (command_of r.request) r.offer (text_of bytes)) kind → StepsOn r (payload bytes) offset (Err kind) r
   unread r bytes offset kind part refuses = record {
     goes = λ lines there.
         let h = in_arguments lines r part there in

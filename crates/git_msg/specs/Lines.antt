@@ -7,7 +7,8 @@ use Rattle.git_names.specs.declared.object_format.Format.{Format}
 use Rattle.git_names.specs.declared.object_format.Format.TheVariants.{Sha1, Sha256}
 use Rattle.git_pkt.specs.Packets.{Pkt, flush, delim, payload, text_of}
 use Rattle.git_pkt.specs.declared.fault.Kind.{Kind}
-use Rattle.git_pkt.specs.declared.fault.Kind.TheVariants.{BadCapability, UnknownCommand, TwoCommands, NoCommand, NotAdvertised, WrongFormat, TooMuchKept, UnexpectedPacket, RemoteError, NoWants}
+use Rattle.git_pkt.specs.declared.fault.Kind.TheVariants.{BadCapability, UnknownCommand, TwoCommands, NoCommand, NotAdvertised, WrongFormat}
+use Rattle.git_pkt.specs.declared.fault.Kind.TheVariants.{TooMuchKept, UnexpectedPacket, RemoteError, NoWants}
 use Rattle.git_msg.specs.declared.offers.Offer.{Offer}
 use Rattle.git_msg.specs.declared.arguments.Command.{Command}
 use Rattle.git_msg.specs.declared.capability_key.Key.{Key}

@@ -13,7 +13,8 @@ use Rattle.git_msg.specs.Arguments.{Arg, shown}
 use Rattle.git_msg.specs.Asked.{asked_by}
 use Rattle.git_msg.specs.HeldRequest.{asked_of, command_of, format_of, kept_of}
 use Rattle.git_msg.specs.Checks.{Passes, Refuses}
-use Rattle.git_msg.specs.Lines.{Line, command, object_format, argument_in, commands_of, arguments_of, kept_in, IsCapabilityLine, IsArgumentText, IsLine, HasFault, part_checks, flush_checks, is_none}
+use Rattle.git_msg.specs.Lines.{Line, command, object_format, argument_in, commands_of, arguments_of, kept_in, IsCapabilityLine, IsArgumentText}
+use Rattle.git_msg.specs.Lines.{IsLine, HasFault, part_checks, flush_checks, is_none}
 use Rattle.git_msg.specs.RequestReader.{InCapabilities, InArguments, fault_of, is_waiting, limit_in, kept_so_far, KeepsWithin}
 
 module _ {A : Type 0} where

@@ -22,7 +22,8 @@ lower-hex_text (byte ∷ bytes) fits =
     let fit : byte < 256 = fits 0 in
     let high = is_lower_digit-lower_digit (byte / 16) (omega arith) in
     let low = is_lower_digit-lower_digit (byte % 16) (omega arith) in
-    All-cons lower_holds (lower_digit (byte / 16)) (lower_digit (byte % 16) ∷ hex_text bytes) high (All-cons lower_holds (lower_digit (byte % 16)) (hex_text bytes) low (lower-hex_text bytes (λ i. fits (suc i))))
+    All-cons lower_holds (lower_digit (byte / 16)) (lower_digit (byte % 16) ∷ hex_text bytes) high
+    (All-cons lower_holds (lower_digit (byte % 16)) (hex_text bytes) low (lower-hex_text bytes (λ i. fits (suc i))))
 
 pub lower-hex_of : (id : ObjectName) → IsOid id → AllPass is_lower_digit (hex_of id)
 lower-hex_of id h = lower-hex_text (name_bytes id) (bytes_of_part _ id.bytes h.in_range)

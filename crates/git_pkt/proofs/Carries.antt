@@ -34,7 +34,9 @@ carry_open old new u sound m start bytes given rest r =
       },
     )
 
-pub carry_whole : (old new : PacketReader) (u : List ℕ) (g : Given) → fault_of old ≡ None → Moves old u Whole new → Spells g.packet (held_of new) → g.offset + length (held_of new) ≡ position_of new → ReadsOn old u (g ∷ []) new
+pub carry_whole : (old new : PacketReader) (u : List ℕ) (g : Given)
+    → fault_of old ≡ None → Moves old u Whole new → Spells g.packet (held_of new)
+    → g.offset + length (held_of new) ≡ position_of new → ReadsOn old u (g ∷ []) new
 carry_whole old new u g sound m spells at start bytes given rest r =
     let was = (sound_rest old start bytes given rest sound r).0.all in
     let same : held_of new ≡ rest ++ u = m.arrives.held ∙ ap (λ (l : List ℕ). l ++ u) was in
@@ -68,6 +70,7 @@ carry_failed old new u f sound m start bytes given rest r =
           spelled = rw (append-nil given) (spells_all_more start bytes given rest u r.splits.spelled);
           ends = subst (λ (l : List ℕ). NoneBegins l) same m.arrives.none;
         };
-        state = subst (λ (o : Option Fault). StandsAt o (start + length (bytes ++ u) - length (rest ++ u)) (start + length (bytes ++ u)) (rest ++ u) new) (sym m.arrives.told) (m.arrives.closed, by);
+        state = subst (λ (o : Option Fault). StandsAt o (start + length (bytes ++ u) - length (rest ++ u)) (start + length (bytes ++ u)) (rest ++ u) new)
+            (sym m.arrives.told) (m.arrives.closed, by);
       },
     )

@@ -1,5 +1,6 @@
 -- An open rest goes on to a packet, and each list of bytes splits.
-use Rattle.std.proofs.Common.{◌≡◌, ◌≢◌, ◌⊎◌, inl, inr, ℕ, zero, suc, ◌+◌, ◌-◌, ◌<◌, ◌≤◌, List, [], ◌∷◌, ◌++◌, length, take, drop, slice_index, max, replicate, arith, refl, sym, ◌∙◌, ap, subst, length-append, length-drop, append_assoc}
+use Rattle.std.proofs.Common.{◌≡◌, ◌≢◌, ◌⊎◌, inl, inr, ℕ, zero, suc, ◌+◌, ◌-◌, ◌<◌, ◌≤◌, List, [], ◌∷◌, ◌++◌, length, take, drop, slice_index, max}
+use Rattle.std.proofs.Common.{replicate, arith, refl, sym, ◌∙◌, ap, subst, length-append, length-drop, append_assoc}
 use Rattle.std.proofs.lemmas.Bool.{cases_lt}
 use Rattle.std.proofs.lemmas.List.{length-replicate, get_or-replicate, get_or_append_left, get_or-append_right, take-append-drop}
 use Rattle.git_names.specs.Digits.{IsHexDigit, digit_value}
@@ -28,8 +29,10 @@ no_bytes (b ∷ l) e = absurd (omega arith)
 -- four digits and as many bytes as they say are a packet
 pub whole_spells : (s : List ℕ) (field : ℕ) → IsWhole s field → (p : Pkt) × Spells p s
 whole_spells s zero h = (flush, record { digits = h.digits; field = h.number; body = no_bytes _ (omega (arith, length-drop 4 s, h.long)); fits = omega arith })
-whole_spells s (suc zero) h = (delim, record { digits = h.digits; field = h.number; body = no_bytes _ (omega (arith, length-drop 4 s, h.long)); fits = omega arith })
-whole_spells s (suc (suc zero)) h = (resp_end, record { digits = h.digits; field = h.number; body = no_bytes _ (omega (arith, length-drop 4 s, h.long)); fits = omega arith })
+whole_spells s (suc zero) h =
+    (delim, record { digits = h.digits; field = h.number; body = no_bytes _ (omega (arith, length-drop 4 s, h.long)); fits = omega arith })
+whole_spells s (suc (suc zero)) h =
+    (resp_end, record { digits = h.digits; field = h.number; body = no_bytes _ (omega (arith, length-drop 4 s, h.long)); fits = omega arith })
 whole_spells s (suc (suc (suc zero))) h = absurd (h.allowed.not_three refl)
 whole_spells s (suc (suc (suc (suc n)))) h =
     let long : length (drop 4 s) ≡ n = omega (arith, length-drop 4 s, h.long) in
@@ -113,7 +116,8 @@ pub not_nothing : (l : List ℕ) → 0 < length l → l ≢ []
 not_nothing l h e = omega (arith, ap length e)
 
 -- a number and too few bytes: zeros fill the packet
-filled : (s : List ℕ) → HasDigits s → IsLengthField (digits_value s) → length s ≤ max 4 (digits_value s) → (p : Pkt) × Spells p (s ++ replicate (max 4 (digits_value s) - length s) 48)
+filled : (s : List ℕ) → HasDigits s → IsLengthField (digits_value s) → length s ≤ max 4 (digits_value s)
+    → (p : Pkt) × Spells p (s ++ replicate (max 4 (digits_value s) - length s) 48)
 filled s h ok within =
     let more : List ℕ = replicate (max 4 (digits_value s) - length s) 48 in
     let long : length (s ++ more) ≡ max 4 (digits_value s) =
@@ -130,11 +134,13 @@ unfolding digit_value
 zero_digit = refl
 
 -- fewer than four digits, and zeros in place of the others
-padded_at : (rest : List ℕ) (n k : ℕ) → length rest + n ≡ 4 → k < 4 → (k < length rest → IsHexDigit (slice_index rest k)) → IsHexDigit (slice_index (rest ++ replicate n 48) k)
+padded_at : (rest : List ℕ) (n k : ℕ)
+    → length rest + n ≡ 4 → k < 4 → (k < length rest → IsHexDigit (slice_index rest k)) → IsHexDigit (slice_index (rest ++ replicate n 48) k)
 padded_at rest n k all among given = elim (cases_lt k (length rest)) [
   | inl there ↦ rw (get_or_append_left rest (replicate n 48) 0 k there) (given there)
   | inr past ↦
-      let e : slice_index (rest ++ replicate n 48) k ≡ 48 = get_or-append_right rest (replicate n 48) (length rest) k 0 refl past ∙ get_or-replicate n (k - length rest) 48 0 (omega arith) in
+      let e : slice_index (rest ++ replicate n 48) k ≡ 48 =
+      get_or-append_right rest (replicate n 48) (length rest) k 0 refl past ∙ get_or-replicate n (k - length rest) 48 0 (omega arith) in
       rw (e, zero_digit) (omega arith)
 ]
 
@@ -146,7 +152,8 @@ padded_digits rest n all o = record {
 
 last_zero : (rest : List ℕ) (n : ℕ) → length rest + suc n ≡ 4 → digit_value (slice_index (rest ++ replicate (suc n) 48) 3) ≡ 0
 last_zero rest n all =
-    ap digit_value (get_or-append_right rest (replicate (suc n) 48) (length rest) 3 0 refl (omega arith) ∙ get_or-replicate (suc n) (3 - length rest) 48 0 (omega arith)) ∙ zero_digit
+    ap digit_value (get_or-append_right rest (replicate (suc n) 48) (length rest) 3 0 refl (omega arith)
+    ∙ get_or-replicate (suc n) (3 - length rest) 48 0 (omega arith)) ∙ zero_digit
 
 padded_number : (s : List ℕ) → HasDigits s → digit_value (slice_index s 3) ≡ 0 → IsLengthField (digits_value s)
 unfolding digits_value
@@ -181,7 +188,8 @@ numbered_goes_on rest h ok none = elim (cases_lt (length rest) (max 4 (digits_va
       }
   | inr all ↦
       let whole = whole_spells (take (max 4 (digits_value rest)) rest) (digits_value rest) (begun_whole rest _ _ all h refl ok refl) in
-      absurd (none whole.0 (take (max 4 (digits_value rest)) rest) (drop (max 4 (digits_value rest)) rest) (sym (take-append-drop (max 4 (digits_value rest)) rest)) whole.1)
+      absurd (none whole.0 (take (max 4 (digits_value rest)) rest) (drop (max 4 (digits_value rest)) rest)
+      (sym (take-append-drop (max 4 (digits_value rest)) rest)) whole.1)
 ]
 
 pub open_goes_on : (rest : List ℕ) → IsOpen rest → NoneBegins rest → GoesOn rest

@@ -11,12 +11,14 @@ use Rattle.git_pkt.proofs.KnownRest.{sound_rest}
 use Rattle.git_pkt.proofs.Streams.{one_split, SameSplit}
 use Rattle.git_pkt.proofs.Rests.{not_open_and_faulty, one_fault, same_fault}
 
-pub same_split : (r s : PacketReader) (start : ℕ) (bytes : List ℕ) (given others : List Given) (rest other_rest : List ℕ) → Reads r start bytes given rest → Reads s start bytes others other_rest → SameSplit given others rest other_rest
+pub same_split : (r s : PacketReader) (start : ℕ) (bytes : List ℕ) (given others : List Given) (rest other_rest : List ℕ)
+    → Reads r start bytes given rest → Reads s start bytes others other_rest → SameSplit given others rest other_rest
 same_split r s start bytes given others rest other_rest h k =
     one_split start bytes given others rest other_rest h.splits.spelled k.splits.spelled h.splits.ends k.splits.ends
 
 -- the fault that a reader tells stands in its stream
-pub stopped : (r : PacketReader) (f : Fault) (start : ℕ) (bytes : List ℕ) (given : List Given) (rest : List ℕ) → Reads r start bytes given rest → fault_of r ≡ Some f → StopsBy (start + length bytes - length rest) rest (start + length bytes) f.kind f.offset
+pub stopped : (r : PacketReader) (f : Fault) (start : ℕ) (bytes : List ℕ) (given : List Given) (rest : List ℕ)
+    → Reads r start bytes given rest → fault_of r ≡ Some f → StopsBy (start + length bytes - length rest) rest (start + length bytes) f.kind f.offset
 stopped r f start bytes given rest h told =
     (subst (λ (o : Option Fault). StandsAt o (start + length bytes - length rest) (start + length bytes) rest r) told h.state).1
 
@@ -30,7 +32,8 @@ one_offset p rest end kind m n a b =
     ap (λ (x : Fault). x.offset) (one_fault p rest f g a.0 b.0)
 
 -- an open rest has neither
-told_again_at : (p end : ℕ) (rest : List ℕ) (f : Fault) (kind : Kind) (offset : ℕ) → RestFault p rest f → StopsBy p rest end kind offset → (f.kind ≡ kind) × (f.offset ≡ offset)
+told_again_at : (p end : ℕ) (rest : List ℕ) (f : Fault) (kind : Kind) (offset : ℕ)
+    → RestFault p rest f → StopsBy p rest end kind offset → (f.kind ≡ kind) × (f.offset ≡ offset)
 told_again_at p end rest f Truncated offset h k = absurd (not_open_and_faulty p rest f k.0 h)
 told_again_at p end rest f StreamTooLong offset h k = absurd (not_open_and_faulty p rest f k.0 h)
 told_again_at p end rest f kind offset h k =
@@ -39,17 +42,20 @@ told_again_at p end rest f kind offset h k =
     (ap (λ (x : Fault). x.kind) same, ap (λ (x : Fault). x.offset) same)
 
 -- a fault that is none of an ending is one of the rest
-of_bytes : (p end : ℕ) (rest : List ℕ) (kind : Kind) (offset : ℕ) → kind ≢ Truncated → kind ≢ StreamTooLong → StopsBy p rest end kind offset → IsRefused p rest kind offset
+of_bytes : (p end : ℕ) (rest : List ℕ) (kind : Kind) (offset : ℕ)
+    → kind ≢ Truncated → kind ≢ StreamTooLong → StopsBy p rest end kind offset → IsRefused p rest kind offset
 of_bytes p end rest Truncated offset a b h = absurd (a refl)
 of_bytes p end rest StreamTooLong offset a b h = absurd (b refl)
 of_bytes p end rest kind offset a b h = h.0
 
 -- a fault that is none of an ending is the only one, and an open rest has none
-pub stops_once : (p end : ℕ) (rest : List ℕ) (kind other : Kind) (m n : ℕ) → kind ≢ Truncated → kind ≢ StreamTooLong → StopsBy p rest end kind m → StopsBy p rest end other n → (kind ≡ other) × (m ≡ n)
+pub stops_once : (p end : ℕ) (rest : List ℕ) (kind other : Kind) (m n : ℕ)
+    → kind ≢ Truncated → kind ≢ StreamTooLong → StopsBy p rest end kind m → StopsBy p rest end other n → (kind ≡ other) × (m ≡ n)
 stops_once p end rest kind other m n a b h k =
     told_again_at p end rest (record { kind = kind; offset = m }) other n (of_bytes p end rest kind m a b h) k
 
-pub not_open : (p end : ℕ) (rest : List ℕ) (kind : Kind) (offset : ℕ) → kind ≢ Truncated → kind ≢ StreamTooLong → StopsBy p rest end kind offset → IsOpen rest → ⊥
+pub not_open : (p end : ℕ) (rest : List ℕ) (kind : Kind) (offset : ℕ)
+    → kind ≢ Truncated → kind ≢ StreamTooLong → StopsBy p rest end kind offset → IsOpen rest → ⊥
 not_open p end rest kind offset a b h sound =
     not_open_and_faulty p rest (record { kind = kind; offset = offset }) sound (of_bytes p end rest kind offset a b h)
 
@@ -60,7 +66,9 @@ told_by s f (Some g) p end rest h stands =
     ap (λ (x : Fault). Some x) (sym (same_fault f g same.0 same.1))
 
 -- a fault that the bytes show is told by each reader of them
-pub told_by_all : (r s : PacketReader) (f : Fault) (start : ℕ) (bytes : List ℕ) (given others : List Given) (rest other_rest : List ℕ) → Reads r start bytes given rest → Reads s start bytes others other_rest → fault_of r ≡ Some f → f.kind ≢ Truncated → f.kind ≢ StreamTooLong → fault_of s ≡ Some f
+pub told_by_all : (r s : PacketReader) (f : Fault) (start : ℕ) (bytes : List ℕ) (given others : List Given) (rest other_rest : List ℕ)
+    → Reads r start bytes given rest → Reads s start bytes others other_rest
+    → fault_of r ≡ Some f → f.kind ≢ Truncated → f.kind ≢ StreamTooLong → fault_of s ≡ Some f
 told_by_all r s f start bytes given others rest other_rest h k told a b =
     let same = (same_split r s start bytes given others rest other_rest h k).rest_is in
     let p : ℕ = start + length bytes - length rest in
@@ -69,13 +77,15 @@ told_by_all r s f start bytes given others rest other_rest h k told a b =
     (subst (λ (l : List ℕ). StandsAt (fault_of s) (start + length bytes - length l) (start + length bytes) l s) (sym same) k.state)
 
 -- two faults of one name are one
-pub one_by_name : (r s : PacketReader) (f g : Fault) (start : ℕ) (bytes : List ℕ) (given others : List Given) (rest other_rest : List ℕ) → Reads r start bytes given rest → Reads s start bytes others other_rest → fault_of r ≡ Some f → fault_of s ≡ Some g → f.kind ≡ g.kind → f ≡ g
+pub one_by_name : (r s : PacketReader) (f g : Fault) (start : ℕ) (bytes : List ℕ) (given others : List Given) (rest other_rest : List ℕ)
+    → Reads r start bytes given rest → Reads s start bytes others other_rest → fault_of r ≡ Some f → fault_of s ≡ Some g → f.kind ≡ g.kind → f ≡ g
 one_by_name r s f g start bytes given others rest other_rest h k told other name =
     let same = (same_split r s start bytes given others rest other_rest h k).rest_is in
     let p : ℕ = start + length bytes - length rest in
     let a = stopped r f start bytes given rest h told in
     let b : StopsBy p rest (start + length bytes) g.kind g.offset =
-    subst (λ (l : List ℕ). StopsBy (start + length bytes - length l) l (start + length bytes) g.kind g.offset) (sym same) (stopped s g start bytes others other_rest k other) in
+    subst (λ (l : List ℕ). StopsBy (start + length bytes - length l) l (start + length bytes) g.kind g.offset)
+    (sym same) (stopped s g start bytes others other_rest k other) in
     let c : StopsBy p rest (start + length bytes) f.kind g.offset =
     subst (λ (n : Kind). StopsBy p rest (start + length bytes) n g.offset) (sym name) b in
     same_fault f g name (one_offset p rest (start + length bytes) f.kind f.offset g.offset a c)

@@ -18,5 +18,6 @@ digits_below-two s a b = below_more (λ j. IsHexDigit (slice_index s j)) 1 (digi
 pub digits_below-three : (s : List ℕ) → IsHexDigit (slice_index s 0) → IsHexDigit (slice_index s 1) → IsHexDigit (slice_index s 2) → DigitsBelow s 3
 digits_below-three s a b d = below_more (λ j. IsHexDigit (slice_index s j)) 2 (digits_below-two s a b) d
 
-pub digits_below-four : (s : List ℕ) → IsHexDigit (slice_index s 0) → IsHexDigit (slice_index s 1) → IsHexDigit (slice_index s 2) → IsHexDigit (slice_index s 3) → DigitsBelow s 4
+pub digits_below-four : (s : List ℕ)
+    → IsHexDigit (slice_index s 0) → IsHexDigit (slice_index s 1) → IsHexDigit (slice_index s 2) → IsHexDigit (slice_index s 3) → DigitsBelow s 4
 digits_below-four s a b d e = below_more (λ j. IsHexDigit (slice_index s j)) 3 (digits_below-three s a b d) e

@@ -1,5 +1,6 @@
 -- Lemmas for runs over a reader and a writer: what each call does to all bytes read and written so far.
-use Rattle.std.proofs.Common.{◌≡◌, ◌≤◌, ◌<◌, ℕ, ◌+◌, ◌-◌, length, take, drop, arith, List, [], ◌++◌, Option, Result, IsErrAnd, MatchResult, refl, ap, ◌∙◌, sym, subst, append_assoc, append-nil}
+use Rattle.std.proofs.Common.{◌≡◌, ◌≤◌, ◌<◌, ℕ, ◌+◌, ◌-◌, length, take, drop, arith, List, [], ◌++◌, Option, Result, IsErrAnd, MatchResult, refl, ap}
+use Rattle.std.proofs.Common.{◌∙◌, sym, subst, append_assoc, append-nil}
 use Rattle.std.proofs.Math.Seq.{take-add}
 use Rattle.std.proofs.lemmas.List.{length-append, length-take-le}
 use Rattle.std.proofs.lemmas.Result.{err_from_is_err_and}
@@ -15,7 +16,8 @@ pub AppendsFront-after : (a b c : Option (List ℕ)) (bs cs : List ℕ) → Appe
 AppendsFront-after a b c bs cs whole (front, rest, split, written) =
     (bs ++ front, rest, ap (λ l. bs ++ l) split ∙ sym (append_assoc bs front rest), Appends-trans a b c bs front whole written)
 
-regroup : (S : Relation) (used so_far first second one two : List ℕ) → S ((used ++ first) ++ second) ((so_far ++ one) ++ two) → S (used ++ (first ++ second)) (so_far ++ (one ++ two))
+regroup : (S : Relation) (used so_far first second one two : List ℕ)
+    → S ((used ++ first) ++ second) ((so_far ++ one) ++ two) → S (used ++ (first ++ second)) (so_far ++ (one ++ two))
 regroup S used so_far first second one two related =
     subst (λ u. S u (so_far ++ (one ++ two))) (append_assoc used first second) (subst (S ((used ++ first) ++ second)) (append_assoc so_far one two) related)
 
@@ -38,12 +40,14 @@ module _ {P : Relation} where
 
   module _ {left_before left_after held_before held held_after : Option (List ℕ)} where
     -- the writer was flushed
-    pub Exchanges-flush : Exchanges P left_before left_after held_before held → Keeps held held_after → Exchanges P left_before left_after held_before held_after
+    pub Exchanges-flush : Exchanges P left_before left_after held_before held
+        → Keeps held held_after → Exchanges P left_before left_after held_before held_after
     Exchanges-flush so_far kept =
         record { used = so_far.used; given = so_far.given; read = so_far.read; written = Appends-kept _ _ _ _ so_far.written kept; related = so_far.related }
 
     -- the writer was not flushed
-    pub ExchangesFront-flush : Exchanges P left_before left_after held_before held → Keeps held held_after → ExchangesFront P left_before left_after held_before held_after
+    pub ExchangesFront-flush : Exchanges P left_before left_after held_before held
+        → Keeps held held_after → ExchangesFront P left_before left_after held_before held_after
     ExchangesFront-flush so_far kept =
         record {
           used = so_far.used;
@@ -55,7 +59,8 @@ module _ {P : Relation} where
 
   module _ {left_before left left_after held_before held_after : Option (List ℕ)} where
     -- a read failed
-    pub Exchanges-read_fault : Exchanges P left_before left held_before held_after → Keeps left left_after → Exchanges P left_before left_after held_before held_after
+    pub Exchanges-read_fault : Exchanges P left_before left held_before held_after
+        → Keeps left left_after → Exchanges P left_before left_after held_before held_after
     Exchanges-read_fault so_far kept =
         record { used = so_far.used; given = so_far.given; read = Consumes-kept _ _ _ _ so_far.read kept; written = so_far.written; related = so_far.related }
 
@@ -85,8 +90,10 @@ module _ {P : Relation} where
         }
 
   -- some bytes were read, and a fault ended the step over them
-  pub ExchangesUntil-more : {left_before left held_before held : Option (List ℕ)} (left_after held_after : Option (List ℕ)) (Q : Relation) (bytes : List ℕ) (fault : RunFault)
-      → Exchanges P left_before left held_before held → Consumes left left_after bytes → GivesUntil P Q bytes held held_after fault → ExchangesUntil Q left_before left_after held_before held_after fault
+  pub ExchangesUntil-more : {left_before left held_before held : Option (List ℕ)}
+      (left_after held_after : Option (List ℕ)) (Q : Relation) (bytes : List ℕ) (fault : RunFault)
+      → Exchanges P left_before left held_before held → Consumes left left_after bytes
+      → GivesUntil P Q bytes held held_after fault → ExchangesUntil Q left_before left_after held_before held_after fault
   ExchangesUntil-more left_after held_after Q bytes ReadFault so_far read step = Exchanges-more so_far read step
   ExchangesUntil-more left_after held_after Q bytes WriteFault so_far read step = ExchangesFront-more so_far read step
   ExchangesUntil-more left_after held_after Q bytes ReadLimit so_far read step = Exchanges-more so_far read step
@@ -120,7 +127,8 @@ module _ {P : Relation} where
           carries = λ used so_far related. regroup S used so_far first second one.given two.given (two.carries _ _ (one.carries used so_far related));
         }
 
-  pub GivesUntil-more : {Q : Relation} {first : List ℕ} {held_before held : Option (List ℕ)} (held_after : Option (List ℕ)) (S : Relation) (second : List ℕ) (fault : RunFault)
+  pub GivesUntil-more : {Q : Relation} {first : List ℕ} {held_before held : Option (List ℕ)}
+      (held_after : Option (List ℕ)) (S : Relation) (second : List ℕ) (fault : RunFault)
       → Gives P Q first held_before held → GivesUntil Q S second held held_after fault → GivesUntil P S (first ++ second) held_before held_after fault
   GivesUntil-more held_after S second ReadFault one two = Gives-more one two
   GivesUntil-more held_after S second WriteFault one two = GivesFront-more one two
@@ -129,7 +137,8 @@ module _ {P : Relation} where
 
 -- ---- what `?` answers is the fault that it met
 
-pub holds_at_fault : {T : Type 0} (r : Result T RunFault) (fault : RunFault) (Q : T → Type 0) (Until : RunFault → Type 0) → IsErrAnd r (λ e. e ≡ fault) → Until fault → MatchResult r Q Until
+pub holds_at_fault : {T : Type 0} (r : Result T RunFault) (fault : RunFault) (Q : T → Type 0) (Until : RunFault → Type 0)
+    → IsErrAnd r (λ e. e ≡ fault) → Until fault → MatchResult r Q Until
 holds_at_fault r fault Q Until met until =
     let (e, is, same) = err_from_is_err_and r met in
     subst (λ x. MatchResult x Q Until) (sym is) (subst Until (sym same) until)
@@ -138,13 +147,15 @@ module _ {T : Type 0} {P : Relation} {left_before left_after held_before held_af
   pub EndsExchange-read_fault : fault ≡ ReadFault → IsErrAnd r (λ e. e ≡ fault) → Exchanges P left_before left_after held_before held_after
       → EndsExchange P left_before left_after held_before held_after r
   EndsExchange-read_fault named met all =
-      holds_at_fault r fault (λ value. Exchanges P left_before left_after held_before held_after) (ExchangesUntil P left_before left_after held_before held_after) met
+      holds_at_fault r fault (λ value. Exchanges P left_before left_after held_before held_after)
+      (ExchangesUntil P left_before left_after held_before held_after) met
       (subst (ExchangesUntil P left_before left_after held_before held_after) (sym named) all)
 
   pub EndsExchange-write_fault : fault ≡ WriteFault → IsErrAnd r (λ e. e ≡ fault) → ExchangesFront P left_before left_after held_before held_after
       → EndsExchange P left_before left_after held_before held_after r
   EndsExchange-write_fault named met front =
-      holds_at_fault r fault (λ value. Exchanges P left_before left_after held_before held_after) (ExchangesUntil P left_before left_after held_before held_after) met
+      holds_at_fault r fault (λ value. Exchanges P left_before left_after held_before held_after)
+      (ExchangesUntil P left_before left_after held_before held_after) met
       (subst (ExchangesUntil P left_before left_after held_before held_after) (sym named) front)
 
 -- no read was made yet
@@ -152,7 +163,8 @@ pub nothing_read : (left : Option (List ℕ)) → HasRead 0 left left
 nothing_read left = record { bytes = []; read = Consumes-nil left; enough = omega arith }
 
 -- a read that brought some bytes
-pub one_more_read : (count n : ℕ) (left_before left left_after : Option (List ℕ)) (piece : List ℕ) → HasRead count left_before left → Consumes left left_after (take n piece) → n ≤ length piece → 0 < n
+pub one_more_read : (count n : ℕ) (left_before left left_after : Option (List ℕ)) (piece : List ℕ)
+    → HasRead count left_before left → Consumes left left_after (take n piece) → n ≤ length piece → 0 < n
     → HasRead (count + 1) left_before left_after
 one_more_read count n left_before left left_after piece so_far read within some =
     record {

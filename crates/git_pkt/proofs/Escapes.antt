@@ -1,5 +1,6 @@
 -- The table of escapes, and what a block of bytes comes to.
-use Rattle.std.proofs.Common.{append_assoc, ◌≡◌, ℕ, ◌+◌, ◌<◌, ◌≤◌, Bool, true, false, IsTrue, ◌↔◌, ◌&&◌, ◌||◌, not, nat_eq, nat_le, List, [], ◌∷◌, ◌++◌, length, take, drop, slice_index, refl, sym, ◌∙◌, ap, arith, length-append}
+use Rattle.std.proofs.Common.{append_assoc, ◌≡◌, ℕ, ◌+◌, ◌<◌, ◌≤◌, Bool, true, false, IsTrue, ◌↔◌, ◌&&◌, ◌||◌, not, nat_eq, nat_le, List, [], ◌∷◌}
+use Rattle.std.proofs.Common.{◌++◌, length, take, drop, slice_index, refl, sym, ◌∙◌, ap, arith, length-append}
 use Rattle.std.proofs.lemmas.List.{take_more, take-append-drop, take-append-le, length-take-le, append-nil}
 use Rattle.std.proofs.lemmas.Slice.{drop-append-drop}
 use Rattle.std.proofs.Math.Seq.{take-append-add, take-length}
@@ -83,7 +84,9 @@ others_stay out four at from after within =
     (length-append (take at out) four ∙ ap (λ (n : ℕ). n + length four) (length-take-le at out within))
 
 -- four bytes put after the first, of which some count
-pub overwritten : (out four escaped escape : List ℕ) (at n : ℕ) → at ≤ length out → n ≤ length four → take at out ≡ escaped → take n four ≡ escape → take (at + n) (take at out ++ four ++ drop (at + length four) out) ≡ escaped ++ escape
+pub overwritten : (out four escaped escape : List ℕ) (at n : ℕ)
+    → at ≤ length out → n ≤ length four → take at out ≡ escaped → take n four ≡ escape
+    → take (at + n) (take at out ++ four ++ drop (at + length four) out) ≡ escaped ++ escape
 overwritten out four escaped escape at n within fits e f =
     let long : length (take at out) ≡ at = length-take-le at out within in
     let room : at + n ≤ length (take at out ++ four) = omega (arith, length-append (take at out) four) in
@@ -92,7 +95,9 @@ overwritten out four escaped escape at n within fits e f =
     ∙ ap (λ (l : List ℕ). l ++ take n four) e ∙ ap (λ (l : List ℕ). escaped ++ l) f
 
 -- one more byte is escaped after what stands before
-pub escaped_on : (bytes out four front : List ℕ) (i end n : ℕ) → i < length bytes → end ≤ length out → n ≤ length four → take end out ≡ front ++ escaped_of (take i bytes) → take n four ≡ escape_of (slice_index bytes i)
+pub escaped_on : (bytes out four front : List ℕ) (i end n : ℕ)
+    → i < length bytes → end ≤ length out → n ≤ length four
+    → take end out ≡ front ++ escaped_of (take i bytes) → take n four ≡ escape_of (slice_index bytes i)
     → take (end + n) (take end out ++ four ++ drop (end + length four) out) ≡ front ++ escaped_of (take (i + 1) bytes)
 escaped_on bytes out four front i end n below within fits so_far one =
     overwritten out four (front ++ escaped_of (take i bytes)) (escape_of (slice_index bytes i)) end n within fits so_far one

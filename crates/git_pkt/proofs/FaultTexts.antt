@@ -3,7 +3,11 @@ use Rattle.std.proofs.Common.{ℕ, ◌^◌, ◌<◌, ◌≤◌, length, decimal,
 use Rattle.std.proofs.lemmas.Fmt.{length-decimal-le}
 use Rattle.git_pkt.specs.FaultNames.{kind_name}
 use Rattle.git_pkt.specs.declared.fault.Kind.{Kind}
-use Rattle.git_pkt.specs.declared.fault.Kind.TheVariants.{BadDigit, BadLength, TooLong, Truncated, StreamTooLong, NoBand, BadBand, BadCapability, UnknownCommand, TwoCommands, NoCommand, NotAdvertised, BadObjectName, BadRefName, BadNumber, DeepenConflict, NoWants, NoSize, WrongFormat, UnknownArgument, TooMuchKept, UnexpectedPacket, RemoteError, UnknownRef, NotOurs, PackSource, NotVersion2, UnexpectedSection, BadLine, OutOfMemory, RemoteFatal, ReadFault, WriteFault, ReadLimit}
+use Rattle.git_pkt.specs.declared.fault.Kind.TheVariants.{BadDigit, BadLength, TooLong, Truncated, StreamTooLong, NoBand, BadBand, BadCapability}
+use Rattle.git_pkt.specs.declared.fault.Kind.TheVariants.{UnknownCommand, TwoCommands, NoCommand, NotAdvertised, BadObjectName, BadRefName, BadNumber}
+use Rattle.git_pkt.specs.declared.fault.Kind.TheVariants.{DeepenConflict, NoWants, NoSize, WrongFormat, UnknownArgument, TooMuchKept}
+use Rattle.git_pkt.specs.declared.fault.Kind.TheVariants.{UnexpectedPacket, RemoteError, UnknownRef, NotOurs, PackSource, NotVersion2}
+use Rattle.git_pkt.specs.declared.fault.Kind.TheVariants.{UnexpectedSection, BadLine, OutOfMemory, RemoteFatal, ReadFault, WriteFault, ReadLimit}
 
 -- no name of a fault is longer than UnexpectedSection
 pub kind_name_fits : (kind : Kind) → length (kind_name kind) ≤ 17

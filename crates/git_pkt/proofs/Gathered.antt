@@ -1,5 +1,6 @@
 -- The bytes of a packet that is being gathered.
-use Rattle.std.proofs.Common.{◌≡◌, ℕ, ◌+◌, ◌<◌, ◌≤◌, List, [], ◌++◌, length, slice_index, take, drop, arith, refl, sym, ◌∙◌, ap, length-append, max, Option, Some, None}
+use Rattle.std.proofs.Common.{◌≡◌, ℕ, ◌+◌, ◌<◌, ◌≤◌, List, [], ◌++◌, length, slice_index, take, drop}
+use Rattle.std.proofs.Common.{arith, refl, sym, ◌∙◌, ap, length-append, max, Option, Some, None}
 use Rattle.std.proofs.lemmas.List.{get_or_append_left, length-take-le, take-append-drop}
 use Rattle.git_pkt.specs.Digits.{HasDigits, digits_value}
 use Rattle.git_pkt.specs.Splits.{NoneBegins}
@@ -66,7 +67,8 @@ pub number_of_take : (p : List ℕ) (u : ℕ) → 4 ≤ u → u ≤ length p →
 number_of_take p u four within =
     sym (digits_value-append (take u p) (drop u p) (omega (arith, length-take-le u p within))) ∙ ap digits_value (take-append-drop u p)
 
-pub begun_partial : (p : List ℕ) (u field : ℕ) → 4 ≤ u → u ≤ length p → HasDigits p → digits_value p ≡ field → IsLengthField field → u < field → IsGathering (take u p) field
+pub begun_partial : (p : List ℕ) (u field : ℕ)
+    → 4 ≤ u → u ≤ length p → HasDigits p → digits_value p ≡ field → IsLengthField field → u < field → IsGathering (take u p) field
 begun_partial p u field four within h number ok less =
     let taken : digits_value (take u p) ≡ field = number_of_take p u four within ∙ number in
     let long : length (take u p) ≡ u = length-take-le u p within in
@@ -78,7 +80,8 @@ begun_partial p u field four within h number ok less =
       fits = λ _. ok.fits;
     }
 
-pub begun_whole : (p : List ℕ) (u field : ℕ) → u ≤ length p → HasDigits p → digits_value p ≡ field → IsLengthField field → u ≡ max 4 field → IsWhole (take u p) field
+pub begun_whole : (p : List ℕ) (u field : ℕ)
+    → u ≤ length p → HasDigits p → digits_value p ≡ field → IsLengthField field → u ≡ max 4 field → IsWhole (take u p) field
 begun_whole p u field within h number ok all =
     let four : 4 ≤ u = omega arith in
     record {
@@ -133,7 +136,8 @@ shows_at_four rest h four n less = record {
 }
 
 -- a number that no packet has, with its four digits
-pub field_ends : (rest : List ℕ) (field : ℕ) (kind : Kind) (p end offset : ℕ) → HasDigits rest → digits_value rest ≡ field → TellsField field (Some kind) → length rest ≡ 4 → offset ≡ p → EndsWith rest kind p end offset
+pub field_ends : (rest : List ℕ) (field : ℕ) (kind : Kind) (p end offset : ℕ)
+    → HasDigits rest → digits_value rest ≡ field → TellsField field (Some kind) → length rest ≡ 4 → offset ≡ p → EndsWith rest kind p end offset
 field_ends rest field BadLength p end offset h number tells four at = record {
   none = none_begins_refused rest (λ ok. ok.0 (number ∙ tells));
   by = ((h, number ∙ tells, at), shows_at_four rest h four);

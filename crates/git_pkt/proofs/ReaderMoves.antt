@@ -1,5 +1,6 @@
 -- What a step of the reader comes to, from what its parts do.
-use Rattle.std.proofs.Common.{take, arith, ◌≡◌, ℕ, ◌+◌, ◌-◌, ◌≤◌, ◌<◌, List, [], ◌∷◌, ◌++◌, length, false, true, None, Bool, cond, ap, sym, ◌∙◌, refl, subst, append_assoc, length-append}
+use Rattle.std.proofs.Common.{take, arith, ◌≡◌, ℕ, ◌+◌, ◌-◌, ◌≤◌, ◌<◌, List, [], ◌∷◌, ◌++◌, length, false}
+use Rattle.std.proofs.Common.{true, None, Bool, cond, ap, sym, ◌∙◌, refl, subst, append_assoc, length-append}
 use Rattle.std.proofs.lemmas.List.{append-nil, length-take}
 use Rattle.git_pkt.specs.PacketReader.{position_of, is_open, held_of, rest_of, fault_of}
 use Rattle.git_pkt.specs.PacketReaderSteps.{Moves, Arrives, IsStopped}
@@ -30,14 +31,17 @@ rest_of_open r e = chosen_first r.begun (take r.count r.hold.items) [] e
 pub rest_of_shut : (r : PacketReader) → is_open r ≡ false → rest_of r ≡ []
 rest_of_shut r e = chosen_second r.begun (take r.count r.hold.items) [] e
 
-pub moves_from : (old new : PacketReader) (before u : List ℕ) (progress : Progress) → rest_of old ≡ before → position_of new ≡ position_of old + length u → Arrives progress (before ++ u) new → Moves old u progress new
+pub moves_from : (old new : PacketReader) (before u : List ℕ) (progress : Progress)
+    → rest_of old ≡ before → position_of new ≡ position_of old + length u → Arrives progress (before ++ u) new → Moves old u progress new
 moves_from old new before u progress e at arrives = record {
   position = at;
   arrives = subst (λ (r : List ℕ). Arrives progress (r ++ u) new) (sym e) arrives;
 }
 
 -- a step that ends the reading
-pub stopped_after : (old mid new : PacketReader) (before u : List ℕ) (kind : Kind) (offset : ℕ) (progress : Progress) → rest_of old ≡ before → IsStopped mid kind offset progress new → position_of mid ≡ position_of old + length u → EndsWith (before ++ u) kind (position_of mid - length (before ++ u)) (position_of mid) offset → Moves old u progress new
+pub stopped_after : (old mid new : PacketReader) (before u : List ℕ) (kind : Kind) (offset : ℕ) (progress : Progress)
+    → rest_of old ≡ before → IsStopped mid kind offset progress new → position_of mid ≡ position_of old + length u
+    → EndsWith (before ++ u) kind (position_of mid - length (before ++ u)) (position_of mid) offset → Moves old u progress new
 stopped_after old mid new before u kind offset progress e s moved ends =
     rw s.progress_is (moves_from old new before u _ e (s.position ∙ moved) (record {
       told = s.told;
@@ -47,7 +51,9 @@ stopped_after old mid new before u kind offset progress e s moved ends =
     }))
 
 -- the same, where the reader had nothing open
-pub stopped_between : (old mid new : PacketReader) (u : List ℕ) (kind : Kind) (offset : ℕ) (progress : Progress) → is_open old ≡ false → IsStopped mid kind offset progress new → position_of mid ≡ position_of old + length u → EndsWith u kind (position_of old) (position_of old + length u) offset → Moves old u progress new
+pub stopped_between : (old mid new : PacketReader) (u : List ℕ) (kind : Kind) (offset : ℕ) (progress : Progress)
+    → is_open old ≡ false → IsStopped mid kind offset progress new → position_of mid ≡ position_of old + length u
+    → EndsWith u kind (position_of old) (position_of old + length u) offset → Moves old u progress new
 stopped_between old mid new u kind offset progress shut s moved ends =
     let start : position_of mid - length u ≡ position_of old = omega arith in
     stopped_after old mid new [] u kind offset progress (rest_of_shut old shut) s moved (rw (start, moved) ends)
@@ -85,7 +91,8 @@ pub rest_is_partial : (r : PacketReader) → NoneBegins (rest_of r)
 rest_is_partial r = gathered_is_partial r.begun (take r.count r.hold.items) r.field r.gathers
 
 -- the reader is at the stream's last position, and a byte is offered
-pub stopped_at_last : (old mid new : PacketReader) (u : List ℕ) (progress : Progress) → Moves old u Open mid → IsStopped mid StreamTooLong last_position progress new → position_of mid ≡ last_position → Moves old u progress new
+pub stopped_at_last : (old mid new : PacketReader) (u : List ℕ) (progress : Progress)
+    → Moves old u Open mid → IsStopped mid StreamTooLong last_position progress new → position_of mid ≡ last_position → Moves old u progress new
 stopped_at_last old mid new u progress h s last =
     let rest = h.arrives.rest_is in
     stopped_after old mid new (rest_of old) u StreamTooLong last_position progress refl s h.position (record {

@@ -1,5 +1,6 @@
 -- A rest is open or has one fault, which stays as bytes come and shows at one place.
-use Rattle.std.proofs.Common.{◌≡◌, ◌⊎◌, inl, inr, ℕ, zero, suc, ◌+◌, ◌<◌, ◌≤◌, List, ◌++◌, length, take, slice_index, arith, refl, sym, ◌∙◌, ap, subst, length-append, below_more}
+use Rattle.std.proofs.Common.{◌≡◌, ◌⊎◌, inl, inr, ℕ, zero, suc, ◌+◌, ◌<◌, ◌≤◌, List, ◌++◌, length, take}
+use Rattle.std.proofs.Common.{slice_index, arith, refl, sym, ◌∙◌, ap, subst, length-append, below_more}
 use Rattle.std.proofs.lemmas.Bool.{cases_lt, cases_eq}
 use Rattle.std.proofs.lemmas.List.{get_or_append_left, take-append-le, length-take-le}
 use Rattle.std.proofs.Math.Seq.{take-append_seam}
@@ -125,7 +126,8 @@ refused_longer p rest more kind offset h = h
 pub fault_longer : (p : ℕ) (rest more : List ℕ) (f : Fault) → RestFault p rest f → RestFault p (rest ++ more) f
 fault_longer p rest more f h = refused_longer p rest more f.kind f.offset h
 
-shorter_is_open : (p : ℕ) (front more other later : List ℕ) (f : Fault) → front ++ more ≡ other ++ later → RestFault p front f → ShowsAtEnd other → length front < length other → ⊥
+shorter_is_open : (p : ℕ) (front more other later : List ℕ) (f : Fault)
+    → front ++ more ≡ other ++ later → RestFault p front f → ShowsAtEnd other → length front < length other → ⊥
 shorter_is_open p front more other later f e h shows less =
     let within : length front ≤ length other = omega arith in
     let a : take (length front) (front ++ more) ≡ front = take-append_seam front more in
@@ -133,7 +135,8 @@ shorter_is_open p front more other later f e h shows less =
     let same : take (length front) other ≡ front = sym b ∙ sym (ap (take (length front)) e) ∙ a in
     not_open_and_faulty p front f (subst (λ (l : List ℕ). IsOpen l) same (shows (length front) less)) h
 
-pub shows_at_one_place : (p q : ℕ) (front more other later : List ℕ) (f g : Fault) → front ++ more ≡ other ++ later → RestFault p front f → ShowsAtEnd front → RestFault q other g → ShowsAtEnd other → front ≡ other
+pub shows_at_one_place : (p q : ℕ) (front more other later : List ℕ) (f g : Fault)
+    → front ++ more ≡ other ++ later → RestFault p front f → ShowsAtEnd front → RestFault q other g → ShowsAtEnd other → front ≡ other
 shows_at_one_place p q front more other later f g e a shows_a b shows_b =
     elim (cases_lt (length front) (length other)) [
       | inl less ↦ absurd (shorter_is_open p front more other later f e a shows_b less)
@@ -143,7 +146,8 @@ shows_at_one_place p q front more other later f g e a shows_a b shows_b =
       ]
     ]
 
-refused_shown : (p : ℕ) (rest : List ℕ) (kind : Kind) (offset : ℕ) → IsRefused p rest kind offset → (n : ℕ) × (n ≤ length rest) × IsRefused p (take n rest) kind offset × ShowsAtEnd (take n rest)
+refused_shown : (p : ℕ) (rest : List ℕ) (kind : Kind) (offset : ℕ)
+    → IsRefused p rest kind offset → (n : ℕ) × (n ≤ length rest) × IsRefused p (take n rest) kind offset × ShowsAtEnd (take n rest)
 refused_shown p rest BadDigit offset (k, bad, at) =
     let within : k + 1 ≤ length rest = omega (arith, bad.there) in
     let ends = bad_digit_ends (take (k + 1) rest) k p 0 offset (bad_digit_of_take rest k bad) (length-take-le (k + 1) rest within) at in
@@ -156,5 +160,6 @@ refused_shown p rest TooLong offset (h, number, at) =
     (4, h.four, (digits, omega (arith, number_of_take rest 4 (omega arith) h.four), at), shows_at_four (take 4 rest) digits (length-take-le 4 rest h.four))
 refused_shown p rest kind offset h = absurd h
 
-pub fault_shown : (p : ℕ) (rest : List ℕ) (f : Fault) → RestFault p rest f → (n : ℕ) × (n ≤ length rest) × RestFault p (take n rest) f × ShowsAtEnd (take n rest)
+pub fault_shown : (p : ℕ) (rest : List ℕ) (f : Fault)
+    → RestFault p rest f → (n : ℕ) × (n ≤ length rest) × RestFault p (take n rest) f × ShowsAtEnd (take n rest)
 fault_shown p rest f h = refused_shown p rest f.kind f.offset h

@@ -1,5 +1,6 @@
 -- No spelling begins another, and what follows from it.
-use Rattle.std.proofs.Common.{◌≡◌, ◌≢◌, ℕ, ◌+◌, ◌<◌, ◌≤◌, List, [], ◌∷◌, ◌++◌, length, slice_index, drop, arith, refl, sym, ◌∙◌, ap, subst, length-append, length-drop, max}
+use Rattle.std.proofs.Common.{◌≡◌, ◌≢◌, ℕ, ◌+◌, ◌<◌, ◌≤◌, List, [], ◌∷◌, ◌++◌, length, slice_index}
+use Rattle.std.proofs.Common.{drop, arith, refl, sym, ◌∙◌, ap, subst, length-append, length-drop, max}
 use Rattle.std.proofs.lemmas.List.{get_or_append_left}
 use Rattle.git_names.specs.Digits.{IsHexDigit}
 use Rattle.git_pkt.specs.Digits.{HasDigits, digits_value}

@@ -6,7 +6,8 @@ use Rattle.git_pkt.specs.Splits.{Given, SpellsAll, NoneBegins}
 use Rattle.git_pkt.proofs.Spelling.{same_start}
 
 -- more bytes make the rest longer
-pub spells_all_more : (p : ℕ) (bytes : List ℕ) (given : List Given) (rest more : List ℕ) → SpellsAll p bytes given rest → SpellsAll p (bytes ++ more) given (rest ++ more)
+pub spells_all_more : (p : ℕ) (bytes : List ℕ) (given : List Given) (rest more : List ℕ)
+    → SpellsAll p bytes given rest → SpellsAll p (bytes ++ more) given (rest ++ more)
 spells_all_more p bytes [] rest more h = ap (λ (b : List ℕ). b ++ more) h
 spells_all_more p bytes (g ∷ gs) rest more (s, later, e, o, spells, tail) =
     (s, later ++ more, ap (λ (b : List ℕ). b ++ more) e ∙ append_assoc s later more, o, spells, spells_all_more (p + length s) later gs rest more tail)
@@ -18,7 +19,8 @@ spells_all_length p bytes (g ∷ gs) rest (s, later, e, o, spells, tail) =
     omega (arith, spells_all_length (p + length s) later gs rest tail, ap length e, length-append s later)
 
 -- a rest that spells a packet is one more packet
-pub spells_all_whole : (p : ℕ) (bytes : List ℕ) (given : List Given) (rest : List ℕ) (g : Given) → SpellsAll p bytes given rest → Spells g.packet rest → g.offset + length rest ≡ p + length bytes → SpellsAll p bytes (given ++ g ∷ []) []
+pub spells_all_whole : (p : ℕ) (bytes : List ℕ) (given : List Given) (rest : List ℕ) (g : Given)
+    → SpellsAll p bytes given rest → Spells g.packet rest → g.offset + length rest ≡ p + length bytes → SpellsAll p bytes (given ++ g ∷ []) []
 spells_all_whole p bytes [] rest g h spells o =
     (rest, [], h ∙ sym (append-nil rest), omega (arith, o, ap length h), spells, refl)
 spells_all_whole p bytes (f ∷ fs) rest g (s, later, e, at, fs_spell, tail) spells o =
@@ -35,7 +37,8 @@ same_given g h e o =
     let offsets = ap (λ (n : ℕ). let made : Given = record { packet = h.packet; offset = n } in made) o in
     packets ∙ offsets
 
-pub one_split : (p : ℕ) (bytes : List ℕ) (gs hs : List Given) (rest others : List ℕ) → SpellsAll p bytes gs rest → SpellsAll p bytes hs others → NoneBegins rest → NoneBegins others → SameSplit gs hs rest others
+pub one_split : (p : ℕ) (bytes : List ℕ) (gs hs : List Given) (rest others : List ℕ)
+    → SpellsAll p bytes gs rest → SpellsAll p bytes hs others → NoneBegins rest → NoneBegins others → SameSplit gs hs rest others
 one_split p bytes [] [] rest others a b n m = record { packets = refl; rest_is = sym a ∙ b }
 one_split p bytes [] (h ∷ hs) rest others a (s, more, e, o, spells, tail) n m = absurd (n h.packet s more (sym a ∙ e) spells)
 one_split p bytes (g ∷ gs) [] rest others (s, more, e, o, spells, tail) b n m = absurd (m g.packet s more (sym b ∙ e) spells)

@@ -4,7 +4,11 @@ use Rattle.git_pkt.specs.declared.fault.Fault.{Fault}
 use Rattle.git_pkt.specs.declared.fault.RunFault.{RunFault}
 use Rattle.git_pkt.specs.declared.fault.RunFault.TheVariants.{ReadFault as ReaderFailed, WriteFault as WriterFailed, ReadLimit as ReadsSpent, Refused}
 use Rattle.git_pkt.specs.declared.fault.Kind.{Kind}
-use Rattle.git_pkt.specs.declared.fault.Kind.TheVariants.{BadDigit, BadLength, TooLong, Truncated, StreamTooLong, NoBand, BadBand, BadCapability, UnknownCommand, TwoCommands, NoCommand, NotAdvertised, BadObjectName, BadRefName, BadNumber, DeepenConflict, NoWants, NoSize, WrongFormat, UnknownArgument, TooMuchKept, UnexpectedPacket, RemoteError, UnknownRef, NotOurs, PackSource, NotVersion2, UnexpectedSection, BadLine, OutOfMemory, RemoteFatal, ReadFault, WriteFault, ReadLimit}
+use Rattle.git_pkt.specs.declared.fault.Kind.TheVariants.{BadDigit, BadLength, TooLong, Truncated, StreamTooLong, NoBand, BadBand, BadCapability}
+use Rattle.git_pkt.specs.declared.fault.Kind.TheVariants.{UnknownCommand, TwoCommands, NoCommand, NotAdvertised, BadObjectName, BadRefName, BadNumber}
+use Rattle.git_pkt.specs.declared.fault.Kind.TheVariants.{DeepenConflict, NoWants, NoSize, WrongFormat, UnknownArgument, TooMuchKept}
+use Rattle.git_pkt.specs.declared.fault.Kind.TheVariants.{UnexpectedPacket, RemoteError, UnknownRef, NotOurs, PackSource, NotVersion2}
+use Rattle.git_pkt.specs.declared.fault.Kind.TheVariants.{UnexpectedSection, BadLine, OutOfMemory, RemoteFatal, ReadFault, WriteFault, ReadLimit}
 
 -- the name that users see
 abbrev pub kind_name : Kind → List ℕ

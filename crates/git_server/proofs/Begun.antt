@@ -20,7 +20,8 @@ module _ {A : Type 0} where
   begun_by (Failed f) left r sound ready stands = absurd (cc)
 
   -- the packets that a reader has taken begin a request, while it goes on
-  pub begins : (s : Setting) (left : List Given) (r : RequestReader A) → offer_of r ≡ s.offer → limit_in r ≡ s.limit → fault_of r ≡ None → is_waiting r ≡ false → Takes left r → Begins s left
+  pub begins : (s : Setting) (left : List Given) (r : RequestReader A)
+      → offer_of r ≡ s.offer → limit_in r ≡ s.limit → fault_of r ≡ None → is_waiting r ≡ false → Takes left r → Begins s left
   begins s left r offer limit sound ready takes =
       let (lines, taken) = begun_by r.part left r sound ready takes.stands in
       record {

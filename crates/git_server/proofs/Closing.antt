@@ -1,5 +1,6 @@
 -- A server whose input ends.
-use Rattle.std.proofs.Common.{◌≡◌, ◌≢◌, ◌⊎◌, ℕ, ◌+◌, Bool, true, false, List, [], length, Option, Some, None, refl, sym, ap, ◌∙◌, append-nil, subst, inl, inr, arith}
+use Rattle.std.proofs.Common.{◌≡◌, ◌≢◌, ◌⊎◌, ℕ, ◌+◌, Bool, true, false, List, [], length, Option}
+use Rattle.std.proofs.Common.{Some, None, refl, sym, ap, ◌∙◌, append-nil, subst, inl, inr, arith}
 use Rattle.git_pkt.specs.Packets.{Pkt}
 use Rattle.git_pkt.specs.Splits.{Given}
 use Rattle.git_pkt.specs.PacketReader.{is_open, open_length, fault_of, position_of}
@@ -57,7 +58,8 @@ module _ {R A : Type 0} (state : R → RepoState) (old new : Server R A) where
       }
 
   -- between two requests
-  pub closes_between : wants_input old ≡ true → Keeps state old new → old.phase ≡ Between → new.phase ≡ Ended Closed → fault_of old.reader ≡ None → is_open old.reader ≡ false → Closes state old new
+  pub closes_between : wants_input old ≡ true → Keeps state old new → old.phase ≡ Between
+      → new.phase ≡ Ended Closed → fault_of old.reader ≡ None → is_open old.reader ≡ false → Closes state old new
   closes_between wants keeps was is sound shut s so_far over before r =
       let h = serves_of state old new [] s so_far over before wants r in
       let known = sound_rest old.reader 0 so_far h.packets h.rest sound h.reads in (
@@ -70,7 +72,8 @@ module _ {R A : Type 0} (state : R → RepoState) (old new : Server R A) where
       )
 
   cut_short : (s : Setting) (so_far : List ℕ) (over : Bool) (before : List ℕ) (fault : Fault) → wants_input old ≡ true → Keeps state old new
-      → (r : Running state s so_far over before old) → (h : Serves s so_far before old) → requests_fault old.requests ≡ None → is_waiting old.requests ≡ false → fault_of old.reader ≡ None
+      → (r : Running state s so_far over before old) → (h : Serves s so_far before old)
+      → requests_fault old.requests ≡ None → is_waiting old.requests ≡ false → fault_of old.reader ≡ None
       → (h.left ≢ []) ⊎ (h.rest ≢ []) → fault.kind ≡ Truncated → fault.offset + length h.rest ≡ length so_far → new.phase ≡ refused_by fault.kind fault
       → Running state s so_far true before new
   cut_short s so_far over before fault wants keeps r h requests_sound ready sound inside name at is =
@@ -88,7 +91,8 @@ module _ {R A : Type 0} (state : R → RepoState) (old new : Server R A) where
       (λ owed owes. refused_owes_by A new.offer s.repo fault.kind fault owed refl (owes_at state old new [] s (refused_by fault.kind fault) owed is owes))
 
   -- inside a request, between two packets
-  pub closes_within : (fault : Fault) → wants_input old ≡ true → Keeps state old new → old.phase ≡ Within → new.phase ≡ refused_by fault.kind fault → requests_fault old.requests ≡ None → is_waiting old.requests ≡ false
+  pub closes_within : (fault : Fault) → wants_input old ≡ true → Keeps state old new → old.phase ≡ Within
+      → new.phase ≡ refused_by fault.kind fault → requests_fault old.requests ≡ None → is_waiting old.requests ≡ false
       → fault_of old.reader ≡ None → is_open old.reader ≡ false → fault.kind ≡ Truncated → fault.offset ≡ position_of old.reader → Closes state old new
   closes_within fault wants keeps was is requests_sound ready sound shut name at s so_far over before r =
       let h = serves_of state old new [] s so_far over before wants r in
@@ -100,7 +104,8 @@ module _ {R A : Type 0} (state : R → RepoState) (old new : Server R A) where
       )
 
   -- inside a packet
-  pub closes_open : (fault : Fault) → wants_input old ≡ true → Keeps state old new → new.phase ≡ refused_by fault.kind fault → requests_fault old.requests ≡ None → is_waiting old.requests ≡ false
+  pub closes_open : (fault : Fault) → wants_input old ≡ true → Keeps state old new
+      → new.phase ≡ refused_by fault.kind fault → requests_fault old.requests ≡ None → is_waiting old.requests ≡ false
       → (fault_of old.reader ≡ None
       → (is_open old.reader ≡ true) × (fault.kind ≡ Truncated) × (fault.offset + open_length old.reader ≡ position_of old.reader))
       → Closes state old new

@@ -16,7 +16,8 @@ use Rattle.git_server.specs.declared.server.Server.{Server}
 use Rattle.git_server.proofs.Outcomes.{stays_as}
 use Rattle.git_server.proofs.Sent.{fit_more, sent_one, spelled_one}
 
-module _ {R A : Type 0} (state : R → RepoState) (old new : Server R A) (packet : Pkt) (writes : Writes old.reader packet new.reader) (keeps : Keeps state old new)
+module _ {R A : Type 0} (state : R → RepoState) (old new : Server R A) (packet : Pkt)
+    (writes : Writes old.reader packet new.reader) (keeps : Keeps state old new)
     (owed : ComesFirst state packet old new) (less : most_left state new < most_left state old) (same : outcome_of new ≡ outcome_of old)
     (left_stays : (left : List Given) → LeftIn old.phase left → LeftIn new.phase left)
     (flush_stays : (packets : List Given) → FlushIsAt old.phase packets → FlushIsAt new.phase packets) (no_more : kept_in new.phase ≤ kept_in old.phase) where
@@ -31,7 +32,8 @@ module _ {R A : Type 0} (state : R → RepoState) (old new : Server R A) (packet
   given_on : (before : List ℕ) (sent : List Pkt) → before ≡ spelled sent → before ++ held_of new.reader ≡ spelled (sent ++ packet ∷ [])
   given_on before sent is = ap (λ (l : List ℕ). l ++ held_of new.reader) is ∙ ap (λ (l : List ℕ). spelled sent ++ l) writes.held ∙ sym (spelled_one sent packet)
 
-  gives_in : (o : Option Outcome) (s : Setting) (used : List ℕ) (over : Bool) (before : List ℕ) → (state old.repo).answers ≡ s.repo → StandsBy o s used over before old → StandsBy o s used over (before ++ held_of new.reader) new
+  gives_in : (o : Option Outcome) (s : Setting) (used : List ℕ) (over : Bool) (before : List ℕ)
+      → (state old.repo).answers ≡ s.repo → StandsBy o s used over before old → StandsBy o s used over (before ++ held_of new.reader) new
   gives_in None s used over before repo (not_over, h) = (
     not_over,
     record {
@@ -64,7 +66,8 @@ module _ {R A : Type 0} (state : R → RepoState) (old new : Server R A) (packet
         ends = h.ends;
         answered = h.answered;
         parts = subst (IsTail s h.left outcome) (sym (append_assoc h.sent (packet ∷ []) later)) h.parts;
-        given_is = given_on before (advertised s ++ h.answers ++ h.sent) h.given_is ∙ ap spelled (append_assoc (advertised s ++ h.answers) h.sent (packet ∷ []));
+        given_is = given_on before (advertised s ++ h.answers ++ h.sent) h.given_is
+            ∙ ap spelled (append_assoc (advertised s ++ h.answers) h.sent (packet ∷ []));
         fit = subst AllFit (append_assoc (advertised s ++ h.answers) h.sent (packet ∷ []))
             (fit_more (advertised s ++ h.answers ++ h.sent) packet h.fit writes.fits);
       }

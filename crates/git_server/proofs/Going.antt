@@ -1,5 +1,6 @@
 -- A server that takes bytes goes on in its session, or ends it.
-use Rattle.std.proofs.Common.{arith, ◌≡◌, ◌≢◌, ℕ, ◌+◌, ◌≤◌, Bool, true, false, List, [], ◌∷◌, ◌++◌, length, Option, Some, None, refl, sym, ap, ◌∙◌, append_assoc, append-nil, subst, inl, inr}
+use Rattle.std.proofs.Common.{arith, ◌≡◌, ◌≢◌, ℕ, ◌+◌, ◌≤◌, Bool, true, false, List, [], ◌∷◌, ◌++◌, length, Option, Some, None, refl, sym, ap, ◌∙◌}
+use Rattle.std.proofs.Common.{append_assoc, append-nil, subst, inl, inr}
 use Rattle.git_pkt.specs.Packets.{Pkt, flush}
 use Rattle.git_pkt.specs.Splits.{Given}
 use Rattle.git_pkt.specs.PacketReader.{Reads, is_open, fault_of, ShownByFeed}
@@ -99,7 +100,8 @@ module _ {A : Type 0} where
   kept_behind offset Part requests h = omega (arith, h)
   kept_behind offset (Whole request) requests h = omega (arith, h.0, h.1, kept_to_answer request)
   kept_behind offset Stop requests h = omega (arith, h)
-  kept_behind offset (RefusedPacket fault) requests h = omega (arith, h, none_kept_at_end (refused_by fault.kind fault) (Refused fault) (refused_outcome_by A fault.kind fault))
+  kept_behind offset (RefusedPacket fault) requests h =
+      omega (arith, h, none_kept_at_end (refused_by fault.kind fault) (Refused fault) (refused_outcome_by A fault.kind fault))
 
 -- in each phase some packets make an end
 pub owes_some : {A : Type 0} (offer : Offer) (repo : Repository) (phase : Phase A) → (owed : List Pkt) × Owes offer repo phase owed
@@ -124,19 +126,21 @@ not_too_long offset packets Stop requests h fault ended too_long = cc
 not_too_long {A = A} offset packets (RefusedPacket f) requests h fault ended too_long =
     let same : Some (Refused f) ≡ Some (Refused fault) = sym (refused_outcome_by A f.kind f) ∙ ended in
     let one : f ≡ fault = cc in
-    told_of_packets (offer_of requests) (limit_in requests) packets f h (ap (λ (x : Fault). x.kind) one ∙ too_long)
+    told_of_packets StreamTooLong tt (offer_of requests) (limit_in requests) packets f h (ap (λ (x : Fault). x.kind) one ∙ too_long)
 
 -- what a server without an outcome stands for
-pub goes_on : {R A : Type 0} (state : R → RepoState) (server : Server R A) (s : Setting) (used : List ℕ) (over : Bool) (given : List ℕ) → outcome_of server ≡ None
-    → Running state s used over given server → (over ≡ false) × Serves s used given server
+pub goes_on : {R A : Type 0} (state : R → RepoState) (server : Server R A) (s : Setting) (used : List ℕ) (over : Bool) (given : List ℕ)
+    → outcome_of server ≡ None → Running state s used over given server → (over ≡ false) × Serves s used given server
 goes_on state server s used over given none r = subst (λ (o : Option Outcome). StandsBy o s used over given server) none r.stands
 
 module _ {R A : Type 0} (state : R → RepoState) (old new : Server R A) (u : List ℕ) where
   -- what a server that waits for bytes stands for
-  stands_of : (s : Setting) (so_far : List ℕ) (over : Bool) (before : List ℕ) → wants_input old ≡ true → Running state s so_far over before old → (over ≡ false) × Serves s so_far before old
+  stands_of : (s : Setting) (so_far : List ℕ) (over : Bool) (before : List ℕ)
+      → wants_input old ≡ true → Running state s so_far over before old → (over ≡ false) × Serves s so_far before old
   stands_of s so_far over before wants r = goes_on state old s so_far over before (no_outcome old.phase wants) r
 
-  pub serves_of : (s : Setting) (so_far : List ℕ) (over : Bool) (before : List ℕ) → wants_input old ≡ true → Running state s so_far over before old → Serves s so_far before old
+  pub serves_of : (s : Setting) (so_far : List ℕ) (over : Bool) (before : List ℕ)
+      → wants_input old ≡ true → Running state s so_far over before old → Serves s so_far before old
   serves_of s so_far over before wants r = (stands_of s so_far over before wants r).1
 
   pub all_sent_of : (s : Setting) (so_far before : List ℕ) → wants_input old ≡ true → (h : Serves s so_far before old) → IsSent s h.asked h.sent []
@@ -144,7 +148,8 @@ module _ {R A : Type 0} (state : R → RepoState) (old new : Server R A) (u : Li
       h.is_sent [] (owes_nothing old.offer s.repo old.phase wants)
 
   -- no packet came of the bytes
-  pub goes_open : wants_input old ≡ true → ReadsFor state old u [] new → new.requests ≡ old.requests → new.phase ≡ old.phase → fault_of new.reader ≡ None → Goes state u [] old new
+  pub goes_open : wants_input old ≡ true
+      → ReadsFor state old u [] new → new.requests ≡ old.requests → new.phase ≡ old.phase → fault_of new.reader ≡ None → Goes state u [] old new
   goes_open wants reads same_requests same_phase sound s so_far over before r =
       let (not_over, h) = stands_of s so_far over before wants r in
       let (rest, stream) = reads.reads 0 so_far h.packets h.rest h.reads in
@@ -154,31 +159,33 @@ module _ {R A : Type 0} (state : R → RepoState) (old new : Server R A) (u : Li
         limit = ap limit_in same_requests ∙ r.limit;
         repo = reads.answers ∙ r.repo;
         within = omega (arith, r.within, ap kept_so_far same_requests, ap kept_in same_phase);
-        stands = subst (λ (o : Option Outcome). StandsBy o s (so_far ++ u) over (before ++ []) new) (sym (ap outcome_in same_phase ∙ no_outcome old.phase wants)) (
-          not_over,
-          record {
-            asked = h.asked;
-            packets = h.packets;
-            left = h.left;
-            rest = rest;
-            sent = h.sent;
-            reads = subst (λ (l : List Given). Reads new.reader 0 (so_far ++ u) l rest) (append-nil h.packets) stream;
-            no_fault = sound;
-            requests = h.requests;
-            takes = subst (Takes h.left) (sym same_requests) h.takes;
-            left_is = subst (λ (p : Phase A). LeftIn p h.left) (sym same_phase) h.left_is;
-            flush_at = subst (λ (p : Phase A). FlushIsAt p h.packets) (sym same_phase) h.flush_at;
-            is_sent = λ owed owes. subst (λ (l : List Pkt). IsSent s h.asked h.sent l)
-                (sym (nothing_owed new.offer s.repo new.phase owed (ap reads_in same_phase ∙ wants) owes)) (all_sent_of s so_far before wants h);
-            given_is = append-nil before ∙ h.given_is;
-            fit = h.fit;
-          },
-        );
+        stands = subst (λ (o : Option Outcome). StandsBy o s (so_far ++ u) over (before ++ []) new)
+            (sym (ap outcome_in same_phase ∙ no_outcome old.phase wants)) (
+              not_over,
+              record {
+                asked = h.asked;
+                packets = h.packets;
+                left = h.left;
+                rest = rest;
+                sent = h.sent;
+                reads = subst (λ (l : List Given). Reads new.reader 0 (so_far ++ u) l rest) (append-nil h.packets) stream;
+                no_fault = sound;
+                requests = h.requests;
+                takes = subst (Takes h.left) (sym same_requests) h.takes;
+                left_is = subst (λ (p : Phase A). LeftIn p h.left) (sym same_phase) h.left_is;
+                flush_at = subst (λ (p : Phase A). FlushIsAt p h.packets) (sym same_phase) h.flush_at;
+                is_sent = λ owed owes. subst (λ (l : List Pkt). IsSent s h.asked h.sent l)
+                    (sym (nothing_owed new.offer s.repo new.phase owed (ap reads_in same_phase ∙ wants) owes)) (all_sent_of s so_far before wants h);
+                given_is = append-nil before ∙ h.given_is;
+                fit = h.fit;
+              },
+            );
       }
 
   -- with this packet the session ends, and nothing of its end was given yet
   ended_at : (s : Setting) (so_far : List ℕ) (over : Bool) (before : List ℕ) (left : List Given) (packets : List Given) (rest : List ℕ) (outcome : Outcome)
-      → wants_input old ≡ true → (h : Serves s so_far before old) → Reads new.reader 0 (so_far ++ u) packets rest → AreRequests (IsRequest s) packets h.asked left
+      → wants_input old ≡ true → (h : Serves s so_far before old)
+      → Reads new.reader 0 (so_far ++ u) packets rest → AreRequests (IsRequest s) packets h.asked left
       → EndsBy s over left rest (length (so_far ++ u)) outcome → (owed : List Pkt) → IsTail s left outcome owed
       → IsEnding s (so_far ++ u) over (before ++ []) outcome owed
   ended_at s so_far over before left packets rest outcome wants h stream requests ends owed tail =
@@ -198,7 +205,8 @@ module _ {R A : Type 0} (state : R → RepoState) (old new : Server R A) (u : Li
       }
 
   -- after a whole packet there is no rest
-  no_rest : (bytes : List ℕ) (packets : List Given) (rest : List ℕ) → fault_of new.reader ≡ None → is_open new.reader ≡ false → Reads new.reader 0 bytes packets rest → rest ≡ []
+  no_rest : (bytes : List ℕ) (packets : List Given) (rest : List ℕ)
+      → fault_of new.reader ≡ None → is_open new.reader ≡ false → Reads new.reader 0 bytes packets rest → rest ≡ []
   no_rest bytes packets rest sound shut stream =
       none_between new.reader rest (sound_rest new.reader 0 bytes packets rest sound stream).0 shut
 
@@ -214,8 +222,10 @@ module _ {R A : Type 0} (state : R → RepoState) (old new : Server R A) (u : Li
   -- where the session goes on after a packet
   packet_serves : (s : Setting) (so_far : List ℕ) (before : List ℕ) (asked : List Asked) (packets left : List Given) (rest : List ℕ) (sent : List Pkt)
       (phase : Phase A)
-      → Reads new.reader 0 (so_far ++ u) packets rest → fault_of new.reader ≡ None → AreRequests (IsRequest s) packets asked left → Takes left new.requests → new.phase ≡ phase
-      → LeftIn phase left → FlushIsAt phase packets → ((owed : List Pkt) → Owes new.offer s.repo phase owed → IsSent s asked sent owed) → before ≡ spelled sent → AllFit sent
+      → Reads new.reader 0 (so_far ++ u) packets rest → fault_of new.reader ≡ None
+      → AreRequests (IsRequest s) packets asked left → Takes left new.requests → new.phase ≡ phase
+      → LeftIn phase left → FlushIsAt phase packets
+      → ((owed : List Pkt) → Owes new.offer s.repo phase owed → IsSent s asked sent owed) → before ≡ spelled sent → AllFit sent
       → Serves s (so_far ++ u) (before ++ []) new
   packet_serves s so_far before asked packets left rest sent phase stream sound requests takes phase_is left_is flush_at is_sent given fit =
       record {
@@ -252,7 +262,8 @@ module _ {R A : Type 0} (state : R → RepoState) (old new : Server R A) (u : Li
       subst (λ (n : ℕ). Asks s.offer n (h.left ++ g ∷ []) (asked_of request) (kept_of request)) limit
       (subst (λ (o : Offer). Asks o (limit_in new.requests) (h.left ++ g ∷ []) (asked_of request) (kept_of request)) offer asks) in (
         not_over,
-        packet_serves s so_far before (h.asked ++ asked_of request ∷ []) (h.packets ++ g ∷ []) [] rest h.sent (Answering (answer_to request) g.offset) stream sound
+        packet_serves s so_far before (h.asked ++ asked_of request ∷ [])
+            (h.packets ++ g ∷ []) [] rest h.sent (Answering (answer_to request) g.offset) stream sound
             (one_more_request (IsRequest s) (h.packets ++ g ∷ []) h.asked (h.left ++ g ∷ []) (asked_of request) (with_packet s so_far before h g)
             (kept_of request, asks_here)) takes phase_is refl (h.packets, g, refl, refl)
             (λ owed owes. one_more_asked s h.asked h.sent owed (asked_of request) (all_sent_of s so_far before wants h)
@@ -264,7 +275,8 @@ module _ {R A : Type 0} (state : R → RepoState) (old new : Server R A) (u : Li
       (stop, no_rest _ _ rest sound shut stream) owed (sym (owes_at s (Ended Flush) owed phase_is owes))
   packet_stands s so_far over before g (RefusedPacket fault) wants not_over h rest stream sound shut offer limit begun told phase_is =
       let told_here : IsTold s.offer s.limit (h.left ++ g ∷ []) fault =
-      subst (λ (n : ℕ). IsTold s.offer n (h.left ++ g ∷ []) fault) limit (subst (λ (o : Offer). IsTold o (limit_in new.requests) (h.left ++ g ∷ []) fault) offer told) in
+      subst (λ (n : ℕ). IsTold s.offer n (h.left ++ g ∷ []) fault) limit
+      (subst (λ (o : Offer). IsTold o (limit_in new.requests) (h.left ++ g ∷ []) fault) offer told) in
       subst (λ (o : Option Outcome). StandsBy o s (so_far ++ u) over (before ++ []) new) (sym (refused_outcome_by A fault.kind fault))
       (λ owed owes. ended_at s so_far over before (h.left ++ g ∷ []) (h.packets ++ g ∷ []) rest (Refused fault) wants h stream
       (with_packet s so_far before h g)
@@ -294,16 +306,20 @@ module _ {R A : Type 0} (state : R → RepoState) (old new : Server R A) (u : Li
 
   -- the session ends with this fault, of which nothing was given yet
   ends_refused : (s : Setting) (so_far : List ℕ) (over : Bool) (before : List ℕ) (left packets : List Given) (rest : List ℕ) (fault : Fault)
-      → wants_input old ≡ true → (h : Serves s so_far before old) → Reads new.reader 0 (so_far ++ u) packets rest → AreRequests (IsRequest s) packets h.asked left
-      → IsRefused s over left rest (length (so_far ++ u)) fault → new.phase ≡ refused_by fault.kind fault → StandsBy (outcome_of new) s (so_far ++ u) over (before ++ []) new
+      → wants_input old ≡ true → (h : Serves s so_far before old)
+      → Reads new.reader 0 (so_far ++ u) packets rest → AreRequests (IsRequest s) packets h.asked left
+      → IsRefused s over left rest (length (so_far ++ u)) fault → new.phase ≡ refused_by fault.kind fault
+      → StandsBy (outcome_of new) s (so_far ++ u) over (before ++ []) new
   ends_refused s so_far over before left packets rest fault wants h stream requests refused phase_is =
       subst (λ (o : Option Outcome). StandsBy o s (so_far ++ u) over (before ++ []) new) (sym (ap outcome_in phase_is ∙ refused_outcome_by A fault.kind fault))
       (λ owed owes. ended_at s so_far over before left packets rest (Refused fault) wants h stream requests refused owed
       (refused_owes_by A new.offer s.repo fault.kind fault owed refl (owes_at s (refused_by fault.kind fault) owed phase_is owes)))
 
   -- the bytes were refused
-  pub goes_refused : (fault : Fault) → wants_input old ≡ true → ReadsFor state old u [] new → new.requests ≡ old.requests → requests_fault old.requests ≡ None → is_waiting old.requests ≡ false
-      → fault_of new.reader ≡ Some fault → (fault_of old.reader ≡ None → fault.kind ≢ Truncated) → new.phase ≡ refused_by fault.kind fault → Goes state u [] old new
+  pub goes_refused : (fault : Fault) → wants_input old ≡ true → ReadsFor state old u [] new
+      → new.requests ≡ old.requests → requests_fault old.requests ≡ None → is_waiting old.requests ≡ false
+      → fault_of new.reader ≡ Some fault → (fault_of old.reader ≡ None → fault.kind ≢ Truncated)
+      → new.phase ≡ refused_by fault.kind fault → Goes state u [] old new
   goes_refused fault wants reads same_requests sound ready told not_the_end phase_is s so_far over before r =
       let (not_over, h) = stands_of s so_far over before wants r in
       let (rest, later) = reads.reads 0 so_far h.packets h.rest h.reads in
@@ -313,7 +329,12 @@ module _ {R A : Type 0} (state : R → RepoState) (old new : Server R A) (u : Li
         reads_for = ap offer_of same_requests ∙ r.reads_for;
         limit = ap limit_in same_requests ∙ r.limit;
         repo = reads.answers ∙ r.repo;
-        within = omega (arith, r.within, ap kept_so_far same_requests, none_kept_at_end new.phase (Refused fault) (ap outcome_in phase_is ∙ refused_outcome_by A fault.kind fault));
+        within = omega (
+          arith,
+          r.within,
+          ap kept_so_far same_requests,
+          none_kept_at_end new.phase (Refused fault) (ap outcome_in phase_is ∙ refused_outcome_by A fault.kind fault),
+        );
         stands = ends_refused s so_far over before h.left h.packets rest fault wants h stream h.requests
             (inr (inl (record {
               goes_on = not_over;

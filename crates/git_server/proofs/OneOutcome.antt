@@ -48,8 +48,8 @@ no_lines_of_nothing : (offer : Offer) (limit : ℕ) (lines : List Line) → AreL
 no_lines_of_nothing offer limit [] are = refl
 no_lines_of_nothing offer limit (l ∷ ls) are = absurd are
 
-no_lines_alone : (offer : Offer) (limit : ℕ) (xs more : List Given) (l m : Given) (lines : List Line) → xs ++ l ∷ more ≡ m ∷ [] → AreLines offer limit [] xs lines
-    → lines ≡ []
+no_lines_alone : (offer : Offer) (limit : ℕ) (xs more : List Given) (l m : Given) (lines : List Line)
+    → xs ++ l ∷ more ≡ m ∷ [] → AreLines offer limit [] xs lines → lines ≡ []
 no_lines_alone offer limit xs more l m lines e are =
     no_lines_of_nothing offer limit lines (subst (λ (gs : List Given). AreLines offer limit [] gs lines) (alone xs more l m e).0 are)
 
@@ -92,7 +92,8 @@ module _ (s : Setting) where
           not_told_whole left q kept fault (subst (λ (gs : List Given). Asks s.offer s.limit gs q kept) (sym all) asks) r.told
       at (inr (others, inside)) = flush_inside asks.front others r.front asks.last (begun_has_no_flush s r.front r.begins) asks.ends inside
 
-  none_at_end : (over : Bool) (left : List Given) (rest : List ℕ) (end : ℕ) (outcome : Outcome) → EndsBy s over left rest end outcome → NoRequest (IsRequest s) left
+  none_at_end : (over : Bool) (left : List Given) (rest : List ℕ) (end : ℕ) (outcome : Outcome)
+      → EndsBy s over left rest end outcome → NoRequest (IsRequest s) left
   none_at_end over left rest end Flush h = none_in_stop left h.0
   none_at_end over left rest end Closed h = subst (NoRequest (IsRequest s)) (sym h.1) (no_request s [] tt)
   none_at_end over left rest end (Refused fault) (inl r) = none_in_refused left rest fault r
@@ -176,7 +177,8 @@ module _ (s : Setting) where
   pub one_outcome : (used : List ℕ) (over : Bool) (given others : List ℕ) (o p : Outcome) → IsSession s used over given o → IsSession s used over others p
       → ¬ WantsMemory o → ¬ WantsMemory p → o ≡ p
   one_outcome used over given others o p h k a b =
-      let split = one_split 0 used h.stream.packets k.stream.packets h.rest k.rest h.stream.splits.spelled k.stream.splits.spelled h.stream.splits.ends k.stream.splits.ends in
+      let split = one_split 0 used h.stream.packets k.stream.packets h.rest k.rest
+      h.stream.splits.spelled k.stream.splits.spelled h.stream.splits.ends k.stream.splits.ends in
       let none = none_at_end over h.left h.rest (length used) o h.ends in
       let clear = none_at_end over k.left k.rest (length used) p k.ends in
       let left : h.left ≡ k.left =

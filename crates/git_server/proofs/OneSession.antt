@@ -1,6 +1,7 @@
 -- What was asked by the bytes that a server used, and how it is answered, is one thing: so a server that has given all
 -- of it owes nothing.
-use Rattle.std.proofs.Common.{◌≡◌, ℕ, ◌+◌, drop, map, codes, Bool, true, false, List, [], ◌∷◌, ◌++◌, length, length-append, None, refl, sym, ap, ◌∙◌, subst, arith}
+use Rattle.std.proofs.Common.{◌≡◌, ℕ, ◌+◌, drop, map, codes, Bool, true, false, List, [], ◌∷◌}
+use Rattle.std.proofs.Common.{◌++◌, length, length-append, None, refl, sym, ap, ◌∙◌, subst, arith}
 use Rattle.git_pkt.specs.Digits.{digits_of}
 use Rattle.git_pkt.specs.Packets.{Pkt, flush, flushes, delim, resp_end, payload, body_of, length_field, spelling_of}
 use Rattle.git_pkt.proofs.Spelling.{same_start}
@@ -96,13 +97,15 @@ owes_flush offer repo (Answering (Fetching request) offset) owed none owes zero 
 owes_flush offer repo (Refusing fault) owed none owes zero = absurd (cc)
 owes_flush offer repo (Ended outcome) owed none owes zero = absurd (cc)
 
-module _ {R A : Type 0} (state : R → RepoState) (server : Server R A) (s : Setting) (used : List ℕ) (over : Bool) (given : List ℕ) (r : Running state s used over given server) where
+module _ {R A : Type 0} (state : R → RepoState) (server : Server R A) (s : Setting) (used : List ℕ)
+    (over : Bool) (given : List ℕ) (r : Running state s used over given server) where
   -- a server without an outcome that has given all waits for bytes
   pub waits_behind_all : outcome_of server ≡ None → IsAnswered s used given → wants_input server ≡ true
   waits_behind_all none all =
       let h = (goes_on state server s used over given none r).1 in
       let begun = begins s h.left server.requests r.reads_for r.limit (server.sound none) (server.ready none) h.takes in
-      let split = one_split 0 used h.packets all.stream.packets h.rest all.rest h.reads.splits.spelled all.stream.splits.spelled h.reads.splits.ends all.stream.splits.ends in
+      let split = one_split 0 used h.packets all.stream.packets h.rest all.rest h.reads.splits.spelled
+      all.stream.splits.spelled h.reads.splits.ends all.stream.splits.ends in
       let asked : h.asked ≡ all.asked =
       (one_list s all.stream.packets h.asked all.asked h.left all.left (no_request s h.left (begun_has_no_flush s h.left begun))
       (no_request s all.left (begun_has_no_flush s all.left all.begins))

@@ -1,5 +1,6 @@
 -- What is owed, by the phase that a server is in.
-use Rattle.std.proofs.Common.{arith, ◌≡◌, ◌<◌, length, ℕ, Bool, true, false, if◌then◌else◌, List, [], ◌∷◌, ◌++◌, Option, Some, None, codes, refl, sym, ap, ◌∙◌, subst}
+use Rattle.std.proofs.Common.{arith, ◌≡◌, ◌<◌, length, ℕ, Bool, true, false, if◌then◌else◌, List}
+use Rattle.std.proofs.Common.{[], ◌∷◌, ◌++◌, Option, Some, None, codes, refl, sym, ap, ◌∙◌, subst}
 use Rattle.git_pkt.specs.Packets.{Pkt}
 use Rattle.git_pkt.specs.Splits.{Given}
 use Rattle.git_pkt.specs.declared.fault.Fault.{Fault}
@@ -19,11 +20,13 @@ use Rattle.git_server.specs.declared.outcome.Outcome.TheVariants.{Refused}
 use Rattle.git_server.specs.declared.server.Phase.{Phase}
 use Rattle.git_server.specs.declared.server.Phase.TheVariants.{Advertising, Between, Answering, Refusing}
 
-option_lines : (offer : Offer) (b : Bool) → offered_line b (codes "server-option") ++ format_on offer ≡ advertisement_from offer (if b then ServerOption else ObjectFormat)
+option_lines : (offer : Offer) (b : Bool)
+    → offered_line b (codes "server-option") ++ format_on offer ≡ advertisement_from offer (if b then ServerOption else ObjectFormat)
 option_lines offer true = refl
 option_lines offer false = refl
 
-pub one_line : (offer : Offer) (line : AdvertisementLine) → advertisement_from offer line ≡ advertisement_packet offer line ∷ advertisement_after offer (advertisement_line_after offer line)
+pub one_line : (offer : Offer) (line : AdvertisementLine)
+    → advertisement_from offer line ≡ advertisement_packet offer line ∷ advertisement_after offer (advertisement_line_after offer line)
 one_line offer Version = refl
 one_line offer Agent = refl
 one_line offer LsRefs = ap (λ (l : List Pkt). advertisement_packet offer LsRefs ∷ l) (option_lines offer offer.server_option)
@@ -48,15 +51,17 @@ module _ {A : Type 0} where
   none_kept_in_advertising None phase is = ap kept_in is
 
   -- after a line of the advertisement the other lines are owed
-  pub line_behind : (offer : Offer) (repo : Repository) (old new : Phase A) (line : AdvertisementLine) (next : Option AdvertisementLine) (packet : Pkt) → old ≡ Advertising line
-      → packet ≡ advertisement_packet offer line
-      → next ≡ advertisement_line_after offer line → new ≡ advertising_phase next → (later : List Pkt) → Owes offer repo new later → Owes offer repo old (packet ∷ later)
+  pub line_behind : (offer : Offer) (repo : Repository) (old new : Phase A) (line : AdvertisementLine) (next : Option AdvertisementLine) (packet : Pkt)
+      → old ≡ Advertising line → packet ≡ advertisement_packet offer line
+      → next ≡ advertisement_line_after offer line → new ≡ advertising_phase next
+      → (later : List Pkt) → Owes offer repo new later → Owes offer repo old (packet ∷ later)
   line_behind offer repo old new line next packet was packet_is next_is is later owes =
       subst (λ (p : Phase A). Owes offer repo p (packet ∷ later)) (sym was)
       (ap (λ (l : List Pkt). packet ∷ l) (advertising_owes offer repo next new later is owes ∙ ap (advertisement_after offer) next_is)
       ∙ ap (λ (p : Pkt). p ∷ advertisement_after offer (advertisement_line_after offer line)) packet_is ∙ sym (one_line offer line))
 
-  pub fewer_lines : (offer : Offer) (repo : Repository) (old new : Phase A) (line : AdvertisementLine) (next : Option AdvertisementLine) → old ≡ Advertising line
+  pub fewer_lines : (offer : Offer) (repo : Repository) (old new : Phase A) (line : AdvertisementLine) (next : Option AdvertisementLine)
+      → old ≡ Advertising line
       → next ≡ advertisement_line_after offer line → new ≡ advertising_phase next → most_owed offer repo new < most_owed offer repo old
   fewer_lines offer repo old new line next was next_is is =
       let after = advertising_most offer repo next new is ∙ ap (λ (o : Option AdvertisementLine). length (advertisement_after offer o)) next_is in

@@ -1,5 +1,7 @@
 -- A run of a server, one call after another.
-use Rattle.std.proofs.Common.{arith, ◌≡◌, ◌≢◌, ◌⊎◌, ℕ, ◌+◌, ◌-◌, ◌<◌, ◌≤◌, length, length-append, length-drop, take, drop, take-append-drop, IsSome, IfErr, OnErr, IsErrAnd, Result, inl, inr, Bool, true, false, List, [], ◌∷◌, ◌++◌, Option, Some, None, refl, sym, ap, ◌∙◌, append_assoc, append-nil, subst}
+use Rattle.std.proofs.Common.{arith, ◌≡◌, ◌≢◌, ◌⊎◌, ℕ, ◌+◌, ◌-◌, ◌<◌, ◌≤◌, length, length-append, length-drop, take, drop, take-append-drop, IsSome}
+use Rattle.std.proofs.Common.{IfErr, OnErr, IsErrAnd, Result, inl, inr, Bool, true, false, List, [], ◌∷◌, ◌++◌, Option, Some, None, refl, sym, ap}
+use Rattle.std.proofs.Common.{◌∙◌, append_assoc, append-nil, subst}
 use Rattle.std.specs.Io.KnownBytes.{Appends, Consumes, Keeps}
 use Rattle.std.proofs.KnownBytes.{Appends-kept, Appends-nil, Appends-trans, Consumes-nil, Consumes-trans}
 use Rattle.git_pkt.specs.Engine.{Exchanges}
@@ -42,7 +44,8 @@ some_not_none (Some outcome) some is = cc
 module _ {R A : Type 0} (state : R → RepoState) (old middle new : Server R A) where
   module _ (held_before held held_after : Option (List ℕ)) where
     -- what a call gave was written after what was written before
-    pub writes_more : (u v h : List ℕ) → WritesOn state u held_before held old middle → Appends held held_after h → Goes state v h middle new → WritesOn state (u ++ v) held_before held_after old new
+    pub writes_more : (u v h : List ℕ) → WritesOn state u held_before held old middle → Appends held held_after h
+        → Goes state v h middle new → WritesOn state (u ++ v) held_before held_after old new
     writes_more u v h so_far written goes =
         record {
           given = so_far.given ++ h;
@@ -51,7 +54,8 @@ module _ {R A : Type 0} (state : R → RepoState) (old middle new : Server R A) 
         }
 
   -- a packet was pulled and written
-  pub writes_packet : (held_before held held_after : Option (List ℕ)) (pulled : Pulled) (bytes : Bor (List ℕ)) → WritesOn state [] held_before held old middle → Pulls state middle pulled new
+  pub writes_packet : (held_before held held_after : Option (List ℕ)) (pulled : Pulled) (bytes : Bor (List ℕ))
+      → WritesOn state [] held_before held old middle → Pulls state middle pulled new
       → pulled ≡ Packet bytes → Appends held held_after bytes.now → WritesOn state [] held_before held_after old new
   writes_packet held_before held held_after pulled bytes so_far pulls is written =
       writes_more held_before held held_after [] [] bytes.now so_far written (subst (λ (p : Pulled). Goes state [] (given_by p) middle new) is pulls.goes)
@@ -72,7 +76,8 @@ module _ {R A : Type 0} (state : R → RepoState) (old middle new : Server R A) 
       }
 
   -- the end was pulled
-  pub writes_end : (held_before held : Option (List ℕ)) (pulled : Pulled) (outcome : Outcome) → WritesOn state [] held_before held old middle → Pulls state middle pulled new
+  pub writes_end : (held_before held : Option (List ℕ)) (pulled : Pulled) (outcome : Outcome)
+      → WritesOn state [] held_before held old middle → Pulls state middle pulled new
       → pulled ≡ Finished outcome → IsAfterPull (outcome_of old) (outcome_of middle) → WritesItsEnd state [] held_before held old new outcome
   writes_end held_before held pulled outcome so_far pulls is after =
       let tells : TellsPulled state middle (Finished outcome) new = subst (λ (p : Pulled). TellsPulled state middle p new) is pulls.tells in
@@ -92,13 +97,15 @@ module _ {R A : Type 0} (state : R → RepoState) (old middle new : Server R A) 
             absurd (cc);
       }
 
-module _ {R A : Type 0} (state : R → RepoState) (old middle fed new : Server R A) (held_before held held_after : Option (List ℕ)) (bytes : List ℕ) (done used : ℕ) (within : done ≤ length bytes)
+module _ {R A : Type 0} (state : R → RepoState) (old middle fed new : Server R A)
+    (held_before held held_after : Option (List ℕ)) (bytes : List ℕ) (done used : ℕ) (within : done ≤ length bytes)
     (so_far : WritesOn state (take done bytes) held_before held old middle)
     (feeds : Goes state (take used (take (length bytes - done) (drop done bytes))) [] middle fed) where
   fed_so_far : WritesOn state (take (done + used) bytes) held_before held old fed
   fed_so_far =
       subst (λ (l : List ℕ). WritesOn state l held_before held old fed) (take_joined bytes done used within)
-      (writes_more state old middle fed held_before held held (take done bytes) (take used (take (length bytes - done) (drop done bytes))) [] so_far (Appends-nil held) feeds)
+      (writes_more state old middle fed held_before held held (take done bytes)
+      (take used (take (length bytes - done) (drop done bytes))) [] so_far (Appends-nil held) feeds)
 
   -- a part of a piece was used, and all that is owed for it was written
   pub writes_piece : WritesAll state [] held held_after fed new → WritesOn state (take (done + used) bytes) held_before held_after old new
@@ -119,7 +126,8 @@ module _ {R A : Type 0} (state : R → RepoState) (old middle fed new : Server R
         given = on.given;
         parts = sym (take-append-drop (done + used) bytes);
         written = on.written;
-        goes = subst (λ (l : List ℕ). Goes state l on.given old new) (ap (λ (l : List ℕ). take (done + used) bytes ++ l) nothing ∙ append-nil (take (done + used) bytes)) on.goes;
+        goes = subst (λ (l : List ℕ). Goes state l on.given old new)
+            (ap (λ (l : List ℕ). take (done + used) bytes ++ l) nothing ∙ append-nil (take (done + used) bytes)) on.goes;
         ends = end.ends;
         owes = end.owes;
         session = end.session;
@@ -176,7 +184,8 @@ keeps_same None = tt
 keeps_same (Some bytes) = refl
 
 -- a server that waits for bytes has no outcome, so it used some
-pub used_some : {R A : Type 0} (fed new : Server R A) (used : ℕ) → 0 < used ⊎ IsSome (outcome_of fed) → IsAfterPull (outcome_of fed) (outcome_of new) → wants_input new ≡ true → 0 < used
+pub used_some : {R A : Type 0} (fed new : Server R A) (used : ℕ)
+    → 0 < used ⊎ IsSome (outcome_of fed) → IsAfterPull (outcome_of fed) (outcome_of new) → wants_input new ≡ true → 0 < used
 used_some fed new used (inl some) after wants = some
 used_some fed new used (inr ended) after wants =
     absurd (some_not_none (outcome_of new) (ended_stays (outcome_of fed) (outcome_of new) after ended) (no_outcome new.phase wants))
@@ -198,7 +207,8 @@ module _ {R A : Type 0} (state : R → RepoState) (s : Setting) where
   standing server used over given = Running state s used over given server
 
   -- a new server, which has written what it owes at first
-  pub starts : (old new : Server R A) (left held_before held_after : Option (List ℕ)) → Running state s [] false [] old → WritesAll state [] held_before held_after old new
+  pub starts : (old new : Server R A) (left held_before held_after : Option (List ℕ))
+      → Running state s [] false [] old → WritesAll state [] held_before held_after old new
       → Exchanges (StandsTo new) left left held_before held_after
   starts old new left held_before held_after r all =
       record { used = []; given = all.given; read = Consumes-nil left; written = all.written; related = all.goes s [] false [] r }
@@ -209,7 +219,8 @@ module _ {R A : Type 0} (state : R → RepoState) (s : Setting) where
       → WritesAll state bytes flushed held_after old new
       → Exchanges (StandsTo new) left_before left_after held_before held_after
   turns_on old new left_before left left_after held_before held flushed held_after bytes so_far kept read all =
-      Exchanges-more (Exchanges-flush so_far kept) read (record { given = all.given; written = all.written; carries = λ used given r. all.goes s used false given r })
+      Exchanges-more (Exchanges-flush so_far kept) read
+      (record { given = all.given; written = all.written; carries = λ used given r. all.goes s used false given r })
 
   -- where the server waits for bytes, all answers were given
   pub answered : (server : Server R A) (left_before left_after held_before held_after : Option (List ℕ)) → wants_input server ≡ true
@@ -274,8 +285,8 @@ module _ {R A : Type 0} (state : R → RepoState) (s : Setting) where
       (λ e. (back_of_nothing front.used front.unused front.parts, told))
 
   -- the session ended, whether or not the input had
-  ends_at : (over : Bool) (old new : Server R A) (left_before left left_after held_before held written_all held_after : Option (List ℕ)) (bytes : List ℕ) (ended : Bool)
-      (outcome : Outcome)
+  ends_at : (over : Bool) (old new : Server R A)
+      (left_before left left_after held_before held written_all held_after : Option (List ℕ)) (bytes : List ℕ) (ended : Bool) (outcome : Outcome)
       → Exchanges (λ used given. Running state s used over given old) left_before left held_before held → Consumes left left_after bytes
       → (end : WritesItsEnd state bytes held written_all old new outcome) → Keeps written_all held_after → (over ≡ true → (end.unused ≡ []) × (ended ≡ true))
       → ((fault : Fault) → outcome ≡ Refused fault → fault.kind ≡ StreamTooLong → end.unused ≢ [])
@@ -297,8 +308,8 @@ module _ {R A : Type 0} (state : R → RepoState) (s : Setting) where
       }
 
   -- the session ended before a byte was read
-  pub ends_at_once : (old new : Server R A) (left held written held_after : Option (List ℕ)) (ended : Bool) (outcome : Outcome) → Running state s [] false [] old
-      → WritesItsEnd state [] held written old new outcome → Keeps written held_after
+  pub ends_at_once : (old new : Server R A) (left held written held_after : Option (List ℕ)) (ended : Bool) (outcome : Outcome)
+      → Running state s [] false [] old → WritesItsEnd state [] held written old new outcome → Keeps written held_after
       → IsRun s (standing new) left left held held_after ended outcome
   ends_at_once old new left held written held_after ended outcome r end last =
       let nothing : end.used ≡ [] = front_of_nothing end.used end.unused end.parts in
@@ -310,19 +321,22 @@ module _ {R A : Type 0} (state : R → RepoState) (s : Setting) where
       absurd (omega (arith, all, ap length nothing)))
 
   -- the session ended with a front of the bytes
-  pub ends_with : (old new : Server R A) (left_before left left_after held_before held flushed written_all held_after : Option (List ℕ)) (bytes : List ℕ) (ended : Bool) (outcome : Outcome)
+  pub ends_with : (old new : Server R A) (left_before left left_after held_before held flushed written_all held_after : Option (List ℕ))
+      (bytes : List ℕ) (ended : Bool) (outcome : Outcome)
       → Exchanges (StandsTo old) left_before left held_before held → Keeps held flushed → Consumes left left_after bytes
       → WritesItsEnd state bytes flushed written_all old new outcome → Keeps written_all held_after → wants_input old ≡ true
       → IsRun s (standing new) left_before left_after held_before held_after ended outcome
   ends_with old new left_before left left_after held_before held flushed written_all held_after bytes ended outcome so_far kept read end last wants =
-      ends_at false old new left_before left left_after held_before flushed written_all held_after bytes ended outcome (Exchanges-flush so_far kept) read end last
+      ends_at false old new left_before left left_after held_before flushed written_all held_after bytes ended outcome
+      (Exchanges-flush so_far kept) read end last
       (λ e. absurd (cc))
       (λ fault is too_long none.
       let less = end.in_time s so_far.used false so_far.given so_far.related wants fault (ap Some is) too_long in
       omega (arith, less, ap length end.parts, length-append end.used end.unused, ap length none))
 
   -- the session ended with the input
-  pub ends_closed : (old closed new : Server R A) (left_before left left_after held_before held flushed held_after : Option (List ℕ)) (ended : Bool) (outcome : Outcome)
+  pub ends_closed : (old closed new : Server R A)
+      (left_before left left_after held_before held flushed held_after : Option (List ℕ)) (ended : Bool) (outcome : Outcome)
       → Exchanges (StandsTo old) left_before left held_before held → Keeps held flushed → Consumes left left_after [] → Closes state old closed
       → WritesItsEnd state [] flushed held_after closed new outcome → ended ≡ true
       → IsRun s (standing new) left_before left_after held_before held_after ended outcome
@@ -341,7 +355,8 @@ if_err_at r fault P met holds =
     subst (λ x. IfErr x P) (sym is) (subst P (sym same) holds)
 
 -- what holds of the fault that is told
-pub until_at : {T : Type 0} (r : Result T RunFault) (fault told : RunFault) (P : RunFault → Type 0) → IsErrAnd r (λ e. e ≡ fault) → fault ≡ told → P told → IfErr r P
+pub until_at : {T : Type 0} (r : Result T RunFault) (fault told : RunFault) (P : RunFault → Type 0)
+    → IsErrAnd r (λ e. e ≡ fault) → fault ≡ told → P told → IfErr r P
 until_at r fault told P met is holds = if_err_at r fault P met (subst P (sym is) holds)
 
 pub on_err_at : {T : Type 0} (r : Result T RunFault) (fault : RunFault) (P : Type 0) → IsErrAnd r (λ e. e ≡ fault) → P → OnErr r P

@@ -18,7 +18,8 @@ fit_more [] packet h fits = (fits, tt)
 fit_more (p ∷ ps) packet h fits = (h.0, fit_more ps packet h.1 fits)
 
 -- one more answer
-pub answers_more : (repo : Repository) (asked : List Asked) (packets : List Pkt) (q : Asked) (answer : List Pkt) → AreAnswers repo asked packets → IsAnswer repo q answer
+pub answers_more : (repo : Repository) (asked : List Asked) (packets : List Pkt) (q : Asked) (answer : List Pkt)
+    → AreAnswers repo asked packets → IsAnswer repo q answer
     → AreAnswers repo (asked ++ q ∷ []) (packets ++ answer)
 answers_more repo [] packets q answer none is =
     (answer, [], ap (λ (l : List Pkt). l ++ answer) none ∙ sym (append-nil answer), is, refl)
@@ -26,7 +27,8 @@ answers_more repo (p ∷ ps) packets q answer (first, more, whole, is_first, res
     (first, more ++ answer, ap (λ (l : List Pkt). l ++ answer) whole ∙ append_assoc first more answer, is_first, answers_more repo ps more q answer rest is)
 
 -- one packet of what is owed was sent
-pub sent_one : (s : Setting) (asked : List Asked) (sent owed : List Pkt) (packet : Pkt) → IsSent s asked sent (packet ∷ owed) → IsSent s asked (sent ++ packet ∷ []) owed
+pub sent_one : (s : Setting) (asked : List Asked) (sent owed : List Pkt) (packet : Pkt)
+    → IsSent s asked sent (packet ∷ owed) → IsSent s asked (sent ++ packet ∷ []) owed
 sent_one s asked sent owed packet (inl h) = inl (record { none = h.none; parts = append_assoc sent (packet ∷ []) owed ∙ h.parts })
 sent_one s asked sent owed packet (inr h) =
     inr (record {
@@ -48,12 +50,18 @@ pub record IsWhole (s : Setting) (asked : List Asked) (sent owed : List Pkt) : T
 
 pub is_whole : (s : Setting) (asked : List Asked) (sent owed : List Pkt) → IsSent s asked sent owed → IsWhole s asked sent owed
 is_whole s asked sent owed (inl h) =
-    record { answers = []; answered = subst (λ (qs : List Asked). AreAnswers s.repo qs []) (sym h.none) refl; parts = h.parts ∙ sym (append-nil (advertised s)) }
+    record {
+      answers = [];
+      answered = subst (λ (qs : List Asked). AreAnswers s.repo qs []) (sym h.none) refl;
+      parts = h.parts ∙ sym (append-nil (advertised s));
+    }
 is_whole s asked sent owed (inr h) =
     record {
       answers = h.answers ++ (h.front ++ owed);
-      answered = subst (λ (qs : List Asked). AreAnswers s.repo qs (h.answers ++ (h.front ++ owed))) (sym h.whole) (answers_more s.repo h.earlier h.answers h.last (h.front ++ owed) h.answered h.answer);
-      parts = ap (λ (l : List Pkt). l ++ owed) h.sent_is ∙ append_assoc (advertised s ++ h.answers) h.front owed ∙ append_assoc (advertised s) h.answers (h.front ++ owed);
+      answered = subst (λ (qs : List Asked). AreAnswers s.repo qs (h.answers ++ (h.front ++ owed)))
+          (sym h.whole) (answers_more s.repo h.earlier h.answers h.last (h.front ++ owed) h.answered h.answer);
+      parts = ap (λ (l : List Pkt). l ++ owed) h.sent_is ∙ append_assoc (advertised s ++ h.answers) h.front owed
+          ∙ append_assoc (advertised s) h.answers (h.front ++ owed);
     }
 
 -- all was sent: the advertisement, and an answer to each request
@@ -68,7 +76,8 @@ all_sent s asked sent h =
     record { answers = whole.answers; answered = whole.answered; sent_is = sym (append-nil sent) ∙ whole.parts }
 
 -- a further request was asked, and its whole answer is owed
-pub one_more_asked : (s : Setting) (asked : List Asked) (sent owed : List Pkt) (q : Asked) → IsSent s asked sent [] → IsAnswer s.repo q owed → IsSent s (asked ++ q ∷ []) sent owed
+pub one_more_asked : (s : Setting) (asked : List Asked) (sent owed : List Pkt) (q : Asked)
+    → IsSent s asked sent [] → IsAnswer s.repo q owed → IsSent s (asked ++ q ∷ []) sent owed
 one_more_asked s asked sent owed q before is =
     let all = all_sent s asked sent before in
     inr (record {

@@ -18,7 +18,8 @@ use Rattle.git_server.proofs.Sent.{all_sent}
 use Rattle.git_server.proofs.Outcomes.{stays_as}
 use Rattle.git_server.proofs.Going.{goes_nowhere, goes_on, no_outcome, owes_nothing, owes_some}
 
-module _ {R A : Type 0} (state : R → RepoState) (server : Server R A) (s : Setting) (used : List ℕ) (over : Bool) (given : List ℕ) (r : Running state s used over given server) where
+module _ {R A : Type 0} (state : R → RepoState) (server : Server R A) (s : Setting) (used : List ℕ)
+    (over : Bool) (given : List ℕ) (r : Running state s used over given server) where
   moment : (o : Option Outcome) → outcome_of server ≡ o → StandsBy o s used over given server → IsRunning s used over given
   moment None none (not_over, h) =
       inl (
@@ -60,7 +61,8 @@ module _ {R A : Type 0} (state : R → RepoState) (server : Server R A) (s : Set
         fit = h.fit;
       }
 
-module _ {R A : Type 0} (state : R → RepoState) (server : Server R A) (s : Setting) (used : List ℕ) (over : Bool) (given : List ℕ) (r : Running state s used over given server) (wants : wants_input server ≡ true) where
+module _ {R A : Type 0} (state : R → RepoState) (server : Server R A) (s : Setting) (used : List ℕ) (over : Bool)
+    (given : List ℕ) (r : Running state s used over given server) (wants : wants_input server ≡ true) where
   -- a server that waits for bytes has given the advertisement and each answer whole
   pub all_answered : IsAnswered s used given
   all_answered =

@@ -12,7 +12,7 @@ use Rattle.git_server.specs.declared.outcome.Outcome.TheVariants.{Refused}
 
 refused_too_long : (s : Setting) (over : Bool) (left : List Given) (rest : List ℕ) (end : ℕ) (fault : Fault) → IsRefused s over left rest end fault
     → fault.kind ≡ StreamTooLong → (over ≡ false) × (end ≡ last_position)
-refused_too_long s over left rest end fault (inl r) is = absurd (told_of_packets s.offer s.limit left fault r.told is)
+refused_too_long s over left rest end fault (inl r) is = absurd (told_of_packets StreamTooLong tt s.offer s.limit left fault r.told is)
 refused_too_long s over left rest end fault (inr (inl r)) is =
     let stops : StopsBy (end - length rest) rest end StreamTooLong fault.offset =
     subst (λ (k : Kind). StopsBy (end - length rest) rest end k fault.offset) is r.stops in

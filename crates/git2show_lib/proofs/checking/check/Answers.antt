@@ -5,7 +5,8 @@ use Rattle.git2show_lib.specs.CheckedStreams.{Judges, nothing_asked}
 use Rattle.git2show_lib.specs.declared.checking.Left.{Left}
 use Rattle.git2show_lib.specs.declared.checking.CheckFault.TheVariants.{WriteFault}
 use Rattle.git2show_lib.proofs.Asking.{unread_yet}
-use Rattle.git2show_lib.proofs.Transcribing.{ends_at, ends_at_write, flush_failed, responses_stopped, requests_stopped, limit_met, read_failed, all_was_used, some_was_left, read_more, read_kept, some_left, no_more_left, taken_some}
+use Rattle.git2show_lib.proofs.Transcribing.{ends_at, ends_at_write, flush_failed, responses_stopped, requests_stopped, limit_met, read_failed}
+use Rattle.git2show_lib.proofs.Transcribing.{all_was_used, some_was_left, read_more, read_kept, some_left, no_more_left, taken_some}
 use Rattle.git2show_lib.proofs.checking.check.Goals as goal
 
 pub returns-in_err-read_requests-clause-fault : goal.returns-in_err-read_requests-clause-fault

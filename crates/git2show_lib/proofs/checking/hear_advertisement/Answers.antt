@@ -4,7 +4,8 @@ use Rattle.git_pkt.specs.Told.{inner_of, has_ended}
 use Rattle.git_client.specs.Client.{wants_input}
 use Rattle.git2show_lib.specs.CheckedStreams.{Transcribed, TranscribedUntil}
 use Rattle.git2show_lib.specs.declared.checking.CheckFault.{CheckFault}
-use Rattle.git2show_lib.proofs.Transcribing.{transcribed_nothing, transcribed_on, transcribed_until, transcribed_end, none_left, rest_is, until_fault, within_taken}
+use Rattle.git2show_lib.proofs.Transcribing.{transcribed_nothing, transcribed_on, transcribed_until}
+use Rattle.git2show_lib.proofs.Transcribing.{transcribed_end, none_left, rest_is, until_fault, within_taken}
 use Rattle.git2show_lib.proofs.checking.hear_advertisement.Goals as goal
 
 pub loop-init : goal.loop-init

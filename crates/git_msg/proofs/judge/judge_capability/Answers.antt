@@ -11,10 +11,12 @@ use Rattle.git_msg.specs.JudgedLine.{line_of}
 use Rattle.git_msg.specs.Lines.{HasKey, IsLineOf, IsCapabilityLine, capability_checks, key_checks}
 use Rattle.git_msg.proofs.judge.judge_capability.Goals as goal
 
-by_its_key : (offer : Offer) (first : Bool) (text : List ℕ) (key : Key) (value : Option (List ℕ)) (result : Result Noted Kind) → ¬ IsErrorText text → HasKey text key value
+by_its_key : (offer : Offer) (first : Bool) (text : List ℕ) (key : Key) (value : Option (List ℕ)) (result : Result Noted Kind)
+    → ¬ IsErrorText text → HasKey text key value
     → MatchResult result (λ noted. Passes (key_checks offer first key value) × IsLineOf key value (line_of noted)) (Refuses (key_checks offer first key value))
     → MatchResult result (λ noted. IsCapabilityLine offer first text (line_of noted)) (Refuses (capability_checks offer first text))
-by_its_key offer first text key value (Ok noted) clean has h = record { no_error = clean; key = key; value = value; has_key = has; allowed = h.0; line_is = h.1 }
+by_its_key offer first text key value (Ok noted) clean has h =
+    record { no_error = clean; key = key; value = value; has_key = has; allowed = h.0; line_is = h.1 }
 by_its_key offer first text key value (Err kind) clean has h =
     inr (clean, inr ((has.word, value, has.is_capability), inl (key, value, has, h)))
 

@@ -7,4 +7,5 @@ use Rattle.git_msg.proofs.offers.has_word.Goals as goal
 pub returns : goal.returns
 returns c =
     any_from_yields_List (λ w. bytes_eq w c.args.word.now) _ _ _ c.any.ensures.ran
-    (YieldsList-from_slice_split _ (λ b. eqb b 32) c.args.value.now c.split.ensures.rest c.split.ensures.done c.split.ensures.closure (λ x b q k. search (rules, tests))) (λ x b q k. search (rules, tests))
+    (YieldsList-from_slice_split _ (λ b. eqb b 32) c.args.value.now c.split.ensures.rest c.split.ensures.done c.split.ensures.closure
+    (λ x b q k. search (rules, tests))) (λ x b q k. search (rules, tests))

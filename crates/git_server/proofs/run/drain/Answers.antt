@@ -8,7 +8,8 @@ loop-bytes-preserved g c =
     record {
       sound = search rules;
       outcome = pulls_on _ _ _ c.loop-bytes.invariant.outcome c.pull.follows.holds-at-none.outcome;
-      writes = writes_packet g.R.Repo.state _ _ _ _ _ _ _ c.in-Packet.bytes c.loop-bytes.invariant.writes c.pull.follows.holds-at-none c.in-Packet.is (search rules);
+      writes = writes_packet g.R.Repo.state _ _ _ _ _ _ _ c.in-Packet.bytes
+          c.loop-bytes.invariant.writes c.pull.follows.holds-at-none c.in-Packet.is (search rules);
     }
 
 pub returns-in-Finished-clause-ok : goal.returns-in-Finished-clause-ok
@@ -19,4 +20,5 @@ returns-in-Finished-clause-ok g c =
 pub returns-in_err-send-in-Packet-clause-front : goal.returns-in_err-send-in-Packet-clause-front
 returns-in_err-send-in-Packet-clause-front g c =
     on_err_at _ _ _ c.from_residual.ensures.1
-    (writes_front g.R.Repo.state _ _ _ _ _ _ _ c.in-Packet.bytes c.loop-bytes.invariant.writes c.pull.follows.holds-at-none c.in-Packet.is c.in_err-send-in-Packet.ensures.err)
+    (writes_front g.R.Repo.state _ _ _ _ _ _ _ c.in-Packet.bytes c.loop-bytes.invariant.writes
+    c.pull.follows.holds-at-none c.in-Packet.is c.in_err-send-in-Packet.ensures.err)

@@ -9,6 +9,7 @@ pub returns-in_err-flush-in-Some-clause-front : goal.returns-in_err-flush-in-Som
 returns-in_err-flush-in-Some-clause-front g c =
     let held = g.W.Write.contents (inner_of c.args.writer.now) in
     let written = g.W.Write.contents (inner_of c.drain.new.writer) in
-    let end = subst (λ (o : Option Outcome). WritesFor g.R.Repo.state [] held written c.args.server.now c.drain.new.server o) c.in-Some.is c.in_ok-outcome.ensures.ok in
+    let end = subst (λ (o : Option Outcome). WritesFor g.R.Repo.state [] held written c.args.server.now c.drain.new.server o)
+    c.in-Some.is c.in_ok-outcome.ensures.ok in
     on_err_at _ _ _ c.from_residual-in_err-flush-in-Some.ensures.1
     (end_unflushed g.R.Repo.state c.args.server.now c.drain.new.server [] held written _ c.in-Some.outcome end c.in_err-flush-in-Some.ensures.bytes)

@@ -5,7 +5,8 @@ use Rattle.git_pkt.specs.Told.{inner_of}
 use Rattle.git_pkt.proofs.EngineLemmas.{Exchanges-flush, Exchanges-nothing, Exchanges-read_fault, one_more_read}
 use Rattle.git_server.specs.Runs.{WritesFor}
 use Rattle.git_server.specs.declared.outcome.Outcome.{Outcome}
-use Rattle.git_server.proofs.RunLemmas.{turns_on, answered, breaks_off, breaks_unflushed, breaks_closed, ends_at_once, ends_with, ends_closed, end_unflushed, keeps_same, until_at}
+use Rattle.git_server.proofs.RunLemmas.{turns_on, answered, breaks_off, breaks_unflushed, breaks_closed}
+use Rattle.git_server.proofs.RunLemmas.{ends_at_once, ends_with, ends_closed, end_unflushed, keeps_same, until_at}
 use Rattle.git_server.proofs.run.serve.Goals as goal
 
 pub returns-clause-ends : goal.returns-clause-ends
@@ -41,7 +42,8 @@ returns-then-count-eq0-clause-run g c =
     λ s r.
     let left = g.In.Read.remaining (inner_of c.loop.reader) in
     let left_after = g.In.Read.remaining (inner_of c.receive.new.reader) in
-    let nothing : Consumes left left_after [] = subst (λ (n : ℕ). Consumes left left_after (take n c.receive.new.piece)) c.if-count-eq0.true c.in_ok-count.ensures.bytes.0 in
+    let nothing : Consumes left left_after [] =
+    subst (λ (n : ℕ). Consumes left left_after (take n c.receive.new.piece)) c.if-count-eq0.true c.in_ok-count.ensures.bytes.0 in
     ends_closed g.R.Repo.state s c.loop.server c.close.new.self _ _ left left_after _ _ (g.W.Write.contents (inner_of c.flush-in-loop.new.writer)) _ _ _
     (c.loop.invariant.run s r) c.in_ok-flush-2.ensures.bytes nothing c.close.ensures.closes c.in_ok-outcome-2.ensures.ok (search rules)
 
@@ -51,7 +53,8 @@ returns-in-Some-2-clause-run g c =
     let bytes = take c.in_ok-count.count c.receive.new.piece in
     let flushed = g.W.Write.contents (inner_of c.flush-in-loop.new.writer) in
     let written = g.W.Write.contents (inner_of c.serve_piece.new.writer) in
-    let end = subst (λ (o : Option Outcome). WritesFor g.R.Repo.state bytes flushed written c.loop.server c.serve_piece.new.server o) c.in-Some-2.is c.in_ok-outcome-3.ensures.ok in
+    let end = subst (λ (o : Option Outcome). WritesFor g.R.Repo.state bytes flushed written c.loop.server c.serve_piece.new.server o)
+    c.in-Some-2.is c.in_ok-outcome-3.ensures.ok in
     ends_with g.R.Repo.state s c.loop.server c.serve_piece.new.server _ _ _ _ _ flushed written _ bytes _ c.in-Some-2.outcome
     (c.loop.invariant.run s r) c.in_ok-flush-2.ensures.bytes c.in_ok-count.ensures.bytes.0 end c.in_ok-flush-3.ensures.bytes c.loop.invariant.wants
 
@@ -60,19 +63,26 @@ loop-preserved g c =
     let bytes = take c.in_ok-count.count c.receive.new.piece in
     let flushed = g.W.Write.contents (inner_of c.flush-in-loop.new.writer) in
     let written = g.W.Write.contents (inner_of c.serve_piece.new.writer) in
-    let all = subst (λ (o : Option Outcome). WritesFor g.R.Repo.state bytes flushed written c.loop.server c.serve_piece.new.server o) c.in_default-2.is c.in_ok-outcome-3.ensures.ok in
+    let all = subst (λ (o : Option Outcome). WritesFor g.R.Repo.state bytes flushed written c.loop.server c.serve_piece.new.server o)
+    c.in_default-2.is c.in_ok-outcome-3.ensures.ok in
     record {
       reads = search rules;
       reader_sound = search rules;
       open_ended = search rules;
       writer_sound = search rules;
       wants = all.wants;
-      brought = one_more_read c.loop.counter c.in_ok-count.count _ _ _ c.receive.new.piece c.loop.invariant.brought c.in_ok-count.ensures.bytes.0 (search rules) (search rules);
-      run = λ s r. turns_on g.R.Repo.state s c.loop.server c.serve_piece.new.server _ _ _ _ _ flushed written bytes (c.loop.invariant.run s r) c.in_ok-flush-2.ensures.bytes c.in_ok-count.ensures.bytes.0 all;
+      brought = one_more_read c.loop.counter c.in_ok-count.count _ _ _ c.receive.new.piece c.loop.invariant.brought c.in_ok-count.ensures.bytes.0
+          (search rules) (search rules);
+      run = λ s r. turns_on g.R.Repo.state s c.loop.server c.serve_piece.new.server _ _ _ _ _ flushed written bytes
+          (c.loop.invariant.run s r) c.in_ok-flush-2.ensures.bytes c.in_ok-count.ensures.bytes.0 all;
     }
 
 pub returns-clause-until : goal.returns-clause-until
-returns-clause-until g c = λ s r. (answered g.R.Repo.state s c.loop.server _ _ _ _ c.loop.invariant.wants (Exchanges-flush (c.loop.invariant.run s r) c.in_ok-flush-4.ensures.bytes), search rules)
+returns-clause-until g c = λ s r. (
+  answered g.R.Repo.state s c.loop.server _ _ _ _ c.loop.invariant.wants
+      (Exchanges-flush (c.loop.invariant.run s r) c.in_ok-flush-4.ensures.bytes),
+  search rules,
+)
 
 pub returns-in_err-outcome-clause-until : goal.returns-in_err-outcome-clause-until
 returns-in_err-outcome-clause-until g c =

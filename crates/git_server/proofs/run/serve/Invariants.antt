@@ -15,6 +15,7 @@ invariant-loop g l = record {
   wants : wants_input l.server ≡ true;
   brought : HasRead l.counter (g.In.Read.remaining (inner_of l.fn.reader)) (g.In.Read.remaining (inner_of l.reader));
   run : (s : Setting) → Running g.R.Repo.state s [] false [] l.fn.server
-      → Exchanges (λ used given. Running g.R.Repo.state s used false given l.server) (g.In.Read.remaining (inner_of l.fn.reader)) (g.In.Read.remaining (inner_of l.reader))
+      → Exchanges (λ used given. Running g.R.Repo.state s used false given l.server)
+      (g.In.Read.remaining (inner_of l.fn.reader)) (g.In.Read.remaining (inner_of l.reader))
       (g.W.Write.contents (inner_of l.fn.writer)) (g.W.Write.contents (inner_of l.writer));
 }

@@ -10,8 +10,10 @@ pub returns-in-Some-clause-ok : goal.returns-in-Some-clause-ok
 returns-in-Some-clause-ok g c =
     let held = g.W.Write.contents (inner_of c.loop-used.writer) in
     let held_after = g.W.Write.contents (inner_of c.drain.new.writer) in
-    let end = subst (λ (o : Option Outcome). WritesFor g.R.Repo.state [] held held_after c.feed-used.new.self c.drain.new.server o) c.in-Some.is c.in_ok-outcome.ensures.ok in
-    writes_piece_end g.R.Repo.state _ c.loop-used.server c.feed-used.new.self _ _ held held_after c.args.bytes.now c.loop-used.used c.feed-used.result c.loop-used.invariant.within
+    let end = subst (λ (o : Option Outcome). WritesFor g.R.Repo.state [] held held_after c.feed-used.new.self c.drain.new.server o)
+    c.in-Some.is c.in_ok-outcome.ensures.ok in
+    writes_piece_end g.R.Repo.state _ c.loop-used.server c.feed-used.new.self _ _ held held_after
+    c.args.bytes.now c.loop-used.used c.feed-used.result c.loop-used.invariant.within
     c.loop-used.invariant.writes c.feed-used.ensures.goes c.in-Some.outcome end c.loop-used.invariant.wants c.feed-used.ensures.in_time
     c.in_ok-outcome.ensures.outcome
 
@@ -19,12 +21,19 @@ pub loop-used-preserved : goal.loop-used-preserved
 loop-used-preserved g c =
     let held = g.W.Write.contents (inner_of c.loop-used.writer) in
     let held_after = g.W.Write.contents (inner_of c.drain.new.writer) in
-    let all = subst (λ (o : Option Outcome). WritesFor g.R.Repo.state [] held held_after c.feed-used.new.self c.drain.new.server o) c.in_default.is c.in_ok-outcome.ensures.ok in
+    let all = subst (λ (o : Option Outcome). WritesFor g.R.Repo.state [] held held_after c.feed-used.new.self c.drain.new.server o)
+    c.in_default.is c.in_ok-outcome.ensures.ok in
     record {
-      within = omega (arith, c.feed-used.ensures.used, ap length (left_of c.args.bytes.now c.loop-used.used c.loop-used.invariant.within), length-drop c.loop-used.used c.args.bytes.now);
+      within = omega (
+        arith,
+        c.feed-used.ensures.used,
+        ap length (left_of c.args.bytes.now c.loop-used.used c.loop-used.invariant.within),
+        length-drop c.loop-used.used c.args.bytes.now,
+      );
       sound = search rules;
       wants = all.wants;
-      writes = writes_piece g.R.Repo.state _ c.loop-used.server c.feed-used.new.self _ _ held held_after c.args.bytes.now c.loop-used.used c.feed-used.result c.loop-used.invariant.within
+      writes = writes_piece g.R.Repo.state _ c.loop-used.server c.feed-used.new.self _ _ held held_after
+          c.args.bytes.now c.loop-used.used c.feed-used.result c.loop-used.invariant.within
           c.loop-used.invariant.writes c.feed-used.ensures.goes all;
     }
 
@@ -33,5 +42,6 @@ returns-in_err-outcome-clause-front g c =
     let held = g.W.Write.contents (inner_of c.loop-used.writer) in
     let held_after = g.W.Write.contents (inner_of c.drain.new.writer) in
     on_err_at _ _ _ c.from_residual.ensures.1
-    (writes_piece_front g.R.Repo.state _ c.loop-used.server c.feed-used.new.self c.drain.new.server _ held held_after c.args.bytes.now c.loop-used.used c.feed-used.result
+    (writes_piece_front g.R.Repo.state _ c.loop-used.server c.feed-used.new.self
+    c.drain.new.server _ held held_after c.args.bytes.now c.loop-used.used c.feed-used.result
     c.loop-used.invariant.within c.loop-used.invariant.writes c.feed-used.ensures.goes c.in_err-outcome.ensures.front)

@@ -10,7 +10,8 @@ invariant-loop-used g l = record {
   within : l.used ≤ length l.bytes;
   sound : has_failed l.writer ≡ has_failed l.fn.writer;
   wants : wants_input l.server ≡ true;
-  writes : WritesOn g.R.Repo.state (take l.used l.bytes) (g.W.Write.contents (inner_of l.fn.writer)) (g.W.Write.contents (inner_of l.writer)) l.fn.server l.server;
+  writes : WritesOn g.R.Repo.state (take l.used l.bytes) (g.W.Write.contents (inner_of l.fn.writer))
+      (g.W.Write.contents (inner_of l.writer)) l.fn.server l.server;
 }
 
 abbrev pub decreases-loop-used : goal.decreases-loop-used

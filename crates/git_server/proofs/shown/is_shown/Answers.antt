@@ -10,7 +10,9 @@ returns-then-starts_with g c =
     sym (passes_here (starts_with nat_eq c.args.name.now) _ c.loop-prefix.count _ here (sym c.starts_with.ensures.value ∙ c.if-starts_with.true))
 
 pub loop-prefix-smaller : goal.loop-prefix-smaller
-loop-prefix-smaller g c = let within : c.loop-prefix.count < length c.args.request.now.asked.ref_prefixes = slice_get_within _ _ _ (sym c.in-Some.ensures.value) in omega arith
+loop-prefix-smaller g c =
+    let within : c.loop-prefix.count < length c.args.request.now.asked.ref_prefixes = slice_get_within _ _ _ (sym c.in-Some.ensures.value) in
+    omega arith
 
 pub loop-prefix-preserved : goal.loop-prefix-preserved
 loop-prefix-preserved g c =
@@ -18,10 +20,12 @@ loop-prefix-preserved g c =
     let within : c.loop-prefix.count < length c.args.request.now.asked.ref_prefixes = slice_get_within _ _ _ here in
     record {
       within = omega arith;
-      none = fails_so_far (starts_with nat_eq c.args.name.now) _ c.loop-prefix.count _ here c.loop-prefix.invariant.none (sym c.starts_with.ensures.value ∙ c.if-starts_with.false);
+      none = fails_so_far (starts_with nat_eq c.args.name.now) _ c.loop-prefix.count _ here c.loop-prefix.invariant.none
+          (sym c.starts_with.ensures.value ∙ c.if-starts_with.false);
     }
 
 pub returns : goal.returns
 returns g c =
-    let said = none_passes (starts_with nat_eq c.args.name.now) _ c.loop-prefix.count (sym c.in_default.ensures.value) c.loop-prefix.invariant.within c.loop-prefix.invariant.none in
+    let said = none_passes (starts_with nat_eq c.args.name.now) _ c.loop-prefix.count
+    (sym c.in_default.ensures.value) c.loop-prefix.invariant.within c.loop-prefix.invariant.none in
     search (rules, said)

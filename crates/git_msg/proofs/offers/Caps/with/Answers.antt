@@ -20,6 +20,8 @@ pub returns-clause-notes : goal.returns-clause-notes
 returns-clause-notes c =
     λ packets line same is.
     let value : c.unwrap_or-value.result.now ≡ value_of (text_of line) =
-    ap (λ (b : Bor (List ℕ)). b.now) c.unwrap_or-value.ensures ∙ value_or_empty (text_of line) c.args.capability.now.key.now c.args.capability.now.value _ refl is in
-    let whole = noted_with_is c.args.self packets line c.args.capability.now.key.now c.unwrap_or-value.result.now same (key_is (text_of line) c.args.capability.now.key.now (option_copied c.args.capability.now.value) is) value in
+    ap (λ (b : Bor (List ℕ)). b.now) c.unwrap_or-value.ensures
+    ∙ value_or_empty (text_of line) c.args.capability.now.key.now c.args.capability.now.value _ refl is in
+    let whole = noted_with_is c.args.self packets line c.args.capability.now.key.now c.unwrap_or-value.result.now same
+    (key_is (text_of line) c.args.capability.now.key.now (option_copied c.args.capability.now.value) is) value in
     cc

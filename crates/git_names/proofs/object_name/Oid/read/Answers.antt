@@ -10,7 +10,8 @@ returns-then-not-read_pairs c =
 pub invariant_of-result : goal.invariant_of-result
 invariant_of-result c =
     let room = length-room c.args.format c.width.result c.width.ensures in
-    let named = IsOid-read c.args.format c.args.text.now c.read_pairs.new.out c.width.result c.width.ensures (c.read_pairs.auto.out ∙ room) c.if-not-read_pairs.ensures in
+    let named = IsOid-read c.args.format c.args.text.now c.read_pairs.new.out c.width.result c.width.ensures
+    (c.read_pairs.auto.out ∙ room) c.if-not-read_pairs.ensures in
     search (rules, named)
 
 pub returns : goal.returns

@@ -7,7 +7,8 @@ write_pairs-requires c =
 
 pub returns-clause-text : goal.returns-clause-text
 returns-clause-text c =
-    rw (← c.self.view_is) (written c.self.inside.format c.self.inside.bytes c.write_pairs.new.out _ _ _ c.digits-digits.ensures c.width.ensures c.self.told c.write_pairs.ensures)
+    rw (← c.self.view_is) (written c.self.inside.format c.self.inside.bytes c.write_pairs.new.out _ _ _
+    c.digits-digits.ensures c.width.ensures c.self.told c.write_pairs.ensures)
 
 pub returns-clause-reads_back : goal.returns-clause-reads_back
 returns-clause-reads_back c = rw (← c.self.view_is) (reads_back-hex_of _ c.self.invariant)

@@ -30,10 +30,12 @@ returns-clause-moves c =
     let within : c.min-used.result ≤ length c.args.piece.now = omega arith in
     let taken : length (take c.min-used.result c.args.piece.now) ≡ c.min-used.result = length-take-le _ _ within in
     let held : c.truncate.new.self.items ≡ take c.min-used.result c.args.piece.now =
-    c.truncate.ensures.items ∙ subst (λ (n : ℕ). take n c.place.new.hold.items ≡ take c.min-used.result c.args.piece.now) (zero-add (length (take c.min-used.result c.args.piece.now)) ∙ taken) c.place.ensures.placed in
+    c.truncate.ensures.items ∙ subst (λ (n : ℕ). take n c.place.new.hold.items ≡ take c.min-used.result c.args.piece.now)
+    (zero-add (length (take c.min-used.result c.args.piece.now)) ∙ taken) c.place.ensures.placed in
     moves_from c.args.self.now _ _ _ Whole (rest_of_shut c.args.self.now c.requires.between) (omega arith) (record {
       no_fault = c.requires.sound;
       closed = c.requires.between;
       held = held;
-      whole = begun_whole _ _ c.in-Number.field within head.0 head.1 (allowed_unrefused _ _ c.field_fault.ensures (λ kind e. c.in_default.not-Some kind e)) (omega arith);
+      whole = begun_whole _ _ c.in-Number.field within head.0 head.1
+          (allowed_unrefused _ _ c.field_fault.ensures (λ kind e. c.in_default.not-Some kind e)) (omega arith);
     })

@@ -15,7 +15,8 @@ returns-in-Some c = search rules
 pub returns-in-Open : goal.returns-in-Open
 returns-in-Open c =
     let moves : Moves c.args.self.now (take c.step-step.result.used c.args.piece.now) Open c.step-step.new.self =
-    subst (λ (p : Progress). Moves c.args.self.now (take c.step-step.result.used c.args.piece.now) p c.step-step.new.self) c.in-Open.is c.step-step.ensures.moves in (
+    subst (λ (p : Progress). Moves c.args.self.now (take c.step-step.result.used c.args.piece.now) p c.step-step.new.self)
+    c.in-Open.is c.step-step.ensures.moves in (
       (
         refl,
         (λ _. tt),
@@ -34,7 +35,8 @@ returns-in-Open c =
 pub returns-in-Failed : goal.returns-in-Failed
 returns-in-Failed c =
     let moves : Moves c.args.self.now (take c.step-step.result.used c.args.piece.now) (Failed c.in-Failed.fault) c.step-step.new.self =
-    subst (λ (p : Progress). Moves c.args.self.now (take c.step-step.result.used c.args.piece.now) p c.step-step.new.self) c.in-Failed.is c.step-step.ensures.moves in
+    subst (λ (p : Progress). Moves c.args.self.now (take c.step-step.result.used c.args.piece.now) p c.step-step.new.self)
+    c.in-Failed.is c.step-step.ensures.moves in
     let shown : ShownByFeed c.in-Failed.fault c.step-step.result.used c.args.piece.now =
     subst (λ (p : Progress). IsShown p c.step-step.result.used c.args.piece.now) c.in-Failed.is c.step-step.ensures.shown in (
       (
@@ -58,7 +60,8 @@ returns-in-Failed c =
 pub returns-in-Whole : goal.returns-in-Whole
 returns-in-Whole c =
     let moves : Moves c.args.self.now (take c.step-step.result.used c.args.piece.now) Whole c.step-step.new.self =
-    subst (λ (p : Progress). Moves c.args.self.now (take c.step-step.result.used c.args.piece.now) p c.step-step.new.self) c.in-Whole.is c.step-step.ensures.moves in
+    subst (λ (p : Progress). Moves c.args.self.now (take c.step-step.result.used c.args.piece.now) p c.step-step.new.self)
+    c.in-Whole.is c.step-step.ensures.moves in
     let behind = whole_behind c.args.self.now c.step-step.new.self _ moves in
     let uses = whole_uses c.args.self.now c.step-step.new.self _ _ moves c.packet.ensures in (
       (
@@ -66,7 +69,13 @@ returns-in-Whole c =
         (λ _. tt),
         record {
           reads = carry_whole _ _ _ _ c.in_default.is moves c.packet.ensures (omega (arith, behind, c.len.ensures.value));
-          tells = (omega (arith, uses, length-take-le c.step-step.result.used c.args.piece.now c.step-step.ensures.used), moves.arrives.no_fault, moves.arrives.closed, c.packet.ensures, omega (arith, behind, c.len.ensures.value));
+          tells = (
+            omega (arith, uses, length-take-le c.step-step.result.used c.args.piece.now c.step-step.ensures.used),
+            moves.arrives.no_fault,
+            moves.arrives.closed,
+            c.packet.ensures,
+            omega (arith, behind, c.len.ensures.value),
+          );
           news = λ f sound is. absurd (cc);
           stays = λ f is. absurd (c.in_default.not-Some f is);
           keeps = c.step-step.ensures.keeps;

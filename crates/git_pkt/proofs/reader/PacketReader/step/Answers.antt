@@ -18,7 +18,8 @@ returns-in-Open-clause-moves c =
     grind (arith, common_steps) in
     let moves : Moves c.args.self.now (take c.gather-step.result.used c.args.piece.now) Open c.gather-step.new.self =
     subst (λ (l : List ℕ). Moves c.args.self.now l Open c.gather-step.new.self) taken
-    (subst (λ (p : Progress). Moves c.args.self.now (take c.gather-step.result.used (take room c.args.piece.now)) p c.gather-step.new.self) c.in-Open.is c.gather-step.ensures.moves) in
+    (subst (λ (p : Progress). Moves c.args.self.now (take c.gather-step.result.used (take room c.args.piece.now)) p c.gather-step.new.self)
+    c.in-Open.is c.gather-step.ensures.moves) in
     let long : length (take c.gather-step.result.used c.args.piece.now) ≡ c.gather-step.result.used = length-take-le _ _ (omega arith) in
     let last : position_of c.gather-step.new.self ≡ last_position = omega (arith, moves.position, c.args.self.now.within) in
     stopped_at_last c.args.self.now c.gather-step.new.self _ _ _ moves c.stop-progress.ensures.told last

@@ -15,13 +15,15 @@ returns-in-Err-clause-closes g c =
 pub returns-in-Between-clause-closes : goal.returns-in-Between-clause-closes
 returns-in-Between-clause-closes g c =
     let between = c.in_default.ensures.between in
-    closes_between g.R.Repo.state c.args.self.now _ c.requires (record { offer = refl; answers = refl; requests = refl }) c.in-Between.is refl between.1 between.2
+    closes_between g.R.Repo.state c.args.self.now _ c.requires
+    (record { offer = refl; answers = refl; requests = refl }) c.in-Between.is refl between.1 between.2
 
 pub returns-clause-closes : goal.returns-clause-closes
 returns-clause-closes g c =
     let old = c.args.self.now in
     let open_ended = no_outcome old.phase c.requires in
     let between = c.in_default.ensures.between in
-    closes_within g.R.Repo.state old _ (record { kind = Truncated; offset = c.position.result }) c.requires (record { offer = refl; answers = refl; requests = refl })
+    closes_within g.R.Repo.state old _ (record { kind = Truncated; offset = c.position.result }) c.requires
+    (record { offer = refl; answers = refl; requests = refl })
     (is_within old.phase c.requires c.in_default-phase.not-Between) (search rules) (old.sound open_ended) (old.ready open_ended) between.1 between.2 refl
     (c.position.ensures ∙ ap position_of between.0)

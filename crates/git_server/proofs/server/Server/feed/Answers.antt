@@ -1,4 +1,5 @@
-use Rattle.std.proofs.Common.{rules, ◌++◌, ◌⊎◌, ◌<◌, inl, inr, ℕ, List, ◌≡◌, ◌+◌, ◌-◌, true, false, take, drop, length, arith, subst, ap, sym, ◌∙◌, [], length-drop}
+use Rattle.std.proofs.Common.{rules, ◌++◌, ◌⊎◌, ◌<◌, inl, inr, ℕ, List, ◌≡◌, ◌+◌, ◌-◌, true, false}
+use Rattle.std.proofs.Common.{take, drop, length, arith, subst, ap, sym, ◌∙◌, [], length-drop}
 use Rattle.git_pkt.proofs.Pieces.{left_of, take_joined}
 use Rattle.git_server.specs.ServerCalls.{Goes}
 use Rattle.git_server.specs.Server.{wants_input}
@@ -29,7 +30,8 @@ loop-used-preserved g c =
     c.loop-used.invariant.goes c.step-used.ensures.goes in
     record {
       within = omega (arith, c.step-used.ensures.used, ap length (left_of piece done c.loop-used.invariant.within), length-drop done piece);
-      goes = subst (λ (l : List ℕ). Goes g.R.Repo.state l [] c.args.self.now c.step-used.new.self) (take_joined piece done c.step-used.result c.loop-used.invariant.within) both;
+      goes = subst (λ (l : List ℕ). Goes g.R.Repo.state l [] c.args.self.now c.step-used.new.self)
+          (take_joined piece done c.step-used.result c.loop-used.invariant.within) both;
       moves = λ loud. inr (more_used done c.step-used.result _ c.step-used.ensures.moves);
       in_time =
           λ s so_far over before r wants fault ended too_long.

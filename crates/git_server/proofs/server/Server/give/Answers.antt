@@ -7,7 +7,9 @@ use Rattle.git_server.specs.declared.answer.Answer.TheVariants.{References}
 use Rattle.git_server.specs.declared.server.Phase.{Phase}
 use Rattle.git_server.specs.declared.server.Phase.TheVariants.{Answering, Between}
 use Rattle.git_server.proofs.Giving.{gives}
-use Rattle.git_server.proofs.Owing.{line_behind, fewer_lines, flush_stays, flush_unasked, answer_next, fewer_answers, is_advertising, is_advertised, is_answering, is_between, same_outcome, left_stays, refusal_behind, refusal_outcome, refusal_left, none_kept_in_advertising}
+use Rattle.git_server.proofs.Owing.{line_behind, fewer_lines, flush_stays, flush_unasked, answer_next, fewer_answers}
+use Rattle.git_server.proofs.Owing.{is_advertising, is_advertised, is_answering, is_between, same_outcome, left_stays}
+use Rattle.git_server.proofs.Owing.{refusal_behind, refusal_outcome, refusal_left, none_kept_in_advertising}
 use Rattle.git_server.proofs.server.Server.give.Goals as goal
 
 pub returns-in-Advertising : goal.returns-in-Advertising
@@ -17,7 +19,8 @@ returns-in-Advertising g c =
     let was = is_advertising old.phase c.in-Advertising.line c.in-Advertising.is in
     let is = is_advertised _ c.next.result c.advertising.ensures in
     gives g.R.Repo.state old _ _ c.write.ensures (record { offer = refl; answers = refl; requests = refl })
-    (line_behind old.offer repo old.phase c.advertising.result c.in-Advertising.line c.next.result _ c.in-Advertising.is refl c.next.ensures c.advertising.ensures)
+    (line_behind old.offer repo old.phase c.advertising.result c.in-Advertising.line
+    c.next.result _ c.in-Advertising.is refl c.next.ensures c.advertising.ensures)
     (fewer_lines old.offer repo old.phase c.advertising.result c.in-Advertising.line c.next.result c.in-Advertising.is c.next.ensures c.advertising.ensures)
     (same_outcome old.phase _ was is) (left_stays old.phase _ was is)
     (λ packets h. flush_unasked c.next.result _ c.advertising.ensures packets) (omega (arith, none_kept_in_advertising c.next.result _ c.advertising.ensures))
@@ -77,4 +80,5 @@ returns-in-Refusing g c =
     gives g.R.Repo.state old _ (error_packet c.in-Refusing.fault) c.write_error.ensures (record { offer = refl; answers = refl; requests = refl })
     (refusal_behind old.offer repo old.phase c.in-Refusing.fault _ c.in-Refusing.is refl)
     (omega (arith, ap (most_owed old.offer repo) c.in-Refusing.is))
-    (refusal_outcome old.phase c.in-Refusing.fault c.in-Refusing.is) (refusal_left old.phase c.in-Refusing.fault c.in-Refusing.is) (λ packets h. tt) (omega arith)
+    (refusal_outcome old.phase c.in-Refusing.fault c.in-Refusing.is)
+    (refusal_left old.phase c.in-Refusing.fault c.in-Refusing.is) (λ packets h. tt) (omega arith)
