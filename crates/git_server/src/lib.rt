@@ -10,6 +10,7 @@ pub mod laws;
 mod list_repo;
 mod outcome;
 mod packets;
+mod packing;
 mod refusal;
 mod repo;
 mod requests;
