@@ -1,8 +1,8 @@
 # Cases in which the real Git clones from our program, and what it has then is compared with what Git has that clones the
 # same repository from Git itself.
 
-# history FOLDER FORMAT: a repository of Git's own, with branches that part and meet, tags of every kind, and a symbolic branch.
-history() {
+# write_history FOLDER FORMAT: a repository of Git's own, with branches that part and meet, tags of every kind, and a symbolic branch.
+write_history() {
     git init -q -b main --object-format="$2" "$1"
     (
         cd "$1"
@@ -47,23 +47,23 @@ offer() {
 write_histories() {
     local format
     for format in sha1 sha256; do
-        history "own-$format" "$format"
-        offer "own-$format"
+        write_history "history-$format" "$format"
+        offer "history-$format"
         git init -q -b main --object-format="$format" "empty-$format"
         git -C "empty-$format" config lsrefs.unborn ignore
         offer "empty-$format"
     done
-    large_history
-    offer large
+    write_heavy
+    offer heavy
 }
 
 # A repository with a file that cannot be packed any smaller.
-large_history() {
-    git init -q -b main large
-    git -C large config core.compression 0
-    head -c 21000000 /dev/urandom > large/random
-    git -C large add random
-    git -C large -c user.name=nobody -c user.email=nobody@example.org commit -q -m large
+write_heavy() {
+    git init -q -b main heavy
+    git -C heavy config core.compression 0
+    head -c 21000000 /dev/urandom > heavy/random
+    git -C heavy add random
+    git -C heavy -c user.name=nobody -c user.email=nobody@example.org commit -q -m heavy
 }
 
 # offered NAME [OPTION..]: what was written of a repository, as our program serves it and as Git is to name it.
@@ -132,34 +132,34 @@ has_all() {
 }
 
 case_git_clones() {
-    clones own-sha1
+    clones history-sha1
     has_references 12
     sent command=fetch object-format=sha1 ofs-delta done
 }
 
 case_git_clones_sha256() {
-    clones own-sha256
+    clones history-sha256
     has_references 12
     sent command=fetch object-format=sha256 ofs-delta done
 }
 
 case_git_clones_bare() {
-    clones own-sha1 --bare
+    clones history-sha1 --bare
     has_references 10
 }
 
 case_git_clones_a_mirror() {
-    clones own-sha1 --mirror
-    has_all own-sha1
+    clones history-sha1 --mirror
+    has_all history-sha1
 }
 
 case_git_clones_a_mirror_of_sha256() {
-    clones own-sha256 --mirror
-    has_all own-sha256
+    clones history-sha256 --mirror
+    has_all history-sha256
 }
 
 case_git_clones_without_tags() {
-    clones own-sha1 --no-tags
+    clones history-sha1 --no-tags
     has_references 6
     expect_line 'the branches' 'refs/remotes/origin/alone' <(git -C ours for-each-ref --format='%(refname)')
 }
@@ -167,8 +167,8 @@ case_git_clones_without_tags() {
 # The pack has all objects, so Git asks for the branch alone and takes each tag along with it. The same pack from Git itself
 # would have fewer tags, so what is compared is a clone of that branch whose tags are fetched as well.
 case_git_clones_a_branch_alone() {
-    clone "$(offered own-sha1)" ours --single-branch --branch alone
-    clone_from_git own-sha1 --single-branch --branch alone
+    clone "$(offered history-sha1)" ours --single-branch --branch alone
+    clone_from_git history-sha1 --single-branch --branch alone
     git -C theirs fetch -q --tags origin alone
     same_clones
     has_references 8
@@ -178,21 +178,21 @@ case_git_clones_a_branch_alone() {
 
 # A pack of that branch and its tags alone, as Git itself packs them for it.
 case_git_clones_a_branch_alone_from_its_own_pack() {
-    cp own-sha1.repo branch.repo
-    git -C own-sha1 pack-objects -q --revs --include-tag --stdout <<< refs/heads/alone > branch.pack
+    cp history-sha1.repo branch.repo
+    git -C history-sha1 pack-objects -q --revs --include-tag --stdout <<< refs/heads/alone > branch.pack
     clone "$(offered branch)" ours --single-branch --branch alone
-    clone_from_git own-sha1 --single-branch --branch alone
+    clone_from_git history-sha1 --single-branch --branch alone
     same_clones
     sent include-tag
 }
 
 case_git_clones_a_branch_alone_without_tags() {
-    clones own-sha1 --single-branch --branch topic --no-tags
+    clones history-sha1 --single-branch --branch topic --no-tags
     has_references 2
 }
 
 case_git_clones_a_tag() {
-    clones own-sha256 --branch topical
+    clones history-sha256 --branch topical
     has_references 11
 }
 
@@ -208,7 +208,7 @@ case_git_clones_an_empty_repository_of_sha256() {
 }
 
 case_git_clones_where_no_branch_is_checked_out() {
-    git clone -q own-sha1 detached
+    git clone -q history-sha1 detached
     git -C detached checkout -q --detach origin/alone
     git -C detached -c user.name=nobody -c user.email=nobody@example.org commit -q --allow-empty -m 'on no branch'
     offer detached
@@ -217,19 +217,19 @@ case_git_clones_where_no_branch_is_checked_out() {
 }
 
 case_git_clones_a_pack_of_20_megabytes() {
-    [ "$(wc -c < large.pack)" -ge 21000000 ] || differs 'a pack that is too small'
-    clones large
-    cmp large/random ours/random || differs 'another file'
-    clones large --mirror
-    has_all large
+    [ "$(wc -c < heavy.pack)" -ge 21000000 ] || differs 'a pack that is too small'
+    clones heavy
+    cmp heavy/random ours/random || differs 'another file'
+    clones heavy --mirror
+    has_all heavy
 }
 
 # A repository without a commit takes what another has. Git that has commits of its own says so, which is not answered yet.
 case_git_fetches_into_an_empty_repository() {
     git init -q --bare taking
-    run git -C taking -c protocol.version=2 -c protocol.ext.allow=always fetch -q "$(offered own-sha1)" '+refs/*:refs/*'
+    run git -C taking -c protocol.version=2 -c protocol.ext.allow=always fetch -q "$(offered history-sha1)" '+refs/*:refs/*'
     expect 0 /dev/null /dev/null
-    git -C own-sha1 for-each-ref > wanted
+    git -C history-sha1 for-each-ref > wanted
     git -C taking for-each-ref > written
     expect_same 'the references' wanted written
     git -C taking fsck --full --strict --no-dangling
@@ -254,21 +254,21 @@ refused() {
 
 case_git_is_told_that_an_object_is_not_there() {
     write_patient
-    grep -v '^object ' own-sha1.repo > bare.repo
-    clone "ext::patient serve --repo $room/bare.repo --pack $room/own-sha1.pack" ours
+    grep -v '^object ' history-sha1.repo > bare.repo
+    clone "ext::patient serve --repo $room/bare.repo --pack $room/history-sha1.pack" ours
     refused NotOurs
 }
 
 case_git_is_told_that_it_wants_too_much() {
     write_patient
-    clone "ext::patient serve --repo $room/own-sha1.repo --pack $room/own-sha1.pack --limit 100" ours
+    clone "ext::patient serve --repo $room/history-sha1.repo --pack $room/history-sha1.pack --limit 100" ours
     refused TooMuchKept
 }
 
 # Git looks into a pack itself, and takes none that is cut off.
 case_git_takes_no_pack_that_is_cut_off() {
-    cp own-sha1.repo cut.repo
-    head -c 400 own-sha1.pack > cut.pack
+    cp history-sha1.repo cut.repo
+    head -c 400 history-sha1.pack > cut.pack
     clone "$(offered cut)" ours
     expect_status 128
     [ ! -e ours ] || differs 'a clone of half a pack'
@@ -307,7 +307,7 @@ case_a_killed_client_is_a_write_fault() {
     local client
     write_halting
     rm -rf ours
-    git -c protocol.version=2 -c protocol.ext.allow=always clone -q "ext::halting serve --repo $room/large.repo --pack $room/large.pack" \
+    git -c protocol.version=2 -c protocol.ext.allow=always clone -q "ext::halting serve --repo $room/heavy.repo --pack $room/heavy.pack" \
         ours > /dev/null 2>&1 &
     client=$!
     wait_for halfway

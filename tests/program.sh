@@ -181,6 +181,22 @@ case_serve_keeps_to_its_limit_of_wants() {
     expect 1 <(advertisement sha1; packet 'ERR TooMuchKept at 122') <(fault 'TooMuchKept at 122')
 }
 
+# The usual limit has room for 372,827 wants of 45 bytes. Of each an object name is kept, in 33 bytes, and while they move to a
+# larger place they are there twice.
+case_serve_keeps_no_more_of_a_million_wants() {
+    local at=$((22 + 372827 * 50))
+    {
+        packet command=fetch
+        printf 0001
+        awk -v want="0032want $one" 'BEGIN { for (i = 0; i < 1000000; i++) print want }'
+        packet done
+        printf 0000
+    } > large
+    status=0
+    (ulimit -v 65536 && limited git2show serve --repo wanted.repo --pack wanted.pack < large) > out 2> err || status=$?
+    expect 1 <(advertisement sha1; packet "ERR TooMuchKept at $at") <(fault "TooMuchKept at $at")
+}
+
 # Of a client that goes in the middle of its request nothing is answered but that.
 case_serve_tells_a_fetch_that_is_cut_off() {
     serve_pack < <(fetch $one | head -c 80)
