@@ -1,11 +1,10 @@
 -- One thing after another goes through a buffer.
-use Rattle.std.proofs.Common.{arith, length, length-drop, min, ◌≤◌, ◌≡◌, ℕ, List, [], ◌++◌, Option, ap, sym, ◌∙◌, subst, append_assoc, append-nil}
-use Rattle.std.proofs.Common.{◌+◌, ◌-◌, take, drop}
+use Rattle.std.proofs.Common.{length, ◌≡◌, ℕ, List, [], ◌++◌, Option, ap, sym, ◌∙◌, subst, append_assoc, append-nil}
+use Rattle.std.proofs.lemmas.List.{nil_from_length}
 use Rattle.std.proofs.KnownBytes.{Appends-nil, Appends-trans}
 use Rattle.git_pkt.specs.Told.{AppendsFront}
 use Rattle.git_pkt.proofs.EngineLemmas.{AppendsFront-after, AppendsFront-longer}
-use Rattle.git_pkt.proofs.Escapes.{escaped-append, escaped-parts}
-use Rattle.git_pkt.proofs.Pieces.{left_of, take_joined}
+use Rattle.git_pkt.proofs.Escapes.{escaped-append}
 use Rattle.git_pkt.specs.Escape.{escaped_of}
 use Rattle.git2show_lib.specs.LineBuffer.{Emits, EmitsFront}
 
@@ -41,27 +40,36 @@ front_longer a b x bytes more one =
 pub front_before : (a b : Option (List ℕ)) (x more : List ℕ) → AppendsFront a b x → EmitsFront a b x more
 front_before a b x more one = AppendsFront-longer a b x more one
 
--- a front of the escapes of a front
-front_of_taken : (a b : Option (List ℕ)) (x bytes : List ℕ) (n : ℕ) → EmitsFront a b x (escaped_of (take n bytes)) → EmitsFront a b x (escaped_of bytes)
-front_of_taken a b x bytes n front =
-    subst (λ (l : List ℕ). EmitsFront a b x l) (escaped-parts bytes n) (front_longer a b x (escaped_of (take n bytes)) (escaped_of (drop n bytes)) front)
+-- ---- a loop over the pieces of bytes: those that came so far have gone through the buffer, escaped, and the rest has not
 
--- ---- a loop over bytes: `done` of them are escaped, and `n` more come from what is left, as a slice shows it
+pub record EscapesTo (held_before held_after : Option (List ℕ)) (before bytes after rest : List ℕ) : Type 0 where
+  pub done : List ℕ
+  pub parts : done ++ rest ≡ bytes
+  pub emits : Emits held_before held_after before (escaped_of done) after
 
-module _ (bytes : List ℕ) (done n : ℕ) (within : done ≤ length bytes) where
-  pub next_within : (most : ℕ) → n ≡ min most (length (take (length bytes - done) (drop done bytes))) → done + n ≤ length bytes
-  next_within most next = omega (arith, ap length (left_of bytes done within), length-drop done bytes)
+pub escapes_begin : (held : Option (List ℕ)) (before bytes rest : List ℕ) → rest ≡ bytes → EscapesTo held held before bytes before rest
+escapes_begin held before bytes rest all = record { done = []; parts = all; emits = emits_nothing held before }
 
-  next_escaped : escaped_of (take done bytes) ++ escaped_of (take n (take (length bytes - done) (drop done bytes))) ≡ escaped_of (take (done + n) bytes)
-  next_escaped =
-      sym (escaped-append (take done bytes) (take n (take (length bytes - done) (drop done bytes)))) ∙ ap escaped_of (take_joined bytes done n within)
+module _ (a b c : Option (List ℕ)) (x bytes y left piece rest : List ℕ) (so_far : EscapesTo a b x bytes y left) (cut : left ≡ piece ++ rest) where
+  pub escapes_on : (z : List ℕ) → Emits b c y (escaped_of piece) z → EscapesTo a c x bytes z rest
+  escapes_on z next = record {
+    done = so_far.done ++ piece;
+    parts = append_assoc so_far.done piece rest ∙ ap (λ (l : List ℕ). so_far.done ++ l) (sym cut) ∙ so_far.parts;
+    emits = subst (λ (l : List ℕ). Emits a c x l z) (sym (escaped-append so_far.done piece))
+        (emits_then a b c x (escaped_of so_far.done) y (escaped_of piece) z so_far.emits next);
+  }
 
-  module _ (a b c : Option (List ℕ)) (x y : List ℕ) (so_far : Emits a b x (escaped_of (take done bytes)) y) where
-    pub escapes_on : (z : List ℕ) → Emits b c y (escaped_of (take n (take (length bytes - done) (drop done bytes)))) z
-        → Emits a c x (escaped_of (take (done + n) bytes)) z
-    escapes_on z next = subst (λ (l : List ℕ). Emits a c x l z) next_escaped (emits_then a b c x (escaped_of (take done bytes)) y _ z so_far next)
+  pub escapes_front : EmitsFront b c y (escaped_of piece) → EmitsFront a c x (escaped_of bytes)
+  escapes_front next =
+      let whole : escaped_of so_far.done ++ (escaped_of piece ++ escaped_of rest) ≡ escaped_of bytes =
+      ap (λ (l : List ℕ). escaped_of so_far.done ++ l) (sym (escaped-append piece rest) ∙ ap escaped_of (sym cut))
+      ∙ sym (escaped-append so_far.done left) ∙ ap escaped_of so_far.parts in
+      subst (λ (l : List ℕ). EmitsFront a c x l) whole
+      (front_after a b c x (escaped_of so_far.done) y (escaped_of piece ++ escaped_of rest) so_far.emits
+      (front_longer b c y (escaped_of piece) (escaped_of rest) next))
 
-    pub escapes_front : EmitsFront b c y (escaped_of (take n (take (length bytes - done) (drop done bytes)))) → EmitsFront a c x (escaped_of bytes)
-    escapes_front next =
-        front_of_taken a c x bytes (done + n)
-        (subst (λ (l : List ℕ). EmitsFront a c x l) next_escaped (front_after a b c x (escaped_of (take done bytes)) y _ so_far next))
+pub escapes_end : (a b : Option (List ℕ)) (x bytes y rest : List ℕ) → EscapesTo a b x bytes y rest → length rest ≡ 0 → Emits a b x (escaped_of bytes) y
+escapes_end a b x bytes y rest so_far none =
+    let all : so_far.done ≡ bytes =
+    sym (append-nil so_far.done) ∙ ap (λ (l : List ℕ). so_far.done ++ l) (sym (nil_from_length rest none)) ∙ so_far.parts in
+    subst (λ (l : List ℕ). Emits a b x (escaped_of l) y) all so_far.emits

@@ -136,12 +136,8 @@ impl Lines {
         ensures fault { IfErr result (λ fault. fault ≡ RunFault.WriteFault) }
         ensures failed { has_failed writer.new ≡ (has_failed writer.old || is_err result) }
     {
-        let mut done = 0;
-        while done < bytes.len() {
-            let rest = &bytes[done..];
-            let count = RUN.min(rest.len());
-            self.emit_run(writer, &rest[..count])?;
-            done += count;
+        for run in bytes.chunks(RUN) {
+            self.emit_run(writer, run)?;
         }
         Ok(())
     }
@@ -167,12 +163,8 @@ impl Lines {
         ensures fault { IfErr result (λ fault. fault ≡ RunFault.WriteFault) }
         ensures failed { has_failed writer.new ≡ (has_failed writer.old || is_err result) }
     {
-        let mut done = 0;
-        while done < bytes.len() {
-            let rest = &bytes[done..];
-            let count = BLOCK.min(rest.len());
-            self.emit_block(writer, &rest[..count])?;
-            done += count;
+        for block in bytes.chunks(BLOCK) {
+            self.emit_block(writer, block)?;
         }
         Ok(())
     }

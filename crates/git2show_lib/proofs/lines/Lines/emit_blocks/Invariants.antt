@@ -1,16 +1,15 @@
-use Rattle.std.proofs.Common.{◌≡◌, ◌-◌, ◌≤◌, length, take}
+use Rattle.std.proofs.Common.{◌≡◌}
+use Rattle.std.specs.Slice.Iter.{chunks_rest, chunks_size}
 use Rattle.git_pkt.specs.Told.{inner_of, has_failed}
-use Rattle.git_pkt.specs.Escape.{escaped_of}
-use Rattle.git2show_lib.specs.LineBuffer.{Emits}
+use Rattle.git2show_lib.specs.declared.lines.TheConstants.{BLOCK}
+use Rattle.git2show_lib.proofs.Sendings.{EscapesTo}
 use Rattle.git2show_lib.proofs.lines.Lines.emit_blocks.Given as goal
 
--- what is done of the bytes has been escaped, and nothing has failed since the call began
-abbrev pub invariant-loop-done : goal.invariant-loop-done
-invariant-loop-done g l = record {
-  within : l.done ≤ length l.bytes;
+-- what came of the bytes has been escaped, and nothing has failed since the call began
+abbrev pub invariant-loop-block : goal.invariant-loop-block
+invariant-loop-block g l = record {
+  size : chunks_size l.block-iterator ≡ BLOCK;
   sound : has_failed l.writer ≡ has_failed l.fn.writer;
-  emits : Emits (g.W.Write.contents (inner_of l.fn.writer)) (g.W.Write.contents (inner_of l.writer)) l.fn.self (escaped_of (take l.done l.bytes)) l.self;
+  escapes : EscapesTo (g.W.Write.contents (inner_of l.fn.writer)) (g.W.Write.contents (inner_of l.writer)) l.fn.self l.bytes l.self
+      (chunks_rest l.block-iterator);
 }
-
-abbrev pub decreases-loop-done : goal.decreases-loop-done
-decreases-loop-done g l = length l.bytes - l.done
