@@ -19,7 +19,8 @@ use Rattle.git_msg.specs.Capability.{IsNoCapability}
 use Rattle.git_msg.specs.Arguments.{Arg, IsArgument, name_of}
 use Rattle.git_msg.specs.Asked.{Asked, ls_refs, fetch, HasWants, asked_by}
 use Rattle.git_msg.specs.Checks.{Refuses, Passes}
-use Rattle.git_msg.specs.Lines.{Line, command, agent, server_option, object_format, delimiter, argument, is_none, commands_of, arguments_of, kept_in}
+use Rattle.git_msg.specs.Lines.{Line, command, agent, server_option, object_format, delimiter, argument, argument_in}
+use Rattle.git_msg.specs.Lines.{is_none, commands_of, arguments_of, kept_in}
 use Rattle.git_msg.specs.Lines.{has_format, has_delimiter, IsWordOf, HasKey, IsAnyCapability, NamesCommand, key_checks, by_key, capability_checks}
 use Rattle.git_msg.specs.Lines.{IsLineOf, IsCapabilityLine, IsFormatMeant, IsOtherFormatMeant, part_checks, argument_checks, IsArgumentLine}
 use Rattle.git_msg.specs.Lines.{IsArgumentText, IsArgumentRefused, end_checks, at_end, flush_checks_in, IsLine, IsLineIn, HasFault, HasFaultIn}
@@ -194,6 +195,39 @@ one_capability_line offer first text line other h k =
     let same = same_key text h.key k.key h.value k.value h.has_key k.has_key in
     one_line_of k.key k.value line other
     (subst (λ (v : Option (List ℕ)). IsLineOf k.key v line) same.1 (subst (λ (x : Key). IsLineOf x h.value line) same.0 h.line_is)) k.line_is
+
+-- what an argument's line is: a payload after the delimiter
+pub record IsArgumentPayload (offer : Offer) (part : Bool) (before : List Line) (packet : Pkt) (arg : Arg) : Type 0 where
+  pub behind : part ≡ true
+  pub bytes : List ℕ
+  pub data_packet : packet ≡ payload bytes
+  pub is_text : IsArgumentText offer before (text_of bytes) arg
+
+no_argument_of : (key : Key) (value : Option (List ℕ)) (arg : Arg) (long : ℕ) → IsLineOf key value (argument arg long) → ⊥
+no_argument_of CommandKey value arg long h = h
+no_argument_of AgentKey value arg long h = h
+no_argument_of ServerOptionKey value arg long h = h
+no_argument_of ObjectFormatKey value arg long h = h
+no_argument_of OtherKey value arg long h = h
+
+argument_payload_in : (part : Bool) (offer : Offer) (limit : ℕ) (before : List Line) (packet : Pkt) (line : Line) (arg : Arg)
+    → IsLineIn part offer limit before packet line → argument_in line ≡ Some arg → IsArgumentPayload offer part before packet arg
+argument_payload_in true offer limit before (payload bytes) (argument a long) arg h is =
+    let same : a ≡ arg = cc in
+    record { behind = refl; bytes = bytes; data_packet = refl; is_text = subst (IsArgumentText offer before (text_of bytes)) same h.is_text }
+argument_payload_in false offer limit before (payload bytes) (argument a long) arg h is = absurd (no_argument_of h.key h.value a long h.line_is)
+argument_payload_in part offer limit before packet (argument a long) arg h is = absurd h
+argument_payload_in part offer limit before packet line arg h is = absurd (cc)
+
+pub argument_payload : (offer : Offer) (limit : ℕ) (before : List Line) (packet : Pkt) (line : Line) (arg : Arg)
+    → IsLine offer limit before packet line → argument_in line ≡ Some arg → IsArgumentPayload offer (has_delimiter before) before packet arg
+argument_payload offer limit before packet line arg h is = argument_payload_in (has_delimiter before) offer limit before packet line arg h is
+
+-- and each payload there is an argument's line
+pub payload_argument : (offer : Offer) (limit : ℕ) (before : List Line) (bytes : List ℕ) (line : Line) → IsLineIn true offer limit before (payload bytes) line
+    → (arg : Arg) × (argument_in line ≡ Some arg) × IsArgumentText offer before (text_of bytes) arg
+payload_argument offer limit before bytes (argument arg long) h = (arg, refl, h.is_text)
+payload_argument offer limit before bytes line h = absurd h
 
 -- a text is one argument
 pub one_argument_text : (offer : Offer) (before : List Line) (text : List ℕ) (a b : Arg)

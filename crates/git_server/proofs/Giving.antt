@@ -46,6 +46,7 @@ module _ {R A : Type 0} (state : R → RepoState) (old new : Server R A) (packet
       no_fault = writes.fault ∙ h.no_fault;
       requests = h.requests;
       takes = subst (Takes h.left) (sym keeps.requests) h.takes;
+      begins = h.begins;
       left_is = left_stays h.left h.left_is;
       flush_at = flush_stays h.packets h.flush_at;
       is_sent = λ later owes. sent_one s h.asked h.sent later packet (h.is_sent (packet ∷ later) (owed_here s later repo owes));

@@ -24,18 +24,18 @@ use Rattle.git_server.specs.declared.answer.Answer.TheVariants.{References, Fetc
 use Rattle.git_server.specs.declared.server.Phase.{Phase}
 use Rattle.git_server.specs.declared.server.Phase.TheVariants.{Advertising, Between, Within, Answering, Refusing, Ended}
 use Rattle.git_server.specs.declared.server.Server.{Server}
-use Rattle.git_server.proofs.Begun.{begins, begun_has_no_flush}
+use Rattle.git_server.proofs.Begun.{begun_has_no_flush}
 use Rattle.git_server.proofs.Sent.{is_whole}
 use Rattle.git_server.proofs.Going.{goes_on, owes_some}
 
 module _ (s : Setting) where
   pub no_request : (left : List Given) → NoFlush left → NoRequest (IsRequest s) left
-  no_request = none_without_flush s.offer s.limit (IsRequest s) (λ front q is. is)
+  no_request = none_without_flush s.offer s.limit (IsRequest s) (λ front q is. (is.0, is.1))
 
   -- packets ask for one list of requests
   pub one_list : (packets : List Given) (asked others : List Asked) (left rest : List Given) → NoRequest (IsRequest s) left → NoRequest (IsRequest s) rest
       → AreRequests (IsRequest s) packets asked left → AreRequests (IsRequest s) packets others rest → (asked ≡ others) × (left ≡ rest)
-  one_list = one_list_of_requests s.offer s.limit (IsRequest s) (λ front q is. is)
+  one_list = one_list_of_requests s.offer s.limit (IsRequest s) (λ front q is. (is.0, is.1))
 
 pub flushes-append : (front back : List Pkt) → flushes (front ++ back) ≡ flushes front + flushes back
 flushes-append [] back = omega arith
@@ -103,11 +103,10 @@ module _ {R A : Type 0} (state : R → RepoState) (server : Server R A) (s : Set
   pub waits_behind_all : outcome_of server ≡ None → IsAnswered s used given → wants_input server ≡ true
   waits_behind_all none all =
       let h = (goes_on state server s used over given none r).1 in
-      let begun = begins s h.left server.requests r.reads_for r.limit (server.sound none) (server.ready none) h.takes in
       let split = one_split 0 used h.packets all.stream.packets h.rest all.rest h.reads.splits.spelled
       all.stream.splits.spelled h.reads.splits.ends all.stream.splits.ends in
       let asked : h.asked ≡ all.asked =
-      (one_list s all.stream.packets h.asked all.asked h.left all.left (no_request s h.left (begun_has_no_flush s h.left begun))
+      (one_list s all.stream.packets h.asked all.asked h.left all.left (no_request s h.left (begun_has_no_flush s h.left h.begins))
       (no_request s all.left (begun_has_no_flush s all.left all.begins))
       (subst (λ (gs : List Given). AreRequests (IsRequest s) gs h.asked h.left) split.packets h.requests) all.stream.requests).0 in
       let (owed, owes) = owes_some server.offer s.repo server.phase in

@@ -3,6 +3,7 @@ pub mod Objects
 pub mod Lists
 pub mod ListRepo
 pub mod Answers
+pub mod Admission
 pub mod Sessions
 pub mod AdvertisementLines
 pub mod NextShown
