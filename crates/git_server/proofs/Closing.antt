@@ -5,22 +5,23 @@ use Rattle.git_pkt.specs.Packets.{Pkt}
 use Rattle.git_pkt.specs.Splits.{Given}
 use Rattle.git_pkt.specs.PacketReader.{is_open, open_length, fault_of, position_of}
 use Rattle.git_pkt.specs.declared.fault.Fault.{Fault}
-use Rattle.git_pkt.specs.declared.fault.Kind.TheVariants.{Truncated}
+use Rattle.git_pkt.specs.declared.fault.Kind.TheVariants.{PackSource, Truncated}
 use Rattle.git_pkt.proofs.KnownRest.{sound_rest, none_between, some_inside, rest_length}
 use Rattle.git_msg.specs.RequestReader.{offer_of, limit_in, kept_so_far}
 use Rattle.git_server.specs.Repository.{RepoState}
 use Rattle.git_server.specs.Answers.{AllFit, spelled}
 use Rattle.git_server.specs.Sessions.{Setting, EndsBy, IsTail}
 use Rattle.git_server.specs.Phases.{LeftIn, outcome_in, Owes, refused_by}
-use Rattle.git_server.specs.Server.{Running, Serves, StandsBy, outcome_of, wants_input}
+use Rattle.git_server.specs.Server.{IsPackLost, Running, Serves, StandsBy, outcome_of, wants_input}
 use Rattle.git_server.specs.ServerCalls.{Closes, Keeps}
 use Rattle.git_server.specs.declared.outcome.Outcome.{Outcome}
 use Rattle.git_server.specs.declared.outcome.Outcome.TheVariants.{Closed, Refused}
 use Rattle.git_server.specs.declared.server.Phase.{Phase}
 use Rattle.git_server.specs.declared.server.Phase.TheVariants.{Between, Within, Ended}
 use Rattle.git_server.specs.declared.server.Server.{Server}
+use Rattle.git_server.proofs.Outcomes.{failures_end, other_lost}
 use Rattle.git_server.proofs.Sent.{all_sent}
-use Rattle.git_server.proofs.Going.{all_sent_of, owes_at, refused_outcome_by, refused_owes_by, serves_of, none_kept_at_end}
+use Rattle.git_server.proofs.Going.{all_sent_of, no_outcome, owes_at, refused_outcome_by, refused_owes_by, serves_of, none_kept_at_end}
 
 none_is_left : {A : Type 0} (phase : Phase A) (left : List Given) → phase ≡ Between → LeftIn phase left → left ≡ []
 none_is_left {A = A} phase left is h = subst (λ (p : Phase A). LeftIn p left) is h
@@ -32,14 +33,17 @@ module _ {R A : Type 0} (state : R → RepoState) (old new : Server R A) where
   ends_here : (s : Setting) (so_far : List ℕ) (over : Bool) (before : List ℕ) (outcome : Outcome) → wants_input old ≡ true → Keeps state old new
       → (r : Running state s so_far over before old) → (h : Serves s so_far before old) → EndsBy s true h.left h.rest (length so_far) outcome
       → outcome_of new ≡ Some outcome → ((owed : List Pkt) → Owes new.offer s.repo new.phase owed → IsTail s h.left outcome owed)
+      → ¬ IsPackLost (Some outcome)
       → Running state s so_far true before new
-  ends_here s so_far over before outcome wants keeps r h ends outcome_is tail =
+  ends_here s so_far over before outcome wants keeps r h ends outcome_is tail other =
       let all = all_sent s h.asked h.sent (all_sent_of state old new [] s so_far before wants h) in
       record {
         offer = keeps.offer ∙ r.offer;
         reads_for = ap offer_of keeps.requests ∙ r.reads_for;
         limit = ap limit_in keeps.requests ∙ r.limit;
-        repo = keeps.answers ∙ r.repo;
+        repo = ap (λ (x : RepoState). x.answers) keeps.repo ∙ r.repo;
+        failures = failures_end (outcome_of old) (outcome_of new) s.failures _ _ (no_outcome old.phase wants)
+            (ap (λ (x : RepoState). x.failures) keeps.repo) (λ lost. other (subst IsPackLost outcome_is lost)) r.failures;
         within = omega (arith, r.within, ap kept_so_far keeps.requests, none_kept_at_end new.phase outcome outcome_is);
         stands = subst (λ (o : Option Outcome). StandsBy o s so_far true before new) (sym outcome_is) (λ owed owes. record {
           asked = h.asked;
@@ -66,7 +70,7 @@ module _ {R A : Type 0} (state : R → RepoState) (old new : Server R A) where
           refl,
           none_is_left old.phase h.left was h.left_is,
           none_between old.reader h.rest known.0 shut,
-        ) (ap outcome_in is) (λ owed owes. sym (owes_at state old new [] s (Ended Closed) owed is owes)),
+        ) (ap outcome_in is) (λ owed owes. sym (owes_at state old new [] s (Ended Closed) owed is owes)) (λ (fault, closed, lost). let e = closed in cc),
         inl (ap outcome_in is),
       )
 
@@ -77,17 +81,19 @@ module _ {R A : Type 0} (state : R → RepoState) (old new : Server R A) where
       → Running state s so_far true before new
   cut_short s so_far over before fault wants keeps r h sound inside name at is =
       let known = sound_rest old.reader 0 so_far h.packets h.rest sound h.reads in
+      let other : fault.kind ≢ PackSource = λ lost. let same : Truncated ≡ PackSource = sym name ∙ lost in cc in
       ends_here s so_far over before (Refused fault) wants keeps r h
-      (inr (inr (record {
+      (inl (inr (inr (record {
         ended = refl;
         begins = h.begins;
         unrefused = known.1;
         inside = inside;
         name = name;
         at = at;
-      })))
+      }))))
       (ap outcome_in is ∙ refused_outcome_by A fault.kind fault)
-      (λ owed owes. refused_owes_by A new.offer s.repo fault.kind fault owed refl (owes_at state old new [] s (refused_by fault.kind fault) owed is owes))
+      (λ owed owes. refused_owes_by A new.offer s h.left fault.kind fault owed other (owes_at state old new [] s (refused_by fault.kind fault) owed is owes))
+      (other_lost fault other)
 
   -- inside a request, between two packets
   pub closes_within : (fault : Fault) → wants_input old ≡ true → Keeps state old new → old.phase ≡ Within

@@ -1,33 +1,42 @@
 -- A server that gives a packet.
-use Rattle.std.proofs.Common.{arith, ◌≡◌, ◌≤◌, ◌<◌, ℕ, Bool, List, [], ◌∷◌, ◌++◌, Option, Some, None, sym, ap, ◌∙◌, append_assoc, append-nil, subst}
+use Rattle.std.proofs.Common.{arith, ◌≡◌, ◌≤◌, ◌<◌, ℕ, Bool, List, [], ◌∷◌, ◌++◌, Option, Some, None, sym, ap, ◌∙◌, append_assoc, append-nil, subst, inl}
 use Rattle.git_pkt.specs.Packets.{Pkt}
 use Rattle.git_pkt.specs.Splits.{Given}
 use Rattle.git_pkt.specs.PacketReader.{held_of}
 use Rattle.git_server.specs.Repository.{Repository, RepoState}
 use Rattle.git_server.specs.Answers.{AllFit, spelled}
 use Rattle.git_server.specs.Sessions.{Setting, IsTail, advertised}
-use Rattle.git_server.specs.Phases.{FlushIsAt, LeftIn, kept_in, Owes}
+use Rattle.git_server.specs.Packs.{broken}
+use Rattle.git_server.specs.Phases.{FlushIsAt, LeftIn, MayBreak, kept_in, most_owed, Owes}
 use Rattle.git_server.specs.WrittenPackets.{Writes}
 use Rattle.git_server.specs.Server.{StandsBy, outcome_of}
-use Rattle.git_server.specs.ServerCalls.{ComesFirst, Gives, Keeps, most_left}
+use Rattle.git_server.specs.ServerCalls.{ComesBefore, Gives, Keeps, most_left}
 use Rattle.git_msg.specs.RequestReader.{Takes, offer_of, limit_in, kept_so_far}
 use Rattle.git_server.specs.declared.outcome.Outcome.{Outcome}
 use Rattle.git_server.specs.declared.server.Server.{Server}
-use Rattle.git_server.proofs.Outcomes.{stays_as}
-use Rattle.git_server.proofs.Sent.{fit_more, sent_one, spelled_one}
+use Rattle.git_server.proofs.Outcomes.{failures_as, stays_as}
+use Rattle.git_server.proofs.Sent.{answering_one, fit_more, sent_one, spelled_one}
 
 module _ {R A : Type 0} (state : R → RepoState) (old new : Server R A) (packet : Pkt)
     (writes : Writes old.reader packet new.reader) (keeps : Keeps state old new)
-    (owed : ComesFirst state packet old new) (less : most_left state new < most_left state old) (same : outcome_of new ≡ outcome_of old)
+    (owed : (later : List Pkt) → Owes new.offer (state old.repo).answers new.phase later → Owes old.offer (state old.repo).answers old.phase (packet ∷ later))
+    (breaks : (later : List Pkt) → MayBreak (state old.repo).answers new.phase later → MayBreak (state old.repo).answers old.phase (packet ∷ later))
+    (less : most_owed new.offer (state old.repo).answers new.phase < most_owed old.offer (state old.repo).answers old.phase)
+    (same : outcome_of new ≡ outcome_of old)
     (left_stays : (left : List Given) → LeftIn old.phase left → LeftIn new.phase left)
     (flush_stays : (packets : List Given) → FlushIsAt old.phase packets → FlushIsAt new.phase packets) (no_more : kept_in new.phase ≤ kept_in old.phase) where
   -- what is owed, as the session's repository has it
   owed_here : (s : Setting) (later : List Pkt) → (state old.repo).answers ≡ s.repo → Owes new.offer s.repo new.phase later
       → Owes old.offer s.repo old.phase (packet ∷ later)
   owed_here s later repo owes =
-      let repo_now : (state new.repo).answers ≡ s.repo = keeps.answers ∙ repo in
       subst (λ (r : Repository). Owes old.offer r old.phase (packet ∷ later)) repo
-      (owed later (subst (λ (r : Repository). Owes new.offer r new.phase later) (sym repo_now) owes))
+      (owed later (subst (λ (r : Repository). Owes new.offer r new.phase later) (sym repo) owes))
+
+  breaks_here : (s : Setting) (later : List Pkt) → (state old.repo).answers ≡ s.repo → MayBreak s.repo new.phase later
+      → MayBreak s.repo old.phase (packet ∷ later)
+  breaks_here s later repo may =
+      subst (λ (r : Repository). MayBreak r old.phase (packet ∷ later)) repo
+      (breaks later (subst (λ (r : Repository). MayBreak r new.phase later) (sym repo) may))
 
   given_on : (before : List ℕ) (sent : List Pkt) → before ≡ spelled sent → before ++ held_of new.reader ≡ spelled (sent ++ packet ∷ [])
   given_on before sent is = ap (λ (l : List ℕ). l ++ held_of new.reader) is ∙ ap (λ (l : List ℕ). spelled sent ++ l) writes.held ∙ sym (spelled_one sent packet)
@@ -50,6 +59,7 @@ module _ {R A : Type 0} (state : R → RepoState) (old new : Server R A) (packet
       left_is = left_stays h.left h.left_is;
       flush_at = flush_stays h.packets h.flush_at;
       is_sent = λ later owes. sent_one s h.asked h.sent later packet (h.is_sent (packet ∷ later) (owed_here s later repo owes));
+      breaks = λ later may. answering_one broken s h.asked h.sent later packet (h.breaks (packet ∷ later) (breaks_here s later repo may));
       given_is = given_on before h.sent h.given_is;
       fit = fit_more h.sent packet h.fit writes.fits;
     },
@@ -73,12 +83,19 @@ module _ {R A : Type 0} (state : R → RepoState) (old new : Server R A) (packet
             (fit_more (advertised s ++ h.answers ++ h.sent) packet h.fit writes.fits);
       }
 
+  -- what is owed, as the repository is now
+  comes_before : ComesBefore state packet old new
+  comes_before later owes = owed later (subst (λ (r : RepoState). Owes new.offer r.answers new.phase later) keeps.repo owes)
+
+  fewer : most_left state new < most_left state old
+  fewer = omega (arith, less, ap (λ (r : RepoState). most_owed new.offer r.answers new.phase) keeps.repo)
+
   pub gives : Gives state old new
   gives =
       record {
         packet = packet;
-        owed = owed;
-        less = less;
+        owed = inl comes_before;
+        less = fewer;
         held = writes.held;
         outcome = stays_as (outcome_of old) (outcome_of new) same;
         goes = λ s so_far over before r.
@@ -87,7 +104,8 @@ module _ {R A : Type 0} (state : R → RepoState) (old new : Server R A) (packet
               offer = keeps.offer ∙ r.offer;
               reads_for = ap offer_of keeps.requests ∙ r.reads_for;
               limit = ap limit_in keeps.requests ∙ r.limit;
-              repo = keeps.answers ∙ r.repo;
+              repo = ap (λ (x : RepoState). x.answers) keeps.repo ∙ r.repo;
+              failures = failures_as (outcome_of old) (outcome_of new) s.failures _ _ same (ap (λ (x : RepoState). x.failures) keeps.repo) r.failures;
               within = omega (arith, r.within, ap kept_so_far keeps.requests, no_more);
               stands = subst (λ (o : Option Outcome). StandsBy o s (so_far ++ []) over (before ++ held_of new.reader) new) (sym same)
                   (subst (λ (l : List ℕ). StandsBy (outcome_of old) s l over (before ++ held_of new.reader) new) (sym (append-nil so_far)) stands);

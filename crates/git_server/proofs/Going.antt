@@ -1,16 +1,18 @@
 -- A server that takes bytes goes on in its session, or ends it.
 use Rattle.std.proofs.Common.{arith, ◌≡◌, ◌≢◌, ℕ, ◌+◌, ◌≤◌, Bool, true, false, List, [], ◌∷◌, ◌++◌, length, Option, Some, None, refl, sym, ap, ◌∙◌}
 use Rattle.std.proofs.Common.{append_assoc, append-nil, subst, inl, inr}
-use Rattle.git_pkt.specs.Packets.{Pkt, flush}
+use Rattle.git_pkt.specs.Packets.{Pkt}
+use Rattle.git_pkt.specs.Faults.{StopsBy}
 use Rattle.git_pkt.specs.Splits.{Given}
 use Rattle.git_pkt.specs.PacketReader.{Reads, is_open, fault_of, ShownByFeed}
 use Rattle.git_pkt.specs.declared.fault.Fault.{Fault}
 use Rattle.git_pkt.specs.declared.fault.Kind.{Kind}
-use Rattle.git_pkt.specs.declared.fault.Kind.TheVariants.{RemoteError, Truncated, StreamTooLong}
+use Rattle.git_pkt.specs.declared.fault.Kind.TheVariants.{NotOurs, PackSource, RemoteError, Truncated, StreamTooLong}
 use Rattle.git_msg.specs.Asked.{Asked}
 use Rattle.git_msg.specs.HeldRequest.{asked_of, kept_of}
 use Rattle.git_msg.specs.Requests.{Asks}
 use Rattle.git_msg.specs.WholeRequests.{AreRequests}
+use Rattle.git_msg.proofs.PacketFaults.{NotOfPackets}
 use Rattle.git_msg.proofs.WholeRequests.{one_more_request, requests_more}
 use Rattle.git_msg.specs.RequestReader.{Takes, offer_of, limit_in, kept_so_far}
 use Rattle.git_msg.specs.declared.offers.Offer.{Offer}
@@ -19,14 +21,15 @@ use Rattle.git_msg.specs.declared.requests.Request.{Request}
 use Rattle.git_msg.specs.declared.requests.Request.TheVariants.{LsRefs as OfLsRefs, Fetch as OfFetch}
 use Rattle.git_server.specs.declared.answer.Answer.TheVariants.{References, Fetching}
 use Rattle.git_server.specs.Repository.{Repository, RepoState}
-use Rattle.git_server.specs.Answers.{AllFit, IsAnswer, error_packet, tail_of, spelled}
 use Rattle.git_server.specs.Admission.{IsToldFor}
+use Rattle.git_server.specs.Packs.{Manner, whole, broken}
+use Rattle.git_server.specs.Answers.{AllFit, IsAnswerAs, error_packet, spelled}
 use Rattle.git_server.specs.AdvertisementLines.{advertisement_from}
-use Rattle.git_server.specs.Sessions.{Begins, IsTail, Setting, IsRequest, IsSent, IsEnding, IsRefused, EndsBy}
-use Rattle.git_server.specs.Phases.{FlushIsAt, LeftIn, Owes, kept_in, outcome_in, reads_in, phase_after, refused_by}
+use Rattle.git_server.specs.Sessions.{Begins, IsTail, IsTailBy, Setting, IsRequest, IsSent, IsAnswering, IsEnding, IsRefused, EndsBy}
+use Rattle.git_server.specs.Phases.{FlushIsAt, LeftIn, MayBreak, Owes, kept_in, outcome_in, reads_in, phase_after, refused_by}
 use Rattle.git_server.specs.AnsweredRequest.{IsAnswerFrom, answer_to, kept_with, references_from}
 use Rattle.git_server.specs.Brought.{Brings, IsBrought, IsWithin}
-use Rattle.git_server.specs.Server.{Running, Serves, StandsBy, outcome_of, wants_input}
+use Rattle.git_server.specs.Server.{IsPackLost, Running, Serves, StandsBy, outcome_of, wants_input}
 use Rattle.git_server.specs.ServerCalls.{Goes, ReadsFor, StopsInTime}
 use Rattle.git_server.specs.declared.outcome.Outcome.{Outcome}
 use Rattle.git_server.specs.declared.outcome.Outcome.TheVariants.{Flush, Refused}
@@ -39,13 +42,16 @@ use Rattle.git_pkt.proofs.KnownRest.{sound_rest, none_between}
 use Rattle.git_server.proofs.Admission.{not_told_for, request_had}
 use Rattle.git_server.proofs.Begun.{begins_more, nothing_begins}
 use Rattle.git_server.proofs.Readers.{stopped_by}
+use Rattle.git_server.proofs.Outcomes.{failures_as, failures_end, other_lost}
+use Rattle.git_server.proofs.PackPackets.{some_packfile}
 use Rattle.git_server.proofs.Sent.{all_sent, one_more_asked}
 
 -- an answer of which nothing was given is the answer
-whole_answer : {A : Type 0} (repo : Repository) (request : Request A) (later : List Pkt) → IsAnswerFrom repo (answer_to request) later
-    → IsAnswer repo (asked_of request) later
-whole_answer repo (OfLsRefs request) later h = h
-whole_answer repo (OfFetch request) later h = h
+whole_answer : {A : Type 0} (manner : Manner) (repo : Repository) (request : Request A) (later : List Pkt)
+    → IsAnswerFrom manner repo (answer_to request) later → IsAnswerAs manner repo (asked_of request) later
+whole_answer whole repo (OfLsRefs request) later h = h
+whole_answer broken repo (OfLsRefs request) later h = h
+whole_answer manner repo (OfFetch request) later h = h
 
 kept_to_answer : {A : Type 0} (request : Request A) → kept_with (answer_to request) ≡ kept_of request
 kept_to_answer (OfLsRefs request) = refl
@@ -55,10 +61,11 @@ pub refused_outcome_by : (A : Type 0) (kind : Kind) (fault : Fault) → outcome_
 refused_outcome_by A RemoteError fault = refl
 refused_outcome_by A _ fault = refl
 
-pub refused_owes_by : (A : Type 0) (offer : Offer) (repo : Repository) (kind : Kind) (fault : Fault) (owed : List Pkt) → fault.kind ≡ kind
-    → Owes {A = A} offer repo (refused_by kind fault) owed → tail_of (Refused fault) ≡ owed
-refused_owes_by A offer repo RemoteError fault owed is owes = let tail : tail_of (Refused fault) ≡ [] = rw is refl in tail ∙ sym owes
-refused_owes_by A offer repo kind fault owed is owes = let tail : tail_of (Refused fault) ≡ error_packet fault ∷ [] = rw is refl in tail ∙ sym owes
+pub refused_owes_by : (A : Type 0) (offer : Offer) (s : Setting) (left : List Given) (kind : Kind) (fault : Fault) (owed : List Pkt) → kind ≢ PackSource
+    → Owes {A = A} offer s.repo (refused_by kind fault) owed → IsTailBy kind s left fault owed
+refused_owes_by A offer s left PackSource fault owed other owes = absurd (other refl)
+refused_owes_by A offer s left RemoteError fault owed other owes = sym owes
+refused_owes_by A offer s left kind fault owed other owes = sym owes
 
 module _ {A : Type 0} where
   -- a server that waits for bytes is between two requests or within one
@@ -86,6 +93,10 @@ module _ {A : Type 0} where
   pub nothing_owed : (offer : Offer) (repo : Repository) (phase : Phase A) (owed : List Pkt) → reads_in phase ≡ true → Owes offer repo phase owed → owed ≡ []
   nothing_owed offer repo phase owed = waiting (λ (p : Phase A). Owes offer repo p owed → owed ≡ []) (λ owes. owes) (λ owes. owes) phase
 
+  -- nor does an answer break off then
+  pub none_breaks : (repo : Repository) (phase : Phase A) (owed : List Pkt) → reads_in phase ≡ true → MayBreak repo phase owed → ⊥
+  none_breaks repo phase owed = waiting (λ (p : Phase A). MayBreak repo p owed → ⊥) (λ breaks. breaks) (λ breaks. breaks) phase
+
   -- nor does a server keep a request whose session ended
   pub none_kept_at_end : (phase : Phase A) (outcome : Outcome) → outcome_in phase ≡ Some outcome → kept_in phase ≡ 0
   none_kept_at_end Between outcome h = refl
@@ -108,7 +119,7 @@ module _ {A : Type 0} where
 pub owes_some : {A : Type 0} (offer : Offer) (repo : Repository) (phase : Phase A) → (owed : List Pkt) × Owes offer repo phase owed
 owes_some offer repo (Advertising line) = (advertisement_from offer line, refl)
 owes_some offer repo (Answering (References request next) offset) = (references_from request.asked repo.refs next, refl)
-owes_some offer repo (Answering (Fetching request) offset) = (flush ∷ [], refl)
+owes_some offer repo (Answering (Fetching request place) offset) = some_packfile (repo.pack request.asked) place
 owes_some offer repo (Refusing fault) = (error_packet fault ∷ [], refl)
 owes_some offer repo Between = ([], refl)
 owes_some offer repo Within = ([], refl)
@@ -118,17 +129,23 @@ one_more : {X : Type 0} (xs : List X) (x : X) → xs ++ x ∷ [] ≢ []
 one_more [] x e = cc
 one_more (y ∷ ys) x e = cc
 
--- a packet of a request is not told as a stream that is too long
-not_too_long : {A : Type 0} (offset : ℕ) (packets : List Given) (brought : Brought A) (requests : RequestReader A) (repo : Repository)
-    → IsBrought repo packets brought requests → (fault : Fault) → outcome_in (phase_after offset brought) ≡ Some (Refused fault)
-    → fault.kind ≡ StreamTooLong → ⊥
-not_too_long offset packets Part requests repo h fault ended too_long = cc
-not_too_long offset packets (Whole request) requests repo h fault ended too_long = cc
-not_too_long offset packets Stop requests repo h fault ended too_long = cc
-not_too_long {A = A} offset packets (RefusedPacket f) requests repo h fault ended too_long =
+-- a packet of a request is not told as what neither a packet nor a repository is refused for
+not_told : {A : Type 0} (kind : Kind) (strange : NotOfPackets kind) → kind ≢ NotOurs → (offset : ℕ) (packets : List Given) (brought : Brought A)
+    (requests : RequestReader A) (repo : Repository) → IsBrought repo packets brought requests
+    → (fault : Fault) → outcome_in (phase_after offset brought) ≡ Some (Refused fault) → fault.kind ≡ kind → ⊥
+not_told kind strange other offset packets Part requests repo h fault ended is = cc
+not_told kind strange other offset packets (Whole request) requests repo h fault ended is = cc
+not_told kind strange other offset packets Stop requests repo h fault ended is = cc
+not_told {A = A} kind strange other offset packets (RefusedPacket f) requests repo h fault ended is =
     let same : Some (Refused f) ≡ Some (Refused fault) = sym (refused_outcome_by A f.kind f) ∙ ended in
     let one : f ≡ fault = cc in
-    not_told_for (offer_of requests) (limit_in requests) repo packets f StreamTooLong tt (λ e. cc) h (ap (λ (x : Fault). x.kind) one ∙ too_long)
+    not_told_for (offer_of requests) (limit_in requests) repo packets f kind strange other h (ap (λ (x : Fault). x.kind) one ∙ is)
+
+-- bytes are not refused for the source of a pack
+no_pack_in_bytes : (p : ℕ) (rest : List ℕ) (end : ℕ) (kind : Kind) (offset : ℕ) → StopsBy p rest end kind offset → kind ≢ PackSource
+no_pack_in_bytes p rest end kind offset h is =
+    let stops : StopsBy p rest end PackSource offset = subst (λ (k : Kind). StopsBy p rest end k offset) is h in
+    stops.0
 
 -- what a server without an outcome stands for
 pub goes_on : {R A : Type 0} (state : R → RepoState) (server : Server R A) (s : Setting) (used : List ℕ) (over : Bool) (given : List ℕ)
@@ -159,7 +176,9 @@ module _ {R A : Type 0} (state : R → RepoState) (old new : Server R A) (u : Li
         offer = reads.offer ∙ r.offer;
         reads_for = ap offer_of same_requests ∙ r.reads_for;
         limit = ap limit_in same_requests ∙ r.limit;
-        repo = reads.answers ∙ r.repo;
+        repo = ap (λ (x : RepoState). x.answers) reads.repo ∙ r.repo;
+        failures = failures_as (outcome_of old) (outcome_of new) s.failures _ _ (ap outcome_in same_phase)
+            (ap (λ (x : RepoState). x.failures) reads.repo) r.failures;
         within = omega (arith, r.within, ap kept_so_far same_requests, ap kept_in same_phase);
         stands = subst (λ (o : Option Outcome). StandsBy o s (so_far ++ u) over (before ++ []) new)
             (sym (ap outcome_in same_phase ∙ no_outcome old.phase wants)) (
@@ -179,6 +198,7 @@ module _ {R A : Type 0} (state : R → RepoState) (old new : Server R A) (u : Li
                 flush_at = subst (λ (p : Phase A). FlushIsAt p h.packets) (sym same_phase) h.flush_at;
                 is_sent = λ owed owes. subst (λ (l : List Pkt). IsSent s h.asked h.sent l)
                     (sym (nothing_owed new.offer s.repo new.phase owed (ap reads_in same_phase ∙ wants) owes)) (all_sent_of s so_far before wants h);
+                breaks = λ owed breaks. absurd (none_breaks s.repo new.phase owed (ap reads_in same_phase ∙ wants) breaks);
                 given_is = append-nil before ∙ h.given_is;
                 fit = h.fit;
               },
@@ -228,9 +248,10 @@ module _ {R A : Type 0} (state : R → RepoState) (old new : Server R A) (u : Li
       → Reads new.reader 0 (so_far ++ u) packets rest → fault_of new.reader ≡ None
       → AreRequests (IsRequest s) packets asked left → Takes left new.requests → Begins s left → new.phase ≡ phase
       → LeftIn phase left → FlushIsAt phase packets
-      → ((owed : List Pkt) → Owes new.offer s.repo phase owed → IsSent s asked sent owed) → before ≡ spelled sent → AllFit sent
+      → ((owed : List Pkt) → Owes new.offer s.repo phase owed → IsSent s asked sent owed)
+      → ((owed : List Pkt) → MayBreak s.repo phase owed → IsAnswering broken s asked sent owed) → before ≡ spelled sent → AllFit sent
       → Serves s (so_far ++ u) (before ++ []) new
-  packet_serves s so_far before asked packets left rest sent phase stream sound requests takes begins phase_is left_is flush_at is_sent given fit =
+  packet_serves s so_far before asked packets left rest sent phase stream sound requests takes begins phase_is left_is flush_at is_sent breaks given fit =
       record {
         asked = asked;
         packets = packets;
@@ -245,6 +266,7 @@ module _ {R A : Type 0} (state : R → RepoState) (old new : Server R A) (u : Li
         left_is = subst (λ (p : Phase A). LeftIn p left) (sym phase_is) left_is;
         flush_at = subst (λ (p : Phase A). FlushIsAt p packets) (sym phase_is) flush_at;
         is_sent = λ owed owes. is_sent owed (subst (λ (p : Phase A). Owes new.offer s.repo p owed) phase_is owes);
+        breaks = λ owed may. breaks owed (subst (λ (p : Phase A). MayBreak s.repo p owed) phase_is may);
         given_is = append-nil before ∙ given;
         fit = fit;
       }
@@ -261,7 +283,8 @@ module _ {R A : Type 0} (state : R → RepoState) (old new : Server R A) (u : Li
         not_over,
         packet_serves s so_far before h.asked (h.packets ++ g ∷ []) (h.left ++ g ∷ []) rest h.sent Within stream sound
             (with_packet s so_far before h g) takes begun phase_is (one_more h.left g) tt
-            (λ owed owes. subst (λ (l : List Pkt). IsSent s h.asked h.sent l) (sym owes) (all_sent_of s so_far before wants h)) h.given_is h.fit,
+            (λ owed owes. subst (λ (l : List Pkt). IsSent s h.asked h.sent l) (sym owes) (all_sent_of s so_far before wants h))
+            (λ owed breaks. absurd breaks) h.given_is h.fit,
       )
   packet_stands s so_far over before g (Whole request) wants not_over h rest stream sound shut offer limit brings phase_is =
       let (takes, asks) = brings.brings h.left h.takes in
@@ -274,8 +297,10 @@ module _ {R A : Type 0} (state : R → RepoState) (old new : Server R A) (u : Li
             (h.packets ++ g ∷ []) [] rest h.sent (Answering (answer_to request) g.offset) stream sound
             (one_more_request (IsRequest s) (h.packets ++ g ∷ []) h.asked (h.left ++ g ∷ []) (asked_of request) (with_packet s so_far before h g)
             (kept_of request, asks_here, had)) takes (nothing_begins s) phase_is refl (h.packets, g, refl, refl)
-            (λ owed owes. one_more_asked s h.asked h.sent owed (asked_of request) (all_sent_of s so_far before wants h)
-            (whole_answer s.repo request owed owes)) h.given_is h.fit,
+            (λ owed owes. inr (one_more_asked whole s h.asked h.sent owed (asked_of request) (all_sent_of s so_far before wants h)
+            (whole_answer whole s.repo request owed owes)))
+            (λ owed breaks. one_more_asked broken s h.asked h.sent owed (asked_of request) (all_sent_of s so_far before wants h)
+            (whole_answer broken s.repo request owed breaks)) h.given_is h.fit,
       )
   packet_stands s so_far over before g Stop wants not_over h rest stream sound shut offer limit brings phase_is =
       λ owed owes. ended_at s so_far over before (h.left ++ g ∷ []) (h.packets ++ g ∷ []) rest Flush wants h stream
@@ -288,8 +313,10 @@ module _ {R A : Type 0} (state : R → RepoState) (old new : Server R A) (u : Li
       subst (λ (o : Option Outcome). StandsBy o s (so_far ++ u) over (before ++ []) new) (sym (refused_outcome_by A fault.kind fault))
       (λ owed owes. ended_at s so_far over before (h.left ++ g ∷ []) (h.packets ++ g ∷ []) rest (Refused fault) wants h stream
       (with_packet s so_far before h g)
-      (inl (record { front = h.left; last = g; whole = refl; begins = h.begins; told = told; no_rest = no_rest _ _ rest sound shut stream })) owed
-      (refused_owes_by A new.offer s.repo fault.kind fault owed refl (owes_at s (refused_by fault.kind fault) owed phase_is owes)))
+      (inl (inl (record { front = h.left; last = g; whole = refl; begins = h.begins; told = told; no_rest = no_rest _ _ rest sound shut stream }))) owed
+      (refused_owes_by A new.offer s (h.left ++ g ∷ []) fault.kind fault owed
+      (not_told_for s.offer s.limit s.repo (h.left ++ g ∷ []) fault PackSource tt (λ e. cc) told)
+      (owes_at s (refused_by fault.kind fault) owed phase_is owes)))
 
   -- a packet came of the bytes
   pub goes_packet : (g : Given) (brought : Brought A) → wants_input old ≡ true → ReadsFor state old u (g ∷ []) new
@@ -300,13 +327,17 @@ module _ {R A : Type 0} (state : R → RepoState) (old new : Server R A) (u : Li
       let (rest, stream) = reads.reads 0 so_far h.packets h.rest h.reads in
       let offer = brings.offer ∙ r.reads_for in
       let limit = brings.limit ∙ r.limit in
+      let open_ended = no_outcome old.phase wants in
       let kept : kept_so_far old.requests ≤ limit_in old.requests = omega (arith, r.within, r.limit, none_kept old.phase wants) in
       let brings_here = subst (λ (p : Repository). Brings p old.requests g brought new.requests) r.repo brings in
       record {
         offer = reads.offer ∙ r.offer;
         reads_for = offer;
         limit = limit;
-        repo = reads.answers ∙ r.repo;
+        repo = ap (λ (x : RepoState). x.answers) reads.repo ∙ r.repo;
+        failures = failures_end (outcome_of old) (outcome_of new) s.failures _ _ open_ended (ap (λ (x : RepoState). x.failures) reads.repo)
+            (λ (fault, is, name). not_told PackSource tt (λ e. cc) g.offset (h.left ++ g ∷ []) brought new.requests (state old.repo).answers
+            (brings.brings h.left h.takes) fault (sym (ap outcome_in phase_is) ∙ is) name) r.failures;
         within = omega (arith, kept_behind g.offset brought new.requests (brings.within kept), limit, ap kept_in phase_is);
         stands = subst (λ (o : Option Outcome). StandsBy o s (so_far ++ u) over (before ++ []) new) (sym (ap outcome_in phase_is))
             (packet_stands s so_far over before g brought wants not_over h rest stream sound shut offer limit brings_here phase_is);
@@ -316,12 +347,12 @@ module _ {R A : Type 0} (state : R → RepoState) (old new : Server R A) (u : Li
   ends_refused : (s : Setting) (so_far : List ℕ) (over : Bool) (before : List ℕ) (left packets : List Given) (rest : List ℕ) (fault : Fault)
       → wants_input old ≡ true → (h : Serves s so_far before old)
       → Reads new.reader 0 (so_far ++ u) packets rest → AreRequests (IsRequest s) packets h.asked left
-      → IsRefused s over left rest (length (so_far ++ u)) fault → new.phase ≡ refused_by fault.kind fault
+      → IsRefused s over left rest (length (so_far ++ u)) fault → fault.kind ≢ PackSource → new.phase ≡ refused_by fault.kind fault
       → StandsBy (outcome_of new) s (so_far ++ u) over (before ++ []) new
-  ends_refused s so_far over before left packets rest fault wants h stream requests refused phase_is =
+  ends_refused s so_far over before left packets rest fault wants h stream requests refused other phase_is =
       subst (λ (o : Option Outcome). StandsBy o s (so_far ++ u) over (before ++ []) new) (sym (ap outcome_in phase_is ∙ refused_outcome_by A fault.kind fault))
       (λ owed owes. ended_at s so_far over before left packets rest (Refused fault) wants h stream requests refused owed
-      (refused_owes_by A new.offer s.repo fault.kind fault owed refl (owes_at s (refused_by fault.kind fault) owed phase_is owes)))
+      (refused_owes_by A new.offer s left fault.kind fault owed other (owes_at s (refused_by fault.kind fault) owed phase_is owes)))
 
   -- the bytes were refused
   pub goes_refused : (fault : Fault) → wants_input old ≡ true → ReadsFor state old u [] new
@@ -332,24 +363,30 @@ module _ {R A : Type 0} (state : R → RepoState) (old new : Server R A) (u : Li
       let (not_over, h) = stands_of s so_far over before wants r in
       let (rest, later) = reads.reads 0 so_far h.packets h.rest h.reads in
       let stream = subst (λ (l : List Given). Reads new.reader 0 (so_far ++ u) l rest) (append-nil h.packets) later in
+      let stops = stopped_by new.reader (so_far ++ u) h.packets rest fault told stream in
+      let other = no_pack_in_bytes _ rest _ fault.kind fault.offset stops in
+      let ended = ap outcome_in phase_is ∙ refused_outcome_by A fault.kind fault in
       record {
         offer = reads.offer ∙ r.offer;
         reads_for = ap offer_of same_requests ∙ r.reads_for;
         limit = ap limit_in same_requests ∙ r.limit;
-        repo = reads.answers ∙ r.repo;
+        repo = ap (λ (x : RepoState). x.answers) reads.repo ∙ r.repo;
+        failures = failures_end (outcome_of old) (outcome_of new) s.failures _ _ (no_outcome old.phase wants)
+            (ap (λ (x : RepoState). x.failures) reads.repo)
+            (λ lost. other_lost fault other (subst IsPackLost ended lost)) r.failures;
         within = omega (
           arith,
           r.within,
           ap kept_so_far same_requests,
-          none_kept_at_end new.phase (Refused fault) (ap outcome_in phase_is ∙ refused_outcome_by A fault.kind fault),
+          none_kept_at_end new.phase (Refused fault) ended,
         );
         stands = ends_refused s so_far over before h.left h.packets rest fault wants h stream h.requests
-            (inr (inl (record {
+            (inl (inr (inl (record {
               goes_on = not_over;
               begins = h.begins;
-              stops = stopped_by new.reader (so_far ++ u) h.packets rest fault told stream;
+              stops = stops;
               not_the_end = not_the_end h.no_fault;
-            }))) phase_is;
+            })))) other phase_is;
       }
 
 module _ {R A : Type 0} (state : R → RepoState) (old : Server R A) (used : ℕ) (piece : List ℕ) where
@@ -365,7 +402,7 @@ module _ {R A : Type 0} (state : R → RepoState) (old : Server R A) (used : ℕ
       → StopsInTime state old used piece (outcome_in phase)
   packet_in_time g brought requests phase brings phase_is s so_far over before r wants fault ended too_long =
       let h = serves_of state old old [] s so_far over before wants r in
-      absurd (not_too_long g.offset (h.left ++ g ∷ []) brought requests (state old.repo).answers (brings.brings h.left h.takes)
+      absurd (not_told StreamTooLong tt (λ e. cc) g.offset (h.left ++ g ∷ []) brought requests (state old.repo).answers (brings.brings h.left h.takes)
       fault (sym (ap outcome_in phase_is) ∙ ended) too_long)
 
   -- the bytes were refused

@@ -13,8 +13,11 @@ pub mod Going
 pub mod Closing
 pub mod Formats
 pub mod Giving
+pub mod Breaking
 pub mod Owing
 pub mod SessionLaws
+pub mod Flushes
+pub mod PackPackets
 pub mod OneSession
 pub mod TooLong
 pub mod RunLemmas

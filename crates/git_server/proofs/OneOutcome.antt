@@ -16,7 +16,8 @@ use Rattle.git_msg.specs.WholeRequests.{AreRequests}
 use Rattle.git_msg.proofs.WholeRequests.{NoFlush, NoRequest, flush_inside, flush_is_no_line, last_same, whole_then}
 use Rattle.git_msg.proofs.FaultLaws.{no_fault_in_lines, no_fault_in_request, one_first_fault}
 use Rattle.git_server.specs.Admission.{IsToldFor}
-use Rattle.git_server.specs.Sessions.{Setting, Begins, IsRequest, EndsBy, IsRefused, IsRefusedAtPacket, IsSession, WantsMemory}
+use Rattle.git_server.specs.Sessions.{Setting, Begins, IsRequest, EndsBy, IsOfTheBytes, IsRefusedAsRead, IsRefusedAtPacket, IsSession}
+use Rattle.git_server.specs.Sessions.{WantsMemory, WantsPack}
 use Rattle.git_server.specs.declared.outcome.Outcome.{Outcome}
 use Rattle.git_server.specs.declared.outcome.Outcome.TheVariants.{Flush, Closed, Refused}
 use Rattle.git_server.proofs.Admission.{admitted_unbarred, no_flush_barred, one_barred}
@@ -97,13 +98,14 @@ module _ (s : Setting) where
           not_told_whole left q kept fault (subst (λ (gs : List Given). Asks s.offer s.limit gs q kept) (sym all) asks) r.told
       at (inr (others, inside)) = flush_inside asks.front others r.front asks.last (begun_has_no_flush s r.front r.begins) asks.ends inside
 
-  none_at_end : (over : Bool) (left : List Given) (rest : List ℕ) (end : ℕ) (outcome : Outcome)
+  none_at_end : (over : Bool) (left : List Given) (rest : List ℕ) (end : ℕ) (outcome : Outcome) → ¬ WantsPack outcome
       → EndsBy s over left rest end outcome → NoRequest (IsRequest s) left
-  none_at_end over left rest end Flush h = none_in_stop left h.0
-  none_at_end over left rest end Closed h = subst (NoRequest (IsRequest s)) (sym h.1) (no_request s [] tt)
-  none_at_end over left rest end (Refused fault) (inl r) = none_in_refused left rest fault r
-  none_at_end over left rest end (Refused fault) (inr (inl r)) = no_request s left (begun_has_no_flush s left r.begins)
-  none_at_end over left rest end (Refused fault) (inr (inr r)) = no_request s left (begun_has_no_flush s left r.begins)
+  none_at_end over left rest end Flush has_pack h = none_in_stop left h.0
+  none_at_end over left rest end Closed has_pack h = subst (NoRequest (IsRequest s)) (sym h.1) (no_request s [] tt)
+  none_at_end over left rest end (Refused fault) has_pack (inl (inl r)) = none_in_refused left rest fault r
+  none_at_end over left rest end (Refused fault) has_pack (inl (inr (inl r))) = no_request s left (begun_has_no_flush s left r.begins)
+  none_at_end over left rest end (Refused fault) has_pack (inl (inr (inr r))) = no_request s left (begun_has_no_flush s left r.begins)
+  none_at_end over left rest end (Refused fault) has_pack (inr r) = absurd (has_pack r.name)
 
   -- a flush alone is no fault
   stop_or_told : (left : List Given) (fault : Fault) → IsStop left → IsToldFor s.offer s.limit s.repo left fault → ⊥
@@ -144,7 +146,7 @@ module _ (s : Setting) where
   over_or_not over h k = cc
 
   refused_once : (over : Bool) (left : List Given) (rest : List ℕ) (end : ℕ) (f g : Fault) → ¬ WantsMemory (Refused f) → ¬ WantsMemory (Refused g)
-      → IsRefused s over left rest end f → IsRefused s over left rest end g → f ≡ g
+      → IsRefusedAsRead s over left rest end f → IsRefusedAsRead s over left rest end g → f ≡ g
   refused_once over left rest end f g a b (inl h) (inl k) = told_once left f g a b h.told k.told
   refused_once over left rest end f g a b (inl h) (inr (inl k)) = absurd (told_in_lines left f a h.told k.begins)
   refused_once over left rest end f g a b (inl h) (inr (inr k)) = absurd (told_in_lines left f a h.told k.begins)
@@ -157,13 +159,13 @@ module _ (s : Setting) where
   refused_once over left rest end f g a b (inr (inr h)) (inr (inl k)) = absurd (over_or_not over h.ended k.goes_on)
   refused_once over left rest end f g a b (inr (inr h)) (inr (inr k)) = same_fault f g (h.name ∙ sym k.name) (omega (arith, h.at, k.at))
 
-  stop_or_refused : (over : Bool) (left : List Given) (rest : List ℕ) (end : ℕ) (f : Fault) → IsStop left → IsRefused s over left rest end f → ⊥
+  stop_or_refused : (over : Bool) (left : List Given) (rest : List ℕ) (end : ℕ) (f : Fault) → IsStop left → IsRefusedAsRead s over left rest end f → ⊥
   stop_or_refused over left rest end f stop (inl h) = stop_or_told left f stop h.told
   stop_or_refused over left rest end f stop (inr (inl h)) = stop_or_begun left stop (begun_has_no_flush s left h.begins)
   stop_or_refused over left rest end f stop (inr (inr h)) = stop_or_begun left stop (begun_has_no_flush s left h.begins)
 
   closed_or_refused : (over : Bool) (left : List Given) (rest : List ℕ) (end : ℕ) (f : Fault) → (over ≡ true) × (left ≡ []) × (rest ≡ [])
-      → IsRefused s over left rest end f → ⊥
+      → IsRefusedAsRead s over left rest end f → ⊥
   closed_or_refused over left rest end f closed (inl h) = not_nothing h.front [] h.last (sym h.whole ∙ closed.1)
   closed_or_refused over left rest end f closed (inr (inl h)) = over_or_not over closed.0 h.goes_on
   closed_or_refused over left rest end f closed (inr (inr h)) = inside h.inside
@@ -175,25 +177,31 @@ module _ (s : Setting) where
   stop_or_closed : (left : List Given) → IsStop left → left ≡ [] → ⊥
   stop_or_closed left stop none = let e : stop.last ∷ [] ≡ [] = sym stop.alone ∙ none in cc
 
-  ends_once : (over : Bool) (left : List Given) (rest : List ℕ) (end : ℕ) (o p : Outcome) → ¬ WantsMemory o → ¬ WantsMemory p
+  ends_once : (over : Bool) (left : List Given) (rest : List ℕ) (end : ℕ) (o p : Outcome) → IsOfTheBytes o → IsOfTheBytes p
       → EndsBy s over left rest end o → EndsBy s over left rest end p → o ≡ p
   ends_once over left rest end Flush Flush a b h k = refl
   ends_once over left rest end Closed Closed a b h k = refl
   ends_once over left rest end Flush Closed a b h k = absurd (stop_or_closed left h.0 k.1)
   ends_once over left rest end Closed Flush a b h k = absurd (stop_or_closed left k.0 h.1)
-  ends_once over left rest end Flush (Refused f) a b h k = absurd (stop_or_refused over left rest end f h.0 k)
-  ends_once over left rest end (Refused f) Flush a b h k = absurd (stop_or_refused over left rest end f k.0 h)
-  ends_once over left rest end Closed (Refused f) a b h k = absurd (closed_or_refused over left rest end f h k)
-  ends_once over left rest end (Refused f) Closed a b h k = absurd (closed_or_refused over left rest end f k h)
-  ends_once over left rest end (Refused f) (Refused g) a b h k = ap Refused (refused_once over left rest end f g a b h k)
+  ends_once over left rest end Flush (Refused f) a b h (inl k) = absurd (stop_or_refused over left rest end f h.0 k)
+  ends_once over left rest end Flush (Refused f) a b h (inr k) = absurd (b.by_pack k.name)
+  ends_once over left rest end (Refused f) Flush a b (inl h) k = absurd (stop_or_refused over left rest end f k.0 h)
+  ends_once over left rest end (Refused f) Flush a b (inr h) k = absurd (a.by_pack h.name)
+  ends_once over left rest end Closed (Refused f) a b h (inl k) = absurd (closed_or_refused over left rest end f h k)
+  ends_once over left rest end Closed (Refused f) a b h (inr k) = absurd (b.by_pack k.name)
+  ends_once over left rest end (Refused f) Closed a b (inl h) k = absurd (closed_or_refused over left rest end f k h)
+  ends_once over left rest end (Refused f) Closed a b (inr h) k = absurd (a.by_pack h.name)
+  ends_once over left rest end (Refused f) (Refused g) a b (inl h) (inl k) = ap Refused (refused_once over left rest end f g a.by_memory b.by_memory h k)
+  ends_once over left rest end (Refused f) (Refused g) a b (inr h) k = absurd (a.by_pack h.name)
+  ends_once over left rest end (Refused f) (Refused g) a b (inl h) (inr k) = absurd (b.by_pack k.name)
 
   pub one_outcome : (used : List ℕ) (over : Bool) (given others : List ℕ) (o p : Outcome) → IsSession s used over given o → IsSession s used over others p
-      → ¬ WantsMemory o → ¬ WantsMemory p → o ≡ p
+      → IsOfTheBytes o → IsOfTheBytes p → o ≡ p
   one_outcome used over given others o p h k a b =
       let split = one_split 0 used h.stream.packets k.stream.packets h.rest k.rest
       h.stream.splits.spelled k.stream.splits.spelled h.stream.splits.ends k.stream.splits.ends in
-      let none = none_at_end over h.left h.rest (length used) o h.ends in
-      let clear = none_at_end over k.left k.rest (length used) p k.ends in
+      let none = none_at_end over h.left h.rest (length used) o a.by_pack h.ends in
+      let clear = none_at_end over k.left k.rest (length used) p b.by_pack k.ends in
       let left : h.left ≡ k.left =
       (one_list s k.stream.packets h.asked k.asked h.left k.left none clear
       (subst (λ (gs : List Given). AreRequests (IsRequest s) gs h.asked h.left) split.packets h.stream.requests) k.stream.requests).1 in

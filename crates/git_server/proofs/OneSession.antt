@@ -1,9 +1,9 @@
 -- What was asked by the bytes that a server used, and how it is answered, is one thing: so a server that has given all
 -- of it owes nothing.
-use Rattle.std.proofs.Common.{◌≡◌, ℕ, ◌+◌, drop, map, codes, Bool, true, false, List, [], ◌∷◌}
+use Rattle.std.proofs.Common.{◌≡◌, ℕ, drop, map, codes, Bool, true, false, List, [], ◌∷◌}
 use Rattle.std.proofs.Common.{◌++◌, length, length-append, None, refl, sym, ap, ◌∙◌, subst, arith}
 use Rattle.git_pkt.specs.Digits.{digits_of}
-use Rattle.git_pkt.specs.Packets.{Pkt, flush, flushes, delim, resp_end, payload, body_of, length_field, spelling_of}
+use Rattle.git_pkt.specs.Packets.{Pkt, flush, flushes, body_of, length_field, spelling_of}
 use Rattle.git_pkt.proofs.Spelling.{same_start}
 use Rattle.git_pkt.proofs.Written.{spells_written}
 use Rattle.git_pkt.specs.Splits.{Given}
@@ -24,6 +24,8 @@ use Rattle.git_server.specs.declared.answer.Answer.TheVariants.{References, Fetc
 use Rattle.git_server.specs.declared.server.Phase.{Phase}
 use Rattle.git_server.specs.declared.server.Phase.TheVariants.{Advertising, Between, Within, Answering, Refusing, Ended}
 use Rattle.git_server.specs.declared.server.Server.{Server}
+use Rattle.git_server.proofs.Flushes.{flushes-append}
+use Rattle.git_server.proofs.PackPackets.{packfile_ends_once, packfile_ends_later}
 use Rattle.git_server.proofs.Begun.{begun_has_no_flush}
 use Rattle.git_server.proofs.Sent.{is_whole}
 use Rattle.git_server.proofs.Going.{goes_on, owes_some}
@@ -37,13 +39,6 @@ module _ (s : Setting) where
       → AreRequests (IsRequest s) packets asked left → AreRequests (IsRequest s) packets others rest → (asked ≡ others) × (left ≡ rest)
   one_list = one_list_of_requests s.offer s.limit (IsRequest s) (λ front q is. (is.0, is.1))
 
-pub flushes-append : (front back : List Pkt) → flushes (front ++ back) ≡ flushes front + flushes back
-flushes-append [] back = omega arith
-flushes-append (flush ∷ ps) back = omega (arith, flushes-append ps back)
-flushes-append (delim ∷ ps) back = flushes-append ps back
-flushes-append (resp_end ∷ ps) back = flushes-append ps back
-flushes-append (payload x ∷ ps) back = flushes-append ps back
-
 lines_have_none : (symrefs peel : Bool) (refs : List Entry) → flushes (map (reference_packet symrefs peel) refs) ≡ 0
 lines_have_none symrefs peel [] = refl
 lines_have_none symrefs peel (r ∷ rs) = lines_have_none symrefs peel rs
@@ -54,7 +49,7 @@ ends_once symrefs peel refs = omega (arith, flushes-append (map (reference_packe
 -- an answer has one flush
 answer_ends : (repo : Repository) (q : Asked) (answer : List Pkt) → IsAnswer repo q answer → flushes answer ≡ 1
 answer_ends repo (ls_refs q) answer h = ap flushes h ∙ ends_once q.symrefs q.peel (shown_refs q.ref_prefixes repo.refs)
-answer_ends repo (fetch q) answer h = ap flushes h
+answer_ends repo (fetch q) answer h = packfile_ends_once (repo.pack q) answer h
 
 answers_end : (repo : Repository) (asked : List Asked) (packets : List Pkt) → AreAnswers repo asked packets → flushes packets ≡ length asked
 answers_end repo [] packets h = ap flushes h
@@ -93,7 +88,8 @@ owes_flush offer repo (Advertising line) owed none owes zero = absurd (omega (ar
 owes_flush offer repo (Answering (References request next) offset) owed none owes zero =
     let q = request.asked in
     absurd (omega (arith, zero, ap flushes owes, ends_once q.symrefs q.peel (shown_refs q.ref_prefixes (drop next repo.refs))))
-owes_flush offer repo (Answering (Fetching request) offset) owed none owes zero = absurd (omega (arith, zero, ap flushes owes))
+owes_flush offer repo (Answering (Fetching request place) offset) owed none owes zero =
+    absurd (omega (arith, zero, packfile_ends_later (repo.pack request.asked) place owed owes))
 owes_flush offer repo (Refusing fault) owed none owes zero = absurd (cc)
 owes_flush offer repo (Ended outcome) owed none owes zero = absurd (cc)
 

@@ -4,20 +4,22 @@ use Rattle.git_pkt.specs.Packets.{Pkt}
 use Rattle.git_msg.specs.declared.offers.Offer.{Offer}
 use Rattle.git_server.specs.Repository.{RepoState}
 use Rattle.git_server.specs.Sessions.{Setting, advertised}
-use Rattle.git_server.specs.Phases.{FlushIsAt, LeftIn, kept_in, outcome_in, Owes}
-use Rattle.git_server.specs.Server.{IsFresh, Running, StandsBy}
+use Rattle.git_server.specs.Phases.{FlushIsAt, LeftIn, kept_in, outcome_in, MayBreak, Owes}
+use Rattle.git_server.specs.Server.{IsFresh, IsPackLost, Running, StandsBy}
 use Rattle.git_server.specs.declared.outcome.Outcome.{Outcome}
 use Rattle.git_server.specs.declared.server.Server.{Server}
 use Rattle.git_server.specs.declared.server.Phase.{Phase}
 use Rattle.git_server.proofs.Begun.{nothing_begins}
+use Rattle.git_server.proofs.Outcomes.{none_lost}
 use Rattle.git_server.proofs.Readers.{fresh_has_no_fault}
 
 module _ {R A : Type 0} (state : R → RepoState) (s : Setting) (repo : R) (phase : Phase A) (server : Server R A) where
   -- nothing was used and nothing given, and the advertisement is owed, if there is one
   pub opens : IsFresh repo s.offer s.limit phase server
       → (state repo).answers ≡ s.repo → outcome_in phase ≡ None → LeftIn phase [] → FlushIsAt phase [] → kept_in phase ≡ 0
-      → ((owed : List Pkt) → Owes s.offer s.repo phase owed → owed ≡ advertised s) → Running state s [] false [] server
-  opens fresh same none left flush kept owed =
+      → ((owed : List Pkt) → Owes s.offer s.repo phase owed → owed ≡ advertised s)
+      → ((owed : List Pkt) → MayBreak s.repo phase owed → ⊥) → (state repo).failures ≡ s.failures → Running state s [] false [] server
+  opens fresh same none left flush kept owed whole failures =
       let owed_now : (l : List Pkt) → Owes server.offer s.repo server.phase l → l ≡ advertised s =
       λ l owes. owed l (subst (λ (p : Phase A). Owes s.offer s.repo p l) fresh.phase_is
       (subst (λ (o : Offer). Owes o s.repo server.phase l) fresh.offer_is owes)) in
@@ -26,6 +28,10 @@ module _ {R A : Type 0} (state : R → RepoState) (s : Setting) (repo : R) (phas
         reads_for = fresh.reads_for;
         limit = fresh.limit_is;
         repo = ap (λ (r : R). (state r).answers) fresh.repo_is ∙ same;
+        failures = record {
+          risen = λ lost. absurd (none_lost (subst IsPackLost (ap outcome_in fresh.phase_is ∙ none) lost));
+          same = λ not_lost. ap (λ (r : R). (state r).failures) fresh.repo_is ∙ failures;
+        };
         within = omega (arith, fresh.kept, kept, ap kept_in fresh.phase_is);
         stands = subst (λ (o : Option Outcome). StandsBy o s [] false [] server) (sym (ap outcome_in fresh.phase_is ∙ none)) (
           refl,
@@ -43,6 +49,7 @@ module _ {R A : Type 0} (state : R → RepoState) (s : Setting) (repo : R) (phas
             left_is = subst (λ (p : Phase A). LeftIn p []) (sym fresh.phase_is) left;
             flush_at = subst (λ (p : Phase A). FlushIsAt p []) (sym fresh.phase_is) flush;
             is_sent = λ l owes. inl (record { none = refl; parts = owed_now l owes });
+            breaks = λ l breaks. absurd (whole l (subst (λ (p : Phase A). MayBreak s.repo p l) fresh.phase_is breaks));
             given_is = refl;
             fit = tt;
           },

@@ -1,21 +1,22 @@
 -- What is owed, by the phase that a server is in.
 use Rattle.std.proofs.Common.{arith, ◌≡◌, ◌<◌, length, ℕ, Bool, true, false, if◌then◌else◌, List}
-use Rattle.std.proofs.Common.{[], ◌∷◌, ◌++◌, Option, Some, None, codes, refl, sym, ap, ◌∙◌, subst}
-use Rattle.git_pkt.specs.Packets.{Pkt}
+use Rattle.std.proofs.Common.{drop, map, [], ◌∷◌, ◌++◌, Option, Some, None, codes, refl, sym, ap, ◌∙◌, subst}
+use Rattle.git_pkt.specs.Packets.{Pkt, flush}
 use Rattle.git_pkt.specs.Splits.{Given}
 use Rattle.git_pkt.specs.declared.fault.Fault.{Fault}
 use Rattle.git_msg.specs.declared.offers.Offer.{Offer}
-use Rattle.git_msg.specs.Asked.{LsRefsAsked}
-use Rattle.git_msg.specs.Kept.{Kept}
 use Rattle.git_server.specs.Repository.{Repository}
-use Rattle.git_server.specs.AnsweredRequest.{references_after, references_from}
-use Rattle.git_server.specs.Answers.{offered_line, error_packet}
+use Rattle.git_server.specs.AnsweredRequest.{FollowsAnswer, IsAnswerFrom, most_from}
+use Rattle.git_server.specs.Answers.{offered_line, error_packet, reference_packet, shown_refs}
+use Rattle.git_server.specs.Packs.{whole, broken}
 use Rattle.git_server.specs.AdvertisementLines.{format_on, advertisement_packet, advertisement_line_after, advertisement_from, advertisement_after}
-use Rattle.git_server.specs.Phases.{FlushIsAt, LeftIn, advertising_phase, kept_in, outcome_in, Owes, most_owed}
+use Rattle.git_server.specs.Phases.{FlushIsAt, LeftIn, MayBreak, advertising_phase, kept_in, outcome_in, Owes, most_owed}
 use Rattle.git_server.specs.declared.advertisement.AdvertisementLine.{AdvertisementLine}
 use Rattle.git_server.specs.declared.advertisement.AdvertisementLine.TheVariants.{Version, Agent, LsRefs, ServerOption, ObjectFormat, End}
 use Rattle.git_server.specs.declared.answer.Answer.{Answer}
-use Rattle.git_server.specs.declared.answer.Answer.TheVariants.{References}
+use Rattle.git_server.specs.declared.answer.Answer.TheVariants.{References, Fetching}
+use Rattle.git_server.specs.declared.answer.Answered.TheVariants.{Part}
+use Rattle.git_server.specs.declared.packing.PackPlace.TheVariants.{Header, Pack}
 use Rattle.git_server.specs.declared.outcome.Outcome.TheVariants.{Refused}
 use Rattle.git_server.specs.declared.server.Phase.{Phase}
 use Rattle.git_server.specs.declared.server.Phase.TheVariants.{Advertising, Between, Answering, Refusing}
@@ -33,6 +34,17 @@ one_line offer LsRefs = ap (λ (l : List Pkt). advertisement_packet offer LsRefs
 one_line offer ServerOption = refl
 one_line offer ObjectFormat = refl
 one_line offer End = refl
+
+some_packets : (packets : List Pkt) → 0 < length (packets ++ flush ∷ [])
+some_packets [] = omega arith
+some_packets (p ∷ ps) = omega arith
+
+-- after a line of the advertisement no answer breaks off
+module _ {A : Type 0} where
+  pub whole_advertising : (o : Option AdvertisementLine) (repo : Repository) (phase : Phase A) (later : List Pkt) → phase ≡ advertising_phase o
+      → MayBreak repo phase later → ⊥
+  whole_advertising (Some line) repo phase later is may = subst (λ (p : Phase A). MayBreak repo p later) is may
+  whole_advertising None repo phase later is may = subst (λ (p : Phase A). MayBreak repo p later) is may
 
 module _ {A : Type 0} where
   advertising_owes : (offer : Offer) (repo : Repository) (o : Option AdvertisementLine) (phase : Phase A) (later : List Pkt) → phase ≡ advertising_phase o
@@ -67,17 +79,34 @@ module _ {A : Type 0} where
       let after = advertising_most offer repo next new is ∙ ap (λ (o : Option AdvertisementLine). length (advertisement_after offer o)) next_is in
       omega (arith, after, ap (most_owed offer repo) was, ap length (one_line offer line))
 
-  module _ (offer : Offer) (repo : Repository) (old new : Phase A) (request : Kept LsRefsAsked) (next offset : ℕ) (after : Option ℕ) (packet : Pkt)
-      (was : old ≡ Answering (References request next) offset)
-      (first : references_from request.asked repo.refs next ≡ packet ∷ references_after request.asked repo.refs after) where
-    -- a packet of an answer for references
-    pub answer_next : ((later : List Pkt) → Owes offer repo new later → later ≡ references_after request.asked repo.refs after) → (later : List Pkt)
-        → Owes offer repo new later → Owes offer repo old (packet ∷ later)
-    answer_next is later owes =
-        subst (λ (p : Phase A). Owes offer repo p (packet ∷ later)) (sym was) (ap (λ (l : List Pkt). packet ∷ l) (is later owes) ∙ sym first)
+  -- something of an answer that is not whole is left
+  pub some_left : (repo : Repository) (answer : Answer A) → 0 < most_from repo answer
+  some_left repo (References request next) = some_packets (map (reference_packet request.asked.symrefs request.asked.peel)
+      (shown_refs request.asked.ref_prefixes (drop next repo.refs)))
+  some_left repo (Fetching request Header) = omega arith
+  some_left repo (Fetching request (Pack offset)) = omega arith
 
-    pub fewer_answers : most_owed offer repo new ≡ length (references_after request.asked repo.refs after) → most_owed offer repo new < most_owed offer repo old
-    fewer_answers most = omega (arith, most, ap (most_owed offer repo) was, ap length first)
+  module _ (offer : Offer) (repo : Repository) (old : Phase A) (answer : Answer A) (offset : ℕ) (packet : Pkt) (was : old ≡ Answering answer offset) where
+    -- one packet of an answer, and more of it
+    module _ (other : Answer A) (follows : FollowsAnswer repo answer Part other packet) where
+      pub part_owes : (later : List Pkt) → Owes offer repo (Answering other offset) later → Owes offer repo old (packet ∷ later)
+      part_owes later owes = subst (λ (p : Phase A). Owes offer repo p (packet ∷ later)) (sym was) (follows.0 whole later owes)
+
+      pub part_breaks : (later : List Pkt) → MayBreak repo (Answering other offset) later → MayBreak repo old (packet ∷ later)
+      part_breaks later may = subst (λ (p : Phase A). MayBreak repo p (packet ∷ later)) (sym was) (follows.0 broken later may)
+
+      pub part_less : most_owed offer repo (Answering other offset) < most_owed offer repo old
+      part_less = omega (arith, follows.1, ap (most_owed offer repo) was)
+
+    -- the last one
+    pub last_owes : IsAnswerFrom whole repo answer (packet ∷ [])
+        → (later : List Pkt) → Owes {A = A} offer repo Between later → Owes offer repo old (packet ∷ later)
+    last_owes follows later nothing =
+        subst (λ (p : Phase A). Owes offer repo p (packet ∷ later)) (sym was)
+        (subst (λ (l : List Pkt). IsAnswerFrom whole repo answer (packet ∷ l)) (sym nothing) follows)
+
+    pub last_less : most_owed {A = A} offer repo Between < most_owed offer repo old
+    last_less = omega (arith, some_left repo answer, ap (most_owed offer repo) was)
 
   -- a phase without outcome, in which no part of a request is left
   pub record IsQuiet (phase : Phase A) : Type 0 where

@@ -3,8 +3,9 @@ use Rattle.std.proofs.Common.{◌≡◌, ◌≤◌, length, ℕ, List, [], ◌�
 use Rattle.std.proofs.lemmas.Grind.{flat_map-append}
 use Rattle.git_pkt.specs.Packets.{Pkt, spelling_of, body_of, longest_payload}
 use Rattle.git_msg.specs.Asked.{Asked}
-use Rattle.git_server.specs.Answers.{AllFit, spelled, IsAnswer}
-use Rattle.git_server.specs.Sessions.{Setting, IsSent, AreAnswers, advertised}
+use Rattle.git_server.specs.Packs.{Manner, whole}
+use Rattle.git_server.specs.Answers.{AllFit, spelled, IsAnswer, IsAnswerAs}
+use Rattle.git_server.specs.Sessions.{Setting, IsAnswering, IsSent, AreAnswers, advertised}
 use Rattle.git_server.specs.Repository.{Repository}
 
 pub spelled_both : (front back : List Pkt) → spelled (front ++ back) ≡ spelled front ++ spelled back
@@ -23,24 +24,29 @@ pub answers_more : (repo : Repository) (asked : List Asked) (packets : List Pkt)
     → AreAnswers repo (asked ++ q ∷ []) (packets ++ answer)
 answers_more repo [] packets q answer none is =
     (answer, [], ap (λ (l : List Pkt). l ++ answer) none ∙ sym (append-nil answer), is, refl)
-answers_more repo (p ∷ ps) packets q answer (first, more, whole, is_first, rest) is =
-    (first, more ++ answer, ap (λ (l : List Pkt). l ++ answer) whole ∙ append_assoc first more answer, is_first, answers_more repo ps more q answer rest is)
+answers_more repo (p ∷ ps) packets q answer (first, more, parts, is_first, rest) is =
+    (first, more ++ answer, ap (λ (l : List Pkt). l ++ answer) parts ∙ append_assoc first more answer, is_first, answers_more repo ps more q answer rest is)
 
--- one packet of what is owed was sent
-pub sent_one : (s : Setting) (asked : List Asked) (sent owed : List Pkt) (packet : Pkt)
-    → IsSent s asked sent (packet ∷ owed) → IsSent s asked (sent ++ packet ∷ []) owed
-sent_one s asked sent owed packet (inl h) = inl (record { none = h.none; parts = append_assoc sent (packet ∷ []) owed ∙ h.parts })
-sent_one s asked sent owed packet (inr h) =
-    inr (record {
+-- one packet of what is owed of an answer was sent
+pub answering_one : (manner : Manner) (s : Setting) (asked : List Asked) (sent owed : List Pkt) (packet : Pkt)
+    → IsAnswering manner s asked sent (packet ∷ owed) → IsAnswering manner s asked (sent ++ packet ∷ []) owed
+answering_one manner s asked sent owed packet h =
+    record {
       earlier = h.earlier;
       last = h.last;
       answers = h.answers;
       front = h.front ++ packet ∷ [];
       whole = h.whole;
       answered = h.answered;
-      answer = subst (IsAnswer s.repo h.last) (sym (append_assoc h.front (packet ∷ []) owed)) h.answer;
+      answer = subst (IsAnswerAs manner s.repo h.last) (sym (append_assoc h.front (packet ∷ []) owed)) h.answer;
       sent_is = ap (λ (l : List Pkt). l ++ packet ∷ []) h.sent_is ∙ append_assoc (advertised s ++ h.answers) h.front (packet ∷ []);
-    })
+    }
+
+-- one packet of what is owed was sent
+pub sent_one : (s : Setting) (asked : List Asked) (sent owed : List Pkt) (packet : Pkt)
+    → IsSent s asked sent (packet ∷ owed) → IsSent s asked (sent ++ packet ∷ []) owed
+sent_one s asked sent owed packet (inl h) = inl (record { none = h.none; parts = append_assoc sent (packet ∷ []) owed ∙ h.parts })
+sent_one s asked sent owed packet (inr h) = inr (answering_one whole s asked sent owed packet h)
 
 -- what was sent and what is owed are the advertisement and an answer to each request
 pub record IsWhole (s : Setting) (asked : List Asked) (sent owed : List Pkt) : Type 0 where
@@ -75,12 +81,12 @@ all_sent s asked sent h =
     let whole = is_whole s asked sent [] h in
     record { answers = whole.answers; answered = whole.answered; sent_is = sym (append-nil sent) ∙ whole.parts }
 
--- a further request was asked, and its whole answer is owed
-pub one_more_asked : (s : Setting) (asked : List Asked) (sent owed : List Pkt) (q : Asked)
-    → IsSent s asked sent [] → IsAnswer s.repo q owed → IsSent s (asked ++ q ∷ []) sent owed
-one_more_asked s asked sent owed q before is =
+-- a further request was asked, and its answer is owed
+pub one_more_asked : (manner : Manner) (s : Setting) (asked : List Asked) (sent owed : List Pkt) (q : Asked) → IsSent s asked sent []
+    → IsAnswerAs manner s.repo q owed → IsAnswering manner s (asked ++ q ∷ []) sent owed
+one_more_asked manner s asked sent owed q before is =
     let all = all_sent s asked sent before in
-    inr (record {
+    record {
       earlier = asked;
       last = q;
       answers = all.answers;
@@ -89,4 +95,4 @@ one_more_asked s asked sent owed q before is =
       answered = all.answered;
       answer = is;
       sent_is = all.sent_is ∙ sym (append-nil (advertised s ++ all.answers));
-    })
+    }

@@ -4,7 +4,7 @@ use Rattle.git_pkt.specs.Faults.{StopsBy, last_position}
 use Rattle.git_pkt.specs.Splits.{Given}
 use Rattle.git_pkt.specs.declared.fault.Fault.{Fault}
 use Rattle.git_pkt.specs.declared.fault.Kind.{Kind}
-use Rattle.git_pkt.specs.declared.fault.Kind.TheVariants.{StreamTooLong, Truncated}
+use Rattle.git_pkt.specs.declared.fault.Kind.TheVariants.{PackSource, StreamTooLong, Truncated}
 use Rattle.git_server.specs.Sessions.{Setting, EndsBy, IsRefused, IsSession}
 use Rattle.git_server.specs.declared.outcome.Outcome.{Outcome}
 use Rattle.git_server.specs.declared.outcome.Outcome.TheVariants.{Refused}
@@ -12,12 +12,14 @@ use Rattle.git_server.proofs.Admission.{not_told_for}
 
 refused_too_long : (s : Setting) (over : Bool) (left : List Given) (rest : List ℕ) (end : ℕ) (fault : Fault) → IsRefused s over left rest end fault
     → fault.kind ≡ StreamTooLong → (over ≡ false) × (end ≡ last_position)
-refused_too_long s over left rest end fault (inl r) is = absurd (not_told_for s.offer s.limit s.repo left fault StreamTooLong tt (λ e. cc) r.told is)
-refused_too_long s over left rest end fault (inr (inl r)) is =
+refused_too_long s over left rest end fault (inl (inl r)) is =
+    absurd (not_told_for s.offer s.limit s.repo left fault StreamTooLong tt (λ e. cc) r.told is)
+refused_too_long s over left rest end fault (inl (inr (inl r))) is =
     let stops : StopsBy (end - length rest) rest end StreamTooLong fault.offset =
     subst (λ (k : Kind). StopsBy (end - length rest) rest end k fault.offset) is r.stops in
     (r.goes_on, stops.1)
-refused_too_long s over left rest end fault (inr (inr r)) is = absurd (let same : Truncated ≡ StreamTooLong = sym r.name ∙ is in cc)
+refused_too_long s over left rest end fault (inl (inr (inr r))) is = absurd (let same : Truncated ≡ StreamTooLong = sym r.name ∙ is in cc)
+refused_too_long s over left rest end fault (inr r) is = absurd (let same : PackSource ≡ StreamTooLong = sym r.name ∙ is in cc)
 
 -- it used all the bytes that a stream may have, and the input goes on
 pub ends_too_long : (s : Setting) (used : List ℕ) (over : Bool) (given : List ℕ) (outcome : Outcome) (fault : Fault) → IsSession s used over given outcome

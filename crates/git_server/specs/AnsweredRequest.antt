@@ -1,13 +1,18 @@
 -- A request that is answered, and one packet more of its answer.
-use Rattle.std.specs.Prelude.{◌≡◌, ℕ, Option, Some, None, List, [], ◌∷◌, ◌++◌, drop, length, map}
+use Rattle.std.specs.Prelude.{◌≡◌, ◌<◌, ◌+◌, ◌-◌, ℕ, Option, Some, None, List, [], ◌∷◌, ◌++◌, drop, length, map}
 use Rattle.git_pkt.specs.Packets.{Pkt, flush}
 use Rattle.git_pkt.specs.declared.reader.PacketReader.{PacketReader}
-use Rattle.git_msg.specs.Asked.{Asked, LsRefsAsked, ls_refs, fetch}
+use Rattle.git_msg.specs.Asked.{Asked, FetchAsked, LsRefsAsked, ls_refs, fetch}
 use Rattle.git_msg.specs.declared.requests.Request.{Request}
 use Rattle.git_msg.specs.declared.requests.Request.TheVariants.{LsRefs as OfLsRefs, Fetch as OfFetch}
-use Rattle.git_server.specs.Repository.{Entry, Repository}
+use Rattle.git_server.specs.Repository.{Entry, Repository, RepoState}
 use Rattle.git_server.specs.Answers.{reference_packet, shown_refs}
+use Rattle.git_server.specs.Packs.{Manner, whole, broken, EndsPack, IsPackfile}
 use Rattle.git_server.specs.WrittenPackets.{Writes}
+use Rattle.git_server.specs.declared.packing.PackPlace.{PackPlace}
+use Rattle.git_server.specs.declared.packing.PackPlace.TheVariants.{Header, Pack}
+use Rattle.git_server.specs.declared.answer.Answered.{Answered}
+use Rattle.git_server.specs.declared.answer.Answered.TheVariants.{Part, Whole, Broken}
 use Rattle.git_server.specs.declared.answer.Answer.{Answer}
 use Rattle.git_server.specs.declared.answer.Answer.TheVariants.{References, Fetching}
 
@@ -15,31 +20,46 @@ use Rattle.git_server.specs.declared.answer.Answer.TheVariants.{References, Fetc
 abbrev pub references_from : LsRefsAsked → List Entry → ℕ → List Pkt
 references_from q refs next = map (reference_packet q.symrefs q.peel) (shown_refs q.ref_prefixes (drop next refs)) ++ flush ∷ []
 
+-- the packets end an answer for references, which never breaks off, from the reference at `next` on
+abbrev pub AreReferencesFrom : Manner → LsRefsAsked → List Entry → ℕ → List Pkt → Type 0
+AreReferencesFrom whole q refs next later = later ≡ references_from q refs next
+AreReferencesFrom broken q refs next later = ⊥
+
+-- the packets end the section of the pack, from this place on
+abbrev pub IsPackfileFrom : Manner → List ℕ → PackPlace → List Pkt → Type 0
+IsPackfileFrom manner pack Header later = IsPackfile manner pack later
+IsPackfileFrom manner pack (Pack offset) later = EndsPack manner (drop offset pack) later
+
+-- no more packets than these end it
+abbrev pub most_packets : List ℕ → PackPlace → ℕ
+most_packets pack Header = length pack + 2
+most_packets pack (Pack offset) = length pack - offset + 1
+
 module _ {A : Type 0} where
   -- what is answered
   abbrev pub asked_in : Answer A → Asked
   asked_in (References request next) = ls_refs request.asked
-  asked_in (Fetching request) = fetch request.asked
+  asked_in (Fetching request place) = fetch request.asked
 
   -- how many bytes the argument lines of the request have
   abbrev pub kept_with : Answer A → ℕ
   kept_with (References request next) = request.kept
-  kept_with (Fetching request) = request.kept
+  kept_with (Fetching request place) = request.kept
 
   -- the answer to a request, of which nothing was given
   abbrev pub answer_to : Request A → Answer A
   answer_to (OfLsRefs request) = References request 0
-  answer_to (OfFetch request) = Fetching request
+  answer_to (OfFetch request) = Fetching request Header
 
   -- from its place on, the packets end the answer
-  abbrev pub IsAnswerFrom : Repository → Answer A → List Pkt → Type 0
-  IsAnswerFrom repo (References request next) later = later ≡ references_from request.asked repo.refs next
-  IsAnswerFrom repo (Fetching request) later = later ≡ flush ∷ []
+  abbrev pub IsAnswerFrom : Manner → Repository → Answer A → List Pkt → Type 0
+  IsAnswerFrom manner repo (References request next) later = AreReferencesFrom manner request.asked repo.refs next later
+  IsAnswerFrom manner repo (Fetching request place) later = IsPackfileFrom manner (repo.pack request.asked) place later
 
   -- no more packets than these end it
   abbrev pub most_from : Repository → Answer A → ℕ
   most_from repo (References request next) = length (references_from request.asked repo.refs next)
-  most_from repo (Fetching request) = 1
+  most_from repo (Fetching request place) = most_packets (repo.pack request.asked) place
 
 -- the packets from the reference at a place on, or none where the answer ended
 abbrev pub references_after : LsRefsAsked → List Entry → Option ℕ → List Pkt
@@ -51,3 +71,46 @@ pub record AnswersOne (asked : LsRefsAsked) (refs : List Entry) (next : ℕ) (ol
   pub packet : Pkt
   pub owed : references_from asked refs next ≡ packet ∷ references_after asked refs after
   pub writes : Writes old packet new
+
+-- how the packets that are owed become fewer by one that was written, and how many reads failed by then
+abbrev pub FollowsPack : List ℕ → PackPlace → Answered → PackPlace → Pkt → Type 0
+FollowsPack pack old Part new packet =
+    ((manner : Manner) (later : List Pkt) → IsPackfileFrom manner pack new later → IsPackfileFrom manner pack old (packet ∷ later))
+    × (most_packets pack new < most_packets pack old)
+FollowsPack pack old Whole new packet = IsPackfileFrom whole pack old (packet ∷ [])
+FollowsPack pack old Broken new packet = IsPackfileFrom broken pack old (packet ∷ [])
+
+-- a read failed exactly where the answer broke off
+abbrev pub FailsBy : Answered → ℕ → ℕ → Type 0
+FailsBy Broken before now = before < now
+FailsBy _ before now = now ≡ before
+
+-- what a repository answers stays, and a read failed exactly where the answer broke off
+pub record ReadsPack (answered : Answered) (old new : RepoState) : Type 0 where
+  pub answers : new.answers ≡ old.answers
+  pub failures : FailsBy answered old.failures new.failures
+
+-- the next packet of the section of the pack was written
+pub record WritesPack (asked : FetchAsked) (repo_old : RepoState) (old : PackPlace) (reader_old : PacketReader) (answered : Answered)
+    (repo_new : RepoState) (new : PackPlace) (reader_new : PacketReader) : Type 0 where
+  pub packet : Pkt
+  pub writes : Writes reader_old packet reader_new
+  pub follows : FollowsPack (repo_old.answers.pack asked) old answered new packet
+  pub reads : ReadsPack answered repo_old repo_new
+
+module _ {A : Type 0} where
+  -- how the packets that are owed become fewer by one that was written
+  abbrev pub FollowsAnswer : Repository → Answer A → Answered → Answer A → Pkt → Type 0
+  FollowsAnswer repo old Part new packet =
+      ((manner : Manner) (later : List Pkt) → IsAnswerFrom manner repo new later → IsAnswerFrom manner repo old (packet ∷ later))
+      × (most_from repo new < most_from repo old) × (kept_with new ≡ kept_with old)
+  FollowsAnswer repo old Whole new packet = IsAnswerFrom whole repo old (packet ∷ [])
+  FollowsAnswer repo old Broken new packet = IsAnswerFrom broken repo old (packet ∷ [])
+
+  -- the next packet of an answer was written
+  pub record WritesAnswer (repo_old : RepoState) (old : Answer A) (reader_old : PacketReader) (answered : Answered)
+      (repo_new : RepoState) (new : Answer A) (reader_new : PacketReader) : Type 0 where
+    pub packet : Pkt
+    pub writes : Writes reader_old packet reader_new
+    pub follows : FollowsAnswer repo_old.answers old answered new packet
+    pub reads : ReadsPack answered repo_old repo_new

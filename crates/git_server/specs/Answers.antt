@@ -1,4 +1,4 @@
--- What a server gives: its advertisement, the answer to each request, and what it writes of an outcome.
+-- What a server gives: its advertisement, the answer to each request, and what it writes of a fault.
 use Rattle.std.specs.Prelude.{◌≡◌, ◌≤◌, length, ℕ, Bool, ◌||◌, if◌then◌else◌, None, List, [], ◌∷◌, ◌++◌, true, false, codes, filter, map, nat_eq}
 use Rattle.std.specs.List.{list_any, flat_map, starts_with}
 use Rattle.git_pkt.specs.Packets.{Pkt, flush, spelling_of, body_of, longest_payload}
@@ -11,8 +11,7 @@ use Rattle.git_msg.specs.Asked.{Asked, LsRefsAsked, ls_refs, fetch}
 use Rattle.git_msg.specs.WrittenRequest.{text_line, agent_line, format_line}
 use Rattle.git_msg.specs.References.{Ref, reference_text}
 use Rattle.git_server.specs.Repository.{Entry, Repository}
-use Rattle.git_server.specs.declared.outcome.Outcome.{Outcome}
-use Rattle.git_server.specs.declared.outcome.Outcome.TheVariants.{Flush, Closed, Refused}
+use Rattle.git_server.specs.Packs.{Manner, whole, broken, IsPackfile}
 
 -- the packets as they are written
 abbrev pub spelled : List Pkt → List ℕ
@@ -62,10 +61,19 @@ reference_packet symrefs peel entry = text_line (reference_text (shown_line symr
 abbrev pub ls_refs_answer : LsRefsAsked → List Entry → List Pkt
 ls_refs_answer q refs = map (reference_packet q.symrefs q.peel) (shown_refs q.ref_prefixes refs) ++ flush ∷ []
 
--- the packets are an answer of the repository to the request
+-- the packets are an answer for references, which never breaks off
+abbrev pub IsReferencesAnswer : Manner → LsRefsAsked → List Entry → List Pkt → Type 0
+IsReferencesAnswer whole q refs packets = packets ≡ ls_refs_answer q refs
+IsReferencesAnswer broken q refs packets = ⊥
+
+-- the packets are an answer of the repository to the request, whole or broken off
+abbrev pub IsAnswerAs : Manner → Repository → Asked → List Pkt → Type 0
+IsAnswerAs manner repo (ls_refs q) packets = IsReferencesAnswer manner q repo.refs packets
+IsAnswerAs manner repo (fetch q) packets = IsPackfile manner (repo.pack q) packets
+
+-- the packets are a whole answer
 abbrev pub IsAnswer : Repository → Asked → List Pkt → Type 0
-IsAnswer repo (ls_refs q) packets = packets ≡ ls_refs_answer q repo.refs
-IsAnswer repo (fetch q) packets = packets ≡ flush ∷ []
+IsAnswer = IsAnswerAs whole
 
 -- the error packet that tells a fault by its name and offset
 abbrev pub error_packet : Fault → Pkt
@@ -75,9 +83,3 @@ error_packet fault = text_line (codes "ERR " ++ fault_text fault)
 abbrev pub refusal_by : Kind → Fault → List Pkt
 refusal_by RemoteError fault = []
 refusal_by _ fault = error_packet fault ∷ []
-
--- what is written at the end of a session, after the answers
-abbrev pub tail_of : Outcome → List Pkt
-tail_of Flush = []
-tail_of Closed = []
-tail_of (Refused fault) = refusal_by fault.kind fault

@@ -1,13 +1,15 @@
 -- Where a server stands in its session.
-use Rattle.std.specs.Prelude.{◌≡◌, ◌≢◌, ℕ, Bool, true, false, Option, Some, None, List, [], ◌∷◌, ◌++◌, length}
+use Rattle.std.specs.Prelude.{◌≡◌, ◌≢◌, ℕ, Bool, true, false, Option, Some, None, List, [], ◌∷◌, length}
 use Rattle.git_pkt.specs.Packets.{Pkt}
 use Rattle.git_pkt.specs.Splits.{Given}
 use Rattle.git_pkt.specs.declared.fault.Fault.{Fault}
 use Rattle.git_pkt.specs.declared.fault.Kind.{Kind}
-use Rattle.git_pkt.specs.declared.fault.Kind.TheVariants.{RemoteError}
+use Rattle.git_pkt.specs.declared.fault.Kind.TheVariants.{PackSource, RemoteError}
 use Rattle.git_msg.specs.declared.offers.Offer.{Offer}
 use Rattle.git_server.specs.Repository.{Repository}
 use Rattle.git_server.specs.Answers.{error_packet}
+use Rattle.git_server.specs.Packs.{whole, broken}
+use Rattle.git_server.specs.Sessions.{IsLastAt}
 use Rattle.git_server.specs.AnsweredRequest.{IsAnswerFrom, answer_to, kept_with, most_from}
 use Rattle.git_server.specs.AdvertisementLines.{advertisement_from}
 use Rattle.git_server.specs.declared.advertisement.AdvertisementLine.{AdvertisementLine}
@@ -20,14 +22,14 @@ use Rattle.git_server.specs.declared.server.Turn.TheVariants.{NeedInput, Finishe
 use Rattle.git_server.specs.declared.server.Phase.{Phase}
 use Rattle.git_server.specs.declared.server.Phase.TheVariants.{Advertising, Between, Within, Answering, Refusing, Ended}
 
--- the last of the packets is at this offset
-abbrev pub IsLastAt : ℕ → List Given → Type 0
-IsLastAt offset packets = (front : List Given) × (last : Given) × (packets ≡ front ++ last ∷ []) × (last.offset ≡ offset)
-
 -- the fault of an outcome, if it has one
 abbrev pub refusal_in : Option Outcome → Option Fault
 refusal_in (Some (Refused fault)) = Some fault
 refusal_in _ = None
+
+-- the outcome where the source of a pack failed
+abbrev pub lost_pack : ℕ → Outcome
+lost_pack flush_offset = Refused (record { kind = PackSource; offset = flush_offset })
 
 module _ {A : Type 0} where
   -- the server waits for bytes
@@ -52,9 +54,14 @@ module _ {A : Type 0} where
   -- in this phase these packets may wait to be pulled, and then nothing does
   abbrev pub Owes : Offer → Repository → Phase A → List Pkt → Type 0
   Owes offer repo (Advertising line) later = later ≡ advertisement_from offer line
-  Owes offer repo (Answering answer offset) later = IsAnswerFrom repo answer later
+  Owes offer repo (Answering answer offset) later = IsAnswerFrom whole repo answer later
   Owes offer repo (Refusing fault) later = later ≡ error_packet fault ∷ []
   Owes offer repo _ later = later ≡ []
+
+  -- with these packets the answer may break off
+  abbrev pub MayBreak : Repository → Phase A → List Pkt → Type 0
+  MayBreak repo (Answering answer offset) later = IsAnswerFrom broken repo answer later
+  MayBreak repo _ later = ⊥
 
   -- how many packets wait at the most
   abbrev pub most_owed : Offer → Repository → Phase A → ℕ

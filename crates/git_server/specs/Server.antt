@@ -1,5 +1,5 @@
 -- What a server stands for: the bytes that it used, and those that it gave.
-use Rattle.std.specs.Prelude.{◌≡◌, ◌≤◌, ◌+◌, ℕ, Bool, false, Option, Some, None, List, []}
+use Rattle.std.specs.Prelude.{◌≡◌, ◌<◌, ◌≤◌, ◌+◌, ℕ, Bool, false, Option, Some, None, List, []}
 use Rattle.git_pkt.specs.Packets.{Pkt}
 use Rattle.git_pkt.specs.Splits.{Given}
 use Rattle.git_pkt.specs.PacketReader.{Reads, fault_of}
@@ -8,12 +8,25 @@ use Rattle.git_msg.specs.RequestReader.{Takes, offer_of, limit_in, kept_so_far}
 use Rattle.git_msg.specs.WholeRequests.{AreRequests}
 use Rattle.git_server.specs.Repository.{RepoState}
 use Rattle.git_server.specs.Answers.{AllFit, spelled}
-use Rattle.git_server.specs.Sessions.{Setting, Begins, IsRequest, IsSent, IsEnding}
-use Rattle.git_server.specs.Phases.{FlushIsAt, LeftIn, kept_in, outcome_in, Owes, reads_in}
+use Rattle.git_server.specs.Packs.{broken}
+use Rattle.git_server.specs.Sessions.{Setting, Begins, IsRequest, IsSent, IsAnswering, IsEnding}
+use Rattle.git_server.specs.Phases.{FlushIsAt, LeftIn, kept_in, outcome_in, MayBreak, Owes, reads_in}
 use Rattle.git_server.specs.declared.outcome.Outcome.{Outcome}
+use Rattle.git_server.specs.declared.outcome.Outcome.TheVariants.{Refused}
+use Rattle.git_pkt.specs.declared.fault.Fault.{Fault}
+use Rattle.git_pkt.specs.declared.fault.Kind.TheVariants.{PackSource}
 use Rattle.git_msg.specs.declared.offers.Offer.{Offer}
 use Rattle.git_server.specs.declared.server.Phase.{Phase}
 use Rattle.git_server.specs.declared.server.Server.{Server}
+
+-- a session ended since the source of a pack failed
+abbrev pub IsPackLost : Option Outcome → Type 0
+IsPackLost o = (fault : Fault) × (o ≡ Some (Refused fault)) × (fault.kind ≡ PackSource)
+
+-- more reads of the repository have failed than before exactly where the session ended since the source of a pack failed
+pub record HasFailed (o : Option Outcome) (before now : ℕ) : Type 0 where
+  pub risen : IsPackLost o → before < now
+  pub same : ¬ IsPackLost o → now ≡ before
 
 module _ {R A : Type 0} where
   -- the repository that the server answers from
@@ -47,6 +60,7 @@ module _ {R A : Type 0} where
     pub left_is : LeftIn server.phase left
     pub flush_at : FlushIsAt server.phase packets
     pub is_sent : (owed : List Pkt) → Owes server.offer s.repo server.phase owed → IsSent s asked sent owed
+    pub breaks : (owed : List Pkt) → MayBreak s.repo server.phase owed → IsAnswering broken s asked sent owed
     pub given_is : given ≡ spelled sent
     pub fit : AllFit sent
 
@@ -61,6 +75,7 @@ module _ {R A : Type 0} where
     pub reads_for : offer_of server.requests ≡ s.offer
     pub limit : limit_in server.requests ≡ s.limit
     pub repo : (state server.repo).answers ≡ s.repo
+    pub failures : HasFailed (outcome_of server) s.failures (state server.repo).failures
     pub within : kept_by server ≤ s.limit
     pub stands : StandsBy (outcome_of server) s used over given server
 

@@ -5,8 +5,8 @@ use Rattle.git_pkt.specs.Splits.{Given}
 use Rattle.git_pkt.specs.PacketReader.{ReadsOn, held_of}
 use Rattle.git_server.specs.Repository.{RepoState}
 use Rattle.git_server.specs.Sessions.{Setting, IsSession}
-use Rattle.git_server.specs.Phases.{Owes, most_owed}
-use Rattle.git_server.specs.Server.{Running, outcome_of, wants_input}
+use Rattle.git_server.specs.Phases.{MayBreak, Owes, most_owed}
+use Rattle.git_server.specs.Server.{IsPackLost, Running, outcome_of, wants_input}
 use Rattle.git_pkt.specs.declared.fault.Fault.{Fault}
 use Rattle.git_pkt.specs.declared.fault.Kind.TheVariants.{StreamTooLong, Truncated}
 use Rattle.git_server.specs.declared.outcome.Outcome.{Outcome}
@@ -19,10 +19,11 @@ use Rattle.git_server.specs.declared.server.Pulled.TheVariants.{Packet, NeedInpu
 abbrev pub IsClosing : Option Outcome → Type 0
 IsClosing o = (o ≡ Some Closed) ⊎ ((fault : Fault) × (o ≡ Some (Refused fault)) × (fault.kind ≡ Truncated))
 
--- what a pull makes of the outcome: once there is one it stays, and none comes by a pull
+-- what a pull makes of the outcome: once there is one it stays, and by a pull none comes but that of a pack whose source
+-- failed
 abbrev pub IsAfterPull : Option Outcome → Option Outcome → Type 0
 IsAfterPull (Some outcome) now = now ≡ Some outcome
-IsAfterPull None now = now ≡ None
+IsAfterPull None now = (now ≡ None) ⊎ IsPackLost now
 
 -- what was pulled, as bytes
 abbrev pub given_by : Pulled → List ℕ
@@ -58,8 +59,19 @@ module _ {R A : Type 0} where
   most_left state server = most_owed server.offer (state server.repo).answers server.phase
 
   -- the packet comes before whatever waits now
+  abbrev pub ComesBefore : (R → RepoState) → Pkt → Server R A → Server R A → Type 0
+  ComesBefore state packet old new = (later : List Pkt) → OwesNow state new later → OwesNow state old (packet ∷ later)
+
+  -- with the packet the answer breaks off, and the session ends
+  pub record BreaksOff (state : R → RepoState) (packet : Pkt) (old new : Server R A) : Type 0 where
+    pub went_on : outcome_of old ≡ None
+    pub breaks : MayBreak (state old.repo).answers old.phase (packet ∷ [])
+    pub lost : IsPackLost (outcome_of new)
+    pub nothing : OwesNow state new []
+
+  -- the packet comes before whatever waits now, or with it the answer breaks off
   abbrev pub ComesFirst : (R → RepoState) → Pkt → Server R A → Server R A → Type 0
-  ComesFirst state packet old new = (later : List Pkt) → OwesNow state new later → OwesNow state old (packet ∷ later)
+  ComesFirst state packet old new = ComesBefore state packet old new ⊎ BreaksOff state packet old new
 
   -- what was used and given is a session that ended so
   abbrev pub EndsAs : (R → RepoState) → Server R A → Outcome → Type 0
@@ -80,16 +92,16 @@ module _ {R A : Type 0} where
     pub tells : TellsPulled state old pulled new
     pub outcome : IsAfterPull (outcome_of old) (outcome_of new)
 
-  -- the reader used these bytes, which gave these packets; the offer and what the repository answers are as they were
+  -- the reader used these bytes, which gave these packets; the offer and the repository are as they were
   pub record ReadsFor (state : R → RepoState) (old : Server R A) (used : List ℕ) (packets : List Given) (new : Server R A) : Type 0 where
     pub offer : new.offer ≡ old.offer
-    pub answers : (state new.repo).answers ≡ (state old.repo).answers
+    pub repo : state new.repo ≡ state old.repo
     pub reads : ReadsOn old.reader used packets new.reader
 
-  -- the offer, what the repository answers and what was taken of a request are as they were
+  -- the offer, the repository and what was taken of a request are as they were
   pub record Keeps (state : R → RepoState) (old new : Server R A) : Type 0 where
     pub offer : new.offer ≡ old.offer
-    pub answers : (state new.repo).answers ≡ (state old.repo).answers
+    pub repo : state new.repo ≡ state old.repo
     pub requests : new.requests ≡ old.requests
 
   -- the next packet that is owed is in the hold, and given with it

@@ -4,7 +4,8 @@ use Rattle.git_pkt.specs.Packets.{Pkt}
 use Rattle.git_pkt.specs.Splits.{Given, Splits}
 use Rattle.git_pkt.specs.Faults.{IsOpen, StopsBy}
 use Rattle.git_pkt.specs.declared.fault.Fault.{Fault}
-use Rattle.git_pkt.specs.declared.fault.Kind.TheVariants.{OutOfMemory, Truncated}
+use Rattle.git_pkt.specs.declared.fault.Kind.{Kind}
+use Rattle.git_pkt.specs.declared.fault.Kind.TheVariants.{OutOfMemory, PackSource, Truncated}
 use Rattle.git_msg.specs.declared.offers.Offer.{Offer}
 use Rattle.git_msg.specs.Asked.{Asked}
 use Rattle.git_msg.specs.Lines.{Line}
@@ -12,17 +13,19 @@ use Rattle.git_msg.specs.Requests.{AreLines, Asks, IsStop}
 use Rattle.git_msg.specs.WholeRequests.{AreRequests}
 use Rattle.git_server.specs.Repository.{Repository}
 use Rattle.git_server.specs.Admission.{AreAdmitted, HasAsked, IsToldFor}
-use Rattle.git_server.specs.Answers.{AllFit, spelled, advertisement_of, IsAnswer, tail_of}
+use Rattle.git_server.specs.Packs.{Manner, whole, broken}
+use Rattle.git_server.specs.Answers.{AllFit, spelled, advertisement_of, refusal_by, IsAnswer, IsAnswerAs}
 use Rattle.git_server.specs.declared.outcome.Outcome.{Outcome}
 use Rattle.git_server.specs.declared.outcome.Outcome.TheVariants.{Flush, Closed, Refused}
 
 -- what a session rests on: the offer, how many bytes of arguments a request may have, whether the offer is
--- advertised first, and the repository
+-- advertised first, the repository, and how many of its reads had failed before
 pub record Setting : Type 0 where
   pub offer : Offer
   pub limit : ℕ
   pub advertise : Bool
   pub repo : Repository
+  pub failures : ℕ
 
 -- what is given before the first answer
 abbrev pub advertised : Setting → List Pkt
@@ -76,9 +79,27 @@ pub record IsCutShort (s : Setting) (over : Bool) (left : List Given) (rest : Li
   pub name : fault.kind ≡ Truncated
   pub at : fault.offset + length rest ≡ end
 
-abbrev pub IsRefused : Setting → Bool → List Given → List ℕ → ℕ → Fault → Type 0
-IsRefused s over left rest end fault =
+-- the last of the packets is at this offset
+abbrev pub IsLastAt : ℕ → List Given → Type 0
+IsLastAt offset packets = (front : List Given) × (last : Given) × (packets ≡ front ++ last ∷ []) × (last.offset ≡ offset)
+
+-- the packets are a whole request, and the source of its pack failed; told at the request's flush
+pub record IsWithoutPack (s : Setting) (over : Bool) (left : List Given) (rest : List ℕ) (fault : Fault) : Type 0 where
+  pub goes_on : over ≡ false
+  pub asked : Asked
+  pub is_request : IsRequest s left asked
+  pub name : fault.kind ≡ PackSource
+  pub at : IsLastAt fault.offset left
+  pub no_rest : rest ≡ []
+
+-- what was read is refused, at a packet, at a byte or at its end
+abbrev pub IsRefusedAsRead : Setting → Bool → List Given → List ℕ → ℕ → Fault → Type 0
+IsRefusedAsRead s over left rest end fault =
     IsRefusedAtPacket s left rest fault ⊎ (IsRefusedAtByte s over left rest end fault ⊎ IsCutShort s over left rest end fault)
+
+-- what was read is refused, or the pack that it asks for cannot be had
+abbrev pub IsRefused : Setting → Bool → List Given → List ℕ → ℕ → Fault → Type 0
+IsRefused s over left rest end fault = IsRefusedAsRead s over left rest end fault ⊎ IsWithoutPack s over left rest fault
 
 -- a session ends so, where this is left after the whole requests and `end` bytes were used
 abbrev pub EndsBy : Setting → Bool → List Given → List ℕ → ℕ → Outcome → Type 0
@@ -92,9 +113,32 @@ WantsMemory Flush = ⊥
 WantsMemory Closed = ⊥
 WantsMemory (Refused fault) = fault.kind ≡ OutOfMemory
 
+-- the source of a pack failed
+abbrev pub WantsPack : Outcome → Type 0
+WantsPack Flush = ⊥
+WantsPack Closed = ⊥
+WantsPack (Refused fault) = fault.kind ≡ PackSource
+
+-- the bytes alone decide the outcome: it is no want of memory, and no source of a pack failed
+pub record IsOfTheBytes (outcome : Outcome) : Type 0 where
+  pub by_memory : ¬ WantsMemory outcome
+  pub by_pack : ¬ WantsPack outcome
+
+-- the packets are the beginning of an answer to the request that is left, which broke off
+pub record IsBrokenOff (s : Setting) (left : List Given) (tail : List Pkt) : Type 0 where
+  pub asked : Asked
+  pub is_request : IsRequest s left asked
+  pub breaks : IsAnswerAs broken s.repo asked tail
+
+abbrev pub IsTailBy : Kind → Setting → List Given → Fault → List Pkt → Type 0
+IsTailBy PackSource s left fault tail = IsBrokenOff s left tail
+IsTailBy kind s left fault tail = refusal_by kind fault ≡ tail
+
 -- what is written at the end of a session, after the answers to the whole requests before what is left
 abbrev pub IsTail : Setting → List Given → Outcome → List Pkt → Type 0
-IsTail s left outcome tail = tail_of outcome ≡ tail
+IsTail s left Flush tail = [] ≡ tail
+IsTail s left Closed tail = [] ≡ tail
+IsTail s left (Refused fault) tail = IsTailBy fault.kind s left fault tail
 
 -- the session ended so: for the bytes used, and `over` where the input ended with them, just these were given
 pub record IsSession (s : Setting) (used : List ℕ) (over : Bool) (given : List ℕ) (outcome : Outcome) : Type 0 where
@@ -116,19 +160,19 @@ pub record IsOpening (s : Setting) (asked : List Asked) (sent owed : List Pkt) :
   pub parts : sent ++ owed ≡ advertised s
 
 -- all requests but the last were answered, and of the last one's answer this was sent, and that is owed
-pub record IsAnswering (s : Setting) (asked : List Asked) (sent owed : List Pkt) : Type 0 where
+pub record IsAnswering (manner : Manner) (s : Setting) (asked : List Asked) (sent owed : List Pkt) : Type 0 where
   pub earlier : List Asked
   pub last : Asked
   pub answers : List Pkt
   pub front : List Pkt
   pub whole : asked ≡ earlier ++ last ∷ []
   pub answered : AreAnswers s.repo earlier answers
-  pub answer : IsAnswer s.repo last (front ++ owed)
+  pub answer : IsAnswerAs manner s.repo last (front ++ owed)
   pub sent_is : sent ≡ advertised s ++ answers ++ front
 
 -- what was sent, in whole packets, and what is owed for these requests: all but a part of the last message was sent
 abbrev pub IsSent : Setting → List Asked → List Pkt → List Pkt → Type 0
-IsSent s asked sent owed = IsOpening s asked sent owed ⊎ IsAnswering s asked sent owed
+IsSent s asked sent owed = IsOpening s asked sent owed ⊎ IsAnswering whole s asked sent owed
 
 -- the session goes on: nothing is refused and nobody has left
 pub record GoesOn (s : Setting) (used given : List ℕ) : Type 0 where

@@ -5,13 +5,14 @@ ghost use Rattle.std.specs.Option.{option_copied};
 ghost use Rattle.git_names.specs.RefName.{IsRefName};
 ghost use Rattle.git_pkt.specs.PacketReader.{is_open};
 ghost use Rattle.git_msg.specs.References.{IsWritable, shown_reference};
-ghost use Rattle.git_server.specs.AnsweredRequest.{AnswersOne, answer_to};
+ghost use Rattle.git_server.specs.AnsweredRequest.{AnswersOne, WritesAnswer, answer_to};
 ghost use Rattle.git_server.specs.Answers.{reference_packet, shown_line};
 ghost use Rattle.git_server.specs.WrittenPackets.{Writes};
 ghost use Rattle.git_server.specs.Repository.{HasOneFormat};
 
 use crate::entry::RefEntry;
 use crate::packets::write_packet;
+use crate::packing::{PackPlace, write_pack};
 use crate::repo::Repo;
 use crate::shown::next_shown;
 use git_msg::{Fetch, LsRefs, Reference, Request, put_reference};
@@ -24,8 +25,19 @@ use std::alloc::Allocator;
 pub(crate) enum Answer<A: Allocator + Copy> {
     /// Of a request for references: from the reference at this place on.
     References(LsRefs<A>, usize),
-    /// Of a request for objects.
-    Fetching(Fetch<A>),
+    /// Of a request for objects: from this place in the section of the pack on.
+    Fetching(Fetch<A>, PackPlace),
+}
+
+/// What came of writing a packet of an answer.
+#[derive(Clone, Copy, Debug)]
+pub(crate) enum Answered {
+    /// More of it is owed.
+    Part,
+    /// That was its flush.
+    Whole,
+    /// The source of its pack failed: that was its last packet.
+    Broken,
 }
 
 impl<A: Allocator + Copy> Answer<A> {
@@ -35,7 +47,24 @@ impl<A: Allocator + Copy> Answer<A> {
     {
         match request {
             Request::LsRefs(request) => Answer::References(request, 0),
-            Request::Fetch(request) => Answer::Fetching(request),
+            Request::Fetch(request) => Answer::Fetching(request, PackPlace::Header),
+        }
+    }
+
+    /// Writes the next packet of the answer into the reader's hold, and goes on to the one after it.
+    pub(crate) fn write<R: Repo>(&mut self, repo: &mut R, reader: &mut PacketReader) -> Answered
+        requires { is_open reader.old ≡ false }
+        ensures { WritesAnswer (R.state repo.old) self.old reader.old result (R.state repo.new) self.new reader.new }
+    {
+        match self {
+            Answer::References(request, next) => match answer_one(repo, request, *next, reader) {
+                Some(after) => {
+                    *next = after;
+                    Answered::Part
+                }
+                None => Answered::Whole,
+            },
+            Answer::Fetching(request, place) => write_pack(repo, request, place, reader),
         }
     }
 }

@@ -1,7 +1,7 @@
 //! What a server's contract says of the bytes alone: each function does nothing, and its contract is the law.
 
 ghost use Rattle.std.specs.Prelude.{◌≡◌, ◌≤◌, ◌↔◌, ℕ, Bool, true, None, List};
-ghost use Rattle.git_server.specs.Sessions.{IsAnswered, IsRunning, IsSession, Setting, WantsMemory};
+ghost use Rattle.git_server.specs.Sessions.{IsAnswered, IsOfTheBytes, IsRunning, IsSession, Setting};
 ghost use Rattle.git_server.specs.declared.outcome.Outcome.{Outcome};
 ghost use Rattle.git_server.specs.Server.{Running, kept_by, outcome_of, wants_input};
 
@@ -23,9 +23,10 @@ pub fn server_waits_where_all_is_given<R: Repo, A: Allocator + Copy>(server: &Se
         → (wants_input server.now ≡ true) ↔ ((outcome_of server.now ≡ None) × IsAnswered s used given) }
 {}
 
-/// For the bytes used, and by whether the input ended with them, a session ends in one way, want of memory aside.
+/// For the bytes used, and by whether the input ended with them, a session ends in one way, want of memory and sources of
+/// packs that fail aside.
 pub fn session_has_one_outcome()
     ensures { (s : Setting) (used : List ℕ) (over : Bool) (given others : List ℕ) (outcome other : Outcome)
         → IsSession s used over given outcome → IsSession s used over others other
-        → ¬ WantsMemory outcome → ¬ WantsMemory other → outcome ≡ other }
+        → IsOfTheBytes outcome → IsOfTheBytes other → outcome ≡ other }
 {}

@@ -9,6 +9,7 @@ pub mod laws;
 mod list_repo;
 mod outcome;
 mod packets;
+mod packing;
 mod refusal;
 mod repo;
 mod requests;

@@ -3,17 +3,16 @@
 ghost use Rattle.std.specs.Prelude.{◌≡◌, true, false, None};
 ghost use Rattle.git_pkt.specs.PacketReader.{is_open};
 ghost use Rattle.git_msg.specs.RequestReader.{fault_of, is_waiting};
-ghost use Rattle.git_server.specs.Phases.{advertising_phase, outcome_in, owes_in, phase_after, refusal_in, refused_by, turn_in};
+ghost use Rattle.git_server.specs.Phases.{advertising_phase, lost_pack, outcome_in, owes_in, phase_after, refusal_in, refused_by, turn_in};
 
 use crate::advertisement::AdvertisementLine;
-use crate::answer::{Answer, answer_one};
+use crate::answer::{Answer, Answered};
 use crate::outcome::Outcome;
-use crate::packets::write_packet;
 use crate::refusal::write_error;
 use crate::repo::Repo;
 use crate::requests::{Brought, take_packet};
 use git_msg::{Limits, Offer, RequestReader};
-use git_pkt::{Fault, Got, Kind, Packet, PacketReader};
+use git_pkt::{Fault, Got, Kind, PacketReader};
 use std::alloc::Allocator;
 
 /// Where a session stands.
@@ -79,7 +78,7 @@ impl<R: Repo, A: Allocator + Copy> Server<R, A> {
     pub fn new(alloc: A, repo: R, offer: Offer, limits: Limits, advertise: bool) -> Server<R, A>
         requires format { offer.format ≡ (R.state repo).answers.format }
         requires no_object_info { offer.object_info ≡ false }
-        ensures running { Running R.state (record { offer = offer; limit = limits.args; advertise = advertise; repo = (R.state repo).answers }) [] false [] result }
+        ensures running { Running R.state (record { offer = offer; limit = limits.args; advertise = advertise; repo = (R.state repo).answers; failures = (R.state repo).failures }) [] false [] result }
         ensures repo { repo_of result ≡ repo }
     {
         if advertise {
@@ -222,18 +221,14 @@ impl<R: Repo, A: Allocator + Copy> Server<R, A> {
                 line.write(&self.offer, &mut self.reader);
                 self.phase = advertising(line.next(&self.offer));
             }
-            Phase::Answering(answer, _) => match answer {
-                Answer::References(request, next) => {
-                    match answer_one(&self.repo, request, *next, &mut self.reader) {
-                        Some(after) => *next = after,
-                        None => self.phase = Phase::Between,
-                    }
+            Phase::Answering(answer, flush) => {
+                let flush = *flush;
+                match answer.write(&mut self.repo, &mut self.reader) {
+                    Answered::Part => {}
+                    Answered::Whole => self.phase = Phase::Between,
+                    Answered::Broken => self.phase = Phase::Ended(without_pack(flush)),
                 }
-                Answer::Fetching(_) => {
-                    write_packet(&mut self.reader, Packet::Flush);
-                    self.phase = Phase::Between;
-                }
-            },
+            }
             Phase::Refusing(fault) => {
                 let fault = *fault;
                 write_error(&mut self.reader, fault);
@@ -290,6 +285,16 @@ fn refusal<A: Allocator + Copy>(fault: Fault) -> Phase<A>
         Kind::RemoteError => Phase::Ended(Outcome::Refused(fault)),
         _ => Phase::Refusing(fault),
     }
+}
+
+// The source of the pack failed, for the request whose flush was at this offset.
+fn without_pack(flush: u64) -> Outcome
+    ensures { result ≡ lost_pack flush }
+{
+    Outcome::Refused(Fault {
+        kind: Kind::PackSource,
+        offset: flush,
+    })
 }
 
 // The phase after a line of the advertisement.

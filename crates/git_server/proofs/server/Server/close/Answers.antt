@@ -8,20 +8,20 @@ use Rattle.git_server.proofs.server.Server.close.Goals as goal
 pub returns-in-Err-clause-closes : goal.returns-in-Err-clause-closes
 returns-in-Err-clause-closes g c =
     let old = c.args.self.now in
-    closes_open g.R.Repo.state old _ c.in-Err.fault c.requires (record { offer = refl; answers = refl; requests = refl }) c.refusal.ensures
+    closes_open g.R.Repo.state old _ c.in-Err.fault c.requires (record { offer = refl; repo = refl; requests = refl }) c.refusal.ensures
     c.in-Err.ensures.truncated
 
 pub returns-in-Between-clause-closes : goal.returns-in-Between-clause-closes
 returns-in-Between-clause-closes g c =
     let between = c.in_default.ensures.between in
     closes_between g.R.Repo.state c.args.self.now _ c.requires
-    (record { offer = refl; answers = refl; requests = refl }) c.in-Between.is refl between.1 between.2
+    (record { offer = refl; repo = refl; requests = refl }) c.in-Between.is refl between.1 between.2
 
 pub returns-clause-closes : goal.returns-clause-closes
 returns-clause-closes g c =
     let old = c.args.self.now in
     let between = c.in_default.ensures.between in
     closes_within g.R.Repo.state old _ (record { kind = Truncated; offset = c.position.result }) c.requires
-    (record { offer = refl; answers = refl; requests = refl })
+    (record { offer = refl; repo = refl; requests = refl })
     (is_within old.phase c.requires c.in_default-phase.not-Between) (search rules) between.1 between.2 refl
     (c.position.ensures ∙ ap position_of between.0)

@@ -11,7 +11,7 @@ returns-in-Packet-clause-goes g c =
     let fed = c.feed-fed.result in
     let feeds = feeds_with old.reader c.feed-fed.follows.lender-at-none piece fed _ c.in-Packet.is c.feed-fed.follows.holds-at-none in
     goes_packet g.R.Repo.state old _ (take fed.used piece) (record { packet = seen c.in-Packet.packet; offset = c.in-Packet.offset }) _ c.requires.wants
-    (record { offer = refl; answers = refl; reads = feeds.reads }) c.take_packet-brought.ensures c.following.ensures feeds.tells.1 feeds.tells.2
+    (record { offer = refl; repo = refl; reads = feeds.reads }) c.take_packet-brought.ensures c.following.ensures feeds.tells.1 feeds.tells.2
 
 pub returns-in-Failed-clause-goes : goal.returns-in-Failed-clause-goes
 returns-in-Failed-clause-goes g c =
@@ -19,7 +19,7 @@ returns-in-Failed-clause-goes g c =
     let piece = c.args.piece.now in
     let fed = c.feed-fed.result in
     let feeds = feeds_with old.reader c.feed-fed.follows.lender-at-none piece fed _ c.in-Failed.is c.feed-fed.follows.holds-at-none in
-    goes_refused g.R.Repo.state old _ (take fed.used piece) c.in-Failed.fault c.requires.wants (record { offer = refl; answers = refl; reads = feeds.reads })
+    goes_refused g.R.Repo.state old _ (take fed.used piece) c.in-Failed.fault c.requires.wants (record { offer = refl; repo = refl; reads = feeds.reads })
     refl feeds.tells
     (λ none. (c.feed-fed.follows.holds-at-none.news c.in-Failed.fault none c.in-Failed.is).not_the_end) c.refusal.ensures
 

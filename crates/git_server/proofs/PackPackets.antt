@@ -1,0 +1,84 @@
+-- The packets of a pack: one more of them, and that there are always some that end it.
+use Rattle.std.proofs.Common.{arith, ◌≡◌, ℕ, ◌+◌, ◌<◌, ◌≤◌, List, [], ◌∷◌, ◌++◌, length, take, drop, refl, sym, ap, ◌∙◌, append_assoc}
+use Rattle.std.proofs.Common.{take-append-drop}
+use Rattle.std.proofs.lemmas.List.{drop_all, drop-drop}
+use Rattle.std.proofs.lemmas.Grind.{common_steps}
+use Rattle.git_pkt.specs.Packets.{Pkt, flush, flushes, longest_payload}
+use Rattle.git_pkt.specs.Bands.{AreBands, band_packet}
+use Rattle.git_pkt.specs.declared.band.Band.TheVariants.{Pack as PackBand}
+use Rattle.git_server.specs.AnsweredRequest.{IsPackfileFrom}
+use Rattle.git_server.specs.Packs.{Manner, whole, broken, IsPackPart, EndsPack, EndsWhole, IsPackfile, packfile_header}
+use Rattle.git_server.specs.declared.packing.PackPlace.{PackPlace}
+use Rattle.git_server.specs.declared.packing.PackPlace.TheVariants.{Header, Pack}
+use Rattle.git_server.proofs.Flushes.{flushes-append}
+
+taken_off : (bytes : List ℕ) (offset count : ℕ) → drop offset bytes ≡ take count (drop offset bytes) ++ drop (offset + count) bytes
+taken_off bytes offset count = sym (take-append-drop count (drop offset bytes))
+    ∙ ap (λ (l : List ℕ). take count (drop offset bytes) ++ l) (drop-drop count offset bytes)
+
+part_length : (pack out : List ℕ) (offset count : ℕ) → IsPackPart pack offset count out → length (take count out) ≡ count
+part_length pack out offset count h = let fits = h.fits in grind (arith, common_steps)
+
+module _ (pack out : List ℕ) (offset count : ℕ) (part : IsPackPart pack offset count out) (some : 0 < count) (few : count < longest_payload) where
+  -- some bytes of the pack, and then those after them
+  pub after_part : (manner : Manner) (later : List Pkt) → EndsPack manner (drop (offset + count) pack) later
+      → EndsPack manner (drop offset pack) (band_packet PackBand (take count out) ∷ later)
+  after_part whole later h =
+      let long = part_length pack out offset count part in
+      let cut : drop offset pack ≡ take count out ++ drop (offset + count) pack =
+      taken_off pack offset count ∙ ap (λ (l : List ℕ). l ++ drop (offset + count) pack) (sym part.bytes) in
+      record {
+        bands = band_packet PackBand (take count out) ∷ h.bands;
+        are_bands = (take count out, drop (offset + count) pack, cut, omega (arith, long, some), omega (arith, long, few), refl, h.are_bands);
+        packets_are = ap (λ (l : List Pkt). band_packet PackBand (take count out) ∷ l) h.packets_are;
+      }
+  after_part broken later h =
+      let long = part_length pack out offset count part in
+      let cut : drop offset pack ≡ take count out ++ drop (offset + count) pack =
+      taken_off pack offset count ∙ ap (λ (l : List ℕ). l ++ drop (offset + count) pack) (sym part.bytes) in
+      record {
+        front = take count out ++ h.front;
+        back = h.back;
+        bands = band_packet PackBand (take count out) ∷ h.bands;
+        cut = cut ∙ ap (λ (l : List ℕ). take count out ++ l) h.cut ∙ sym (append_assoc (take count out) h.front h.back);
+        are_bands = (take count out, h.front, refl, omega (arith, long, some), omega (arith, long, few), refl, h.are_bands);
+        packets_are = ap (λ (l : List Pkt). band_packet PackBand (take count out) ∷ l) h.packets_are;
+      }
+
+-- at the pack's end comes the flush
+pub at_its_end : (pack : List ℕ) (offset : ℕ) → length pack ≤ offset → EndsPack whole (drop offset pack) (flush ∷ [])
+at_its_end pack offset end = record { bands = []; are_bands = drop_all offset pack end; packets_are = refl }
+
+-- some packets always end a pack: each byte in a packet of its own
+single : List ℕ → List Pkt
+single [] = []
+single (b ∷ bs) = band_packet PackBand (b ∷ []) ∷ single bs
+
+single_bands : (bytes : List ℕ) → AreBands PackBand bytes (single bytes)
+unfolding single
+single_bands [] = refl
+single_bands (b ∷ bs) = (b ∷ [], bs, refl, omega arith, omega arith, refl, single_bands bs)
+
+ends_whole : (bytes : List ℕ) → EndsWhole bytes (single bytes ++ flush ∷ [])
+ends_whole bytes = record { bands = single bytes; are_bands = single_bands bytes; packets_are = refl }
+
+pub some_packfile : (pack : List ℕ) (place : PackPlace) → (later : List Pkt) × IsPackfileFrom whole pack place later
+some_packfile pack Header =
+    (packfile_header ∷ (single pack ++ flush ∷ []), record { tail = single pack ++ flush ∷ []; ends = ends_whole pack; packets_are = refl })
+some_packfile pack (Pack offset) = (single (drop offset pack) ++ flush ∷ [], ends_whole (drop offset pack))
+
+bands_have_none : (bytes : List ℕ) (bands : List Pkt) → AreBands PackBand bytes bands → flushes bands ≡ 0
+bands_have_none bytes [] h = refl
+bands_have_none bytes (p ∷ ps) (part, more, cut, some, few, is, later) = ap (λ (q : Pkt). flushes (q ∷ ps)) is ∙ bands_have_none more ps later
+
+pack_ends_once : (bytes : List ℕ) (packets : List Pkt) → EndsPack whole bytes packets → flushes packets ≡ 1
+pack_ends_once bytes packets h =
+    ap flushes h.packets_are ∙ flushes-append h.bands (flush ∷ []) ∙ ap (λ (n : ℕ). n + 1) (bands_have_none bytes h.bands h.are_bands)
+
+-- the section of the pack has one flush
+pub packfile_ends_once : (pack : List ℕ) (packets : List Pkt) → IsPackfile whole pack packets → flushes packets ≡ 1
+packfile_ends_once pack packets h = ap flushes h.packets_are ∙ pack_ends_once pack h.tail h.ends
+
+pub packfile_ends_later : (pack : List ℕ) (place : PackPlace) (packets : List Pkt) → IsPackfileFrom whole pack place packets → flushes packets ≡ 1
+packfile_ends_later pack Header packets h = packfile_ends_once pack packets h
+packfile_ends_later pack (Pack offset) packets h = pack_ends_once (drop offset pack) packets h
