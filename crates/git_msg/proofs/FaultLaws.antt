@@ -133,6 +133,36 @@ pub no_fault_in_lines : (offer : Offer) (limit : ℕ) (packets : List Given) (li
 no_fault_in_lines offer limit packets lines kind offset are k =
     lines_or_fault offer limit [] packets lines k.front k.bad k.back k.lines kind are k.whole k.taken k.fault
 
+at_last : (offer : Offer) (limit : ℕ) (before : List Line) (front : List Given) (last : Given) (lines : List Line) (others : List Given)
+    (bad : Given) (back : List Given) (its : List Line) (kind : Kind)
+    → AreLines offer limit before front lines → front ++ last ∷ [] ≡ others ++ bad ∷ back → AreLines offer limit before others its
+    → HasFault offer limit (before ++ its) bad.packet kind → HasFault offer limit (before ++ lines) last.packet kind
+at_last offer limit before [] last [] [] bad back [] kind are whole those fault =
+    let e = heads_same last bad [] back whole in
+    fault_of_same offer limit (before ++ []) last bad kind e.0 fault
+at_last offer limit before [] last [] (x ∷ xs) bad back its kind are whole those fault =
+    absurd (not_empty xs bad back (heads_same last x [] (xs ++ bad ∷ back) whole).1)
+at_last offer limit before (f ∷ fs) last (l ∷ ls) [] bad back [] kind are whole those fault =
+    let e = heads_same f bad (fs ++ last ∷ []) back whole in
+    absurd (line_or_fault offer limit before f.packet l kind are.0
+    (fault_of_same offer limit before f bad kind e.0 (at_start offer limit before bad.packet kind fault)))
+at_last offer limit before (f ∷ fs) last (l ∷ ls) (x ∷ xs) bad back (m ∷ ms) kind are whole those fault =
+    let e = heads_same f x (fs ++ last ∷ []) (xs ++ bad ∷ back) whole in
+    let later = at_last offer limit (before ++ l ∷ []) fs last ls xs bad back ms kind are.1 e.1
+    (same_line offer limit before f x xs l m ms e.0 are.0 those.0 those.1)
+    (same_fault offer limit before f x l m ms bad.packet kind e.0 are.0 those.0 fault) in
+    subst (λ (xs : List Line). HasFault offer limit xs last.packet kind) (append_assoc before (l ∷ []) ls) later
+at_last offer limit before [] last (l ∷ ls) others bad back its kind are whole those fault = absurd are
+at_last offer limit before (f ∷ fs) last [] others bad back its kind are whole those fault = absurd are
+at_last offer limit before front last lines [] bad back (m ∷ ms) kind are whole those fault = absurd those
+at_last offer limit before front last lines (x ∷ xs) bad back [] kind are whole those fault = absurd those
+
+-- the first fault of packets of which those before the last are lines is that of the last
+pub fault_at_last : (offer : Offer) (limit : ℕ) (front : List Given) (last : Given) (lines : List Line) (kind : Kind) (offset : ℕ)
+    → AreLines offer limit [] front lines → FirstFault offer limit (front ++ last ∷ []) kind offset → HasFault offer limit lines last.packet kind
+fault_at_last offer limit front last lines kind offset are k =
+    at_last offer limit [] front last lines k.front k.bad k.back k.lines kind are k.whole k.taken k.fault
+
 -- packets have one first fault
 pub one_first_fault : (offer : Offer) (limit : ℕ) (packets : List Given) (kind other : Kind) (offset place : ℕ)
     → FirstFault offer limit packets kind offset → FirstFault offer limit packets other place → (kind ≡ other) × (offset ≡ place)

@@ -163,7 +163,7 @@ sound_value : {A : Type 0} (packets : List Given) (offset long : ℕ) (arg : Arg
 sound_value packets offset long arg r kind w fault =
     let of : w.is_text.of ≡ command_of r.request = same_command (commands_of w.lines) w.is_text.of (command_of r.request) w.is_text.asked w.in_part.command in
     let is : IsArgument (command_of r.request) r.offer.format (text_of w.bytes) arg =
-        subst (λ (c : Command). IsArgument c r.offer.format (text_of w.bytes) arg) of w.is_text.reads.is_argument in
+    subst (λ (c : Command). IsArgument c r.offer.format (text_of w.bytes) arg) of w.is_text.reads.is_argument in
     value_or_fault (command_of r.request) r.offer.format (text_of w.bytes) arg kind is
     (subst (λ (f : Format). IsValueFault (command_of r.request) f arg kind) w.in_part.format fault)
 

@@ -1,5 +1,6 @@
 -- A packet is one line, or has one fault, and not both.
-use Rattle.std.proofs.Common.{arith, ◌≡◌, ◌≢◌, ℕ, ◌+◌, ◌<◌, ◌≤◌, Bool, true, false, Option, Some, List, [], ◌∷◌, ◌++◌, refl, ap, sym, ◌∙◌, subst, length}
+use Rattle.std.proofs.Common.{arith, ◌≡◌, ◌≢◌, ℕ, ◌+◌, ◌<◌, ◌≤◌, Bool, true, false, Option, Some, List, [], ◌∷◌, ◌++◌}
+use Rattle.std.proofs.Common.{refl, ap, sym, ◌∙◌, subst, length, inl, inr}
 use Rattle.git_names.specs.ObjectFormat.{name_of as format_name}
 use Rattle.git_names.specs.declared.object_format.Format.{Format}
 use Rattle.git_names.specs.declared.object_format.Format.TheVariants.{Sha1, Sha256}
@@ -18,10 +19,11 @@ use Rattle.git_msg.specs.Capability.{IsNoCapability}
 use Rattle.git_msg.specs.Arguments.{Arg, IsArgument, name_of}
 use Rattle.git_msg.specs.Asked.{Asked, ls_refs, fetch, HasWants, asked_by}
 use Rattle.git_msg.specs.Checks.{Refuses, Passes}
-use Rattle.git_msg.specs.Lines.{Line, command, agent, server_option, object_format, delimiter, argument, is_none, commands_of, arguments_of, kept_in}
+use Rattle.git_msg.specs.Lines.{Line, command, agent, server_option, object_format, delimiter, argument, argument_in}
+use Rattle.git_msg.specs.Lines.{is_none, commands_of, arguments_of, kept_in}
 use Rattle.git_msg.specs.Lines.{has_format, has_delimiter, IsWordOf, HasKey, IsAnyCapability, NamesCommand, key_checks, by_key, capability_checks}
 use Rattle.git_msg.specs.Lines.{IsLineOf, IsCapabilityLine, IsFormatMeant, IsOtherFormatMeant, part_checks, argument_checks, IsArgumentLine}
-use Rattle.git_msg.specs.Lines.{IsArgumentRefused, end_checks, at_end, flush_checks_in, IsLine, IsLineIn, HasFault, HasFaultIn}
+use Rattle.git_msg.specs.Lines.{IsArgumentText, IsArgumentRefused, end_checks, at_end, flush_checks_in, IsLine, IsLineIn, HasFault, HasFaultIn}
 use Rattle.git_msg.specs.Requests.{AreLines, Asks}
 use Rattle.git_msg.proofs.CheckLaws.{IsFair, AllFair, passes_or_refuses, one_name, fair_check}
 use Rattle.git_msg.proofs.Keys.{one_capability}
@@ -194,12 +196,65 @@ one_capability_line offer first text line other h k =
     one_line_of k.key k.value line other
     (subst (λ (v : Option (List ℕ)). IsLineOf k.key v line) same.1 (subst (λ (x : Key). IsLineOf x h.value line) same.0 h.line_is)) k.line_is
 
+-- what an argument's line is: a payload after the delimiter
+pub record IsArgumentPayload (offer : Offer) (part : Bool) (before : List Line) (packet : Pkt) (arg : Arg) : Type 0 where
+  pub behind : part ≡ true
+  pub bytes : List ℕ
+  pub data_packet : packet ≡ payload bytes
+  pub is_text : IsArgumentText offer before (text_of bytes) arg
+
+no_argument_of : (key : Key) (value : Option (List ℕ)) (arg : Arg) (long : ℕ) → IsLineOf key value (argument arg long) → ⊥
+no_argument_of CommandKey value arg long h = h
+no_argument_of AgentKey value arg long h = h
+no_argument_of ServerOptionKey value arg long h = h
+no_argument_of ObjectFormatKey value arg long h = h
+no_argument_of OtherKey value arg long h = h
+
+argument_payload_in : (part : Bool) (offer : Offer) (limit : ℕ) (before : List Line) (packet : Pkt) (line : Line) (arg : Arg)
+    → IsLineIn part offer limit before packet line → argument_in line ≡ Some arg → IsArgumentPayload offer part before packet arg
+argument_payload_in true offer limit before (payload bytes) (argument a long) arg h is =
+    let same : a ≡ arg = cc in
+    record { behind = refl; bytes = bytes; data_packet = refl; is_text = subst (IsArgumentText offer before (text_of bytes)) same h.is_text }
+argument_payload_in false offer limit before (payload bytes) (argument a long) arg h is = absurd (no_argument_of h.key h.value a long h.line_is)
+argument_payload_in part offer limit before packet (argument a long) arg h is = absurd h
+argument_payload_in part offer limit before packet line arg h is = absurd (cc)
+
+pub argument_payload : (offer : Offer) (limit : ℕ) (before : List Line) (packet : Pkt) (line : Line) (arg : Arg)
+    → IsLine offer limit before packet line → argument_in line ≡ Some arg → IsArgumentPayload offer (has_delimiter before) before packet arg
+argument_payload offer limit before packet line arg h is = argument_payload_in (has_delimiter before) offer limit before packet line arg h is
+
+-- and each payload there is an argument's line
+pub payload_argument : (offer : Offer) (limit : ℕ) (before : List Line) (bytes : List ℕ) (line : Line) → IsLineIn true offer limit before (payload bytes) line
+    → (arg : Arg) × (argument_in line ≡ Some arg) × IsArgumentText offer before (text_of bytes) arg
+payload_argument offer limit before bytes (argument arg long) h = (arg, refl, h.is_text)
+payload_argument offer limit before bytes line h = absurd h
+
+-- a text is one argument
+pub one_argument_text : (offer : Offer) (before : List Line) (text : List ℕ) (a b : Arg)
+    → IsArgumentText offer before text a → IsArgumentText offer before text b → a ≡ b
+one_argument_text offer before text a b h k =
+    let c = same_command (commands_of before) h.of k.of h.asked k.asked in
+    let there : IsArgument k.of offer.format text a = subst (λ (x : Command). IsArgument x offer.format text a) c h.reads.is_argument in
+    one_argument k.of offer.format text a b there k.reads.is_argument
+
+-- an argument's text is refused for the limit alone
+pub refused_for_limit : (offer : Offer) (limit : ℕ) (before : List Line) (text : List ℕ) (arg : Arg) (kind : Kind)
+    → IsArgumentText offer before text arg → IsArgumentRefused offer limit before text kind → kind ≡ TooMuchKept
+refused_for_limit offer limit before text arg kind h r = by r.refuses
+  where
+    by : Refuses (argument_checks offer limit r.of (kept_in before) text) kind → kind ≡ TooMuchKept
+    by (inl error) = absurd (h.no_error error.0)
+    by (inr (no_error, inl fault)) =
+        let c = same_command (commands_of before) h.of r.of h.asked r.asked in
+        let there : IsArgument r.of offer.format text arg = subst (λ (x : Command). IsArgument x offer.format text arg) c h.reads.is_argument in
+        absurd (argument_or_fault r.of offer text arg kind there fault)
+    by (inr (no_error, inr (reads, inl limited))) = limited.1
+    by (inr (no_error, inr (reads, inr none))) = absurd none.1
+
 one_argument_line : (offer : Offer) (limit : ℕ) (before : List Line) (text : List ℕ) (a b : Arg) (m n : ℕ)
     → IsArgumentLine offer limit before text a m → IsArgumentLine offer limit before text b n → argument a m ≡ argument b n
 one_argument_line offer limit before text a b m n h k =
-    let c = same_command (commands_of before) h.is_text.of k.is_text.of h.is_text.asked k.is_text.asked in
-    let there : IsArgument k.is_text.of offer.format text a = subst (λ (x : Command). IsArgument x offer.format text a) c h.is_text.reads.is_argument in
-    let same = one_argument k.is_text.of offer.format text a b there k.is_text.reads.is_argument in
+    let same = one_argument_text offer before text a b h.is_text k.is_text in
     let long : m ≡ n = h.long_is ∙ sym k.long_is in
     cc
 
@@ -263,11 +318,14 @@ front_of_snoc [] g = refl
 front_of_snoc (a ∷ []) g = refl
 front_of_snoc (a ∷ b ∷ gs) g = ap (λ (xs : List Given). a ∷ xs) (front_of_snoc (b ∷ gs) g)
 
+pub fronts_same : (xs ys : List Given) (x y : Given) → xs ++ x ∷ [] ≡ ys ++ y ∷ [] → xs ≡ ys
+fronts_same xs ys x y e = sym (front_of_snoc xs x) ∙ ap front_of e ∙ front_of_snoc ys y
+
 -- packets are one request
 pub one_request : (offer : Offer) (limit : ℕ) (packets : List Given) (asked other : Asked) (kept other_kept : ℕ)
     → Asks offer limit packets asked kept → Asks offer limit packets other other_kept → (asked ≡ other) × (kept ≡ other_kept)
 one_request offer limit packets asked other kept other_kept h k =
-    let fronts : h.front ≡ k.front = sym (front_of_snoc h.front h.last) ∙ ap front_of (sym h.whole ∙ k.whole) ∙ front_of_snoc k.front k.last in
+    let fronts = fronts_same h.front k.front h.last k.last (sym h.whole ∙ k.whole) in
     let lines : h.lines ≡ k.lines =
     one_list_of_lines offer limit [] k.front h.lines k.lines
     (subst (λ (gs : List Given). AreLines offer limit [] gs h.lines) fronts h.taken) k.taken in

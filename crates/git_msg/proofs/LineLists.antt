@@ -59,6 +59,36 @@ lines_snoc offer limit before (h ∷ hs) (l ∷ ls) g line are is =
     subst (λ (xs : List Line). IsLine offer limit xs g.packet line) (sym (append_assoc before (l ∷ []) ls)) is in
     (are.0, lines_snoc offer limit (before ++ l ∷ []) hs ls g line are.1 behind)
 
+-- the last packet, and the line that it is
+pub record LastLine (offer : Offer) (limit : ℕ) (before : List Line) (gs : List Given) (g : Given) (lines : List Line) : Type 0 where
+  pub front : List Line
+  pub last : Line
+  pub whole : lines ≡ front ++ last ∷ []
+  pub taken : AreLines offer limit before gs front
+  pub is_line : IsLine offer limit (before ++ front) g.packet last
+
+pub last_line : (offer : Offer) (limit : ℕ) (before : List Line) (gs : List Given) (g : Given) (lines : List Line)
+    → AreLines offer limit before (gs ++ g ∷ []) lines → LastLine offer limit before gs g lines
+last_line offer limit before [] g (l ∷ []) are = record {
+  front = [];
+  last = l;
+  whole = refl;
+  taken = tt;
+  is_line = subst (λ (ls : List Line). IsLine offer limit ls g.packet l) (sym (append-nil before)) are.0;
+}
+last_line offer limit before [] g [] are = absurd are
+last_line offer limit before [] g (l ∷ m ∷ ls) are = absurd are.1
+last_line offer limit before (h ∷ hs) g [] are = absurd are
+last_line offer limit before (h ∷ hs) g (l ∷ ls) are =
+    let later = last_line offer limit (before ++ l ∷ []) hs g ls are.1 in
+    record {
+      front = l ∷ later.front;
+      last = later.last;
+      whole = ap (λ (xs : List Line). l ∷ xs) later.whole;
+      taken = (are.0, later.taken);
+      is_line = subst (λ (xs : List Line). IsLine offer limit xs g.packet later.last) (append_assoc before (l ∷ []) later.front) later.is_line;
+    }
+
 -- the argument part's lines are argument lines
 pub argument_is_line : (offer : Offer) (limit : ℕ) (lines : List Line) (bytes : List ℕ) (arg : Arg) (long : ℕ)
     → has_delimiter lines ≡ true → IsArgumentLine offer limit lines (text_of bytes) arg long

@@ -24,6 +24,7 @@ use Rattle.git_msg.specs.Lines.{has_format, is_object_format, command_in, argume
 use Rattle.git_msg.specs.Lines.{argument_checks, text_checks, capability_checks, part_checks, end_checks, flush_checks_in, IsLineIn, HasFaultIn}
 use Rattle.git_msg.specs.RequestReader.{InCapabilities, InArguments, is_nil, fault_in, waits_in, limit_in, kept_so_far}
 use Rattle.git_msg.specs.RequestReaderSteps.{InLines, Advances, StepsOn, Notes, IsDue, is_first, with_line, restarted}
+use Rattle.git_msg.proofs.PacketFaults.{not_for_limit_by_capability, not_for_limit_by_end, not_for_limit_by_text}
 use Rattle.git_msg.proofs.LineLists.{commands_snoc, arguments_snoc, format_snoc, delimiter_snoc, kept_snoc, capability_is_line}
 
 -- no command came, by both words
@@ -203,8 +204,10 @@ module _ {A : Type 0} where
         let h = in_capabilities lines r part there in
         let same : is_none (commands_of lines) ≡ is_first r = ap is_none h.command in
         let fault : HasFaultIn false r.offer (limit_in r) lines (payload bytes) kind =
-        subst (λ (b : Bool). Refuses (capability_checks r.offer b (text_of bytes)) kind) (sym same) refuses in
-        subst (λ (b : Bool). HasFaultIn b r.offer (limit_in r) lines (payload bytes) kind) (sym h.before) fault;
+        subst (λ (b : Bool). Refuses (capability_checks r.offer b (text_of bytes)) kind) (sym same) refuses in (
+          subst (λ (b : Bool). HasFaultIn b r.offer (limit_in r) lines (payload bytes) kind) (sym h.before) fault,
+          not_for_limit_by_capability r.offer (is_first r) (text_of bytes) kind refuses,
+        );
     leaves = tt;
     offer = refl;
     limit = refl;
@@ -274,8 +277,10 @@ module _ {A : Type 0} where
         let told : Refuses (flush_checks_in false r.offer lines) kind = inr
         (j.0, inr (j.1.0, inl (c, once, subst (λ (a : Asked). Refuses (end_checks a) kind) asked refuses))) in
         let some : is_nil lines ≡ false = h.begun ∙ ap not begun in
-        let fault : HasFaultIn false r.offer (limit_in r) lines flush kind = ((λ e. let none : is_nil lines ≡ true = ap is_nil e in cc), told) in
-        subst (λ (b : Bool). HasFaultIn b r.offer (limit_in r) lines flush kind) (sym h.before) fault;
+        let fault : HasFaultIn false r.offer (limit_in r) lines flush kind = ((λ e. let none : is_nil lines ≡ true = ap is_nil e in cc), told) in (
+          subst (λ (b : Bool). HasFaultIn b r.offer (limit_in r) lines flush kind) (sym h.before) fault,
+          not_for_limit_by_end (asked_of q) kind refuses,
+        );
     leaves = tt;
     offer = refl;
     limit = refl;
@@ -341,8 +346,10 @@ module _ {A : Type 0} where
     goes = λ lines there.
         let h = in_arguments lines r part there in
         let fault : HasFaultIn true r.offer (limit_in r) lines flush kind =
-        inl (command_of r.request, h.command, subst (λ (a : Asked). Refuses (end_checks a) kind) h.asked refuses) in
-        subst (λ (b : Bool). HasFaultIn b r.offer (limit_in r) lines flush kind) (sym h.behind) fault;
+        inl (command_of r.request, h.command, subst (λ (a : Asked). Refuses (end_checks a) kind) h.asked refuses) in (
+          subst (λ (b : Bool). HasFaultIn b r.offer (limit_in r) lines flush kind) (sym h.behind) fault,
+          not_for_limit_by_end (asked_of r.request) kind refuses,
+        );
     leaves = tt;
     offer = refl;
     limit = refl;
@@ -358,8 +365,10 @@ module _ {A : Type 0} where
           of = command_of r.request;
           asked = h.command;
           refuses = text_refused (command_of r.request) r.offer (limit_in r) (kept_in lines) (text_of bytes) kind refuses;
-        } in
-        subst (λ (b : Bool). HasFaultIn b r.offer (limit_in r) lines (payload bytes) kind) (sym h.behind) fault;
+        } in (
+          subst (λ (b : Bool). HasFaultIn b r.offer (limit_in r) lines (payload bytes) kind) (sym h.behind) fault,
+          not_for_limit_by_text (command_of r.request) r.offer (text_of bytes) kind refuses,
+        );
     leaves = tt;
     offer = refl;
     limit = refl;

@@ -187,9 +187,10 @@ pub takes_err : {A : Type 0} (old new : RequestReader A) (p : Pkt) (offset : ℕ
 takes_err old new p offset kind sound ready h = record {
   brings = λ packets fine takes.
       let s = stood packets old sound ready takes in
+      let (fault, not_for_limit) = h.goes s.lines s.in_lines in
       let f : FirstFault new.offer (limit_in new) (packets ++ record { packet = p; offset = offset } ∷ []) kind offset =
-      first_fault old new packets p offset s h.offer h.limit kind (h.goes s.lines s.in_lines) in
-      (record { stands = inl f }, f);
+      first_fault old new packets p offset s h.offer h.limit kind fault in
+      (record { stands = inl f }, f, not_for_limit);
   leaves = (refl, refl);
   stays = λ f told. absurd (some_is_not_none (fault_of old) f sound told);
   offer = h.offer;

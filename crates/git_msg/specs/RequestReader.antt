@@ -1,8 +1,9 @@
 -- What a reader of requests stands for: the packets since the request began, as lines.
-use Rattle.std.specs.Prelude.{◌≡◌, ℕ, ◌≤◌, Bool, true, false, not, Option, Some, None, option_to_list, Result, Ok, Err, List, [], ◌∷◌, ◌++◌, length}
+use Rattle.std.specs.Prelude.{◌≡◌, ◌≢◌, ℕ, ◌≤◌, Bool, true, false, not, Option, Some, None, option_to_list, Result, Ok, Err, List, [], ◌∷◌, ◌++◌, length}
 use Rattle.git_pkt.specs.Packets.{payload, text_of}
 use Rattle.git_pkt.specs.Splits.{Given}
 use Rattle.git_pkt.specs.declared.fault.Fault.{Fault}
+use Rattle.git_pkt.specs.declared.fault.Kind.TheVariants.{TooMuchKept}
 use Rattle.git_msg.specs.declared.offers.Offer.{Offer}
 use Rattle.git_msg.specs.declared.reader.Part.{Part}
 use Rattle.git_msg.specs.declared.reader.Part.TheVariants.{Capabilities, Arguments, Waiting, Failed}
@@ -105,7 +106,8 @@ module _ {A : Type 0} where
   pub record WaitsFor (packets : List Given) (arg : Arg) (r : RequestReader A) : Type 0 where
     pub waits : WaitsIn r.part packets arg r
 
-  -- what a packet brought, where the reader stood after these packets: an argument is never passed over
+  -- what a packet brought, where the reader stood after these packets: an argument is never passed over, nor is it
+  -- refused for the limit before it waits
   abbrev pub Brings : List Given → Given → Result (Taken A) Fault → RequestReader A → Type 0
   Brings packets g (Ok More) new =
       Takes (packets ++ g ∷ []) new × IsPlainLine (offer_of new) (limit_in new) packets g.packet
@@ -117,6 +119,7 @@ module _ {A : Type 0} where
   Brings packets g (Ok Stop) new = Takes [] new × IsStop (packets ++ g ∷ [])
   Brings packets g (Err f) new =
       Takes (packets ++ g ∷ []) new × FirstFault (offer_of new) (limit_in new) (packets ++ g ∷ []) f.kind f.offset
+      × (f.kind ≢ TooMuchKept)
 
   -- how the reader stands after each answer of `take`
   abbrev pub LeavesTaken : Result (Taken A) Fault → RequestReader A → Type 0

@@ -1,7 +1,8 @@
 -- What the parts of a request reader do, whose lines so far are given.
-use Rattle.std.specs.Prelude.{◌≡◌, ℕ, ◌≤◌, Bool, true, false, Some, None, option_to_list, Result, Ok, Err, List, [], ◌∷◌, ◌++◌, length}
+use Rattle.std.specs.Prelude.{◌≡◌, ◌≢◌, ℕ, ◌≤◌, Bool, true, false, Some, None, option_to_list, Result, Ok, Err, List, [], ◌∷◌, ◌++◌, length}
 use Rattle.git_pkt.specs.Packets.{Pkt, flush, payload, text_of}
 use Rattle.git_pkt.specs.declared.fault.Kind.{Kind}
+use Rattle.git_pkt.specs.declared.fault.Kind.TheVariants.{TooMuchKept}
 use Rattle.git_msg.specs.declared.arguments.Command.{Command}
 use Rattle.git_msg.specs.declared.requests.Request.{Request}
 use Rattle.git_msg.specs.declared.reader.Part.{Part}
@@ -90,7 +91,7 @@ module _ {A : Type 0} where
   Goes lines old p offset (Ok (TakenArgument a)) new = Offers lines old p offset (shown a) new
   Goes lines old p offset (Ok (TakenRequest q)) new = Completes lines old p q new
   Goes lines old p offset (Ok Stop) new = Leaves lines p new
-  Goes lines old p offset (Err kind) new = HasFault old.offer (limit_in old) lines p kind
+  Goes lines old p offset (Err kind) new = HasFault old.offer (limit_in old) lines p kind × (kind ≢ TooMuchKept)
 
   abbrev pub LeavesStep : Result (Taken A) Kind → RequestReader A → Type 0
   LeavesStep (Ok More) new = (fault_of new ≡ None) × (is_waiting new ≡ false)

@@ -7,7 +7,7 @@ use Rattle.git_pkt.specs.PacketReader.{is_open, open_length, fault_of, position_
 use Rattle.git_pkt.specs.declared.fault.Fault.{Fault}
 use Rattle.git_pkt.specs.declared.fault.Kind.TheVariants.{PackSource, Truncated}
 use Rattle.git_pkt.proofs.KnownRest.{sound_rest, none_between, some_inside, rest_length}
-use Rattle.git_msg.specs.RequestReader.{offer_of, limit_in, kept_so_far, is_waiting, fault_of as requests_fault}
+use Rattle.git_msg.specs.RequestReader.{offer_of, limit_in, kept_so_far}
 use Rattle.git_server.specs.Repository.{RepoState}
 use Rattle.git_server.specs.Answers.{AllFit, spelled}
 use Rattle.git_server.specs.Sessions.{Setting, EndsBy, IsTail}
@@ -19,7 +19,6 @@ use Rattle.git_server.specs.declared.outcome.Outcome.TheVariants.{Closed, Refuse
 use Rattle.git_server.specs.declared.server.Phase.{Phase}
 use Rattle.git_server.specs.declared.server.Phase.TheVariants.{Between, Within, Ended}
 use Rattle.git_server.specs.declared.server.Server.{Server}
-use Rattle.git_server.proofs.Begun.{begins}
 use Rattle.git_server.proofs.Outcomes.{failures_end, other_lost}
 use Rattle.git_server.proofs.Sent.{all_sent}
 use Rattle.git_server.proofs.Going.{all_sent_of, no_outcome, owes_at, refused_outcome_by, refused_owes_by, serves_of, none_kept_at_end}
@@ -77,16 +76,16 @@ module _ {R A : Type 0} (state : R → RepoState) (old new : Server R A) where
 
   cut_short : (s : Setting) (so_far : List ℕ) (over : Bool) (before : List ℕ) (fault : Fault) → wants_input old ≡ true → Keeps state old new
       → (r : Running state s so_far over before old) → (h : Serves s so_far before old)
-      → requests_fault old.requests ≡ None → is_waiting old.requests ≡ false → fault_of old.reader ≡ None
+      → fault_of old.reader ≡ None
       → (h.left ≢ []) ⊎ (h.rest ≢ []) → fault.kind ≡ Truncated → fault.offset + length h.rest ≡ length so_far → new.phase ≡ refused_by fault.kind fault
       → Running state s so_far true before new
-  cut_short s so_far over before fault wants keeps r h requests_sound ready sound inside name at is =
+  cut_short s so_far over before fault wants keeps r h sound inside name at is =
       let known = sound_rest old.reader 0 so_far h.packets h.rest sound h.reads in
       let other : fault.kind ≢ PackSource = λ lost. let same : Truncated ≡ PackSource = sym name ∙ lost in cc in
       ends_here s so_far over before (Refused fault) wants keeps r h
       (inl (inr (inr (record {
         ended = refl;
-        begins = begins s h.left old.requests r.reads_for r.limit requests_sound ready h.takes;
+        begins = h.begins;
         unrefused = known.1;
         inside = inside;
         name = name;
@@ -98,28 +97,28 @@ module _ {R A : Type 0} (state : R → RepoState) (old new : Server R A) where
 
   -- inside a request, between two packets
   pub closes_within : (fault : Fault) → wants_input old ≡ true → Keeps state old new → old.phase ≡ Within
-      → new.phase ≡ refused_by fault.kind fault → requests_fault old.requests ≡ None → is_waiting old.requests ≡ false
+      → new.phase ≡ refused_by fault.kind fault
       → fault_of old.reader ≡ None → is_open old.reader ≡ false → fault.kind ≡ Truncated → fault.offset ≡ position_of old.reader → Closes state old new
-  closes_within fault wants keeps was is requests_sound ready sound shut name at s so_far over before r =
+  closes_within fault wants keeps was is sound shut name at s so_far over before r =
       let h = serves_of state old new [] s so_far over before wants r in
       let known = sound_rest old.reader 0 so_far h.packets h.rest sound h.reads in
       let empty : h.rest ≡ [] = none_between old.reader h.rest known.0 shut in
       let place : fault.offset + length h.rest ≡ length so_far = omega (arith, ap length empty, h.reads.position, at) in (
-        cut_short s so_far over before fault wants keeps r h requests_sound ready sound (inl (some_is_left old.phase h.left was h.left_is)) name place is,
+        cut_short s so_far over before fault wants keeps r h sound (inl (some_is_left old.phase h.left was h.left_is)) name place is,
         inr (fault, ap outcome_in is ∙ refused_outcome_by A fault.kind fault, name),
       )
 
   -- inside a packet
   pub closes_open : (fault : Fault) → wants_input old ≡ true → Keeps state old new
-      → new.phase ≡ refused_by fault.kind fault → requests_fault old.requests ≡ None → is_waiting old.requests ≡ false
+      → new.phase ≡ refused_by fault.kind fault
       → (fault_of old.reader ≡ None
       → (is_open old.reader ≡ true) × (fault.kind ≡ Truncated) × (fault.offset + open_length old.reader ≡ position_of old.reader))
       → Closes state old new
-  closes_open fault wants keeps is requests_sound ready truncated s so_far over before r =
+  closes_open fault wants keeps is truncated s so_far over before r =
       let h = serves_of state old new [] s so_far over before wants r in
       let known = sound_rest old.reader 0 so_far h.packets h.rest h.no_fault h.reads in
       let (begun, name, at) = truncated h.no_fault in
       let place : fault.offset + length h.rest ≡ length so_far = omega (arith, rest_length old.reader h.rest known.0, h.reads.position, at) in (
-        cut_short s so_far over before fault wants keeps r h requests_sound ready h.no_fault (inr (some_inside old.reader h.rest known.0 begun)) name place is,
+        cut_short s so_far over before fault wants keeps r h h.no_fault (inr (some_inside old.reader h.rest known.0 begun)) name place is,
         inr (fault, ap outcome_in is ∙ refused_outcome_by A fault.kind fault, name),
       )

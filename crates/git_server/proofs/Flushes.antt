@@ -1,5 +1,5 @@
 -- How many flushes packets have.
-use Rattle.std.proofs.Common.{arith, ◌≡◌, ◌+◌, ℕ, List, [], ◌∷◌, ◌++◌}
+use Rattle.std.proofs.Common.{arith, ◌≡◌, ◌+◌, List, [], ◌∷◌, ◌++◌}
 use Rattle.git_pkt.specs.Packets.{Pkt, flush, flushes, delim, resp_end, payload}
 
 pub flushes-append : (front back : List Pkt) → flushes (front ++ back) ≡ flushes front + flushes back

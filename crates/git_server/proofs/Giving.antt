@@ -22,7 +22,7 @@ module _ {R A : Type 0} (state : R → RepoState) (old new : Server R A) (packet
     (owed : (later : List Pkt) → Owes new.offer (state old.repo).answers new.phase later → Owes old.offer (state old.repo).answers old.phase (packet ∷ later))
     (breaks : (later : List Pkt) → MayBreak (state old.repo).answers new.phase later → MayBreak (state old.repo).answers old.phase (packet ∷ later))
     (less : most_owed new.offer (state old.repo).answers new.phase < most_owed old.offer (state old.repo).answers old.phase)
-        (same : outcome_of new ≡ outcome_of old)
+    (same : outcome_of new ≡ outcome_of old)
     (left_stays : (left : List Given) → LeftIn old.phase left → LeftIn new.phase left)
     (flush_stays : (packets : List Given) → FlushIsAt old.phase packets → FlushIsAt new.phase packets) (no_more : kept_in new.phase ≤ kept_in old.phase) where
   -- what is owed, as the session's repository has it
@@ -55,6 +55,7 @@ module _ {R A : Type 0} (state : R → RepoState) (old new : Server R A) (packet
       no_fault = writes.fault ∙ h.no_fault;
       requests = h.requests;
       takes = subst (Takes h.left) (sym keeps.requests) h.takes;
+      begins = h.begins;
       left_is = left_stays h.left h.left_is;
       flush_at = flush_stays h.packets h.flush_at;
       is_sent = λ later owes. sent_one s h.asked h.sent later packet (h.is_sent (packet ∷ later) (owed_here s later repo owes));

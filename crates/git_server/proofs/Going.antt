@@ -7,20 +7,21 @@ use Rattle.git_pkt.specs.Splits.{Given}
 use Rattle.git_pkt.specs.PacketReader.{Reads, is_open, fault_of, ShownByFeed}
 use Rattle.git_pkt.specs.declared.fault.Fault.{Fault}
 use Rattle.git_pkt.specs.declared.fault.Kind.{Kind}
-use Rattle.git_pkt.specs.declared.fault.Kind.TheVariants.{PackSource, RemoteError, Truncated, StreamTooLong}
+use Rattle.git_pkt.specs.declared.fault.Kind.TheVariants.{NotOurs, PackSource, RemoteError, Truncated, StreamTooLong}
 use Rattle.git_msg.specs.Asked.{Asked}
 use Rattle.git_msg.specs.HeldRequest.{asked_of, kept_of}
-use Rattle.git_msg.specs.Requests.{Asks, IsTold}
+use Rattle.git_msg.specs.Requests.{Asks}
 use Rattle.git_msg.specs.WholeRequests.{AreRequests}
-use Rattle.git_msg.proofs.PacketFaults.{NotOfPackets, told_of_packets}
+use Rattle.git_msg.proofs.PacketFaults.{NotOfPackets}
 use Rattle.git_msg.proofs.WholeRequests.{one_more_request, requests_more}
-use Rattle.git_msg.specs.RequestReader.{Takes, offer_of, limit_in, kept_so_far, is_waiting, fault_of as requests_fault}
+use Rattle.git_msg.specs.RequestReader.{Takes, offer_of, limit_in, kept_so_far}
 use Rattle.git_msg.specs.declared.offers.Offer.{Offer}
 use Rattle.git_msg.specs.declared.reader.RequestReader.{RequestReader}
 use Rattle.git_msg.specs.declared.requests.Request.{Request}
 use Rattle.git_msg.specs.declared.requests.Request.TheVariants.{LsRefs as OfLsRefs, Fetch as OfFetch}
 use Rattle.git_server.specs.declared.answer.Answer.TheVariants.{References, Fetching}
 use Rattle.git_server.specs.Repository.{Repository, RepoState}
+use Rattle.git_server.specs.Admission.{IsToldFor}
 use Rattle.git_server.specs.Packs.{Manner, whole, broken}
 use Rattle.git_server.specs.Answers.{AllFit, IsAnswerAs, error_packet, spelled}
 use Rattle.git_server.specs.AdvertisementLines.{advertisement_from}
@@ -38,7 +39,8 @@ use Rattle.git_server.specs.declared.server.Phase.{Phase}
 use Rattle.git_server.specs.declared.server.Phase.TheVariants.{Advertising, Between, Within, Answering, Refusing, Ended}
 use Rattle.git_server.specs.declared.server.Server.{Server}
 use Rattle.git_pkt.proofs.KnownRest.{sound_rest, none_between}
-use Rattle.git_server.proofs.Begun.{begins}
+use Rattle.git_server.proofs.Admission.{not_told_for, request_had}
+use Rattle.git_server.proofs.Begun.{begins_more, nothing_begins}
 use Rattle.git_server.proofs.Readers.{stopped_by}
 use Rattle.git_server.proofs.Outcomes.{failures_as, failures_end, other_lost}
 use Rattle.git_server.proofs.PackPackets.{some_packfile}
@@ -127,16 +129,17 @@ one_more : {X : Type 0} (xs : List X) (x : X) → xs ++ x ∷ [] ≢ []
 one_more [] x e = cc
 one_more (y ∷ ys) x e = cc
 
--- a packet of a request is not told as what no packet is refused for
-not_told : {A : Type 0} (kind : Kind) (strange : NotOfPackets kind) (offset : ℕ) (packets : List Given) (brought : Brought A) (requests : RequestReader A)
-    → IsBrought packets brought requests → (fault : Fault) → outcome_in (phase_after offset brought) ≡ Some (Refused fault) → fault.kind ≡ kind → ⊥
-not_told kind strange offset packets Part requests h fault ended is = cc
-not_told kind strange offset packets (Whole request) requests h fault ended is = cc
-not_told kind strange offset packets Stop requests h fault ended is = cc
-not_told {A = A} kind strange offset packets (RefusedPacket f) requests h fault ended is =
+-- a packet of a request is not told as what neither a packet nor a repository is refused for
+not_told : {A : Type 0} (kind : Kind) (strange : NotOfPackets kind) → kind ≢ NotOurs → (offset : ℕ) (packets : List Given) (brought : Brought A)
+    (requests : RequestReader A) (repo : Repository) → IsBrought repo packets brought requests
+    → (fault : Fault) → outcome_in (phase_after offset brought) ≡ Some (Refused fault) → fault.kind ≡ kind → ⊥
+not_told kind strange other offset packets Part requests repo h fault ended is = cc
+not_told kind strange other offset packets (Whole request) requests repo h fault ended is = cc
+not_told kind strange other offset packets Stop requests repo h fault ended is = cc
+not_told {A = A} kind strange other offset packets (RefusedPacket f) requests repo h fault ended is =
     let same : Some (Refused f) ≡ Some (Refused fault) = sym (refused_outcome_by A f.kind f) ∙ ended in
     let one : f ≡ fault = cc in
-    told_of_packets kind strange (offer_of requests) (limit_in requests) packets f h (ap (λ (x : Fault). x.kind) one ∙ is)
+    not_told_for (offer_of requests) (limit_in requests) repo packets f kind strange other h (ap (λ (x : Fault). x.kind) one ∙ is)
 
 -- bytes are not refused for the source of a pack
 no_pack_in_bytes : (p : ℕ) (rest : List ℕ) (end : ℕ) (kind : Kind) (offset : ℕ) → StopsBy p rest end kind offset → kind ≢ PackSource
@@ -190,6 +193,7 @@ module _ {R A : Type 0} (state : R → RepoState) (old new : Server R A) (u : Li
                 no_fault = sound;
                 requests = h.requests;
                 takes = subst (Takes h.left) (sym same_requests) h.takes;
+                begins = h.begins;
                 left_is = subst (λ (p : Phase A). LeftIn p h.left) (sym same_phase) h.left_is;
                 flush_at = subst (λ (p : Phase A). FlushIsAt p h.packets) (sym same_phase) h.flush_at;
                 is_sent = λ owed owes. subst (λ (l : List Pkt). IsSent s h.asked h.sent l)
@@ -242,12 +246,12 @@ module _ {R A : Type 0} (state : R → RepoState) (old new : Server R A) (u : Li
   packet_serves : (s : Setting) (so_far : List ℕ) (before : List ℕ) (asked : List Asked) (packets left : List Given) (rest : List ℕ) (sent : List Pkt)
       (phase : Phase A)
       → Reads new.reader 0 (so_far ++ u) packets rest → fault_of new.reader ≡ None
-      → AreRequests (IsRequest s) packets asked left → Takes left new.requests → new.phase ≡ phase
+      → AreRequests (IsRequest s) packets asked left → Takes left new.requests → Begins s left → new.phase ≡ phase
       → LeftIn phase left → FlushIsAt phase packets
       → ((owed : List Pkt) → Owes new.offer s.repo phase owed → IsSent s asked sent owed)
       → ((owed : List Pkt) → MayBreak s.repo phase owed → IsAnswering broken s asked sent owed) → before ≡ spelled sent → AllFit sent
       → Serves s (so_far ++ u) (before ++ []) new
-  packet_serves s so_far before asked packets left rest sent phase stream sound requests takes phase_is left_is flush_at is_sent breaks given fit =
+  packet_serves s so_far before asked packets left rest sent phase stream sound requests takes begins phase_is left_is flush_at is_sent breaks given fit =
       record {
         asked = asked;
         packets = packets;
@@ -258,6 +262,7 @@ module _ {R A : Type 0} (state : R → RepoState) (old new : Server R A) (u : Li
         no_fault = sound;
         requests = requests;
         takes = takes;
+        begins = begins;
         left_is = subst (λ (p : Phase A). LeftIn p left) (sym phase_is) left_is;
         flush_at = subst (λ (p : Phase A). FlushIsAt p packets) (sym phase_is) flush_at;
         is_sent = λ owed owes. is_sent owed (subst (λ (p : Phase A). Owes new.offer s.repo p owed) phase_is owes);
@@ -269,49 +274,54 @@ module _ {R A : Type 0} (state : R → RepoState) (old new : Server R A) (u : Li
   -- how a server stands after a packet, by what the packet brought
   packet_stands : (s : Setting) (so_far : List ℕ) (over : Bool) (before : List ℕ) (g : Given) (brought : Brought A)
       → wants_input old ≡ true → over ≡ false → (h : Serves s so_far before old) → (rest : List ℕ) → Reads new.reader 0 (so_far ++ u) (h.packets ++ g ∷ []) rest
-      → fault_of new.reader ≡ None → is_open new.reader ≡ false → offer_of new.requests ≡ s.offer → limit_in new.requests ≡ s.limit → Begins s h.left
-      → IsBrought (h.left ++ g ∷ []) brought new.requests → new.phase ≡ phase_after g.offset brought
+      → fault_of new.reader ≡ None → is_open new.reader ≡ false → offer_of new.requests ≡ s.offer → limit_in new.requests ≡ s.limit
+      → Brings s.repo old.requests g brought new.requests → new.phase ≡ phase_after g.offset brought
       → StandsBy (outcome_in (phase_after g.offset brought)) s (so_far ++ u) over (before ++ []) new
-  packet_stands s so_far over before g Part wants not_over h rest stream sound shut offer limit begun takes phase_is = (
-    not_over,
-    packet_serves s so_far before h.asked (h.packets ++ g ∷ []) (h.left ++ g ∷ []) rest h.sent Within stream sound
-        (with_packet s so_far before h g) takes phase_is (one_more h.left g) tt
-        (λ owed owes. subst (λ (l : List Pkt). IsSent s h.asked h.sent l) (sym owes) (all_sent_of s so_far before wants h))
-        (λ owed breaks. absurd breaks) h.given_is h.fit,
-  )
-  packet_stands s so_far over before g (Whole request) wants not_over h rest stream sound shut offer limit begun (takes, asks) phase_is =
+  packet_stands s so_far over before g Part wants not_over h rest stream sound shut offer limit brings phase_is =
+      let (takes, unbarred) = brings.brings h.left h.takes in
+      let begun = begins_more s h.left g new.requests offer limit (brings.sound refl) (brings.ready refl) h.begins takes unbarred in (
+        not_over,
+        packet_serves s so_far before h.asked (h.packets ++ g ∷ []) (h.left ++ g ∷ []) rest h.sent Within stream sound
+            (with_packet s so_far before h g) takes begun phase_is (one_more h.left g) tt
+            (λ owed owes. subst (λ (l : List Pkt). IsSent s h.asked h.sent l) (sym owes) (all_sent_of s so_far before wants h))
+            (λ owed breaks. absurd breaks) h.given_is h.fit,
+      )
+  packet_stands s so_far over before g (Whole request) wants not_over h rest stream sound shut offer limit brings phase_is =
+      let (takes, asks) = brings.brings h.left h.takes in
       let asks_here : Asks s.offer s.limit (h.left ++ g ∷ []) (asked_of request) (kept_of request) =
       subst (λ (n : ℕ). Asks s.offer n (h.left ++ g ∷ []) (asked_of request) (kept_of request)) limit
-      (subst (λ (o : Offer). Asks o (limit_in new.requests) (h.left ++ g ∷ []) (asked_of request) (kept_of request)) offer asks) in (
+      (subst (λ (o : Offer). Asks o (limit_in new.requests) (h.left ++ g ∷ []) (asked_of request) (kept_of request)) offer asks) in
+      let had = request_had s.offer s.limit s.repo h.left g h.begins.lines (asked_of request) (kept_of request) h.begins.taken h.begins.admitted asks_here in (
         not_over,
         packet_serves s so_far before (h.asked ++ asked_of request ∷ [])
             (h.packets ++ g ∷ []) [] rest h.sent (Answering (answer_to request) g.offset) stream sound
             (one_more_request (IsRequest s) (h.packets ++ g ∷ []) h.asked (h.left ++ g ∷ []) (asked_of request) (with_packet s so_far before h g)
-            (kept_of request, asks_here)) takes phase_is refl (h.packets, g, refl, refl)
+            (kept_of request, asks_here, had)) takes (nothing_begins s) phase_is refl (h.packets, g, refl, refl)
             (λ owed owes. inr (one_more_asked whole s h.asked h.sent owed (asked_of request) (all_sent_of s so_far before wants h)
             (whole_answer whole s.repo request owed owes)))
             (λ owed breaks. one_more_asked broken s h.asked h.sent owed (asked_of request) (all_sent_of s so_far before wants h)
             (whole_answer broken s.repo request owed breaks)) h.given_is h.fit,
       )
-  packet_stands s so_far over before g Stop wants not_over h rest stream sound shut offer limit begun stop phase_is =
+  packet_stands s so_far over before g Stop wants not_over h rest stream sound shut offer limit brings phase_is =
       λ owed owes. ended_at s so_far over before (h.left ++ g ∷ []) (h.packets ++ g ∷ []) rest Flush wants h stream
       (with_packet s so_far before h g)
-      (stop, no_rest _ _ rest sound shut stream) owed (sym (owes_at s (Ended Flush) owed phase_is owes))
-  packet_stands s so_far over before g (RefusedPacket fault) wants not_over h rest stream sound shut offer limit begun told phase_is =
-      let told_here : IsTold s.offer s.limit (h.left ++ g ∷ []) fault =
-      subst (λ (n : ℕ). IsTold s.offer n (h.left ++ g ∷ []) fault) limit
-      (subst (λ (o : Offer). IsTold o (limit_in new.requests) (h.left ++ g ∷ []) fault) offer told) in
+      (brings.brings h.left h.takes, no_rest _ _ rest sound shut stream) owed (sym (owes_at s (Ended Flush) owed phase_is owes))
+  packet_stands s so_far over before g (RefusedPacket fault) wants not_over h rest stream sound shut offer limit brings phase_is =
+      let told : IsToldFor s.offer s.limit s.repo (h.left ++ g ∷ []) fault =
+      subst (λ (n : ℕ). IsToldFor s.offer n s.repo (h.left ++ g ∷ []) fault) limit
+      (subst (λ (o : Offer). IsToldFor o (limit_in new.requests) s.repo (h.left ++ g ∷ []) fault) offer (brings.brings h.left h.takes)) in
       subst (λ (o : Option Outcome). StandsBy o s (so_far ++ u) over (before ++ []) new) (sym (refused_outcome_by A fault.kind fault))
       (λ owed owes. ended_at s so_far over before (h.left ++ g ∷ []) (h.packets ++ g ∷ []) rest (Refused fault) wants h stream
       (with_packet s so_far before h g)
-      (inl (inl (record { front = h.left; last = g; whole = refl; begins = begun; told = told_here; no_rest = no_rest _ _ rest sound shut stream }))) owed
+      (inl (inl (record { front = h.left; last = g; whole = refl; begins = h.begins; told = told; no_rest = no_rest _ _ rest sound shut stream }))) owed
       (refused_owes_by A new.offer s (h.left ++ g ∷ []) fault.kind fault owed
-      (told_of_packets PackSource tt s.offer s.limit (h.left ++ g ∷ []) fault told_here)
+      (not_told_for s.offer s.limit s.repo (h.left ++ g ∷ []) fault PackSource tt (λ e. cc) told)
       (owes_at s (refused_by fault.kind fault) owed phase_is owes)))
 
   -- a packet came of the bytes
-  pub goes_packet : (g : Given) (brought : Brought A) → wants_input old ≡ true → ReadsFor state old u (g ∷ []) new → Brings old.requests g brought new.requests
-      → new.phase ≡ phase_after g.offset brought → fault_of new.reader ≡ None → is_open new.reader ≡ false → Goes state u [] old new
+  pub goes_packet : (g : Given) (brought : Brought A) → wants_input old ≡ true → ReadsFor state old u (g ∷ []) new
+      → Brings (state old.repo).answers old.requests g brought new.requests → new.phase ≡ phase_after g.offset brought
+      → fault_of new.reader ≡ None → is_open new.reader ≡ false → Goes state u [] old new
   goes_packet g brought wants reads brings phase_is sound shut s so_far over before r =
       let (not_over, h) = stands_of s so_far over before wants r in
       let (rest, stream) = reads.reads 0 so_far h.packets h.rest h.reads in
@@ -319,18 +329,18 @@ module _ {R A : Type 0} (state : R → RepoState) (old new : Server R A) (u : Li
       let limit = brings.limit ∙ r.limit in
       let open_ended = no_outcome old.phase wants in
       let kept : kept_so_far old.requests ≤ limit_in old.requests = omega (arith, r.within, r.limit, none_kept old.phase wants) in
-      let begun = begins s h.left old.requests r.reads_for r.limit (old.sound open_ended) (old.ready open_ended) h.takes in
+      let brings_here = subst (λ (p : Repository). Brings p old.requests g brought new.requests) r.repo brings in
       record {
         offer = reads.offer ∙ r.offer;
         reads_for = offer;
         limit = limit;
         repo = ap (λ (x : RepoState). x.answers) reads.repo ∙ r.repo;
         failures = failures_end (outcome_of old) (outcome_of new) s.failures _ _ open_ended (ap (λ (x : RepoState). x.failures) reads.repo)
-            (λ (fault, is, name). not_told PackSource tt g.offset (h.left ++ g ∷ []) brought new.requests
+            (λ (fault, is, name). not_told PackSource tt (λ e. cc) g.offset (h.left ++ g ∷ []) brought new.requests (state old.repo).answers
             (brings.brings h.left h.takes) fault (sym (ap outcome_in phase_is) ∙ is) name) r.failures;
         within = omega (arith, kept_behind g.offset brought new.requests (brings.within kept), limit, ap kept_in phase_is);
         stands = subst (λ (o : Option Outcome). StandsBy o s (so_far ++ u) over (before ++ []) new) (sym (ap outcome_in phase_is))
-            (packet_stands s so_far over before g brought wants not_over h rest stream sound shut offer limit begun (brings.brings h.left h.takes) phase_is);
+            (packet_stands s so_far over before g brought wants not_over h rest stream sound shut offer limit brings_here phase_is);
       }
 
   -- the session ends with this fault, of which nothing was given yet
@@ -346,10 +356,10 @@ module _ {R A : Type 0} (state : R → RepoState) (old new : Server R A) (u : Li
 
   -- the bytes were refused
   pub goes_refused : (fault : Fault) → wants_input old ≡ true → ReadsFor state old u [] new
-      → new.requests ≡ old.requests → requests_fault old.requests ≡ None → is_waiting old.requests ≡ false
+      → new.requests ≡ old.requests
       → fault_of new.reader ≡ Some fault → (fault_of old.reader ≡ None → fault.kind ≢ Truncated)
       → new.phase ≡ refused_by fault.kind fault → Goes state u [] old new
-  goes_refused fault wants reads same_requests sound ready told not_the_end phase_is s so_far over before r =
+  goes_refused fault wants reads same_requests told not_the_end phase_is s so_far over before r =
       let (not_over, h) = stands_of s so_far over before wants r in
       let (rest, later) = reads.reads 0 so_far h.packets h.rest h.reads in
       let stream = subst (λ (l : List Given). Reads new.reader 0 (so_far ++ u) l rest) (append-nil h.packets) later in
@@ -373,7 +383,7 @@ module _ {R A : Type 0} (state : R → RepoState) (old new : Server R A) (u : Li
         stands = ends_refused s so_far over before h.left h.packets rest fault wants h stream h.requests
             (inl (inr (inl (record {
               goes_on = not_over;
-              begins = begins s h.left old.requests r.reads_for r.limit sound ready h.takes;
+              begins = h.begins;
               stops = stops;
               not_the_end = not_the_end h.no_fault;
             })))) other phase_is;
@@ -387,13 +397,13 @@ module _ {R A : Type 0} (state : R → RepoState) (old : Server R A) (used : ℕ
       absurd (cc)
 
   -- a packet was judged
-  pub packet_in_time : (g : Given) (brought : Brought A) (requests : RequestReader A) (phase : Phase A) → Brings old.requests g brought requests
-      → phase ≡ phase_after g.offset brought
+  pub packet_in_time : (g : Given) (brought : Brought A) (requests : RequestReader A) (phase : Phase A)
+      → Brings (state old.repo).answers old.requests g brought requests → phase ≡ phase_after g.offset brought
       → StopsInTime state old used piece (outcome_in phase)
   packet_in_time g brought requests phase brings phase_is s so_far over before r wants fault ended too_long =
       let h = serves_of state old old [] s so_far over before wants r in
-      absurd (not_told StreamTooLong tt g.offset (h.left ++ g ∷ []) brought requests (brings.brings h.left h.takes) fault
-      (sym (ap outcome_in phase_is) ∙ ended) too_long)
+      absurd (not_told StreamTooLong tt (λ e. cc) g.offset (h.left ++ g ∷ []) brought requests (state old.repo).answers (brings.brings h.left h.takes)
+      fault (sym (ap outcome_in phase_is) ∙ ended) too_long)
 
   -- the bytes were refused
   pub fault_in_time : (fault : Fault) (phase : Phase A) → phase ≡ refused_by fault.kind fault → (fault_of old.reader ≡ None → ShownByFeed fault used piece)

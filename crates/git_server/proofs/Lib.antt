@@ -1,7 +1,9 @@
 pub mod Adjacent
+pub mod Admission
 pub mod EachSoFar
 pub mod NameOrder
 pub mod Prefixes
+pub mod TakenArguments
 pub mod Readers
 pub mod Openings
 pub mod Begun

@@ -1,9 +1,9 @@
 -- What was asked by the bytes that a server used, and how it is answered, is one thing: so a server that has given all
 -- of it owes nothing.
-use Rattle.std.proofs.Common.{◌≡◌, ℕ, ◌+◌, drop, map, codes, Bool, true, false, List, [], ◌∷◌}
+use Rattle.std.proofs.Common.{◌≡◌, ℕ, drop, map, codes, Bool, true, false, List, [], ◌∷◌}
 use Rattle.std.proofs.Common.{◌++◌, length, length-append, None, refl, sym, ap, ◌∙◌, subst, arith}
 use Rattle.git_pkt.specs.Digits.{digits_of}
-use Rattle.git_pkt.specs.Packets.{Pkt, flush, flushes, delim, resp_end, payload, body_of, length_field, spelling_of}
+use Rattle.git_pkt.specs.Packets.{Pkt, flush, flushes, body_of, length_field, spelling_of}
 use Rattle.git_pkt.proofs.Spelling.{same_start}
 use Rattle.git_pkt.proofs.Written.{spells_written}
 use Rattle.git_pkt.specs.Splits.{Given}
@@ -26,18 +26,18 @@ use Rattle.git_server.specs.declared.server.Phase.TheVariants.{Advertising, Betw
 use Rattle.git_server.specs.declared.server.Server.{Server}
 use Rattle.git_server.proofs.Flushes.{flushes-append}
 use Rattle.git_server.proofs.PackPackets.{packfile_ends_once, packfile_ends_later}
-use Rattle.git_server.proofs.Begun.{begins, begun_has_no_flush}
+use Rattle.git_server.proofs.Begun.{begun_has_no_flush}
 use Rattle.git_server.proofs.Sent.{is_whole}
 use Rattle.git_server.proofs.Going.{goes_on, owes_some}
 
 module _ (s : Setting) where
   pub no_request : (left : List Given) → NoFlush left → NoRequest (IsRequest s) left
-  no_request = none_without_flush s.offer s.limit (IsRequest s) (λ front q is. is)
+  no_request = none_without_flush s.offer s.limit (IsRequest s) (λ front q is. (is.0, is.1))
 
   -- packets ask for one list of requests
   pub one_list : (packets : List Given) (asked others : List Asked) (left rest : List Given) → NoRequest (IsRequest s) left → NoRequest (IsRequest s) rest
       → AreRequests (IsRequest s) packets asked left → AreRequests (IsRequest s) packets others rest → (asked ≡ others) × (left ≡ rest)
-  one_list = one_list_of_requests s.offer s.limit (IsRequest s) (λ front q is. is)
+  one_list = one_list_of_requests s.offer s.limit (IsRequest s) (λ front q is. (is.0, is.1))
 
 lines_have_none : (symrefs peel : Bool) (refs : List Entry) → flushes (map (reference_packet symrefs peel) refs) ≡ 0
 lines_have_none symrefs peel [] = refl
@@ -100,11 +100,10 @@ module _ {R A : Type 0} (state : R → RepoState) (server : Server R A) (s : Set
   pub waits_behind_all : outcome_of server ≡ None → IsAnswered s used given → wants_input server ≡ true
   waits_behind_all none all =
       let h = (goes_on state server s used over given none r).1 in
-      let begun = begins s h.left server.requests r.reads_for r.limit (server.sound none) (server.ready none) h.takes in
       let split = one_split 0 used h.packets all.stream.packets h.rest all.rest h.reads.splits.spelled
       all.stream.splits.spelled h.reads.splits.ends all.stream.splits.ends in
       let asked : h.asked ≡ all.asked =
-      (one_list s all.stream.packets h.asked all.asked h.left all.left (no_request s h.left (begun_has_no_flush s h.left begun))
+      (one_list s all.stream.packets h.asked all.asked h.left all.left (no_request s h.left (begun_has_no_flush s h.left h.begins))
       (no_request s all.left (begun_has_no_flush s all.left all.begins))
       (subst (λ (gs : List Given). AreRequests (IsRequest s) gs h.asked h.left) split.packets h.requests) all.stream.requests).0 in
       let (owed, owes) = owes_some server.offer s.repo server.phase in

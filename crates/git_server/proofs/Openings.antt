@@ -9,6 +9,7 @@ use Rattle.git_server.specs.Server.{IsFresh, IsPackLost, Running, StandsBy}
 use Rattle.git_server.specs.declared.outcome.Outcome.{Outcome}
 use Rattle.git_server.specs.declared.server.Server.{Server}
 use Rattle.git_server.specs.declared.server.Phase.{Phase}
+use Rattle.git_server.proofs.Begun.{nothing_begins}
 use Rattle.git_server.proofs.Outcomes.{none_lost}
 use Rattle.git_server.proofs.Readers.{fresh_has_no_fault}
 
@@ -44,6 +45,7 @@ module _ {R A : Type 0} (state : R → RepoState) (s : Setting) (repo : R) (phas
             no_fault = fresh_has_no_fault server.reader fresh.reads;
             requests = refl;
             takes = fresh.takes;
+            begins = nothing_begins s;
             left_is = subst (λ (p : Phase A). LeftIn p []) (sym fresh.phase_is) left;
             flush_at = subst (λ (p : Phase A). FlushIsAt p []) (sym fresh.phase_is) flush;
             is_sent = λ l owes. inl (record { none = refl; parts = owed_now l owes });

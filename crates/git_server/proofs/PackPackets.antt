@@ -1,12 +1,12 @@
 -- The packets of a pack: one more of them, and that there are always some that end it.
-use Rattle.std.proofs.Common.{arith, ◌≡◌, ℕ, ◌+◌, ◌-◌, ◌<◌, ◌≤◌, List, [], ◌∷◌, ◌++◌, length, take, drop, refl, sym, ap, ◌∙◌, append_assoc}
-use Rattle.std.proofs.Common.{take-append-drop, length-append}
+use Rattle.std.proofs.Common.{arith, ◌≡◌, ℕ, ◌+◌, ◌<◌, ◌≤◌, List, [], ◌∷◌, ◌++◌, length, take, drop, refl, sym, ap, ◌∙◌, append_assoc}
+use Rattle.std.proofs.Common.{take-append-drop}
 use Rattle.std.proofs.lemmas.List.{drop_all, drop-drop}
 use Rattle.std.proofs.lemmas.Grind.{common_steps}
 use Rattle.git_pkt.specs.Packets.{Pkt, flush, flushes, longest_payload}
 use Rattle.git_pkt.specs.Bands.{AreBands, band_packet}
 use Rattle.git_pkt.specs.declared.band.Band.TheVariants.{Pack as PackBand}
-use Rattle.git_server.specs.AnsweredRequest.{IsPackfileFrom, most_packets}
+use Rattle.git_server.specs.AnsweredRequest.{IsPackfileFrom}
 use Rattle.git_server.specs.Packs.{Manner, whole, broken, IsPackPart, EndsPack, EndsWhole, IsPackfile, packfile_header}
 use Rattle.git_server.specs.declared.packing.PackPlace.{PackPlace}
 use Rattle.git_server.specs.declared.packing.PackPlace.TheVariants.{Header, Pack}

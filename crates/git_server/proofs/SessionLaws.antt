@@ -13,7 +13,6 @@ use Rattle.git_server.specs.ServerCalls.{OwesNow, Pulls}
 use Rattle.git_server.specs.declared.outcome.Outcome.{Outcome}
 use Rattle.git_server.specs.declared.server.Server.{Server}
 use Rattle.git_pkt.proofs.KnownRest.{sound_rest}
-use Rattle.git_server.proofs.Begun.{begins}
 use Rattle.git_server.proofs.Sent.{all_sent}
 use Rattle.git_server.proofs.Outcomes.{stays_as}
 use Rattle.git_server.proofs.Going.{goes_nowhere, goes_on, no_outcome, owes_nothing, owes_some}
@@ -31,7 +30,7 @@ module _ {R A : Type 0} (state : R → RepoState) (server : Server R A) (s : Set
           sent = h.sent;
           owed = (owes_some server.offer s.repo server.phase).0;
           stream = record { packets = h.packets; splits = h.reads.splits; requests = h.requests };
-          begins = begins s h.left server.requests r.reads_for r.limit (server.sound none) (server.ready none) h.takes;
+          begins = h.begins;
           unrefused = (sound_rest server.reader 0 used h.packets h.rest h.no_fault h.reads).1;
           is_sent = h.is_sent (owes_some server.offer s.repo server.phase).0 (owes_some server.offer s.repo server.phase).1;
           given_is = h.given_is;
@@ -75,7 +74,7 @@ module _ {R A : Type 0} (state : R → RepoState) (server : Server R A) (s : Set
         rest = h.rest;
         answers = all.answers;
         stream = record { packets = h.packets; splits = h.reads.splits; requests = h.requests };
-        begins = begins s h.left server.requests r.reads_for r.limit (server.sound none) (server.ready none) h.takes;
+        begins = h.begins;
         unrefused = (sound_rest server.reader 0 used h.packets h.rest h.no_fault h.reads).1;
         answered = all.answered;
         given_is = h.given_is ∙ ap spelled all.sent_is;

@@ -5,14 +5,15 @@ use Rattle.git_pkt.specs.Splits.{Given}
 use Rattle.git_pkt.specs.declared.fault.Fault.{Fault}
 use Rattle.git_pkt.specs.declared.fault.Kind.{Kind}
 use Rattle.git_pkt.specs.declared.fault.Kind.TheVariants.{PackSource, StreamTooLong, Truncated}
-use Rattle.git_msg.proofs.PacketFaults.{told_of_packets}
 use Rattle.git_server.specs.Sessions.{Setting, EndsBy, IsRefused, IsSession}
 use Rattle.git_server.specs.declared.outcome.Outcome.{Outcome}
 use Rattle.git_server.specs.declared.outcome.Outcome.TheVariants.{Refused}
+use Rattle.git_server.proofs.Admission.{not_told_for}
 
 refused_too_long : (s : Setting) (over : Bool) (left : List Given) (rest : List ℕ) (end : ℕ) (fault : Fault) → IsRefused s over left rest end fault
     → fault.kind ≡ StreamTooLong → (over ≡ false) × (end ≡ last_position)
-refused_too_long s over left rest end fault (inl (inl r)) is = absurd (told_of_packets StreamTooLong tt s.offer s.limit left fault r.told is)
+refused_too_long s over left rest end fault (inl (inl r)) is =
+    absurd (not_told_for s.offer s.limit s.repo left fault StreamTooLong tt (λ e. cc) r.told is)
 refused_too_long s over left rest end fault (inl (inr (inl r))) is =
     let stops : StopsBy (end - length rest) rest end StreamTooLong fault.offset =
     subst (λ (k : Kind). StopsBy (end - length rest) rest end k fault.offset) is r.stops in

@@ -1,21 +1,23 @@
--- What a packet brings to a reader of requests that keeps each argument at once.
+-- What a packet brings to a reader of requests that keeps each argument at once, unless the repository refuses it.
 use Rattle.std.specs.Prelude.{◌≡◌, ◌≤◌, Bool, true, false, None, List, [], ◌∷◌, ◌++◌}
 use Rattle.git_pkt.specs.Splits.{Given}
 use Rattle.git_msg.specs.declared.reader.RequestReader.{RequestReader}
 use Rattle.git_msg.specs.HeldRequest.{asked_of, kept_of}
-use Rattle.git_msg.specs.Requests.{Asks, IsTold, IsStop}
+use Rattle.git_msg.specs.Requests.{Asks, IsStop}
 use Rattle.git_msg.specs.RequestReader.{Takes, offer_of, limit_in, kept_so_far, fault_of, is_waiting}
+use Rattle.git_server.specs.Admission.{IsToldFor, IsUnbarred}
+use Rattle.git_server.specs.Repository.{Repository}
 use Rattle.git_server.specs.declared.requests.Brought.{Brought}
 use Rattle.git_server.specs.declared.requests.Brought.TheVariants.{Part, Whole, Stop, Refused}
 
 module _ {A : Type 0} where
   -- what was brought, where the reader stood after these packets
-  abbrev pub IsBrought : List Given → Brought A → RequestReader A → Type 0
-  IsBrought packets Part new = Takes packets new
-  IsBrought packets (Whole request) new =
+  abbrev pub IsBrought : Repository → List Given → Brought A → RequestReader A → Type 0
+  IsBrought repo packets Part new = Takes packets new × IsUnbarred (offer_of new) (limit_in new) repo packets
+  IsBrought repo packets (Whole request) new =
       Takes [] new × Asks (offer_of new) (limit_in new) packets (asked_of request) (kept_of request)
-  IsBrought packets Stop new = IsStop packets
-  IsBrought packets (Refused fault) new = IsTold (offer_of new) (limit_in new) packets fault
+  IsBrought repo packets Stop new = IsStop packets
+  IsBrought repo packets (Refused fault) new = IsToldFor (offer_of new) (limit_in new) repo packets fault
 
   -- the session goes on
   abbrev pub goes_on : Brought A → Bool
@@ -30,8 +32,8 @@ module _ {A : Type 0} where
   IsWithin _ new = kept_so_far new ≤ limit_in new
 
   -- what a packet does
-  pub record Brings (old : RequestReader A) (g : Given) (brought : Brought A) (new : RequestReader A) : Type 0 where
-    pub brings : (packets : List Given) → Takes packets old → IsBrought (packets ++ g ∷ []) brought new
+  pub record Brings (repo : Repository) (old : RequestReader A) (g : Given) (brought : Brought A) (new : RequestReader A) : Type 0 where
+    pub brings : (packets : List Given) → Takes packets old → IsBrought repo (packets ++ g ∷ []) brought new
     pub sound : goes_on brought ≡ true → fault_of new ≡ None
     pub ready : goes_on brought ≡ true → is_waiting new ≡ false
     pub offer : offer_of new ≡ offer_of old

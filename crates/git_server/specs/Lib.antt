@@ -4,6 +4,7 @@ pub mod Lists
 pub mod ListRepo
 pub mod Faulty
 pub mod Answers
+pub mod Admission
 pub mod Sessions
 pub mod AdvertisementLines
 pub mod NextShown

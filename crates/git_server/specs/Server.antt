@@ -9,7 +9,7 @@ use Rattle.git_msg.specs.WholeRequests.{AreRequests}
 use Rattle.git_server.specs.Repository.{RepoState}
 use Rattle.git_server.specs.Answers.{AllFit, spelled}
 use Rattle.git_server.specs.Packs.{broken}
-use Rattle.git_server.specs.Sessions.{Setting, IsRequest, IsSent, IsAnswering, IsEnding}
+use Rattle.git_server.specs.Sessions.{Setting, Begins, IsRequest, IsSent, IsAnswering, IsEnding}
 use Rattle.git_server.specs.Phases.{FlushIsAt, LeftIn, kept_in, outcome_in, MayBreak, Owes, reads_in}
 use Rattle.git_server.specs.declared.outcome.Outcome.{Outcome}
 use Rattle.git_server.specs.declared.outcome.Outcome.TheVariants.{Refused}
@@ -56,6 +56,7 @@ module _ {R A : Type 0} where
     pub no_fault : fault_of server.reader ≡ None
     pub requests : AreRequests (IsRequest s) packets asked left
     pub takes : Takes left server.requests
+    pub begins : Begins s left
     pub left_is : LeftIn server.phase left
     pub flush_at : FlushIsAt server.phase packets
     pub is_sent : (owed : List Pkt) → Owes server.offer s.repo server.phase owed → IsSent s asked sent owed

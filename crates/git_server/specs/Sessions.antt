@@ -9,9 +9,10 @@ use Rattle.git_pkt.specs.declared.fault.Kind.TheVariants.{OutOfMemory, PackSourc
 use Rattle.git_msg.specs.declared.offers.Offer.{Offer}
 use Rattle.git_msg.specs.Asked.{Asked}
 use Rattle.git_msg.specs.Lines.{Line}
-use Rattle.git_msg.specs.Requests.{AreLines, Asks, IsTold, IsStop}
+use Rattle.git_msg.specs.Requests.{AreLines, Asks, IsStop}
 use Rattle.git_msg.specs.WholeRequests.{AreRequests}
 use Rattle.git_server.specs.Repository.{Repository}
+use Rattle.git_server.specs.Admission.{AreAdmitted, HasAsked, IsToldFor}
 use Rattle.git_server.specs.Packs.{Manner, whole, broken}
 use Rattle.git_server.specs.Answers.{AllFit, spelled, advertisement_of, refusal_by, IsAnswer, IsAnswerAs}
 use Rattle.git_server.specs.declared.outcome.Outcome.{Outcome}
@@ -30,9 +31,9 @@ pub record Setting : Type 0 where
 abbrev pub advertised : Setting → List Pkt
 advertised s = if s.advertise then advertisement_of s.offer else []
 
--- the packets are one whole request, which asks for this
+-- the packets are one whole request, which asks for this, and the repository has each object of it
 abbrev pub IsRequest : Setting → List Given → Asked → Type 0
-IsRequest s packets q = (kept : ℕ) × Asks s.offer s.limit packets q kept
+IsRequest s packets q = (kept : ℕ) × Asks s.offer s.limit packets q kept × HasAsked s.repo q
 
 -- the packets are an answer to each request, in their order
 abbrev pub AreAnswers : Repository → List Asked → List Pkt → Type 0
@@ -50,6 +51,7 @@ pub record Stream (s : Setting) (used : List ℕ) (asked : List Asked) (left : L
 pub record Begins (s : Setting) (left : List Given) : Type 0 where
   pub lines : List Line
   pub taken : AreLines s.offer s.limit [] left lines
+  pub admitted : AreAdmitted s.repo lines
 
 -- one of the packets is refused, or memory ran out while its argument was kept; of those before the last none is
 -- refused, and no byte stands after the last
@@ -58,7 +60,7 @@ pub record IsRefusedAtPacket (s : Setting) (left : List Given) (rest : List ℕ)
   pub last : Given
   pub whole : left ≡ front ++ last ∷ []
   pub begins : Begins s front
-  pub told : IsTold s.offer s.limit left fault
+  pub told : IsToldFor s.offer s.limit s.repo left fault
   pub no_rest : rest ≡ []
 
 -- the bytes after the packets, of which none is refused, are no packet's; the input goes on

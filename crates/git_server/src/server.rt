@@ -253,7 +253,7 @@ impl<R: Repo, A: Allocator + Copy> Server<R, A> {
         match fed.got {
             Got::More => used,
             Got::Packet(packet, offset) => {
-                let brought = take_packet(&mut self.requests, packet, offset);
+                let brought = take_packet(&mut self.requests, &self.repo, packet, offset);
                 self.phase = following(brought, offset);
                 used
             }

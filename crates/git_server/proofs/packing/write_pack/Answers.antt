@@ -1,4 +1,4 @@
-use Rattle.std.proofs.Common.{arith, rules, ◌≡◌, ◌<◌, ◌+◌, sym, subst, take}
+use Rattle.std.proofs.Common.{arith, rules, ◌<◌, ◌+◌, sym, subst, take}
 use Rattle.git_pkt.specs.Bands.{band_packet}
 use Rattle.git_pkt.specs.declared.band.Band.TheVariants.{Pack as PackBand}
 use Rattle.git_server.specs.AnsweredRequest.{FollowsPack}

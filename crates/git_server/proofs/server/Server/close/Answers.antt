@@ -2,15 +2,14 @@ use Rattle.std.proofs.Common.{rules, refl, ap, ◌∙◌}
 use Rattle.git_pkt.specs.PacketReader.{position_of}
 use Rattle.git_pkt.specs.declared.fault.Kind.TheVariants.{Truncated}
 use Rattle.git_server.proofs.Closing.{closes_between, closes_open, closes_within}
-use Rattle.git_server.proofs.Going.{is_within, no_outcome}
+use Rattle.git_server.proofs.Going.{is_within}
 use Rattle.git_server.proofs.server.Server.close.Goals as goal
 
 pub returns-in-Err-clause-closes : goal.returns-in-Err-clause-closes
 returns-in-Err-clause-closes g c =
     let old = c.args.self.now in
-    let open_ended = no_outcome old.phase c.requires in
     closes_open g.R.Repo.state old _ c.in-Err.fault c.requires (record { offer = refl; repo = refl; requests = refl }) c.refusal.ensures
-    (old.sound open_ended) (old.ready open_ended) c.in-Err.ensures.truncated
+    c.in-Err.ensures.truncated
 
 pub returns-in-Between-clause-closes : goal.returns-in-Between-clause-closes
 returns-in-Between-clause-closes g c =
@@ -21,9 +20,8 @@ returns-in-Between-clause-closes g c =
 pub returns-clause-closes : goal.returns-clause-closes
 returns-clause-closes g c =
     let old = c.args.self.now in
-    let open_ended = no_outcome old.phase c.requires in
     let between = c.in_default.ensures.between in
     closes_within g.R.Repo.state old _ (record { kind = Truncated; offset = c.position.result }) c.requires
     (record { offer = refl; repo = refl; requests = refl })
-    (is_within old.phase c.requires c.in_default-phase.not-Between) (search rules) (old.sound open_ended) (old.ready open_ended) between.1 between.2 refl
+    (is_within old.phase c.requires c.in_default-phase.not-Between) (search rules) between.1 between.2 refl
     (c.position.ensures ∙ ap position_of between.0)

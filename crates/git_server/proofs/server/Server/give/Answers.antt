@@ -1,8 +1,6 @@
-use Rattle.std.proofs.Common.{arith, refl, ap, sym, subst, ◌∷◌, List, Option}
-use Rattle.git_pkt.specs.Packets.{Pkt}
+use Rattle.std.proofs.Common.{arith, refl, ap}
 use Rattle.git_server.specs.Answers.{error_packet}
-use Rattle.git_server.specs.Phases.{MayBreak, kept_in, lost_pack, most_owed}
-use Rattle.git_server.specs.declared.server.Phase.{Phase}
+use Rattle.git_server.specs.Phases.{kept_in, most_owed}
 use Rattle.git_server.specs.declared.server.Phase.TheVariants.{Answering, Between, Ended}
 use Rattle.git_server.proofs.Breaking.{gives_broken}
 use Rattle.git_server.proofs.Giving.{gives}

@@ -5,9 +5,9 @@ use Rattle.git_server.proofs.server.Server.new.Goals as goal
 pub returns-then-advertise-clause-running : goal.returns-then-advertise-clause-running
 returns-then-advertise-clause-running g c =
     opens g.R.Repo.state _ c.args.repo _ _ c.begin.ensures refl refl refl tt refl
-        (λ owed owes. owes ∙ rw c.if-advertise.true (search rules)) (λ owed breaks. breaks) refl
+    (λ owed owes. owes ∙ rw c.if-advertise.true (search rules)) (λ owed breaks. breaks) refl
 
 pub returns-clause-running : goal.returns-clause-running
 returns-clause-running g c =
     opens g.R.Repo.state _ c.args.repo _ _ c.begin-2.ensures refl refl refl tt refl
-        (λ owed owes. owes ∙ rw c.if-advertise.false (search rules)) (λ owed breaks. breaks) refl
+    (λ owed owes. owes ∙ rw c.if-advertise.false (search rules)) (λ owed breaks. breaks) refl

@@ -1,6 +1,6 @@
 use Rattle.std.proofs.Common.{refl, take}
 use Rattle.git_pkt.specs.Packets.{seen}
-use Rattle.git_server.proofs.Going.{goes_packet, goes_refused, open_in_time, packet_in_time, fault_in_time, no_outcome}
+use Rattle.git_server.proofs.Going.{goes_packet, goes_refused, open_in_time, packet_in_time, fault_in_time}
 use Rattle.git_server.proofs.Readers.{feeds_with}
 use Rattle.git_server.proofs.server.Server.step.Goals as goal
 
@@ -19,9 +19,8 @@ returns-in-Failed-clause-goes g c =
     let piece = c.args.piece.now in
     let fed = c.feed-fed.result in
     let feeds = feeds_with old.reader c.feed-fed.follows.lender-at-none piece fed _ c.in-Failed.is c.feed-fed.follows.holds-at-none in
-    let open_ended = no_outcome old.phase c.requires.wants in
     goes_refused g.R.Repo.state old _ (take fed.used piece) c.in-Failed.fault c.requires.wants (record { offer = refl; repo = refl; reads = feeds.reads })
-    refl (old.sound open_ended) (old.ready open_ended) feeds.tells
+    refl feeds.tells
     (λ none. (c.feed-fed.follows.holds-at-none.news c.in-Failed.fault none c.in-Failed.is).not_the_end) c.refusal.ensures
 
 pub returns-in-More-clause-in_time : goal.returns-in-More-clause-in_time

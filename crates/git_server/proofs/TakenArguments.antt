@@ -1,0 +1,129 @@
+-- What a packet brings, by what the repository says of its argument.
+use Rattle.std.proofs.Common.{◌≡◌, ℕ, Some, None, Ok, Err, List, [], ◌∷◌, ◌++◌, sym, ap, ◌∙◌, subst, inl, inr}
+use Rattle.git_pkt.specs.Splits.{Given}
+use Rattle.git_pkt.specs.declared.fault.Fault.{Fault}
+use Rattle.git_pkt.specs.declared.fault.Kind.{Kind}
+use Rattle.git_msg.specs.declared.offers.Offer.{Offer}
+use Rattle.git_msg.specs.declared.arguments.Argument.{Argument}
+use Rattle.git_msg.specs.declared.reader.Part.{Part}
+use Rattle.git_msg.specs.declared.reader.Part.TheVariants.{Waiting}
+use Rattle.git_msg.specs.declared.reader.RequestReader.{RequestReader}
+use Rattle.git_msg.specs.declared.reader.Taken.TheVariants.{More, Argument as TakenArgument}
+use Rattle.git_msg.specs.Arguments.{Arg, shown}
+use Rattle.git_msg.specs.RequestReader.{KeepsOn, TakesOn, WaitsBehind, WaitsFor, WaitsIn, fault_of, limit_in, offer_of}
+use Rattle.git_msg.proofs.WholeRequests.{last_same}
+use Rattle.git_server.specs.Repository.{Repository}
+use Rattle.git_server.specs.Admission.{barred, IsAdmitted, IsBarredAtLast, IsUnbarred}
+use Rattle.git_server.specs.Brought.{Brings}
+use Rattle.git_server.specs.declared.requests.Brought.TheVariants.{Part as BroughtPart, Refused}
+use Rattle.git_server.proofs.Admission.{barred_after, barred_text, fault_unbarred, plain_unbarred}
+
+module _ {A : Type 0} (repo : Repository) where
+  waiting : (P : Type 0) (part : Part) (packets : List Given) (arg : Arg) (r : RequestReader A)
+      → ((offset long : ℕ) → WaitsBehind packets offset long arg r → P) → WaitsIn part packets arg r → P
+  waiting P (Waiting offset long) packets arg r by h = by offset long h
+  waiting P part packets arg r by h = absurd h
+
+  -- an argument that waits is barred where the repository refuses it
+  barred_waiting : (packets : List Given) (g : Given) (arg : Arg) (r : RequestReader A) (kind : Kind) → WaitsFor (packets ++ g ∷ []) arg r
+      → barred repo arg ≡ Some kind → IsBarredAtLast r.offer (limit_in r) repo (packets ++ g ∷ []) kind g.offset
+  barred_waiting packets g arg r kind waits refuses = waiting _ r.part (packets ++ g ∷ []) arg r (λ offset long w. record {
+    front = w.front;
+    last = w.last;
+    lines = w.lines;
+    whole = w.whole;
+    taken = w.taken;
+    is_barred = record {
+      bytes = w.bytes;
+      arg = arg;
+      behind = w.in_part.behind;
+      data_packet = w.data_packet;
+      is_text = w.is_text;
+      refuses = refuses;
+    };
+    at = ap (λ (x : Given). x.offset) (last_same packets w.front g w.last w.whole);
+  }) waits.waits
+
+  -- and not barred where it does not
+  unbarred_waiting : (packets : List Given) (arg : Arg) (r : RequestReader A) → WaitsFor packets arg r → IsAdmitted repo arg
+      → IsUnbarred r.offer (limit_in r) repo packets
+  unbarred_waiting packets arg r waits admitted = waiting _ r.part packets arg r (λ offset long w kind place b.
+      let there = barred_after r.offer (limit_in r) repo packets w.front w.last w.lines kind place w.whole w.taken b in
+      let refuses = barred_text r.offer (limit_in r) repo w.lines w.last.packet w.bytes arg kind w.data_packet w.is_text there.is_barred in
+      cc) waits.waits
+
+  unbarred_on : (packets : List Given) (old new : RequestReader A) → offer_of new ≡ offer_of old → limit_in new ≡ limit_in old
+      → IsUnbarred old.offer (limit_in old) repo packets → IsUnbarred (offer_of new) (limit_in new) repo packets
+  unbarred_on packets old new offer limit h =
+      subst (λ (o : Offer). IsUnbarred o (limit_in new) repo packets) (sym offer) (subst (λ (n : ℕ). IsUnbarred old.offer n repo packets) (sym limit) h)
+
+  -- a line that is no argument
+  pub brings_line : (old new : RequestReader A) (g : Given) → fault_of old ≡ None → TakesOn old g (Ok More) new → Brings repo old g BroughtPart new
+  brings_line old new g sound t = record {
+    brings = λ packets takes.
+        let (there, plain) = t.brings packets sound takes in
+        (there, plain_unbarred (offer_of new) (limit_in new) repo packets g plain);
+    sound = λ on. t.leaves.0;
+    ready = λ on. t.leaves.1;
+    offer = t.offer;
+    limit = t.limit;
+    within = t.within;
+  }
+
+  -- a packet that is refused for itself
+  pub brings_fault : (old new : RequestReader A) (g : Given) (fault : Fault) → fault_of old ≡ None → TakesOn old g (Err fault) new
+      → Brings repo old g (Refused fault) new
+  brings_fault old new g fault sound t = record {
+    brings = λ packets takes.
+        let (there, first, not_for_limit) = t.brings packets sound takes in
+        inr (fault_unbarred (offer_of new) (limit_in new) repo (packets ++ g ∷ []) fault.kind fault.offset first not_for_limit, inl first);
+    sound = λ on. cc;
+    ready = λ on. cc;
+    offer = t.offer;
+    limit = t.limit;
+    within = t.within;
+  }
+
+  module _ (old mid : RequestReader A) (g : Given) (argument : Argument) (sound : fault_of old ≡ None)
+      (t : TakesOn old g (Ok (TakenArgument argument)) mid) where
+    -- an argument that the repository refuses
+    pub brings_barred : (kind : Kind) → barred repo (shown argument) ≡ Some kind → Brings repo old g (Refused (record { kind = kind; offset = g.offset })) mid
+    brings_barred kind refuses = record {
+      brings = λ packets takes. inl (barred_waiting packets g (shown argument) mid kind (t.brings packets sound takes).1 refuses);
+      sound = λ on. cc;
+      ready = λ on. cc;
+      offer = t.offer;
+      limit = t.limit;
+      within = t.within;
+    }
+
+    module _ (new : RequestReader A) (admitted : IsAdmitted repo (shown argument)) where
+      unbarred : (packets : List Given) → WaitsFor packets (shown argument) mid → offer_of new ≡ offer_of mid → limit_in new ≡ limit_in mid
+          → IsUnbarred (offer_of new) (limit_in new) repo packets
+      unbarred packets waits offer limit = unbarred_on packets mid new offer limit (unbarred_waiting packets (shown argument) mid waits admitted)
+
+      -- one that is kept
+      pub brings_kept : (done : Unit {0}) → KeepsOn mid (shown argument) (Ok done) new → Brings repo old g BroughtPart new
+      brings_kept done k = record {
+        brings = λ packets takes.
+            let waits = (t.brings packets sound takes).1 in
+            (k.settles (packets ++ g ∷ []) waits, unbarred (packets ++ g ∷ []) waits k.offer k.limit);
+        sound = λ on. k.leaves.0;
+        ready = λ on. k.leaves.1;
+        offer = k.offer ∙ t.offer;
+        limit = k.limit ∙ t.limit;
+        within = λ before. k.within (t.within before);
+      }
+
+      -- one that is not: for the limit, or since memory ran out
+      pub brings_unkept : (fault : Fault) → KeepsOn mid (shown argument) (Err fault) new → Brings repo old g (Refused fault) new
+      brings_unkept fault k = record {
+        brings = λ packets takes.
+            let waits = (t.brings packets sound takes).1 in
+            inr (unbarred (packets ++ g ∷ []) waits k.offer k.limit, (k.settles (packets ++ g ∷ []) waits).1);
+        sound = λ on. cc;
+        ready = λ on. cc;
+        offer = k.offer ∙ t.offer;
+        limit = k.limit ∙ t.limit;
+        within = λ before. k.within (t.within before);
+      }
