@@ -1,5 +1,5 @@
-//! Tests that need code: memory that is refused, readers and writers that fail or are asked when they were flushed, and
-//! the names and texts of faults. What a text can tell is a case of `worked_conversations`.
+//! Tests that need code: memory that is refused, packs that come in parts or fail, readers and writers that fail or are
+//! asked when they were flushed, and the names and texts of faults. What a text can tell is a case of `worked_conversations`.
 #![tactic(auto)]
 
 #[cfg(test)]
@@ -10,6 +10,8 @@ mod escapes;
 mod faults;
 #[cfg(test)]
 mod names;
+#[cfg(test)]
+mod packs;
 #[cfg(test)]
 mod repository_text;
 #[cfg(test)]

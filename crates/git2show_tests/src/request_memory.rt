@@ -66,11 +66,14 @@ fn hear<A: Allocator + Copy>(
     requires { is_waiting reader.old ≡ false }
     ensures { is_waiting reader.new ≡ false }
 {
-    match reader.take(packet, offset) {
-        Ok(Taken::Argument(argument)) => reader.keep(argument),
-        Ok(_) => Ok(()),
-        Err(fault) => Err(fault),
+    let taken = match reader.take(packet, offset) {
+        Ok(taken) => taken,
+        Err(fault) => return Err(fault),
+    };
+    if let Taken::Argument(argument) = taken {
+        return reader.keep(argument);
     }
+    Ok(())
 }
 
 #[test]

@@ -15,7 +15,7 @@ use Rattle.git_msg.proofs.WholeRequests.{NoFlush, NoRequest, none_without_flush,
 use Rattle.git_server.specs.Repository.{Entry, Repository, RepoState}
 use Rattle.git_server.specs.Answers.{AllFit, offered_line, reference_packet, shown_refs, spelled, IsAnswer}
 use Rattle.git_server.specs.AdvertisementLines.{format_on, advertisement_from}
-use Rattle.git_server.specs.declared.advertisement.AdvertisementLine.TheVariants.{Version, Agent, LsRefs, ServerOption, ObjectFormat, End}
+use Rattle.git_server.specs.declared.advertisement.AdvertisementLine.TheVariants.{Version, Agent, LsRefs, Fetch, ServerOption, ObjectFormat, End}
 use Rattle.git_server.specs.Sessions.{Setting, IsRequest, AreAnswers, IsAnswered, advertised}
 use Rattle.git_server.specs.Phases.{outcome_in, Owes, reads_in}
 use Rattle.git_server.specs.Server.{Running, outcome_of, wants_input}
@@ -76,6 +76,7 @@ line_owes : (offer : Offer) (line : AdvertisementLine) → flushes (advertisemen
 line_owes offer End = refl
 line_owes offer ObjectFormat = refl
 line_owes offer ServerOption = refl
+line_owes offer Fetch = option_owes offer offer.server_option
 line_owes offer LsRefs = option_owes offer offer.server_option
 line_owes offer Agent = option_owes offer offer.server_option
 line_owes offer Version = option_owes offer offer.server_option

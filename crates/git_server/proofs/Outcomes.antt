@@ -1,12 +1,13 @@
 -- The outcome of a session, while packets are pulled, and the reads of its repository that failed.
-use Rattle.std.proofs.Common.{◌≡◌, ◌≢◌, ℕ, IsSome, Option, Some, None, sym, ap, ◌∙◌, subst, inl, inr}
+use Rattle.std.proofs.Common.{arith, ◌≡◌, ◌≢◌, ◌<◌, ◌⊎◌, ℕ, IsSome, Option, Some, None, refl, sym, ap, ◌∙◌, subst, inl, inr}
 use Rattle.git_pkt.specs.declared.fault.Fault.{Fault}
+use Rattle.git_pkt.specs.declared.fault.Kind.{Kind}
 use Rattle.git_pkt.specs.declared.fault.Kind.TheVariants.{PackSource, StreamTooLong}
 use Rattle.git_server.specs.Repository.{Repository, RepoState}
 use Rattle.git_server.specs.Server.{HasFailed, IsPackLost}
 use Rattle.git_server.specs.ServerCalls.{IsAfterPull}
 use Rattle.git_server.specs.declared.outcome.Outcome.{Outcome}
-use Rattle.git_server.specs.declared.outcome.Outcome.TheVariants.{Refused}
+use Rattle.git_server.specs.declared.outcome.Outcome.TheVariants.{Flush, Closed, Refused}
 
 pub stays_as : (old now : Option Outcome) → now ≡ old → IsAfterPull old now
 stays_as (Some outcome) now same = same
@@ -64,3 +65,25 @@ failures_end old now before was count none same other h =
 pub same_state : (a b : RepoState) → b.answers ≡ a.answers → b.failures ≡ a.failures → b ≡ a
 same_state a b answers failures = ap (λ (r : Repository). let x : RepoState = record { answers = r; failures = b.failures } in x) answers
     ∙ ap (λ (n : ℕ). let x : RepoState = record { answers = a.answers; failures = n } in x) failures
+
+-- a session lacks a pack or it does not
+lost_by : (kind : Kind) → (kind ≡ PackSource) ⊎ (kind ≢ PackSource)
+lost_by PackSource = inl refl
+lost_by _ = inr (λ e. cc)
+
+lost_or_not : (o : Option Outcome) → IsPackLost o ⊎ (IsPackLost o → ⊥)
+lost_or_not None = inr none_lost
+lost_or_not (Some Flush) = inr (λ (fault, is, name). let e = is in cc)
+lost_or_not (Some Closed) = inr (λ (fault, is, name). let e = is in cc)
+lost_or_not (Some (Refused fault)) = by_kind (lost_by fault.kind)
+  where
+    by_kind : (fault.kind ≡ PackSource) ⊎ (fault.kind ≢ PackSource) → IsPackLost (Some (Refused fault)) ⊎ (IsPackLost (Some (Refused fault)) → ⊥)
+    by_kind (inl name) = inl (fault, refl, name)
+    by_kind (inr other) = inr (other_lost fault other)
+
+pub lost_where_failed : (o : Option Outcome) (before now : ℕ) → HasFailed o before now → before < now → IsPackLost o
+lost_where_failed o before now h rises = by_kind (lost_or_not o)
+  where
+    by_kind : IsPackLost o ⊎ (IsPackLost o → ⊥) → IsPackLost o
+    by_kind (inl lost) = lost
+    by_kind (inr other) = absurd (omega (arith, rises, h.same other))

@@ -12,7 +12,7 @@ use Rattle.git_server.specs.Packs.{whole, broken}
 use Rattle.git_server.specs.AdvertisementLines.{format_on, advertisement_packet, advertisement_line_after, advertisement_from, advertisement_after}
 use Rattle.git_server.specs.Phases.{FlushIsAt, LeftIn, MayBreak, advertising_phase, kept_in, outcome_in, Owes, most_owed}
 use Rattle.git_server.specs.declared.advertisement.AdvertisementLine.{AdvertisementLine}
-use Rattle.git_server.specs.declared.advertisement.AdvertisementLine.TheVariants.{Version, Agent, LsRefs, ServerOption, ObjectFormat, End}
+use Rattle.git_server.specs.declared.advertisement.AdvertisementLine.TheVariants.{Version, Agent, LsRefs, Fetch, ServerOption, ObjectFormat, End}
 use Rattle.git_server.specs.declared.answer.Answer.{Answer}
 use Rattle.git_server.specs.declared.answer.Answer.TheVariants.{References, Fetching}
 use Rattle.git_server.specs.declared.answer.Answered.TheVariants.{Part}
@@ -30,7 +30,8 @@ pub one_line : (offer : Offer) (line : AdvertisementLine)
     → advertisement_from offer line ≡ advertisement_packet offer line ∷ advertisement_after offer (advertisement_line_after offer line)
 one_line offer Version = refl
 one_line offer Agent = refl
-one_line offer LsRefs = ap (λ (l : List Pkt). advertisement_packet offer LsRefs ∷ l) (option_lines offer offer.server_option)
+one_line offer LsRefs = refl
+one_line offer Fetch = ap (λ (l : List Pkt). advertisement_packet offer Fetch ∷ l) (option_lines offer offer.server_option)
 one_line offer ServerOption = refl
 one_line offer ObjectFormat = refl
 one_line offer End = refl

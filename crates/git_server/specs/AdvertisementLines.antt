@@ -5,13 +5,14 @@ use Rattle.git_msg.specs.declared.offers.Offer.{Offer}
 use Rattle.git_msg.specs.WrittenRequest.{text_line, agent_line, format_line}
 use Rattle.git_server.specs.Answers.{offered_line, advertisement_of}
 use Rattle.git_server.specs.declared.advertisement.AdvertisementLine.{AdvertisementLine}
-use Rattle.git_server.specs.declared.advertisement.AdvertisementLine.TheVariants.{Version, Agent, LsRefs, ServerOption, ObjectFormat, End}
+use Rattle.git_server.specs.declared.advertisement.AdvertisementLine.TheVariants.{Version, Agent, LsRefs, Fetch, ServerOption, ObjectFormat, End}
 
 -- the packet of a line, for this offer
 abbrev pub advertisement_packet : Offer → AdvertisementLine → Pkt
 advertisement_packet offer Version = text_line (codes "version 2")
 advertisement_packet offer Agent = agent_line
 advertisement_packet offer LsRefs = text_line (codes "ls-refs")
+advertisement_packet offer Fetch = text_line (codes "fetch")
 advertisement_packet offer ServerOption = text_line (codes "server-option")
 advertisement_packet offer ObjectFormat = format_line offer.format
 advertisement_packet offer End = flush
@@ -20,7 +21,8 @@ advertisement_packet offer End = flush
 abbrev pub advertisement_line_after : Offer → AdvertisementLine → Option AdvertisementLine
 advertisement_line_after offer Version = Some Agent
 advertisement_line_after offer Agent = Some LsRefs
-advertisement_line_after offer LsRefs = Some (if offer.server_option then ServerOption else ObjectFormat)
+advertisement_line_after offer LsRefs = Some Fetch
+advertisement_line_after offer Fetch = Some (if offer.server_option then ServerOption else ObjectFormat)
 advertisement_line_after offer ServerOption = Some ObjectFormat
 advertisement_line_after offer ObjectFormat = Some End
 advertisement_line_after offer End = None
@@ -29,16 +31,17 @@ advertisement_line_after offer End = None
 abbrev pub format_on : Offer → List Pkt
 format_on offer = advertisement_packet offer ObjectFormat ∷ flush ∷ []
 
--- the packets from the line of ls-refs on
-abbrev pub ls_refs_on : Offer → List Pkt
-ls_refs_on offer =
-    advertisement_packet offer LsRefs ∷ (offered_line offer.server_option (codes "server-option") ++ format_on offer)
+-- the packets from the line of fetch on
+abbrev pub fetch_on : Offer → List Pkt
+fetch_on offer =
+    advertisement_packet offer Fetch ∷ (offered_line offer.server_option (codes "server-option") ++ format_on offer)
 
 -- the packets from a line on
 abbrev pub advertisement_from : Offer → AdvertisementLine → List Pkt
 advertisement_from offer Version = advertisement_of offer
-advertisement_from offer Agent = advertisement_packet offer Agent ∷ ls_refs_on offer
-advertisement_from offer LsRefs = ls_refs_on offer
+advertisement_from offer Agent = advertisement_packet offer Agent ∷ advertisement_packet offer LsRefs ∷ fetch_on offer
+advertisement_from offer LsRefs = advertisement_packet offer LsRefs ∷ fetch_on offer
+advertisement_from offer Fetch = fetch_on offer
 advertisement_from offer ServerOption = advertisement_packet offer ServerOption ∷ format_on offer
 advertisement_from offer ObjectFormat = format_on offer
 advertisement_from offer End = flush ∷ []

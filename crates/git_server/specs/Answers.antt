@@ -29,7 +29,7 @@ offered_line offered text = if offered then text_line text ∷ [] else []
 -- what a server says first
 abbrev pub advertisement_of : Offer → List Pkt
 advertisement_of offer =
-    text_line (codes "version 2") ∷ agent_line ∷ text_line (codes "ls-refs")
+    text_line (codes "version 2") ∷ agent_line ∷ text_line (codes "ls-refs") ∷ text_line (codes "fetch")
     ∷ (offered_line offer.server_option (codes "server-option") ++ format_line offer.format ∷ flush ∷ [])
 
 abbrev pub is_empty : List (List ℕ) → Bool

@@ -2,6 +2,7 @@ pub mod Repository
 pub mod Objects
 pub mod Lists
 pub mod ListRepo
+pub mod Faulty
 pub mod Answers
 pub mod Admission
 pub mod Sessions

@@ -15,6 +15,7 @@ pub(crate) enum AdvertisementLine {
     Version,
     Agent,
     LsRefs,
+    Fetch,
     ServerOption,
     ObjectFormat,
     End,
@@ -30,6 +31,7 @@ impl AdvertisementLine {
             AdvertisementLine::Version => write_line(reader, b"version 2", b""),
             AdvertisementLine::Agent => write_packet(reader, Packet::Payload(AGENT_LINE)),
             AdvertisementLine::LsRefs => write_line(reader, b"ls-refs", b""),
+            AdvertisementLine::Fetch => write_line(reader, b"fetch", b""),
             AdvertisementLine::ServerOption => write_line(reader, b"server-option", b""),
             AdvertisementLine::ObjectFormat => {
                 write_line(reader, b"object-format=", offer.format.name().as_bytes());
@@ -45,7 +47,8 @@ impl AdvertisementLine {
         match self {
             AdvertisementLine::Version => Some(AdvertisementLine::Agent),
             AdvertisementLine::Agent => Some(AdvertisementLine::LsRefs),
-            AdvertisementLine::LsRefs => {
+            AdvertisementLine::LsRefs => Some(AdvertisementLine::Fetch),
+            AdvertisementLine::Fetch => {
                 if offer.server_option {
                     Some(AdvertisementLine::ServerOption)
                 } else {

@@ -1,9 +1,9 @@
 //! What a server's contract says of the bytes alone: each function does nothing, and its contract is the law.
 
-ghost use Rattle.std.specs.Prelude.{◌≡◌, ◌≤◌, ◌↔◌, ℕ, Bool, true, None, List};
+ghost use Rattle.std.specs.Prelude.{◌≡◌, ◌<◌, ◌≤◌, ◌↔◌, ℕ, Bool, true, None, List};
 ghost use Rattle.git_server.specs.Sessions.{IsAnswered, IsOfTheBytes, IsRunning, IsSession, Setting};
 ghost use Rattle.git_server.specs.declared.outcome.Outcome.{Outcome};
-ghost use Rattle.git_server.specs.Server.{Running, kept_by, outcome_of, wants_input};
+ghost use Rattle.git_server.specs.Server.{IsPackLost, Running, kept_by, outcome_of, repo_of, wants_input};
 
 use crate::repo::Repo;
 use crate::server::Server;
@@ -21,6 +21,12 @@ pub fn server_keeps_to_its_session<R: Repo, A: Allocator + Copy>(server: &Server
 pub fn server_waits_where_all_is_given<R: Repo, A: Allocator + Copy>(server: &Server<R, A>)
     ensures { (s : Setting) (used : List ℕ) (over : Bool) (given : List ℕ) → Running R.state s used over given server.now
         → (wants_input server.now ≡ true) ↔ ((outcome_of server.now ≡ None) × IsAnswered s used given) }
+{}
+
+/// A session ends without the pack that was asked for exactly where a read of the repository has failed since it began.
+pub fn session_lacks_a_pack_where_a_read_failed<R: Repo, A: Allocator + Copy>(server: &Server<R, A>)
+    ensures { (s : Setting) (used : List ℕ) (over : Bool) (given : List ℕ) → Running R.state s used over given server.now
+        → IsPackLost (outcome_of server.now) ↔ (s.failures < (R.state (repo_of server.now)).failures) }
 {}
 
 /// For the bytes used, and by whether the input ended with them, a session ends in one way, want of memory and sources of

@@ -5,6 +5,7 @@
 mod advertisement;
 mod answer;
 mod entry;
+mod faulty;
 pub mod laws;
 mod list_repo;
 mod outcome;
@@ -18,6 +19,7 @@ mod server;
 mod shown;
 
 pub use entry::RefEntry;
+pub use faulty::Faulty;
 pub use list_repo::{ListRepo, RepoFault};
 pub use outcome::Outcome;
 pub use repo::{PackFault, Repo};

@@ -1,11 +1,12 @@
 //! A repository that is a few lists: of references, of objects, of shallow boundaries, and one pack.
 
-ghost use Rattle.std.specs.Prelude.{◌≡◌, ◌≢◌, ◌<◌, ◌↔◌, IsTrue, MatchOption, MatchResult, All, Any, Some, length};
+ghost use Rattle.std.specs.Prelude.{◌≡◌, ◌≢◌, ◌<◌, ◌-◌, ◌↔◌, IsTrue, IfOk, MatchOption, MatchResult, All, Any, Ok, Some, length, min};
 ghost use Rattle.std.specs.List.{HoldsAt};
 ghost use Rattle.std.specs.Ordering.{nat_cmp};
 ghost use Rattle.std.specs.Cmp.Lexicographic.{slice_cmp};
 ghost use Rattle.git_server.specs.Lists.{repo_fault_name};
 ghost use Rattle.git_server.specs.Objects.{object_cmp, object_of, has_object, precedes, AreRising};
+ghost use Rattle.git_server.specs.Packs.{IsPackPart};
 ghost use Rattle.git_server.specs.Repository.{IsFound, IsNamed, IsOfFormat, IsRising, comes_before};
 
 use crate::entry::RefEntry;
@@ -142,10 +143,16 @@ impl Repo for ListRepo {
         _request: &Fetch<A>,
         offset: u64,
         out: &mut [u8],
-    ) -> Result<usize, PackFault> {
+    ) -> Result<usize, PackFault>
+        requires room { 0 < length out.old }
+        ensures part { IfOk result (λ count. IsPackPart (lists_of self.old).pack offset count out.new) }
+        ensures fills { result ≡ Ok (min (length (lists_of self.old).pack - offset) (length out.old)) }
+        ensures same { self.new ≡ self.old }
+    {
         let at = (offset as usize).min(self.pack.len());
-        let count = (self.pack.len() - at).min(out.len());
-        out[..count].copy_from_slice(&self.pack[at..at + count]);
+        let rest = &self.pack[at..];
+        let count = rest.len().min(out.len());
+        out[..count].copy_from_slice(&rest[..count]);
         Ok(count)
     }
 }

@@ -4,7 +4,7 @@ use crate::escapes::escaped;
 use crate::script::{Script, Step};
 use crate::setup::{MANY, limits, offer};
 use crate::trouble::Trouble;
-use git_msg::{Caps, Command, Request, RequestWriter, read_argument};
+use git_msg::{Argument, Caps, Command, Request, RequestWriter, read_argument};
 use git_names::Format;
 use git_pkt::Hold;
 use std::alloc::Global;
@@ -12,10 +12,22 @@ use std::alloc::Global;
 /// A request that is to be made, and what the other end advertised.
 #[derive(Clone, Copy)]
 pub struct Asking {
+    pub command: Command,
     pub format: Format,
     pub limit: u32,
     pub agent: bool,
     pub object_format: bool,
+}
+
+// The argument that a text is, of whichever command.
+fn argument_of(format: Format, text: &[u8]) -> Option<Argument<'_>> {
+    let offer = offer(format);
+    for command in [Command::LsRefs, Command::Fetch] {
+        if let Ok(argument) = read_argument(command, &offer, text) {
+            return Some(argument);
+        }
+    }
+    None
 }
 
 impl Asking {
@@ -26,7 +38,7 @@ impl Asking {
         request: &mut Request<Global>,
         text: &[u8],
     ) -> Result<String, Trouble> {
-        let Ok(argument) = read_argument(Command::LsRefs, &offer(self.format), text) else {
+        let Some(argument) = argument_of(self.format, text) else {
             return Err(Trouble::BadCase("no argument"));
         };
         match request.add(argument) {
@@ -61,7 +73,7 @@ impl Asking {
     /// Each argument is kept or refused as the line after it says, and the request is written as the ending does.
     pub fn goes(self, alloc: Global, script: &Script) -> Result<usize, Trouble> {
         let limits = limits(self.limit);
-        let mut request = Request::new(alloc, Command::LsRefs, self.format, limits);
+        let mut request = Request::new(alloc, self.command, self.format, limits);
         let mut told = Vec::new(alloc);
         let mut last = Step { input: 0, given: 0 };
         for step in script.steps.as_slice() {

@@ -7,6 +7,7 @@ use crate::script::{Given, Script};
 use crate::sessions::Setup;
 use crate::tables::Table;
 use crate::trouble::Trouble;
+use git_msg::Command;
 use git_names::Format;
 use std::alloc::{AllocError, Global};
 use std::fs;
@@ -51,6 +52,13 @@ impl<'a> Words<'a> {
         }
     }
 
+    fn command(self) -> Command {
+        match self.has("fetch") {
+            true => Command::Fetch,
+            false => Command::LsRefs,
+        }
+    }
+
     fn limit(self) -> Result<u32, Trouble> {
         match self.after("limit") {
             Some(limit) => limit
@@ -79,7 +87,7 @@ fn table_of(words: Words<'_>) -> Option<Table> {
         "reference-names" => Some(Table::ReferenceNames),
         "capability-lines" => Some(Table::CapabilityLines),
         "notes" => Some(Table::Notes),
-        "arguments" => Some(Table::Arguments(format)),
+        "arguments" => Some(Table::Arguments(words.command(), format)),
         "reference-lines" => Some(Table::ReferenceLines(format)),
         "repository-texts" => Some(Table::RepositoryTexts),
         "lists" => Some(Table::Lists(format)),
@@ -105,6 +113,7 @@ fn subject_of<'a>(words: Words<'_>, repository: &'a [u8]) -> Result<Subject<'a>,
             advertises: words.has("advertises"),
         })),
         Some("asking") => Subject::Asking(Asking {
+            command: words.command(),
             format,
             limit,
             agent: words.has("agent"),

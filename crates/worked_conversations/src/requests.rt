@@ -31,23 +31,29 @@ struct Keeper {
 impl Keeper {
     // Gives the reader a packet, and keeps the argument that it is.
     fn hear(&mut self, packet: Packet<'_>, offset: u64) -> Result<Brought, Fault> {
-        match self.reader.take(packet, offset) {
-            Ok(Taken::More) => Ok(Brought::More),
-            Ok(Taken::Argument(argument)) => match self.reader.keep(argument) {
-                Ok(()) => Ok(Brought::Kept),
-                Err(fault) => Err(fault),
+        let taken = match self.reader.take(packet, offset) {
+            Ok(taken) => taken,
+            Err(fault) => return Err(fault),
+        };
+        match taken {
+            Taken::More => return Ok(Brought::More),
+            Taken::Argument(argument) => match self.reader.keep(argument) {
+                Ok(()) => return Ok(Brought::Kept),
+                Err(fault) => return Err(fault),
             },
-            Ok(Taken::Request(request)) => Ok(Brought::Request(request)),
-            Ok(Taken::Stop) => Ok(Brought::Stop),
-            Err(fault) => Err(fault),
+            Taken::Request(request) => return Ok(Brought::Request(request)),
+            Taken::Stop => return Ok(Brought::Stop),
         }
     }
 }
 
-fn append_flag(lines: &mut Vec<u8>, is_set: bool, name: &str) -> Result<(), AllocError> {
-    if is_set {
-        lines.extend_from_slice(name.as_bytes())?;
-        lines.extend_from_slice(b"\n")?;
+// Appends the words that are set, a line each.
+fn append_flags(lines: &mut Vec<u8>, flags: &[(bool, &str)]) -> Result<(), AllocError> {
+    for (is_set, name) in flags {
+        if *is_set {
+            lines.extend_from_slice(name.as_bytes())?;
+            lines.extend_from_slice(b"\n")?;
+        }
     }
     Ok(())
 }
@@ -77,15 +83,27 @@ fn append_request(
     let (format, kept) = (request.format().name(), request.kept());
     let head = format!(in alloc; "request {command} {format} kept {kept}\n")?;
     lines.extend_from_slice(head.as_bytes())?;
-    append_flag(lines, request.peel(), "peel")?;
-    append_flag(lines, request.symrefs(), "symrefs")?;
+    let flags = [
+        (request.peel(), "peel"),
+        (request.symrefs(), "symrefs"),
+        (request.thin_pack(), "thin-pack"),
+        (request.no_progress(), "no-progress"),
+        (request.include_tag(), "include-tag"),
+        (request.ofs_delta(), "ofs-delta"),
+    ];
+    append_flags(lines, &flags)?;
     for i in 0..MANY {
         match request.ref_prefix(i) {
             Some(prefix) => append_text(alloc, lines, "ref-prefix", prefix)?,
             None => break,
         }
     }
-    Ok(())
+    for id in request.wants() {
+        let mut digits = [0; 64];
+        let end = id.write(&mut digits).min(64);
+        append_text(alloc, lines, "want", &digits[..end])?;
+    }
+    append_flags(lines, &[(request.done(), "done")])
 }
 
 // Appends the line of what a packet brought. Answers whether it was the last.

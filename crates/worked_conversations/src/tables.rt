@@ -23,8 +23,8 @@ pub enum Table {
     CapabilityLines,
     /// It is the capability lines of an advertisement, parted by LF.
     Notes,
-    /// It is an argument of ls-refs.
-    Arguments(Format),
+    /// It is an argument of this command.
+    Arguments(Command, Format),
     ReferenceLines(Format),
     RepositoryTexts,
     /// It is lists that may make a repository.
@@ -146,14 +146,23 @@ fn say_notes(alloc: Global, lines: &mut Vec<u8>, text: &[u8]) -> Result<(), Allo
 fn say_argument(
     alloc: Global,
     lines: &mut Vec<u8>,
-    format: Format,
+    (command, format): (Command, Format),
     text: &[u8],
 ) -> Result<(), AllocError> {
-    match read_argument(Command::LsRefs, &offer(format), text) {
-        Ok(Argument::Symrefs) => say(alloc, lines, "symrefs", Said::Nothing),
-        Ok(Argument::Peel) => say(alloc, lines, "peel", Said::Nothing),
-        Ok(Argument::RefPrefix(prefix)) => say(alloc, lines, "prefix", Said::Bytes(prefix)),
-        Err(kind) => say(alloc, lines, kind.name(), Said::Nothing),
+    let argument = match read_argument(command, &offer(format), text) {
+        Ok(argument) => argument,
+        Err(kind) => return say(alloc, lines, kind.name(), Said::Nothing),
+    };
+    match argument {
+        Argument::Symrefs => say(alloc, lines, "symrefs", Said::Nothing),
+        Argument::Peel => say(alloc, lines, "peel", Said::Nothing),
+        Argument::RefPrefix(prefix) => say(alloc, lines, "prefix", Said::Bytes(prefix)),
+        Argument::Want(id) => say_object(alloc, lines, "want", id),
+        Argument::IsDone => say(alloc, lines, "done", Said::Nothing),
+        Argument::ThinPack => say(alloc, lines, "thin-pack", Said::Nothing),
+        Argument::NoProgress => say(alloc, lines, "no-progress", Said::Nothing),
+        Argument::IncludeTag => say(alloc, lines, "include-tag", Said::Nothing),
+        Argument::OfsDelta => say(alloc, lines, "ofs-delta", Said::Nothing),
     }
 }
 
@@ -216,7 +225,9 @@ impl Table {
             Table::ReferenceNames => say_reference_name(alloc, &mut lines, text)?,
             Table::CapabilityLines => say_capability(alloc, &mut lines, text)?,
             Table::Notes => say_notes(alloc, &mut lines, text)?,
-            Table::Arguments(format) => say_argument(alloc, &mut lines, format, text)?,
+            Table::Arguments(command, format) => {
+                say_argument(alloc, &mut lines, (command, format), text)?;
+            }
             Table::ReferenceLines(format) => say_reference(alloc, &mut lines, format, text)?,
             Table::RepositoryTexts => say_repository(alloc, &mut lines, text)?,
             Table::Lists(format) => {

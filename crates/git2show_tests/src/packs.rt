@@ -1,0 +1,88 @@
+//! A pack that comes in parts, and reads of it that fail.
+
+use git_msg::{Command, Fetch, Limits, Request};
+use git_names::Format;
+use git_server::{Faulty, ListRepo, PackFault, Repo};
+use std::alloc::{AllocError, Allocator};
+use std::process::Abort;
+use std::test::Fail;
+
+const PACK: &[u8] = b"PACK of 17 bytes.";
+
+fn repository(rt: &(impl Abort + AllocGlobal)) -> Result<ListRepo, Fail> {
+    let repo = ListRepo::new(
+        Format::Sha1,
+        Vec::new(rt.alloc()),
+        Vec::new(rt.alloc()),
+        None,
+        Vec::new(rt.alloc()),
+        Vec::from_slice(rt.alloc(), PACK)?,
+    );
+    Ok(repo.expect(rt, "a repository"))
+}
+
+// Reads the pack for the request from its start, until it ends or a read fails. How many reads gave bytes, and the fault.
+fn read_pack<R: Repo, A: Allocator + Copy>(
+    repo: &mut R,
+    request: &Fetch<A>,
+    pack: &mut Vec<u8>,
+) -> Result<(u32, Option<PackFault>), AllocError> {
+    let mut out = [0; 8];
+    for reads in 0..100 {
+        match repo.pack_read(request, pack.len() as u64, &mut out) {
+            Ok(0) => return Ok((reads, None)),
+            Ok(count) => pack.extend_from_slice(&out[..count])?,
+            Err(fault) => return Ok((reads, Some(fault))),
+        }
+    }
+    Ok((100, None))
+}
+
+// What comes of the pack of a repository: the bytes, how many reads gave some, and the fault.
+fn check_read<R: Repo>(
+    rt: &(impl Abort + AllocGlobal),
+    repo: &mut R,
+    expected: (&[u8], u32, Option<PackFault>),
+) -> Result<(), Fail> {
+    let limits = Limits {
+        args: Limits::USUAL,
+    };
+    let request = Request::new(rt.alloc(), Command::Fetch, repo.format(), limits);
+    let mut pack = Vec::new(rt.alloc());
+    if let Request::Fetch(fetch) = &request {
+        let (reads, fault) = read_pack(repo, fetch, &mut pack)?;
+        assert!(rt; (pack.as_slice(), reads, fault) == expected);
+        return Ok(());
+    }
+    assert!(rt; false, "a request of another command");
+    Ok(())
+}
+
+#[test]
+fn a_pack_comes_in_parts(rt: HostRuntime) -> Result<(), Fail> {
+    check_read(&rt, &mut repository(&rt)?, (PACK, 3, None))?;
+    check_read(
+        &rt,
+        &mut Faulty::new(repository(&rt)?, 100, 5),
+        (PACK, 4, None),
+    )?;
+    check_read(
+        &rt,
+        &mut Faulty::new(repository(&rt)?, 100, 1),
+        (PACK, 17, None),
+    )
+}
+
+#[test]
+fn reads_of_a_pack_fail(rt: HostRuntime) -> Result<(), Fail> {
+    let mut faulty = Faulty::new(repository(&rt)?, 2, 5);
+    check_read(&rt, &mut faulty, (b"PACK of 17", 2, Some(PackFault)))?;
+    check_read(&rt, &mut faulty, (b"", 0, Some(PackFault)))?;
+    check_read(&rt, &mut faulty.into_inner(), (PACK, 3, None))
+}
+
+#[test]
+fn a_fault_of_a_pack_has_a_text(rt: HostRuntime) -> Result<(), Fail> {
+    assert_eq!(rt; PackFault.to_string(rt.alloc())?.as_str(), "PackSource");
+    Ok(())
+}

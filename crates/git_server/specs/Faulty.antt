@@ -1,0 +1,24 @@
+-- What a clause sees of a `Faulty`.
+use Rattle.std.specs.Prelude.{ℕ, ◌+◌}
+use Rattle.git_server.specs.declared.faulty.Faulty.{Faulty}
+use Rattle.git_server.specs.Repository.{RepoState}
+
+module _ {R : Type 0} where
+  -- the repository that it stands before
+  abbrev pub inner_of : Faulty R → R
+  inner_of faulty = faulty.inner
+
+  -- how many more reads it passes on
+  abbrev pub reads_left : Faulty R → ℕ
+  reads_left faulty = faulty.reads_left
+
+  -- how many bytes a read gives at most
+  abbrev pub most_of : Faulty R → ℕ
+  most_of faulty = faulty.most
+
+  -- what it answers: all that the inner repository does, and the reads that it failed itself count too
+  abbrev pub faulty_state : (R → RepoState) → Faulty R → RepoState
+  faulty_state state faulty = record {
+    answers = (state faulty.inner).answers;
+    failures = (state faulty.inner).failures + faulty.failed;
+  }
