@@ -4,8 +4,8 @@
 #     bench/run.sh [BENCH_PACKETS [GIT2SHOW [BENCH_NAMES]]]
 #
 # The arguments are the paths of the Rattle programs; without them, where `rt run` leaves them in this repository.
-# `bench/run.sh --c-only` measures the C programs and Git alone; without a git the row `serve` is left out. The streams
-# lie in a new folder of /tmp (or of $BENCH_FOLDER), which is removed at the end, and take 1.7 GB. Times are wall-clock
+# `bench/run.sh --c-only` measures the C programs and Git alone; without a git the rows `serve` and `fetch` are left out. The streams
+# lie in a new folder of /tmp (or of $BENCH_FOLDER), which is removed at the end, and take 4 GB. Times are wall-clock
 # seconds, the best of five runs that alternate; a ratio is C's time by ours, so 1.00 is as fast as C and more is faster.
 set -eu -o pipefail
 shopt -s inherit_errexit
@@ -35,14 +35,14 @@ if [ -z "$c_only" ]; then
 fi
 
 mkdir -p "$out"
-for program in packets show names generate ask; do
+for program in packets show names generate ask bands; do
     ${CC:-gcc} -O3 -Wall -Wextra -o "$out/$program" "$top/bench/$program.c"
 done
 
 streams=$(mktemp -d "${BENCH_FOLDER:-/tmp}/git2show-bench.XXXXXX")
 trap 'rm -rf "$streams"' EXIT
 free=$(df -Pk "$streams" | awk 'NR == 2 { print $4 }')
-[ "$free" -gt 2000000 ] || stop "$streams has ${free} KiB left, and 2,000,000 are wanted; set BENCH_FOLDER"
+[ "$free" -gt 4500000 ] || stop "$streams has ${free} KiB left, and 4,500,000 are wanted; set BENCH_FOLDER"
 
 # The counts give 1 GB, 200 MB, 250 MB and 10 GB.
 "$out/generate" 15264 65515 text > "$streams/large"
@@ -119,6 +119,8 @@ print(resource.getrusage(resource.RUSAGE_CHILDREN).ru_maxrss)' "$@"
 
 # shellcheck source=bench/serve.sh
 source "$top/bench/serve.sh"
+# shellcheck source=bench/fetch.sh
+source "$top/bench/fetch.sh"
 has_git=$(command -v git || true)
 
 echo "$(nproc) processors, load $(cut -d ' ' -f 1 /proc/loadavg); $(${CC:-gcc} --version | head -n 1), -O3; best of $runs"
@@ -132,6 +134,7 @@ measure 'show, 65,515 binary, 250 MB' binary "$out/show" "$our_show" show
 head -c 100000000 /dev/zero > "$streams/names" # its size alone counts: about the bytes of the names read and written
 measure 'names, 1,000,000 of each kind' names "$out/names" "$our_names"
 [ -z "$has_git" ] || measure_serve
+[ -z "$has_git" ] || measure_fetch
 echo
 if [ -z "$c_only" ]; then
     same_output
@@ -143,7 +146,8 @@ if [ -z "$c_only" ]; then
     echo "Peak resident set on 10 GB from a pipe: git2show show $our_peak KiB."
 fi
 if [ -z "$has_git" ]; then
-    echo "There is no git here: the row 'serve' is left out."
+    echo "There is no git here: the rows 'serve' and 'fetch' are left out."
 elif [ -z "$c_only" ]; then
     tell_serve
+    tell_fetch
 fi

@@ -1,6 +1,7 @@
 #!/usr/bin/env bash
-# Writes the references of the Git repository here as a repository text, which `git2show serve --repo` reads. What a tag
-# peels to is the object at the end of its chain of tags, as Git shows it.
+# Writes the references of the Git repository here and the objects that they reach as a repository text, which
+# `git2show serve --repo` reads. What a tag peels to is the object at the end of its chain of tags, as Git shows it. These
+# objects are also what `git pack-objects --all --stdout < /dev/null` packs, for `--pack`.
 set -eu -o pipefail
 export LC_ALL=C
 
@@ -19,3 +20,6 @@ paste -d ' ' \
         [ "$peeled" = "$object" ] || line+=" peeled:$peeled"
         echo "$line"
     done
+# What an object name stands for is asked for in one go, in the order of the names.
+git rev-list --objects --no-object-names --all | sort -u |
+    git cat-file --batch-check='object %(objectname) %(objectsize)'

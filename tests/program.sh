@@ -27,6 +27,18 @@ request() {
     printf 0000
 }
 
+# fetch OBJECT..: asks for a pack of these objects.
+fetch() {
+    local object
+    packet command=fetch
+    printf 0001
+    for object; do
+        packet "want $object"
+    done
+    packet done
+    printf 0000
+}
+
 # The answers of small.repo to a request with `peel` and `symrefs`, to one without arguments, and to one with
 # `ref-prefix refs/tags/` alone.
 whole_answer() {
@@ -50,6 +62,22 @@ tags_answer() {
 serve() {
     run git2show serve --repo small.repo --pack empty.pack "$@"
 }
+
+# serve_pack [OPTION..] < REQUESTS: the same repository, with its objects and a pack.
+serve_pack() {
+    run git2show serve --repo wanted.repo --pack wanted.pack "$@"
+}
+
+# The answer of wanted.repo to any fetch of its objects.
+pack_answer() {
+    packet packfile
+    printf '000a\001PACK!0000'
+}
+
+# Names of objects of wanted.repo, and one that it does not have.
+one=1111111111111111111111111111111111111111
+two=2222222222222222222222222222222222222222
+other=4444444444444444444444444444444444444444
 
 # fault NAME: the line that tells a fault.
 fault() {
@@ -111,6 +139,68 @@ case_a_limit_past_the_most_is_refused() {
 case_serve_answers_each_request() {
     serve < <(request peel symrefs; request 'ref-prefix refs/tags/'; printf 0000)
     expect 0 <(advertisement sha1; whole_answer; tags_answer) /dev/null
+}
+
+case_serve_sends_its_pack() {
+    serve_pack < <(fetch $one; request 'ref-prefix refs/tags/'; fetch $two $one $two; printf 0000)
+    expect 0 <(advertisement sha1; pack_answer; tags_answer; pack_answer) /dev/null
+}
+
+# The pack is cut into packets, of which each has some bytes of it; together they have them all.
+case_serve_cuts_a_large_pack() {
+    local packets
+    head -c 1000001 /dev/urandom > large.pack
+    run git2show serve --repo wanted.repo --pack large.pack < <(fetch $one)
+    expect_status 0
+    expect_same 'standard error' /dev/null err
+    git2show show < out > shown
+    packets=$(grep -c ' data [0-9]* \\x01' shown)
+    [ "$packets" -ge 16 ] || differs "$packets packets of a pack" shown
+    # A band's byte before each part, the header's packet, and the flush.
+    [ "$(awk '/ data [0-9]+ \\x01/ { sum += $3 - 1; if ($3 < 2) exit 1 } END { print sum }' shown)" = 1000001 ] || differs 'not all bytes' shown
+    expect_same 'the last packet' <(echo flush) <(tail -n 1 shown | cut -d ' ' -f 2)
+}
+
+case_serve_tells_an_object_that_is_not_there() {
+    serve_pack < <(fetch $one $other)
+    expect 1 <(advertisement sha1; packet 'ERR NotOurs at 72') <(fault 'NotOurs at 72')
+    serve < <(fetch $one)
+    expect 1 <(advertisement sha1; packet 'ERR NotOurs at 22') <(fault 'NotOurs at 22')
+}
+
+case_serve_tells_a_fetch_of_nothing() {
+    serve_pack < <(fetch)
+    expect 1 <(advertisement sha1; packet 'ERR NoWants at 31') <(fault 'NoWants at 31')
+}
+
+# A want has 45 bytes, and `done` four.
+case_serve_keeps_to_its_limit_of_wants() {
+    serve_pack --limit 94 < <(fetch $one $two)
+    expect 0 <(advertisement sha1; pack_answer) /dev/null
+    serve_pack --limit 93 < <(fetch $one $two)
+    expect 1 <(advertisement sha1; packet 'ERR TooMuchKept at 122') <(fault 'TooMuchKept at 122')
+}
+
+# The usual limit has room for 372,827 wants of 45 bytes. Of each an object name is kept, in 33 bytes, and while they move to a
+# larger place they are there twice.
+case_serve_keeps_no_more_of_a_million_wants() {
+    local at=$((22 + 372827 * 50))
+    {
+        packet command=fetch
+        printf 0001
+        awk -v want="0032want $one" 'BEGIN { for (i = 0; i < 1000000; i++) print want }'
+        packet done
+        printf 0000
+    } > large
+    status=0
+    (ulimit -v 65536 && limited git2show serve --repo wanted.repo --pack wanted.pack < large) > out 2> err || status=$?
+    expect 1 <(advertisement sha1; packet "ERR TooMuchKept at $at") <(fault "TooMuchKept at $at")
+}
+
+# Of a client that goes in the middle of its request nothing is answered but that.
+case_serve_tells_a_fetch_that_is_cut_off() {
+    serve_pack < <(fetch $one | head -c 80)
+    expect 1 <(advertisement sha1; packet 'ERR Truncated at 72') <(fault 'Truncated at 72')
 }
 
 case_serve_ends_where_its_input_ends() {
@@ -296,6 +386,9 @@ case_a_closed_output_is_a_write_fault() {
     expect 1 <(printf 0) <(fault WriteFault)
     repeat 10000 "$(request)" > large
     run_cut_off git2show serve --repo small.repo --pack empty.pack < large
+    expect 1 <(printf 0) <(fault WriteFault)
+    head -c 1000000 /dev/zero > large
+    run_cut_off git2show serve --repo wanted.repo --pack large < <(fetch $one)
     expect 1 <(printf 0) <(fault WriteFault)
 }
 

@@ -1,5 +1,6 @@
 #!/usr/bin/env bash
-# Tests the built program `git2show` from outside: as the real Git calls it (real_git.sh), and by hand (program.sh).
+# Tests the built program `git2show` from outside: as the real Git calls it (real_git.sh and clones.sh), and by hand
+# (program.sh).
 #
 #     tests/run.sh [PROGRAM]
 #
@@ -58,8 +59,10 @@ export PATH=$room/bin:$PATH
 . "$top/tests/cases.sh"
 . "$top/tests/repositories.sh"
 . "$top/tests/real_git.sh"
+. "$top/tests/clones.sh"
 . "$top/tests/program.sh"
 
 git --version
 write_repositories
+write_histories
 run_cases

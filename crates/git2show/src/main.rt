@@ -82,20 +82,20 @@ fn check_command<'a>(alloc: Global) -> Result<Command<'a>, AllocError> {
 /// What the words after `serve` may be.
 fn serve_command<'a>(alloc: Global) -> Result<Command<'a>, AllocError> {
     Command::new(alloc, "serve")
-        .about("Answers the ls-refs requests on standard input, on standard output")
+        .about("Answers the ls-refs and fetch requests on standard input, on standard output")
         .arg(
             Arg::new(alloc, "repo")
                 .long("repo")
                 .value_name("FILE")
                 .required(true)
-                .help("Text that lists the references, one to a line"),
+                .help("Text that lists the references and the objects, one to a line"),
         )?
         .arg(
             Arg::new(alloc, "pack")
                 .long("pack")
                 .value_name("FILE")
                 .required(true)
-                .help("Pack for answers to fetch: read, and not sent yet"),
+                .help("Pack for answers to fetch"),
         )?
         .arg(
             Arg::new(alloc, "limit")
