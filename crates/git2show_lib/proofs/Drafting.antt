@@ -1,12 +1,13 @@
 -- What one more line adds to what was said.
-use Rattle.std.proofs.Common.{arith, ◌≡◌, ℕ, ◌≤◌, true, Option, Some, None, Result, Ok, Err, List, [], ◌∷◌, ◌++◌, refl, ap, sym, ◌∙◌, subst, length}
+use Rattle.std.proofs.Common.{arith, ◌≡◌, ℕ, ◌≤◌, Bool, true, false, Option, Some, None, Result, Ok, Err, List, [], ◌∷◌, ◌++◌, refl, ap, sym, ◌∙◌, subst, length}
+use Rattle.std.specs.Prelude.{All, if◌then◌else◌}
 use Rattle.std.proofs.lemmas.List.{append-nil}
 use Rattle.std.proofs.lemmas.List.Elements.{All-push}
 use Rattle.git_names.specs.declared.object_format.Format.{Format}
 use Rattle.git_names.specs.ObjectName.{ObjectName}
 use Rattle.git_msg.specs.declared.references.Boundary.{Boundary}
 use Rattle.git_msg.specs.References.{Ref}
-use Rattle.git_server.specs.Repository.{Entry, IsOfFormat, IsRising, comes_before}
+use Rattle.git_server.specs.Repository.{Entry, IsNamed, IsOfFormat, IsRising, comes_before}
 use Rattle.git_server.specs.Objects.{AreRising, object_of, precedes}
 use Rattle.git_server.specs.Lists.{Lists}
 use Rattle.git2show_lib.specs.RepositoryLines.{Said, reference, object, ready, boundary}
@@ -257,3 +258,9 @@ said_boundary old new line (Ok u) fit h = adds_boundary old new line fit h
 said_boundary old new line (Err Refused) fit h = absurd (cc)
 said_boundary old new line (Err OutOfMemory) fit h =
     (tt, λ said holds. ((adds_boundary old (with_boundary old line) line fit refl).holds said holds).may_stand)
+
+-- references that have names, where perhaps one more came
+pub named_more : (came : Bool) (old new : List Entry) (entry : Entry) → new ≡ (if came then old ++ entry ∷ [] else old)
+    → All (λ ref. IsNamed ref.name ref.target) old → IsNamed entry.name entry.target → All (λ ref. IsNamed ref.name ref.target) new
+named_more true old new entry is named last = rw is (All-push (λ (ref : Entry). IsNamed ref.name ref.target) old entry named last)
+named_more false old new entry is named last = rw is named

@@ -8,20 +8,8 @@ use Rattle.git_server.specs.Objects.{object_of, precedes}
 use Rattle.git_server.specs.Lists.{Lists, AreOfFormat}
 use Rattle.git2show_lib.specs.RepositoryLines.{Said, reference, object, ready, boundary}
 use Rattle.git2show_lib.specs.RepositoryText.{MayStand, TakesMemory, entry_of, lists_said}
-use Rattle.git2show_lib.specs.declared.drafts.Draft.{Draft}
 use Rattle.git2show_lib.specs.declared.drafts.LineFault.{LineFault}
 use Rattle.git2show_lib.specs.declared.drafts.LineFault.TheVariants.{Refused, OutOfMemory}
-
--- the lists of a draft
-abbrev pub drafted : Draft → Lists
-drafted draft = record {
-  format = draft.format;
-  refs = draft.refs.items;
-  objects = draft.objects.items;
-  ready_after = draft.ready_after;
-  boundaries = draft.boundaries.items;
-  pack = [];
-}
 
 abbrev pub empty_lists : Format → Lists
 empty_lists format = lists_said format [] []

@@ -6,5 +6,6 @@ pub mod CheckedStreams
 pub mod Numbers
 pub mod RepositoryLines
 pub mod RepositoryText
+pub mod DraftLists
 pub mod Drafts
 pub mod RepositoryFaults

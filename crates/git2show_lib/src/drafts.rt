@@ -1,14 +1,13 @@
 //! What the lines of a repository's text said so far.
 
-ghost use Rattle.std.specs.Prelude.{◌≡◌, ◌↔◌, IsTrue, IfOk};
+ghost use Rattle.std.specs.Prelude.{◌≡◌, ◌↔◌, All, IsTrue, IfOk};
 ghost use Rattle.git_server.specs.ListRepo.{lists_of};
-ghost use Rattle.std.specs.Option.{option_copied};
 ghost use Rattle.git_server.specs.Lists.{IsRepository};
-ghost use Rattle.git_server.specs.Repository.{IsNamed, bytes_of};
+ghost use Rattle.git_server.specs.Repository.{IsNamed};
 ghost use Rattle.git_msg.specs.References.{shown_reference};
 ghost use Rattle.git2show_lib.specs.RepositoryLines.{shown};
 ghost use Rattle.git2show_lib.specs.RepositoryText.{entry_of};
-ghost use Rattle.git2show_lib.specs.Drafts.{AddsBoundary, AddsCount, AddsObject, AddsReference, AddsSaid, ComesLast, ComesLastObject, IsFit, drafted, empty_lists, with_pack};
+ghost use Rattle.git2show_lib.specs.Drafts.{AddsBoundary, AddsCount, AddsObject, AddsReference, AddsSaid, ComesLast, ComesLastObject, IsFit, empty_lists, with_pack};
 
 use crate::repository_lines::Item;
 use git_msg::{Boundary, Reference};
@@ -33,9 +32,12 @@ pub(crate) struct Draft {
     objects: Vec<(Oid, u64)>,
     ready_after: Option<u32>,
     boundaries: Vec<Boundary>,
+    ghost named: { All (λ ref. IsNamed ref.name ref.target) refs.items },
 }
 
 impl Draft {
+    ghost use Rattle.git2show_lib.specs.DraftLists.{drafted};
+
     /// Nothing yet.
     pub(crate) fn new(alloc: Global, format: Format) -> Draft
         ensures { drafted result ≡ empty_lists format }
@@ -121,10 +123,7 @@ impl Draft {
             ready_after,
             boundaries,
         } = self;
-        match ListRepo::new(format, refs, objects, ready_after, boundaries, pack) {
-            Ok(repo) => repo,
-            Err(_) => unreachable!(),
-        }
+        ListRepo::of_lists(format, refs, objects, ready_after, boundaries, pack)
     }
 }
 
@@ -133,24 +132,13 @@ fn make_entry(alloc: Global, reference: &Reference<'_>) -> Result<RefEntry, Allo
     requires { IsNamed (shown_reference reference.now).name (shown_reference reference.now).target }
     ensures { IfOk result (λ entry. entry ≡ entry_of (shown_reference reference.now)) }
 {
-    let name = reference.name.to_vec(alloc)?;
-    let target = copy_target(alloc, reference.target)?;
-    match RefEntry::new(name, reference.id, target, reference.peeled) {
-        Ok(entry) => Ok(entry),
-        Err(_) => unreachable!(),
-    }
-}
-
-fn copy_target(alloc: Global, target: Option<&[u8]>) -> Result<Option<Vec<u8>>, AllocError>
-    ensures { IfOk result (λ copy. bytes_of copy ≡ option_copied target.entry) }
-{
-    match target {
-        Some(target) => {
-            let copy = target.to_vec(alloc)?;
-            Ok(Some(copy))
-        }
-        None => Ok(None),
-    }
+    RefEntry::copied(
+        alloc,
+        reference.name,
+        reference.id,
+        reference.target,
+        reference.peeled,
+    )
 }
 
 /// Whether the name comes after those of the references.

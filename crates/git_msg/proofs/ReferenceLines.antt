@@ -21,7 +21,7 @@ use Rattle.git_msg.specs.References.{target_text, peeled_text, peeled_count, ref
 eq_false : (c : ℕ) → c ≢ 32 → (c == 32) ≡ false
 eq_false c h = grind (arith, nat_tests)
 
-lacking_is_unspaced : (text : List ℕ) → Lacks text 32 → All (λ c. (c == 32) ≡ false) text
+pub lacking_is_unspaced : (text : List ℕ) → Lacks text 32 → All (λ c. (c == 32) ≡ false) text
 lacking_is_unspaced text h = All-from_get_or (λ c. (c == 32) ≡ false) text 0 (λ k within. eq_false (slice_index text k) (h k within))
 
 no_digit : (c : ℕ) → IsHexDigit c → c ≢ 32
@@ -52,7 +52,7 @@ tested (x ∷ xs) h =
 words_of_two : (a b : List ℕ) → All (λ c. (c == 32) ≡ false) a → spaced_words (a ++ 32 ∷ b) ≡ a ∷ spaced_words b
 words_of_two a b h = slice_split_at (λ c. c == 32) a 32 b h refl
 
-word_alone : (a : List ℕ) → All (λ c. (c == 32) ≡ false) a → spaced_words a ≡ a ∷ []
+pub word_alone : (a : List ℕ) → All (λ c. (c == 32) ≡ false) a → spaced_words a ≡ a ∷ []
 word_alone a h = slice_split_none (λ c. c == 32) a h
 
 target_words : Option (List ℕ) → List (List ℕ)

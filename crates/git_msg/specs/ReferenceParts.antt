@@ -1,11 +1,24 @@
 -- What the parts of the reader of reference lines find.
-use Rattle.std.specs.Prelude.{◌≡◌, ℕ, Option, Some, None, List, ◌++◌, codes}
+use Rattle.std.specs.Prelude.{◌≡◌, ℕ, Option, Some, None, List, ◌∷◌, ◌++◌, codes}
 use Rattle.git_names.specs.declared.object_format.Format.{Format}
+use Rattle.git_names.specs.RefName.{IsRefName}
 use Rattle.git_msg.specs.declared.reference_lines.Attribute.{Attribute}
 use Rattle.git_msg.specs.declared.reference_lines.Attribute.TheVariants.{Target, Peeled, Other}
-use Rattle.git_msg.specs.Texts.{parts_left}
+use Rattle.git_msg.specs.Texts.{parts_left, spaced_words}
 use Rattle.git_msg.specs.Checks.{Passes}
 use Rattle.git_msg.specs.References.{value_behind, values_of, last_of, IsAttribute, attribute_checks}
+
+-- the first word of the text is this reference name, and these are the others
+pub record BeginsWithName (text name : List ℕ) (others : List (List ℕ)) : Type 0 where
+  pub words : spaced_words text ≡ name ∷ others
+  pub is_name : IsRefName name
+
+-- the first word of the text is no reference name
+pub record BeginsWithNoName (text : List ℕ) : Type 0 where
+  pub word : List ℕ
+  pub others : List (List ℕ)
+  pub words : spaced_words text ≡ word ∷ others
+  pub no_name : ¬ IsRefName word
 
 -- the values that an attribute is found to have
 abbrev pub target_in : Attribute → Option (List ℕ)

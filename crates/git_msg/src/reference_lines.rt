@@ -1,15 +1,15 @@
 //! Reference lines, read.
-ghost use Rattle.std.specs.Prelude.{MatchResult};
+ghost use Rattle.std.specs.Prelude.{◌≡◌, MatchResult};
 ghost use Rattle.std.specs.Option.{ForSome, option_copied};
 ghost use Rattle.git_names.specs.ObjectName.{ObjectName, IsObjectName};
 ghost use Rattle.git_msg.specs.Checks.{Refuses};
 ghost use Rattle.git_msg.specs.References.{IsAttributeFault, IsMaybeObjectName, IsReferenceFault, IsReferenceLine, attribute_checks, shown_reference};
 ghost use Rattle.git_msg.specs.Texts.{parts_left};
-ghost use Rattle.git_msg.specs.ReferenceParts.{IsFound, LastValues};
+ghost use Rattle.git_msg.specs.ReferenceParts.{BeginsWithName, BeginsWithNoName, IsFound, LastValues};
 
 use crate::references::Reference;
 use crate::texts::{after, split_at_first};
-use git_names::{Format, Oid, RefName};
+use git_names::{Format, NameFault, Oid, RefName};
 use git_pkt::Kind;
 
 #[derive(Clone, Copy, Debug)]
@@ -38,8 +38,7 @@ pub fn read_reference(format: Format, text: &[u8]) -> Result<Reference<'_>, Kind
         return Err(Kind::BadLine);
     };
     let id = Oid::read(format, id)?;
-    let (name, rest) = split_at_first(rest, b' ');
-    RefName::read(name)?;
+    let (name, rest) = split_name(rest)?;
     let found = read_attributes(format, rest)?;
     let peeled = read_peeled(format, found.peeled);
     Ok(Reference {
@@ -48,6 +47,20 @@ pub fn read_reference(format: Format, text: &[u8]) -> Result<Reference<'_>, Kind
         target: found.target,
         peeled,
     })
+}
+
+/// The reference name that the text begins with, and what stands after the space behind it, where there is one. Most
+/// texts are the name alone: as a name has no space, they need no search for one.
+fn split_name(text: &[u8]) -> Result<(&[u8], Option<&[u8]>), NameFault>
+    ensures { MatchResult result (λ parts. BeginsWithName text.now parts.0.now (parts_left 32 (option_copied parts.1)))
+        (λ fault. (fault ≡ NameFault.BadRefName) × BeginsWithNoName text.now) }
+{
+    if let Ok(_) = RefName::read(text) {
+        return Ok((text, None));
+    }
+    let (name, rest) = split_at_first(text, b' ');
+    RefName::read(name)?;
+    Ok((name, rest))
 }
 
 /// The last values of the attributes of a line.

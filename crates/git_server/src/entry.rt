@@ -1,19 +1,25 @@
 //! A reference of a repository.
 
-ghost use Rattle.std.specs.Prelude.{◌≡◌, ◌↔◌, IsTrue, MatchOption, MatchResult, Some, None};
+ghost use Rattle.std.specs.Prelude.{◌≡◌, ◌↔◌, IfOk, IsTrue, MatchOption, MatchResult, Some, None};
 ghost use Rattle.std.specs.Option.{option_copied, ForSome};
 ghost use Rattle.git_names.specs.RefName.{IsRefName};
 ghost use Rattle.git_server.specs.Repository.{Entry, IsNamed, IsOfFormat, bytes_of};
 
 use git_names::{Format, NameFault, Oid, RefName};
+use smallvec::SmallVec;
+use std::alloc::{AllocError, Global};
 use std::marker::Model;
+
+/// How many bytes a name has that lies in its entry: longer ones have memory of their own.
+const SHORT_NAME: usize = 32;
 
 /// A reference of a repository: a name for an object, as gitprotocol-v2(5) shows it.
 #[derive(Debug, Drop)]
 pub struct RefEntry {
-    name: Vec<u8>,
-    id: Oid,
+    // In this order the fields take the least room.
+    name: SmallVec<u8, SHORT_NAME>,
     target: Option<Vec<u8>>,
+    id: Oid,
     peeled: Option<Oid>,
 }
 
@@ -47,9 +53,31 @@ impl RefEntry {
             RefName::read(target)?;
         }
         Ok(RefEntry {
-            name,
+            name: SmallVec::from_vec(name),
             id,
             target,
+            peeled,
+        })
+    }
+
+    /// The same reference with copies of a name and a target that are known to be names that a reference may have, as those
+    /// that were read from a line are. It fails only for want of memory.
+    pub fn copied(
+        alloc: Global,
+        name: &[u8],
+        id: Oid,
+        target: Option<&[u8]>,
+        peeled: Option<Oid>,
+    ) -> Result<RefEntry, AllocError>
+        requires { IsNamed name.now (option_copied target) }
+        ensures { IfOk result (λ e. e ≡ record { name = name.now; id = id; target = option_copied target.entry; peeled = peeled }) }
+    {
+        let name = SmallVec::from_slice(alloc, name)?;
+        let copy = copy_target(alloc, target)?;
+        Ok(RefEntry {
+            name,
+            id,
+            target: copy,
             peeled,
         })
     }
@@ -59,7 +87,7 @@ impl RefEntry {
         ensures value { result.now ≡ self.now.name }
         ensures name { IsRefName result.now }
     {
-        &self.name
+        self.name.as_slice()
     }
 
     /// The object that it names.
@@ -96,5 +124,17 @@ impl RefEntry {
             Some(peeled) => peeled.format() == format,
             None => true,
         }
+    }
+}
+
+fn copy_target(alloc: Global, target: Option<&[u8]>) -> Result<Option<Vec<u8>>, AllocError>
+    ensures { IfOk result (λ copy. bytes_of copy ≡ option_copied target.entry) }
+{
+    match target {
+        Some(target) => {
+            let copy = Vec::from_slice(alloc, target)?;
+            Ok(Some(copy))
+        }
+        None => Ok(None),
     }
 }

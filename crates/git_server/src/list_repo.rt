@@ -98,14 +98,46 @@ impl ListRepo {
         {
             return Err(RepoFault::MixedFormats);
         }
-        Ok(ListRepo {
+        Ok(ListRepo::of_lists(format, refs, objects, ready_after, boundaries, pack))
+    }
+
+    /// The same repository, where the lists are known to make one, as those that were taken item after item are.
+    pub fn of_lists(
+        format: Format,
+        refs: Vec<RefEntry>,
+        objects: Vec<(Oid, u64)>,
+        ready_after: Option<u32>,
+        boundaries: Vec<Boundary>,
+        pack: Vec<u8>,
+    ) -> ListRepo
+        requires fit { let lists : Lists = record {
+          format = format;
+          refs = refs.items;
+          objects = objects.items;
+          ready_after = ready_after;
+          boundaries = boundaries.items;
+          pack = pack.items;
+        } in
+            IsRepository lists }
+        requires named { All (λ ref. IsNamed ref.name ref.target) refs.items }
+        ensures { let lists : Lists = record {
+          format = format;
+          refs = refs.items;
+          objects = objects.items;
+          ready_after = ready_after;
+          boundaries = boundaries.items;
+          pack = pack.items;
+        } in
+            lists_of result ≡ lists }
+    {
+        ListRepo {
             format,
             refs,
             objects,
             ready_after,
             boundaries,
             pack,
-        })
+        }
     }
 }
 

@@ -1,7 +1,8 @@
 use Rattle.std.proofs.Common.{rules, subst, sym, length}
 use Rattle.std.specs.Option.{option_copied}
 use Rattle.git_names.specs.declared.object_format.Format.{Format}
-use Rattle.git2show_lib.specs.Drafts.{IsFit, drafted}
+use Rattle.git2show_lib.specs.DraftLists.{drafted}
+use Rattle.git2show_lib.specs.Drafts.{IsFit}
 use Rattle.git2show_lib.specs.RepositoryLines.{shown}
 use Rattle.git2show_lib.proofs.Reading.{memory_ran_out_at, may_not_stand_at, room_at_start, room_behind, started, stepped}
 use Rattle.git2show_lib.proofs.Saying.{fit_of_says}

@@ -1,6 +1,6 @@
 use Rattle.std.proofs.Common.{◌+◌, ◌≤◌, length}
 use Rattle.std.specs.Option.{option_copied}
-use Rattle.git2show_lib.specs.Drafts.{drafted}
+use Rattle.git2show_lib.specs.DraftLists.{drafted}
 use Rattle.git_msg.proofs.TextParts.{bytes_left}
 use Rattle.git2show_lib.proofs.Reading.{Reading}
 use Rattle.git2show_lib.proofs.repository_text.read_repo.Given as goal

@@ -13,5 +13,5 @@ returns-in_err-id c =
 
 pub read_peeled-peeled-requires : goal.read_peeled-peeled-requires
 read_peeled-peeled-requires c =
-    peeled_named c.args.format (parts_left 32 (option_copied c.split_at_first-2.result.1)) (option_copied c.in_ok-found.found.target)
+    peeled_named c.args.format (parts_left 32 (option_copied c.in_ok-name.rest)) (option_copied c.in_ok-found.found.target)
     (option_copied c.in_ok-found.found.peeled) c.in_ok-found.ensures

@@ -2,7 +2,8 @@ use Rattle.std.proofs.Common.{subst, sym}
 use Rattle.git_msg.specs.References.{shown_reference}
 use Rattle.git2show_lib.specs.declared.repository_lines.Item.{Item}
 use Rattle.git2show_lib.specs.RepositoryLines.{shown}
-use Rattle.git2show_lib.specs.Drafts.{AddsSaid, IsFit, drafted}
+use Rattle.git2show_lib.specs.DraftLists.{drafted}
+use Rattle.git2show_lib.specs.Drafts.{AddsSaid, IsFit}
 use Rattle.git2show_lib.proofs.Drafting.{said_boundary, said_count, said_object, said_reference}
 use Rattle.git2show_lib.proofs.drafts.Draft.keep.Goals as goal
 
