@@ -1,5 +1,6 @@
 pub mod Beginnings
 pub mod HexDigits
+pub mod Joined
 pub mod ObjectNames
 pub mod Pairs
 pub mod RefNames

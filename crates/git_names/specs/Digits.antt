@@ -1,5 +1,5 @@
 -- Hexadecimal digits.
-use Rattle.std.specs.Prelude.{ℕ, ◌-◌, ◌<◌, Bool, nat_le, ◌&&◌, ◌||◌, if◌then◌else◌, slice_index, codes}
+use Rattle.std.specs.Prelude.{◌≡◌, ℕ, ◌-◌, ◌<◌, Bool, List, length, nat_le, ◌&&◌, ◌||◌, if◌then◌else◌, slice_index, codes}
 
 -- the value of a hexadecimal digit of either case, and 16 for any other byte
 unfoldable pub digit_value : ℕ → ℕ
@@ -11,6 +11,14 @@ digit_value c =
 
 abbrev pub IsHexDigit : ℕ → Type 0
 IsHexDigit c = digit_value c < 16
+
+-- each byte of the text is a digit
+abbrev pub AreDigits : List ℕ → Type 0
+AreDigits text = (k : ℕ) → k < length text → IsHexDigit (slice_index text k)
+
+-- each byte of the text is a digit, and these are their values
+abbrev pub HaveValues : List ℕ → List ℕ → Type 0
+HaveValues text values = (k : ℕ) → k < length text → IsHexDigit (slice_index text k) × (slice_index values k ≡ digit_value (slice_index text k))
 
 -- the digit of a value below 16, in lower case
 unfoldable pub lower_digit : ℕ → ℕ

@@ -1,7 +1,9 @@
 //! Hexadecimal digits, and bytes as pairs of them.
-ghost use Rattle.std.specs.Prelude.{◌≡◌, ◌*◌, ◌<◌, ◌≤◌, List, ℕ, length, MatchBool};
-ghost use Rattle.git_names.specs.Digits.{digit_value, lower_digit};
+ghost use Rattle.std.specs.Prelude.{◌≡◌, ◌+◌, ◌-◌, ◌*◌, ◌<◌, ◌≤◌, ◌++◌, List, ℕ, length, replicate, slice_index, MatchBool, MatchOption};
+ghost use Rattle.git_names.specs.Digits.{AreDigits, HaveValues, digit_value, lower_digit};
 ghost use Rattle.git_names.specs.ObjectName.{ArePairs, hex_text};
+
+use std::simd::prelude::*;
 
 // The value of each byte as a digit of either case, and 16 where it is none; a row has 16 bytes.
 // Each packet begins with digits and object names stand in nearly every line; a table has no branch for the
@@ -51,18 +53,72 @@ pub(crate) fn read_pairs(text: &[u8], out: &mut [u8]) -> bool
     if text.len() != 2 * out.len() {
         return false;
     }
-    'pairs: for i in 0..out.len() {
-        let high = digit_value(text[2 * i]);
-        let low = digit_value(text[2 * i + 1]);
-        if high > 15 {
-            return false;
-        }
-        if low > 15 {
-            return false;
-        }
-        out[i] = high * 16 + low;
-    }
+    let Some(values) = digit_values(&with_zeros(text)) else {
+        return false;
+    };
+    out.copy_from_slice(&joined(&values)[..out.len()]);
     true
+}
+
+// The text, and the digit 0 up to 64 bytes.
+fn with_zeros(text: &[u8]) -> [u8; 64]
+    requires { length text.now ≤ 64 }
+    ensures { result ≡ text.now ++ replicate (64 - length text.now) 48 }
+{
+    let mut digits = [b'0'; 64];
+    digits[..text.len()].copy_from_slice(text);
+    digits
+}
+
+// The values of 64 digits. Each step of the loop is the same and goes on whatever it finds, so that the compiler makes
+// one of many.
+fn digit_values(digits: &[u8; 64]) -> Option<[u8; 64]>
+    ensures { MatchOption result (¬ AreDigits digits.now) (λ values. HaveValues digits.now values) }
+{
+    let mut values = [0; 64];
+    let mut has_other = false;
+    for i in 0..64 {
+        let value = value_of(digits[i]);
+        has_other |= value > 15;
+        values[i] = value;
+    }
+    if has_other {
+        return None;
+    }
+    Some(values)
+}
+
+// The same as `digit_value`, by comparisons.
+fn value_of(byte: u8) -> u8
+    ensures { result ≡ digit_value byte }
+{
+    if (byte >= b'0') & (byte <= b'9') {
+        byte - b'0'
+    } else if (byte >= b'A') & (byte <= b'F') {
+        byte - b'A' + 10
+    } else if (byte >= b'a') & (byte <= b'f') {
+        byte - b'a' + 10
+    } else {
+        16
+    }
+}
+
+// The bytes of pairs of digits that have these values.
+fn joined(values: &[u8; 64]) -> [u8; 32]
+    requires { (k : ℕ) → k < 64 → slice_index values.now k < 16 }
+    ensures size { length result ≡ 32 }
+    ensures value { (k : ℕ) → k < 32 → slice_index result k ≡ slice_index values.now (2 * k) * 16 + slice_index values.now (2 * k + 1) }
+{
+    let values = u8x64::from_array(*values);
+    let high: u8x32 = values.swizzle([
+        0, 2, 4, 6, 8, 10, 12, 14, 16, 18, 20, 22, 24, 26, 28, 30, 32, 34, 36, 38, 40, 42, 44, 46,
+        48, 50, 52, 54, 56, 58, 60, 62,
+    ]);
+    let low: u8x32 = values.swizzle([
+        1, 3, 5, 7, 9, 11, 13, 15, 17, 19, 21, 23, 25, 27, 29, 31, 33, 35, 37, 39, 41, 43, 45, 47,
+        49, 51, 53, 55, 57, 59, 61, 63,
+    ]);
+    (high * u8x32::splat(16) + low).to_array()
 }
 
 // Writes the bytes as pairs of lower case digits.
