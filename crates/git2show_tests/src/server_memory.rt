@@ -88,7 +88,10 @@ fn each_growth_of_the_wants_is_refused_in_turn(rt: HostRuntime) -> Result<(), Fa
                 assert_eq!(rt; fault.kind, Kind::OutOfMemory);
             }
             _ => {
-                assert_eq!(rt; given.as_slice(), b"000dpackfile\n000a\x01PACK!0000".as_slice());
+                assert_eq!(rt;
+                    given.as_slice(),
+                    b"000dpackfile\n000a\x01PACK!0000".as_slice()
+                );
                 assert_eq!(rt; ended, Some(Outcome::Closed));
             }
         }
