@@ -134,13 +134,13 @@ has_all() {
 case_git_clones() {
     clones history-sha1
     has_references 12
-    sent command=fetch object-format=sha1 ofs-delta done
+    sent command=fetch object-format=sha1 ofs-delta 'done'
 }
 
 case_git_clones_sha256() {
     clones history-sha256
     has_references 12
-    sent command=fetch object-format=sha256 ofs-delta done
+    sent command=fetch object-format=sha256 ofs-delta 'done'
 }
 
 case_git_clones_bare() {
@@ -235,13 +235,6 @@ case_git_fetches_into_an_empty_repository() {
     git -C taking fsck --full --strict --no-dangling
 }
 
-# patient: our program, and somebody who reads what Git is still writing when it has ended: Git that writes to nobody ends before
-# it reads what it was told.
-write_patient() {
-    printf '%s\n' '#!/bin/sh' 'git2show "$@"' 'cat > /dev/null' > bin/patient
-    chmod +x bin/patient
-}
-
 # refused: that Git was told what our program told, and that its clone failed.
 refused() {
     local refusal
@@ -254,8 +247,8 @@ refused() {
 
 case_git_is_told_that_an_object_is_not_there() {
     write_patient
-    grep -v '^object ' history-sha1.repo > bare.repo
-    clone "ext::patient serve --repo $room/bare.repo --pack $room/history-sha1.pack" ours
+    grep -v '^object ' history-sha1.repo > objectless.repo
+    clone "ext::patient serve --repo $room/objectless.repo --pack $room/history-sha1.pack" ours
     refused NotOurs
 }
 

@@ -35,7 +35,7 @@ fetch() {
     for object; do
         packet "want $object"
     done
-    packet done
+    packet 'done'
     printf 0000
 }
 
@@ -189,7 +189,7 @@ case_serve_keeps_no_more_of_a_million_wants() {
         packet command=fetch
         printf 0001
         awk -v want="0032want $one" 'BEGIN { for (i = 0; i < 1000000; i++) print want }'
-        packet done
+        packet 'done'
         printf 0000
     } > large
     status=0

@@ -155,13 +155,17 @@ case_git_fails_at_a_missing_text() {
     fails 'git2show: File'
 }
 
-# A server that refuses a request ends at once, also where Git is writing the rest of it, and Git that writes to nobody ends
-# before it reads what it was told. So here somebody stays who reads that rest. The offset depends on what Git says before its
-# arguments, and is taken from Git's own message.
-case_git_is_told_why_its_request_is_refused() {
-    local refusal
+# patient: our program, and somebody who stays. A server that refuses a request ends at once, also where Git is writing the rest
+# of it, and Git that writes to nobody ends before it reads what it was told. So here somebody reads that rest.
+write_patient() {
     printf '%s\n' '#!/bin/sh' 'git2show "$@"' 'cat > /dev/null' > bin/patient
     chmod +x bin/patient
+}
+
+# The offset depends on what Git says before its arguments, and is taken from Git's own message.
+case_git_is_told_why_its_request_is_refused() {
+    local refusal
+    write_patient
     ls_remote 'ext::patient serve --pack empty.pack --repo sha1.repo --limit 3'
     refusal=$(sed -n 's/^fatal: remote error: //p' err)
     [[ $refusal =~ ^TooMuchKept\ at\ [0-9]+$ ]] || differs 'what Git was told' err

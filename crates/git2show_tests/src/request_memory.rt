@@ -3,7 +3,7 @@ ghost use Rattle.std.specs.Prelude.{◌≡◌, false};
 ghost use Rattle.git_msg.specs.RequestReader.{is_waiting};
 
 use git_msg::{Argument, Command, Limits, Offer, Request, RequestReader, Taken};
-use git_names::Format;
+use git_names::{Format, Oid};
 use git_pkt::{Fault, Kind, Packet};
 use linked_list_allocator::LocalHeap;
 use std::alloc::{AllocError, Allocator, Global};
@@ -54,6 +54,45 @@ fn each_growth_of_a_request_is_refused_in_turn(rt: HostRuntime) -> Result<(), Al
     assert_eq!(&rt; kept_within(&rt, rt.alloc(), 64)?, 0);
     assert!(&rt; kept_one, "the second growth is never refused alone");
     assert_eq!(&rt; most, 2);
+    Ok(())
+}
+
+/// More wants than fit into the first place that is taken for them.
+const MANY: usize = 20;
+
+/// Adds wants to a request that may use this much memory, and says how many were kept.
+fn wants_within(rt: &impl Abort, alloc: Global, size: usize) -> Result<usize, AllocError> {
+    let heap = LocalHeap::new(alloc, size)?;
+    let mut request = Request::new(&heap, Command::Fetch, Format::Sha1, Limits { args: 1000 });
+    let id = Oid::read(Format::Sha1, &[b'a'; 40]).expect(rt, "an object name");
+    assert_eq!(rt; request.add(Argument::IsDone), Ok(()));
+    for kept in 0..MANY {
+        let before = request.kept();
+        let added = request.add(Argument::Want(id));
+        if added.is_err() {
+            assert_eq!(rt; added, Err(Kind::OutOfMemory));
+            assert_eq!(rt; request.kept(), before);
+            assert_eq!(rt; request.wants().len(), kept);
+            assert!(rt; request.done());
+            return Ok(kept);
+        }
+    }
+    Ok(MANY)
+}
+
+#[test]
+fn each_growth_of_the_wants_is_refused_in_turn(rt: HostRuntime) -> Result<(), AllocError> {
+    let mut most = 0;
+    let mut kept_some = false;
+    for size in (0..8192).step_by(8) {
+        let kept = wants_within(&rt, rt.alloc(), size)?;
+        assert!(&rt; most <= kept);
+        most = kept;
+        kept_some = kept_some | (0 < kept && kept < MANY);
+    }
+    assert_eq!(&rt; wants_within(&rt, rt.alloc(), 32)?, 0);
+    assert!(&rt; kept_some, "no later growth is refused alone");
+    assert_eq!(&rt; most, MANY);
     Ok(())
 }
 
@@ -119,5 +158,28 @@ fn a_request_of_flags_takes_no_memory(rt: HostRuntime) -> Result<(), AllocError>
     );
     assert_eq!(&rt; hear(&mut reader, Packet::Payload(b"peel\n"), 36), Ok(()));
     assert_eq!(&rt; hear(&mut reader, Packet::Flush, 45), Ok(()));
+    Ok(())
+}
+
+#[test]
+fn a_fetch_takes_memory_for_its_wants_alone(rt: HostRuntime) -> Result<(), AllocError> {
+    let heap = LocalHeap::new(rt.alloc(), 32)?;
+    let mut reader = RequestReader::new(&heap, OFFER, Limits { args: 1000 });
+    let refused = Err(Fault {
+        kind: Kind::OutOfMemory,
+        offset: 36,
+    });
+    assert_eq!(&rt;
+        hear(&mut reader, Packet::Payload(b"command=fetch\n"), 0),
+        Ok(())
+    );
+    assert_eq!(&rt; hear(&mut reader, Packet::Delim, 18), Ok(()));
+    assert_eq!(&rt;
+        hear(&mut reader, Packet::Payload(b"thin-pack\n"), 22),
+        Ok(())
+    );
+    let want = b"want aaaaaaaaaaaaaaaaaaaaaaaaaaaaaaaaaaaaaaaa\n";
+    assert_eq!(&rt; hear(&mut reader, Packet::Payload(want), 36), refused);
+    assert_eq!(&rt; hear(&mut reader, Packet::Flush, 86), refused);
     Ok(())
 }

@@ -3,6 +3,7 @@ use crate::servers::{converse, new_server, refusal, usual};
 use git_pkt::{Kind, RunFault, Told};
 use git_server::{Outcome, serve};
 use linked_list_allocator::LocalHeap;
+use std::alloc::{AllocError, Global};
 use std::process::Abort;
 use std::test::Fail;
 
@@ -57,6 +58,51 @@ fn each_growth_is_refused_in_turn(rt: HostRuntime) -> Result<(), Fail> {
         }
     }
     assert!(rt; 0 < refusals[0] && refusals[0] < refusals[1] && refusals[1] < answered);
+    Ok(())
+}
+
+// A fetch of the same object so many times.
+fn fetch(alloc: Global, wants: u32) -> Result<Vec<u8>, AllocError> {
+    let mut request = Vec::from_slice(alloc, b"0012command=fetch\n0001")?;
+    for _ in 0..wants {
+        request.extend_from_slice(b"0032want aaaaaaaaaaaaaaaaaaaaaaaaaaaaaaaaaaaaaaaa\n")?;
+    }
+    request.extend_from_slice(b"0009done\n0000")?;
+    Ok(request)
+}
+
+#[test]
+fn each_growth_of_the_wants_is_refused_in_turn(rt: HostRuntime) -> Result<(), Fail> {
+    let request = fetch(rt.alloc(), 20)?;
+    let mut last = None;
+    let mut refused = 0;
+    for size in (32..8192).step_by(8) {
+        let heap = LocalHeap::new(rt.alloc(), size)?;
+        let mut server = new_server(&rt, &heap, usual())?;
+        let (given, ended) = converse(&mut server, rt.alloc(), &[request.as_slice()])?;
+        match ended {
+            Some(Outcome::Refused(fault)) => {
+                let line = format!(in rt.alloc(); "ERR OutOfMemory at {}\n", fault.offset)?;
+                let told = format!(in rt.alloc(); "{:04x}{line}", line.len() + 4)?;
+                assert_eq!(rt; given.as_slice(), told.as_bytes());
+                assert_eq!(rt; fault.kind, Kind::OutOfMemory);
+            }
+            _ => {
+                assert_eq!(rt;
+                    given.as_slice(),
+                    b"000dpackfile\n000a\x01PACK!0000".as_slice()
+                );
+                assert_eq!(rt; ended, Some(Outcome::Closed));
+            }
+        }
+        if last != Some(ended) {
+            last = Some(ended);
+            refused += 1;
+        }
+    }
+    // Refused at the first want, later on, and not at all.
+    assert!(rt; 3 <= refused && refused <= 20);
+    assert_eq!(rt; last, Some(Some(Outcome::Closed)));
     Ok(())
 }
 

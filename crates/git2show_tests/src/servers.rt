@@ -58,7 +58,7 @@ fn entry(
     Ok(RefEntry::new(name, id, target, peeled).expect(rt, "a reference"))
 }
 
-/// A symbolic reference, a branch, and a tag of another object.
+/// A symbolic reference, a branch, and a tag of another object; these two objects, and a pack.
 pub fn repository(rt: &(impl Abort + AllocGlobal), format: Format) -> Result<ListRepo, Fail> {
     let a = object(rt, format, b'a');
     let b = object(rt, format, b'b');
@@ -66,14 +66,11 @@ pub fn repository(rt: &(impl Abort + AllocGlobal), format: Format) -> Result<Lis
     refs.push(entry(rt, b"HEAD", a, Some(b"refs/heads/main"), None)?)?;
     refs.push(entry(rt, b"refs/heads/main", a, None, None)?)?;
     refs.push(entry(rt, b"refs/tags/v1", b, None, Some(a))?)?;
-    let repo = ListRepo::new(
-        format,
-        refs,
-        Vec::new(rt.alloc()),
-        None,
-        Vec::new(rt.alloc()),
-        Vec::new(rt.alloc()),
-    );
+    let mut objects = Vec::new(rt.alloc());
+    objects.push((a, 12))?;
+    objects.push((b, 30))?;
+    let pack = Vec::from_slice(rt.alloc(), b"PACK!")?;
+    let repo = ListRepo::new(format, refs, objects, None, Vec::new(rt.alloc()), pack);
     Ok(repo.expect(rt, "a repository"))
 }
 

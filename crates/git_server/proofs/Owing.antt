@@ -6,7 +6,7 @@ use Rattle.git_pkt.specs.Splits.{Given}
 use Rattle.git_pkt.specs.declared.fault.Fault.{Fault}
 use Rattle.git_msg.specs.declared.offers.Offer.{Offer}
 use Rattle.git_server.specs.Repository.{Repository}
-use Rattle.git_server.specs.AnsweredRequest.{FollowsAnswer, IsAnswerFrom, most_from}
+use Rattle.git_server.specs.AnsweredRequest.{IsNext, IsAnswerFrom, most_from}
 use Rattle.git_server.specs.Answers.{offered_line, error_packet, reference_packet, shown_refs}
 use Rattle.git_server.specs.Packs.{whole, broken}
 use Rattle.git_server.specs.AdvertisementLines.{format_on, advertisement_packet, advertisement_line_after, advertisement_from, advertisement_after}
@@ -89,7 +89,7 @@ module _ {A : Type 0} where
 
   module _ (offer : Offer) (repo : Repository) (old : Phase A) (answer : Answer A) (offset : ℕ) (packet : Pkt) (was : old ≡ Answering answer offset) where
     -- one packet of an answer, and more of it
-    module _ (other : Answer A) (follows : FollowsAnswer repo answer Part other packet) where
+    module _ (other : Answer A) (follows : IsNext (λ m a later. IsAnswerFrom m repo a later) (most_from repo) answer Part other packet) where
       pub part_owes : (later : List Pkt) → Owes offer repo (Answering other offset) later → Owes offer repo old (packet ∷ later)
       part_owes later owes = subst (λ (p : Phase A). Owes offer repo p (packet ∷ later)) (sym was) (follows.0 whole later owes)
 

@@ -72,13 +72,12 @@ pub record AnswersOne (asked : LsRefsAsked) (refs : List Entry) (next : ℕ) (ol
   pub owed : references_from asked refs next ≡ packet ∷ references_after asked refs after
   pub writes : Writes old packet new
 
--- how the packets that are owed become fewer by one that was written, and how many reads failed by then
-abbrev pub FollowsPack : List ℕ → PackPlace → Answered → PackPlace → Pkt → Type 0
-FollowsPack pack old Part new packet =
-    ((manner : Manner) (later : List Pkt) → IsPackfileFrom manner pack new later → IsPackfileFrom manner pack old (packet ∷ later))
-    × (most_packets pack new < most_packets pack old)
-FollowsPack pack old Whole new packet = IsPackfileFrom whole pack old (packet ∷ [])
-FollowsPack pack old Broken new packet = IsPackfileFrom broken pack old (packet ∷ [])
+-- the packet is the next one of what is owed from a place on, which becomes less by it, or ends with it
+abbrev pub IsNext : {P : Type 0} → (Manner → P → List Pkt → Type 0) → (P → ℕ) → P → Answered → P → Pkt → Type 0
+IsNext OwesFrom most old Part new packet =
+    ((manner : Manner) (later : List Pkt) → OwesFrom manner new later → OwesFrom manner old (packet ∷ later)) × (most new < most old)
+IsNext OwesFrom most old Whole new packet = OwesFrom whole old (packet ∷ [])
+IsNext OwesFrom most old Broken new packet = OwesFrom broken old (packet ∷ [])
 
 -- a read failed exactly where the answer broke off
 abbrev pub FailsBy : Answered → ℕ → ℕ → Type 0
@@ -90,27 +89,20 @@ pub record ReadsPack (answered : Answered) (old new : RepoState) : Type 0 where
   pub answers : new.answers ≡ old.answers
   pub failures : FailsBy answered old.failures new.failures
 
--- the next packet of the section of the pack was written
-pub record WritesPack (asked : FetchAsked) (repo_old : RepoState) (old : PackPlace) (reader_old : PacketReader) (answered : Answered)
-    (repo_new : RepoState) (new : PackPlace) (reader_new : PacketReader) : Type 0 where
+-- the next packet of what is owed from a place on was written
+pub record WritesNext {P : Type 0} (OwesFrom : Manner → P → List Pkt → Type 0) (most : P → ℕ) (repo_old : RepoState) (old : P) (reader_old : PacketReader)
+    (answered : Answered) (repo_new : RepoState) (new : P) (reader_new : PacketReader) : Type 0 where
   pub packet : Pkt
   pub writes : Writes reader_old packet reader_new
-  pub follows : FollowsPack (repo_old.answers.pack asked) old answered new packet
+  pub is_next : IsNext OwesFrom most old answered new packet
   pub reads : ReadsPack answered repo_old repo_new
 
-module _ {A : Type 0} where
-  -- how the packets that are owed become fewer by one that was written
-  abbrev pub FollowsAnswer : Repository → Answer A → Answered → Answer A → Pkt → Type 0
-  FollowsAnswer repo old Part new packet =
-      ((manner : Manner) (later : List Pkt) → IsAnswerFrom manner repo new later → IsAnswerFrom manner repo old (packet ∷ later))
-      × (most_from repo new < most_from repo old) × (kept_with new ≡ kept_with old)
-  FollowsAnswer repo old Whole new packet = IsAnswerFrom whole repo old (packet ∷ [])
-  FollowsAnswer repo old Broken new packet = IsAnswerFrom broken repo old (packet ∷ [])
+-- the next packet of the section of this pack was written
+abbrev pub WritesPack : List ℕ → RepoState → PackPlace → PacketReader → Answered → RepoState → PackPlace → PacketReader → Type 0
+WritesPack pack = WritesNext (λ manner place later. IsPackfileFrom manner pack place later) (most_packets pack)
 
-  -- the next packet of an answer was written
-  pub record WritesAnswer (repo_old : RepoState) (old : Answer A) (reader_old : PacketReader) (answered : Answered)
-      (repo_new : RepoState) (new : Answer A) (reader_new : PacketReader) : Type 0 where
-    pub packet : Pkt
-    pub writes : Writes reader_old packet reader_new
-    pub follows : FollowsAnswer repo_old.answers old answered new packet
-    pub reads : ReadsPack answered repo_old repo_new
+-- the next packet of an answer was written
+abbrev pub WritesAnswer : {A : Type 0} → RepoState → Answer A → PacketReader → Answered → RepoState → Answer A → PacketReader → Type 0
+WritesAnswer repo_old old reader_old answered repo_new new reader_new =
+    WritesNext (λ manner answer later. IsAnswerFrom manner repo_old.answers answer later) (most_from repo_old.answers)
+    repo_old old reader_old answered repo_new new reader_new

@@ -5,7 +5,7 @@ ghost use Rattle.std.specs.Option.{option_copied};
 ghost use Rattle.git_names.specs.RefName.{IsRefName};
 ghost use Rattle.git_pkt.specs.PacketReader.{is_open};
 ghost use Rattle.git_msg.specs.References.{IsWritable, shown_reference};
-ghost use Rattle.git_server.specs.AnsweredRequest.{AnswersOne, WritesAnswer, answer_to};
+ghost use Rattle.git_server.specs.AnsweredRequest.{AnswersOne, WritesAnswer, answer_to, kept_with};
 ghost use Rattle.git_server.specs.Answers.{reference_packet, shown_line};
 ghost use Rattle.git_server.specs.WrittenPackets.{Writes};
 ghost use Rattle.git_server.specs.Repository.{HasOneFormat};
@@ -54,7 +54,8 @@ impl<A: Allocator + Copy> Answer<A> {
     /// Writes the next packet of the answer into the reader's hold, and goes on to the one after it.
     pub(crate) fn write<R: Repo>(&mut self, repo: &mut R, reader: &mut PacketReader) -> Answered
         requires { is_open reader.old ≡ false }
-        ensures { WritesAnswer (R.state repo.old) self.old reader.old result (R.state repo.new) self.new reader.new }
+        ensures writes { WritesAnswer (R.state repo.old) self.old reader.old result (R.state repo.new) self.new reader.new }
+        ensures kept { kept_with self.new ≡ kept_with self.old }
     {
         match self {
             Answer::References(request, next) => match answer_one(repo, request, *next, reader) {

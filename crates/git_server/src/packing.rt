@@ -34,7 +34,7 @@ pub(crate) fn write_pack<R: Repo, A: Allocator + Copy>(
     reader: &mut PacketReader,
 ) -> Answered
     requires { is_open reader.old ≡ false }
-    ensures { WritesPack request.now.asked (R.state repo.old) place.old reader.old result (R.state repo.new) place.new reader.new }
+    ensures { WritesPack ((R.state repo.old).answers.pack request.now.asked) (R.state repo.old) place.old reader.old result (R.state repo.new) place.new reader.new }
 {
     match *place {
         PackPlace::Header => {

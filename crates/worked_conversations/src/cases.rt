@@ -4,7 +4,7 @@ use crate::asking::Asking;
 use crate::ends::End;
 use crate::runs;
 use crate::script::{Given, Script};
-use crate::sessions::Setup;
+use crate::sessions::{Reads, Setup};
 use crate::tables::Table;
 use crate::trouble::Trouble;
 use git_msg::Command;
@@ -59,13 +59,31 @@ impl<'a> Words<'a> {
         }
     }
 
-    fn limit(self) -> Result<u32, Trouble> {
-        match self.after("limit") {
-            Some(limit) => limit
-                .parse::<u32>()
-                .map_err(|_| Trouble::BadCase("no limit")),
-            None => Ok(USUAL),
+    // The number after this word, if it stands there.
+    fn number(self, word: &str) -> Result<Option<u32>, Trouble> {
+        match self.after(word) {
+            Some(number) => match number.parse::<u32>() {
+                Ok(number) => Ok(Some(number)),
+                Err(_) => Err(Trouble::BadCase("no number after a word")),
+            },
+            None => Ok(None),
         }
+    }
+
+    fn limit(self) -> Result<u32, Trouble> {
+        Ok(self.number("limit")?.unwrap_or(USUAL))
+    }
+
+    // How a pack is read. A read that no run makes is the first to fail where none is named.
+    fn reads(self) -> Result<Option<Reads>, Trouble> {
+        let (fail_from, most) = (self.number("failing")?, self.number("most")?);
+        if fail_from.is_none() && most.is_none() {
+            return Ok(None);
+        }
+        Ok(Some(Reads {
+            fail_from: fail_from.unwrap_or(u32::MAX),
+            most: most.unwrap_or(u32::MAX) as usize,
+        }))
     }
 
     fn start(self) -> Result<u64, Trouble> {
@@ -95,8 +113,12 @@ fn table_of(words: Words<'_>) -> Option<Table> {
     }
 }
 
-// What these words name. A server has this repository.
-fn subject_of<'a>(words: Words<'_>, repository: &'a [u8]) -> Result<Subject<'a>, Trouble> {
+// What these words name. A server has this repository and this pack.
+fn subject_of<'a>(
+    words: Words<'_>,
+    repository: &'a [u8],
+    pack: &'a [u8],
+) -> Result<Subject<'a>, Trouble> {
     if let Some(table) = table_of(words) {
         return Ok(Subject::Table(table));
     }
@@ -109,6 +131,8 @@ fn subject_of<'a>(words: Words<'_>, repository: &'a [u8]) -> Result<Subject<'a>,
         Some("check") => Subject::End(End::Check(format)),
         Some("server") => Subject::End(End::Server(Setup {
             repository,
+            pack,
+            reads: words.reads()?,
             limit,
             advertises: words.has("advertises"),
         })),
@@ -123,14 +147,25 @@ fn subject_of<'a>(words: Words<'_>, repository: &'a [u8]) -> Result<Subject<'a>,
     })
 }
 
+// The file that stands after this word, or nothing where the word does not stand there.
+fn file_after(
+    rt: &HostRuntime,
+    alloc: Global,
+    words: Words<'_>,
+    word: &str,
+) -> Result<Vec<u8>, Trouble> {
+    match words.after(word) {
+        Some(path) => Ok(fs::read(rt, path)?),
+        None => Ok(Vec::new(alloc)),
+    }
+}
+
 // Runs a case of which these are the lines after its name. Answers how many runs were made.
 fn goes(rt: &HostRuntime, alloc: Global, setup: &str, lines: &[&str]) -> Result<usize, Trouble> {
     let words = Words { text: setup };
-    let repository = match words.after("server") {
-        Some(path) => fs::read(rt, path)?,
-        None => Vec::new(alloc),
-    };
-    match subject_of(words, repository.as_slice())? {
+    let repository = file_after(rt, alloc, words, "server")?;
+    let pack = file_after(rt, alloc, words, "pack")?;
+    match subject_of(words, repository.as_slice(), pack.as_slice())? {
         Subject::End(end) => {
             let script = Script::read(alloc, lines, end.form())?;
             runs::goes(alloc, &end, &script)

@@ -4,31 +4,48 @@ use crate::runs::Run;
 use crate::setup::{MANY, TURNS, limits, offer};
 use crate::trouble::Trouble;
 use git_pkt::{Fault, Told};
-use git_server::{ListRepo, Outcome, Pulled, Repo, Server, serve};
+use git_server::{Faulty, ListRepo, Outcome, Pulled, Repo, Server, serve};
 use git2show_lib::{TextFault, read_repo};
 use std::alloc::{AllocError, Global};
 use test_streams::Pieces;
+
+/// How the reads of a pack go.
+#[derive(Clone, Copy)]
+pub struct Reads {
+    /// The first of them that fails, from 0.
+    pub fail_from: u32,
+    /// How many bytes each of them gives at the most.
+    pub most: usize,
+}
 
 /// How a server is set up.
 #[derive(Drop)]
 pub struct Setup<'a> {
     /// The text of its repository.
     pub repository: &'a [u8],
+    /// Its pack.
+    pub pack: &'a [u8],
+    /// How the pack is read, where that is not as always.
+    pub reads: Option<Reads>,
     /// How many bytes of a request's arguments it keeps at the most.
     pub limit: u32,
     /// Whether its advertisement comes first.
     pub advertises: bool,
 }
 
-fn new_server(alloc: Global, setup: &Setup<'_>) -> Result<Server<ListRepo, Global>, Trouble> {
-    let repo = match read_repo(alloc, setup.repository, Vec::new(alloc)) {
-        Ok(repo) => repo,
-        Err(TextFault::OutOfMemory) => return Err(Trouble::OutOfMemory),
-        Err(TextFault::Bad { .. }) => return Err(Trouble::BadCase("no repository text")),
-    };
+fn repository(alloc: Global, setup: &Setup<'_>) -> Result<ListRepo, Trouble> {
+    let pack = Vec::from_slice(alloc, setup.pack)?;
+    match read_repo(alloc, setup.repository, pack) {
+        Ok(repo) => Ok(repo),
+        Err(TextFault::OutOfMemory) => Err(Trouble::OutOfMemory),
+        Err(TextFault::Bad { .. }) => Err(Trouble::BadCase("no repository text")),
+    }
+}
+
+fn new_server<R: Repo>(alloc: Global, repo: R, setup: &Setup<'_>) -> Server<R, Global> {
     let offer = offer(repo.format());
     let limits = limits(setup.limit);
-    Ok(Server::new(alloc, repo, offer, limits, setup.advertises))
+    Server::new(alloc, repo, offer, limits, setup.advertises)
 }
 
 fn fault_in(outcome: Outcome) -> Option<Fault> {
@@ -47,8 +64,8 @@ fn ending_of(alloc: Global, outcome: Outcome) -> Result<String, AllocError> {
 }
 
 // Appends all that the server owes. Its outcome, if there is one.
-fn drain(
-    server: &mut Server<ListRepo, Global>,
+fn drain<R: Repo>(
+    server: &mut Server<R, Global>,
     output: &mut Vec<u8>,
 ) -> Result<Option<Outcome>, Trouble> {
     for _ in 0..MANY {
@@ -62,8 +79,8 @@ fn drain(
 }
 
 // Feeds a piece whole, and appends what the server gives for it. Its outcome, and how many bytes it used.
-fn feed(
-    server: &mut Server<ListRepo, Global>,
+fn feed<R: Repo>(
+    server: &mut Server<R, Global>,
     piece: &[u8],
     output: &mut Vec<u8>,
 ) -> Result<(Option<Outcome>, usize), Trouble> {
@@ -80,7 +97,7 @@ fn feed(
 }
 
 // A server whose session is over uses nothing more, gives nothing more, and has its outcome's fault.
-fn check_over(server: &mut Server<ListRepo, Global>, outcome: Outcome) -> Result<(), Trouble> {
+fn check_over<R: Repo>(server: &mut Server<R, Global>, outcome: Outcome) -> Result<(), Trouble> {
     let used = server.feed(b"0000");
     let again = match server.pull() {
         Pulled::Finished(again) => Some(again),
@@ -95,9 +112,12 @@ fn check_over(server: &mut Server<ListRepo, Global>, outcome: Outcome) -> Result
     Ok(())
 }
 
-/// Feeds the pieces to a server, after which the input ends.
-pub fn fed(alloc: Global, setup: &Setup<'_>, pieces: &[&[u8]]) -> Result<Run, Trouble> {
-    let mut server = new_server(alloc, setup)?;
+// Feeds the pieces to a new server, after which the input ends.
+fn fed_to<R: Repo + Drop>(
+    alloc: Global,
+    mut server: Server<R, Global>,
+    pieces: &[&[u8]],
+) -> Result<Run, Trouble> {
     let mut given = Vec::new(alloc);
     let mut outcome = drain(&mut server, &mut given)?;
     let mut used = 0usize;
@@ -121,9 +141,24 @@ pub fn fed(alloc: Global, setup: &Setup<'_>, pieces: &[&[u8]]) -> Result<Run, Tr
     })
 }
 
-/// Serves the pieces.
-pub fn served(alloc: Global, setup: &Setup<'_>, pieces: &[&[u8]]) -> Result<Run, Trouble> {
-    let mut server = new_server(alloc, setup)?;
+/// Feeds the pieces to a server, after which the input ends.
+pub fn fed(alloc: Global, setup: &Setup<'_>, pieces: &[&[u8]]) -> Result<Run, Trouble> {
+    let repo = repository(alloc, setup)?;
+    match setup.reads {
+        Some(Reads { fail_from, most }) => {
+            let repo = Faulty::new(repo, fail_from, most.max(1));
+            fed_to(alloc, new_server(alloc, repo, setup), pieces)
+        }
+        None => fed_to(alloc, new_server(alloc, repo, setup), pieces),
+    }
+}
+
+// Serves the pieces by a new server.
+fn served_by<R: Repo + Drop>(
+    alloc: Global,
+    mut server: Server<R, Global>,
+    pieces: &[&[u8]],
+) -> Result<Run, Trouble> {
     let mut given = Vec::new(alloc);
     let mut piece = [0; 256];
     let run = serve(
@@ -142,4 +177,16 @@ pub fn served(alloc: Global, setup: &Setup<'_>, pieces: &[&[u8]]) -> Result<Run,
         ending,
         used: None,
     })
+}
+
+/// Serves the pieces.
+pub fn served(alloc: Global, setup: &Setup<'_>, pieces: &[&[u8]]) -> Result<Run, Trouble> {
+    let repo = repository(alloc, setup)?;
+    match setup.reads {
+        Some(Reads { fail_from, most }) => {
+            let repo = Faulty::new(repo, fail_from, most.max(1));
+            served_by(alloc, new_server(alloc, repo, setup), pieces)
+        }
+        None => served_by(alloc, new_server(alloc, repo, setup), pieces),
+    }
 }

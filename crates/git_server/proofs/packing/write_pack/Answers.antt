@@ -1,7 +1,7 @@
 use Rattle.std.proofs.Common.{arith, rules, ◌<◌, ◌+◌, sym, subst, take}
 use Rattle.git_pkt.specs.Bands.{band_packet}
 use Rattle.git_pkt.specs.declared.band.Band.TheVariants.{Pack as PackBand}
-use Rattle.git_server.specs.AnsweredRequest.{FollowsPack}
+use Rattle.git_server.specs.AnsweredRequest.{IsNext, IsPackfileFrom, most_packets}
 use Rattle.git_server.specs.declared.answer.Answered.TheVariants.{Part}
 use Rattle.git_server.specs.declared.packing.PackPlace.{PackPlace}
 use Rattle.git_server.specs.declared.packing.PackPlace.TheVariants.{Pack}
@@ -19,7 +19,8 @@ returns-in-Ok g c =
     record {
       packet = packet;
       writes = c.write_band.ensures;
-      follows = subst (λ (place : PackPlace). FollowsPack pack place Part (Pack (offset + count)) packet) (sym c.in-Pack.is)
+      is_next = subst (λ (place : PackPlace). IsNext (λ m p later. IsPackfileFrom m pack p later) (most_packets pack) place Part (Pack (offset + count)) packet)
+          (sym c.in-Pack.is)
           (after_part pack c.pack_read.new.out offset count part some (search rules), omega (arith, part.within, some));
       reads = record { answers = c.pack_read.ensures.same; failures = c.in-Ok.ensures.fine };
     }

@@ -32,7 +32,7 @@ returns-in-Part g c =
     let flush = c.in-Answering.flush in
     let answer = c.in-Answering.answer in
     let was = c.in-Answering.is in
-    let one = c.in-Part.ensures in
+    let one = c.in-Part.ensures.writes in
     let repo = (g.R.Repo.state old.repo).answers in
     let other = c.write-in-Answering.new.self in
     let now = Answering other flush in
@@ -40,11 +40,11 @@ returns-in-Part g c =
     let quiet_now = is_answering now other flush refl in
     gives g.R.Repo.state old _ one.packet one.writes
     (record { offer = refl; repo = same_state _ _ one.reads.answers one.reads.failures; requests = refl })
-    (part_owes old.offer repo old.phase answer flush one.packet was other one.follows)
-    (part_breaks old.offer repo old.phase answer flush one.packet was other one.follows)
-    (part_less old.offer repo old.phase answer flush one.packet was other one.follows)
+    (part_owes old.offer repo old.phase answer flush one.packet was other one.is_next)
+    (part_breaks old.offer repo old.phase answer flush one.packet was other one.is_next)
+    (part_less old.offer repo old.phase answer flush one.packet was other one.is_next)
     (same_outcome old.phase now quiet quiet_now) (left_stays old.phase now quiet quiet_now)
-    (flush_stays answer flush old.phase other was) (omega (arith, ap kept_in was, one.follows.2))
+    (flush_stays answer flush old.phase other was) (omega (arith, ap kept_in was, c.in-Part.ensures.kept))
 
 pub returns-in-Whole : goal.returns-in-Whole
 returns-in-Whole g c =
@@ -52,13 +52,13 @@ returns-in-Whole g c =
     let flush = c.in-Answering.flush in
     let answer = c.in-Answering.answer in
     let was = c.in-Answering.is in
-    let one = c.in-Whole.ensures in
+    let one = c.in-Whole.ensures.writes in
     let repo = (g.R.Repo.state old.repo).answers in
     let quiet = is_answering old.phase answer flush was in
     let quiet_now = is_between Between refl in
     gives g.R.Repo.state old _ one.packet one.writes
     (record { offer = refl; repo = same_state _ _ one.reads.answers one.reads.failures; requests = refl })
-    (last_owes old.offer repo old.phase answer flush one.packet was one.follows)
+    (last_owes old.offer repo old.phase answer flush one.packet was one.is_next)
     (λ later may. absurd may)
     (last_less old.offer repo old.phase answer flush one.packet was)
     (same_outcome old.phase Between quiet quiet_now) (left_stays old.phase Between quiet quiet_now) (λ packets h. tt) (omega arith)
@@ -66,9 +66,9 @@ returns-in-Whole g c =
 pub returns-in-Broken : goal.returns-in-Broken
 returns-in-Broken g c =
     let old = c.args.self.now in
-    let one = c.in-Broken.ensures in
+    let one = c.in-Broken.ensures.writes in
     gives_broken g.R.Repo.state old _ one.packet c.in-Answering.answer c.in-Answering.flush one.writes refl refl c.in-Answering.is
-    (ap Ended c.without_pack.ensures) one.reads one.follows
+    (ap Ended c.without_pack.ensures) one.reads one.is_next
 
 pub returns-in-Refusing : goal.returns-in-Refusing
 returns-in-Refusing g c =
