@@ -6,7 +6,10 @@ pub returns-then-not-read_pairs : goal.returns-then-not-read_pairs
 returns-then-not-read_pairs c =
     let room = length-room c.args.format c.width.result c.width.ensures in
     record {
-      name = (refl, read_none c.args.format c.args.text.now _ c.width.ensures (λ bytes long pairs. c.if-not-read_pairs.ensures.pairs bytes (long ∙ sym room) pairs));
+      name = (
+        refl,
+        read_none c.args.format c.args.text.now _ c.width.ensures (λ bytes long pairs. c.if-not-read_pairs.ensures.pairs bytes (long ∙ sym room) pairs),
+      );
     }
 
 pub invariant_of-result : goal.invariant_of-result
@@ -20,5 +23,6 @@ pub returns : goal.returns
 returns c =
     let room = length-room c.args.format c.width.result c.width.ensures in
     record {
-      name = read_name c.args.format c.args.text.now c.read_pairs.new.out c.width.result c.width.ensures (c.read_pairs.auto.out ∙ room) c.if-not-read_pairs.ensures.pairs;
+      name = read_name c.args.format c.args.text.now c.read_pairs.new.out c.width.result c.width.ensures (c.read_pairs.auto.out ∙ room)
+          c.if-not-read_pairs.ensures.pairs;
     }
