@@ -82,7 +82,7 @@ pub fn read_argument<'a>(
     offer: &Offer,
     text: &'a [u8],
 ) -> Result<Argument<'a>, Kind>
-    ensures { MatchResult result (λ argument. ReadsAs command offer.now text.now (shown argument))
+    ensures argument { MatchResult result (λ argument. ReadsAs command offer.now text.now (shown argument))
         (IsArgumentFault command offer.now text.now) }
 {
     match command {
@@ -92,7 +92,7 @@ pub fn read_argument<'a>(
 }
 
 fn read_ls_refs<'a>(offer: &Offer, text: &'a [u8]) -> Result<Argument<'a>, Kind>
-    ensures { MatchResult result (λ argument. ReadsAs Command.LsRefs offer.now text.now (shown argument))
+    ensures argument { MatchResult result (λ argument. ReadsAs Command.LsRefs offer.now text.now (shown argument))
         (IsArgumentFault Command.LsRefs offer.now text.now) }
 {
     if is_word(text, b"symrefs") {
@@ -111,7 +111,7 @@ fn read_ls_refs<'a>(offer: &Offer, text: &'a [u8]) -> Result<Argument<'a>, Kind>
 }
 
 fn read_fetch<'a>(offer: &Offer, text: &'a [u8]) -> Result<Argument<'a>, Kind>
-    ensures { MatchResult result (λ argument. ReadsAs Command.Fetch offer.now text.now (shown argument))
+    ensures argument { MatchResult result (λ argument. ReadsAs Command.Fetch offer.now text.now (shown argument))
         (IsArgumentFault Command.Fetch offer.now text.now) }
 {
     if is_word(text, b"done") {
@@ -137,7 +137,7 @@ fn read_fetch<'a>(offer: &Offer, text: &'a [u8]) -> Result<Argument<'a>, Kind>
 }
 
 fn read_id(format: Format, name: &[u8]) -> Result<Oid, Kind>
-    ensures { MatchResult result (IsObjectName format name.now) (λ kind. IsNoObjectName format name.now × (kind ≡ Kind.BadObjectName)) }
+    ensures name { MatchResult result (IsObjectName format name.now) (λ kind. IsNoObjectName format name.now × (kind ≡ Kind.BadObjectName)) }
 {
     match Oid::read(format, name) {
         Ok(id) => Ok(id),

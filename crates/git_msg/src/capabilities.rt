@@ -52,19 +52,19 @@ fn key_length(text: &[u8]) -> usize
 }
 
 fn is_key(text: &[u8]) -> bool
-    ensures { result ≡ is_key_text text.now }
+    ensures value { result ≡ is_key_text text.now }
 {
     !text.is_empty() && text.iter().all(|byte| is_key_byte(*byte))
 }
 
 fn is_value(text: &[u8]) -> bool
-    ensures { result ≡ is_value_text text.now }
+    ensures value { result ≡ is_value_text text.now }
 {
     text.iter().all(|byte| *byte != 0 && *byte != b'\n')
 }
 
 fn is_key_byte(byte: u8) -> bool
-    ensures { result ≡ is_key_code byte }
+    ensures value { result ≡ is_key_code byte }
 {
     byte.is_ascii_alphanumeric() || byte == b'-' || byte == b'_'
 }

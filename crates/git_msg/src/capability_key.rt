@@ -16,7 +16,7 @@ pub(crate) enum Key {
 
 /// Which key the word is.
 pub(crate) fn read_key(word: &[u8]) -> Key
-    ensures { IsWordOf word.now result }
+    ensures word { IsWordOf word.now result }
 {
     if is_word(word, b"command") {
         return Key::CommandKey;

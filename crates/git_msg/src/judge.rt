@@ -25,7 +25,7 @@ pub(crate) enum Noted {
 
 /// Judges the text of a line of the capability part; `first` says that no command line came before.
 pub(crate) fn judge_capability(offer: &Offer, first: bool, text: &[u8]) -> Result<Noted, Kind>
-    ensures { MatchResult result (λ noted. IsCapabilityLine offer.now first text.now (line_of noted))
+    ensures line { MatchResult result (λ noted. IsCapabilityLine offer.now first text.now (line_of noted))
         (Refuses (capability_checks offer.now first text.now)) }
 {
     if is_error(text) {
@@ -37,7 +37,7 @@ pub(crate) fn judge_capability(offer: &Offer, first: bool, text: &[u8]) -> Resul
 }
 
 fn judge_key(offer: &Offer, first: bool, key: Key, value: Option<&[u8]>) -> Result<Noted, Kind>
-    ensures { MatchResult result
+    ensures line { MatchResult result
         (λ noted. Passes (key_checks offer.now first key (option_copied value.entry)) × IsLineOf key (option_copied value.entry) (line_of noted))
         (Refuses (key_checks offer.now first key (option_copied value.entry))) }
 {
@@ -70,7 +70,7 @@ fn judge_key(offer: &Offer, first: bool, key: Key, value: Option<&[u8]>) -> Resu
 
 /// The command that a value of `command=` names.
 fn read_command(value: Option<&[u8]>) -> Option<Command>
-    ensures { MatchOption result (¬ NamesCommand (option_copied value.entry))
+    ensures command { MatchOption result (¬ NamesCommand (option_copied value.entry))
         (λ command. option_copied value.entry ≡ Some (name_of command)) }
 {
     if is_value(value, b"ls-refs") {
@@ -84,7 +84,7 @@ fn read_command(value: Option<&[u8]>) -> Option<Command>
 
 /// Whether the value is there, and is the word.
 fn is_value(value: Option<&[u8]>, word: &[u8]) -> bool
-    ensures { IsTrue result ↔ (option_copied value.entry ≡ Some word.now) }
+    ensures same { IsTrue result ↔ (option_copied value.entry ≡ Some word.now) }
 {
     match value {
         Some(value) => is_word(value, word),
@@ -98,7 +98,7 @@ pub(crate) fn read_text<'a>(
     offer: &Offer,
     text: &'a [u8],
 ) -> Result<Argument<'a>, Kind>
-    ensures { MatchResult result (λ argument. IsText command offer.now text.now (shown argument))
+    ensures argument { MatchResult result (λ argument. IsText command offer.now text.now (shown argument))
         (Refuses (text_checks command offer.now text.now)) }
 {
     if is_error(text) {

@@ -80,7 +80,7 @@ impl<A: Allocator + Copy> RequestReader<A> {
     /// is refused ends the reading: from then on each call answers that fault.
     pub fn take<'p>(&mut self, packet: Packet<'p>, offset: u64) -> Result<Taken<'p, A>, Fault>
         requires { is_waiting self.old ≡ false }
-        ensures { TakesOn self.old (record { packet = seen packet.entry; offset = offset }) result self.new }
+        ensures takes { TakesOn self.old (record { packet = seen packet.entry; offset = offset }) result self.new }
     {
         let step = match self.part {
             Part::Failed(fault) => return Err(fault),
@@ -99,7 +99,7 @@ impl<A: Allocator + Copy> RequestReader<A> {
     /// bytes, or else `OutOfMemory` where no memory is left for its value.
     pub fn keep(&mut self, argument: Argument<'_>) -> Result<(), Fault>
         requires { is_waiting self.old ≡ true }
-        ensures { KeepsOn self.old (shown argument.entry) result self.new }
+        ensures keeps { KeepsOn self.old (shown argument.entry) result self.new }
     {
         let argument = put_together!(argument);
         self.settle(&argument)
@@ -107,7 +107,7 @@ impl<A: Allocator + Copy> RequestReader<A> {
 
     fn settle(&mut self, argument: &Argument<'_>) -> Result<(), Fault>
         requires { is_waiting self.old ≡ true }
-        ensures { KeepsOn self.old (shown argument.now) result self.new }
+        ensures keeps { KeepsOn self.old (shown argument.now) result self.new }
     {
         let Part::Waiting(offset, length) = self.part else {
             unreachable!()
@@ -135,7 +135,7 @@ impl<A: Allocator + Copy> RequestReader<A> {
 
     fn take_capability<'p>(&mut self, packet: Packet<'p>, offset: u64) -> Result<Taken<'p, A>, Kind>
         requires { self.old.part ≡ Part.Capabilities }
-        ensures { StepsOn self.old (seen packet.entry) offset result self.new }
+        ensures steps { StepsOn self.old (seen packet.entry) offset result self.new }
     {
         match packet {
             Packet::Payload(payload) => {
@@ -164,7 +164,7 @@ impl<A: Allocator + Copy> RequestReader<A> {
 
     fn take_argument<'p>(&mut self, packet: Packet<'p>, offset: u64) -> Result<Taken<'p, A>, Kind>
         requires { self.old.part ≡ Part.Arguments }
-        ensures { StepsOn self.old (seen packet.entry) offset result self.new }
+        ensures steps { StepsOn self.old (seen packet.entry) offset result self.new }
     {
         match packet {
             Packet::Payload(payload) => {
@@ -204,7 +204,7 @@ impl<A: Allocator + Copy> RequestReader<A> {
 
     // The command, which is due at the end of the capability part.
     fn command_due(&self) -> Result<Command, Kind>
-        ensures { MatchResult result (IsDue self.now) (IsUndue self.now) }
+        ensures command { MatchResult result (IsDue self.now) (IsUndue self.now) }
     {
         let Some(command) = self.command else {
             return Err(Kind::NoCommand);

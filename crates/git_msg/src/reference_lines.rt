@@ -31,7 +31,7 @@ enum Attribute<'a> {
 /// space. Attributes that are not known are passed over. A text without a space is `BadLine`; then from left to right
 /// `BadObjectName` and `BadRefName`.
 pub fn read_reference(format: Format, text: &[u8]) -> Result<Reference<'_>, Kind>
-    ensures { MatchResult result (λ reference. IsReferenceLine format text.now (shown_reference reference))
+    ensures line { MatchResult result (λ reference. IsReferenceLine format text.now (shown_reference reference))
         (IsReferenceFault format text.now) }
 {
     let (id, Some(rest)) = split_at_first(text, b' ') else {
@@ -49,10 +49,10 @@ pub fn read_reference(format: Format, text: &[u8]) -> Result<Reference<'_>, Kind
     })
 }
 
-/// The reference name that the text begins with, and what stands after the space behind it, where there is one. Most
+/// The reference name that the text begins with, and what stands after the space that ends it, where there is one. Most
 /// texts are the name alone: as a name has no space, they need no search for one.
 fn split_name(text: &[u8]) -> Result<(&[u8], Option<&[u8]>), NameFault>
-    ensures { MatchResult result (λ parts. BeginsWithName text.now parts.0.now (parts_left 32 (option_copied parts.1)))
+    ensures parts { MatchResult result (λ parts. BeginsWithName text.now parts.0.now (parts_left 32 (option_copied parts.1)))
         (λ fault. (fault ≡ NameFault.BadRefName) × BeginsWithNoName text.now) }
 {
     if let Ok(_) = RefName::read(text) {
@@ -65,7 +65,7 @@ fn split_name(text: &[u8]) -> Result<(&[u8], Option<&[u8]>), NameFault>
 
 /// The last values of the attributes of a line.
 fn read_attributes<'a>(format: Format, words: Option<&'a [u8]>) -> Result<Found<'a>, Kind>
-    ensures { MatchResult result
+    ensures values { MatchResult result
         (λ found. LastValues format (parts_left 32 (option_copied words.entry)) (option_copied found.target) (option_copied found.peeled))
         (Refuses (attribute_checks format (parts_left 32 (option_copied words.entry)))) }
 {
@@ -86,7 +86,7 @@ fn read_attributes<'a>(format: Format, words: Option<&'a [u8]>) -> Result<Found<
 }
 
 fn read_attribute<'a>(format: Format, word: &'a [u8]) -> Result<Attribute<'a>, Kind>
-    ensures { MatchResult result (IsFound format word.now) (IsAttributeFault format word.now) }
+    ensures attribute { MatchResult result (IsFound format word.now) (IsAttributeFault format word.now) }
 {
     if let Some(name) = after(word, b"symref-target:") {
         RefName::read(name)?;
@@ -102,7 +102,7 @@ fn read_attribute<'a>(format: Format, word: &'a [u8]) -> Result<Attribute<'a>, K
 /// The object name that a text was found to be.
 fn read_peeled(format: Format, text: Option<&[u8]>) -> Option<Oid>
     requires { ForSome (option_copied text) (λ text. (id : ObjectName) × IsObjectName format text id) }
-    ensures { IsMaybeObjectName format (option_copied text.entry) result }
+    ensures name { IsMaybeObjectName format (option_copied text.entry) result }
 {
     match text {
         Some(text) => Oid::read(format, text).ok(),

@@ -16,14 +16,14 @@ pub(crate) fn is_word(text: &[u8], word: &[u8]) -> bool
 
 /// What stands after the word, if the text begins with it.
 pub fn after<'a>(text: &'a [u8], word: &[u8]) -> Option<&'a [u8]>
-    ensures { MatchOption result (BeginsOtherThan word.now text.now) (λ rest. text.now ≡ word.now ++ rest.now) }
+    ensures rest { MatchOption result (BeginsOtherThan word.now text.now) (λ rest. text.now ≡ word.now ++ rest.now) }
 {
     text.strip_prefix(word)
 }
 
 /// The first place of the text where this byte stands.
 pub(crate) fn find_byte(text: &[u8], byte: u8) -> Option<usize>
-    ensures { result ≡ position (λ c. c == byte) text.now }
+    ensures value { result ≡ position (λ c. c == byte) text.now }
 {
     text.find_byte(byte)
 }
@@ -41,14 +41,14 @@ pub fn split_at_first(text: &[u8], byte: u8) -> (&[u8], Option<&[u8]>)
 
 /// The message of an error packet that has this text, gitprotocol-pack(5): what stands after `ERR `.
 pub fn error_message(text: &[u8]) -> Option<&[u8]>
-    ensures { MatchOption result (¬ IsErrorText text.now) (λ message. IsErrorOf text.now message.now) }
+    ensures message { MatchOption result (¬ IsErrorText text.now) (λ message. IsErrorOf text.now message.now) }
 {
     after(text, b"ERR ")
 }
 
 /// Whether the text is that of an error packet.
 pub fn is_error(text: &[u8]) -> bool
-    ensures { IsTrue result ↔ IsErrorText text.now }
+    ensures error { IsTrue result ↔ IsErrorText text.now }
 {
     error_message(text).is_some()
 }

@@ -1,9 +1,11 @@
 -- Bytes that are made of pairs of digits' values, in a text with the digit 0 after it.
-use Rattle.std.proofs.Common.{◌≡◌, ℕ, ◌+◌, ◌-◌, ◌*◌, ◌/◌, ◌%◌, ◌<◌, ◌≤◌, List, ◌++◌, drop, length, map, replicate, slice_index, take, arith, ap, refl, sym, subst, ◌∙◌}
+use Rattle.std.proofs.Common.{◌≡◌, ℕ, ◌+◌, ◌-◌, ◌*◌, ◌/◌, ◌%◌, ◌<◌, ◌≤◌, List, ◌++◌, drop, length}
+use Rattle.std.proofs.Common.{map, replicate, slice_index, take, arith, ap, refl, sym, subst, ◌∙◌}
 use Rattle.std.proofs.Common.{Bool, true, false, ◌||◌, ◌⊎◌, inl, inr}
 use Rattle.std.specs.List.{range_with_len}
 use Rattle.std.proofs.lemmas.Bool.{cases_lt}
-use Rattle.std.proofs.lemmas.List.{drop-replicate, get_or_append_left, get_or-append_right, get_or-replicate, get_or-take, length-append, length-replicate, length-take-le}
+use Rattle.std.proofs.lemmas.List.{drop-replicate, get_or_append_left, get_or-append_right, get_or-replicate}
+use Rattle.std.proofs.lemmas.List.{get_or-take, length-append, length-replicate, length-take-le}
 use Rattle.std.proofs.lemmas.List.FromFn.{get_or-map-range_with_len}
 use Rattle.git_names.specs.Digits.{AreDigits, HaveValues, IsHexDigit, digit_value}
 use Rattle.git_names.specs.ObjectName.{ArePairs}
@@ -28,7 +30,8 @@ abbrev pub with_zeros : List ℕ → List ℕ
 with_zeros text = text ++ replicate (64 - length text) 48
 
 pub zeros_after : (text front : List ℕ) → front ≡ text → front ++ drop (length text) (replicate 64 48) ≡ with_zeros text
-zeros_after text front e = ap (λ (s : List ℕ). s ++ drop (length text) (replicate 64 48)) e ∙ ap (λ (s : List ℕ). text ++ s) (drop-replicate {X = ℕ} (length text) 64 48)
+zeros_after text front e = ap (λ (s : List ℕ). s ++ drop (length text) (replicate 64 48)) e
+    ∙ ap (λ (s : List ℕ). text ++ s) (drop-replicate {X = ℕ} (length text) 64 48)
 
 length-with_zeros : (text : List ℕ) → length text ≤ 64 → length (with_zeros text) ≡ 64
 length-with_zeros text within =
@@ -57,7 +60,8 @@ unfolding digit_value
 digit_zero = omega arith
 
 -- each byte of pairs is a digit
-digit_at : (text bytes : List ℕ) (n k : ℕ) → k < 64 → length text ≡ 2 * n → length bytes ≡ n → ArePairs text bytes → IsHexDigit (slice_index (with_zeros text) k)
+digit_at : (text bytes : List ℕ) (n k : ℕ)
+    → k < 64 → length text ≡ 2 * n → length bytes ≡ n → ArePairs text bytes → IsHexDigit (slice_index (with_zeros text) k)
 digit_at text bytes n k lt twice long pairs =
     elim (cases_lt k (length text)) [
       | inl below ↦

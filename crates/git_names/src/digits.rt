@@ -30,7 +30,7 @@ static LOWER_DIGITS: [u8; 16] = *b"0123456789abcdef";
 
 /// The value of a hexadecimal digit of either case, and 16 for any other byte.
 pub fn digit_value(byte: u8) -> u8
-    ensures { result ≡ digit_value byte }
+    ensures value { result ≡ digit_value byte }
 {
     DIGIT_VALUES[byte as usize]
 }
@@ -47,7 +47,7 @@ pub fn lower_digit(value: usize) -> u8
 // false, and `out` is of no use.
 pub(crate) fn read_pairs(text: &[u8], out: &mut [u8]) -> bool
     requires { length out.old ≤ 32 }
-    ensures { MatchBool result (ArePairs text.now out.new)
+    ensures pairs { MatchBool result (ArePairs text.now out.new)
         ((bytes : List ℕ) → length bytes ≡ length out.old → ¬ ArePairs text.now bytes) }
 {
     if text.len() != 2 * out.len() {
@@ -63,7 +63,7 @@ pub(crate) fn read_pairs(text: &[u8], out: &mut [u8]) -> bool
 // The text, and the digit 0 up to 64 bytes.
 fn with_zeros(text: &[u8]) -> [u8; 64]
     requires { length text.now ≤ 64 }
-    ensures { result ≡ text.now ++ replicate (64 - length text.now) 48 }
+    ensures value { result ≡ text.now ++ replicate (64 - length text.now) 48 }
 {
     let mut digits = [b'0'; 64];
     digits[..text.len()].copy_from_slice(text);
@@ -73,7 +73,7 @@ fn with_zeros(text: &[u8]) -> [u8; 64]
 // The values of 64 digits. Each step of the loop is the same and goes on whatever it finds, so that the compiler makes
 // one of many.
 fn digit_values(digits: &[u8; 64]) -> Option<[u8; 64]>
-    ensures { MatchOption result (¬ AreDigits digits.now) (λ values. HaveValues digits.now values) }
+    ensures values { MatchOption result (¬ AreDigits digits.now) (λ values. HaveValues digits.now values) }
 {
     let mut values = [0; 64];
     let mut has_other = false;
@@ -90,7 +90,7 @@ fn digit_values(digits: &[u8; 64]) -> Option<[u8; 64]>
 
 // The same as `digit_value`, by comparisons.
 fn value_of(byte: u8) -> u8
-    ensures { result ≡ digit_value byte }
+    ensures value { result ≡ digit_value byte }
 {
     if (byte >= b'0') & (byte <= b'9') {
         byte - b'0'

@@ -34,7 +34,7 @@ impl Oid {
     /// The object name that `text` spells: exactly as many hexadecimal digits as the format has,
     /// of either case. Any other text is `BadObjectName`.
     pub fn read(format: Format, text: &[u8]) -> Result<Oid, NameFault>
-        ensures { MatchResult result (IsObjectName format text.now)
+        ensures name { MatchResult result (IsObjectName format text.now)
             (λ fault. (fault ≡ NameFault.BadObjectName) × IsNoObjectName format text.now) }
     {
         let mut bytes = [0; 32];

@@ -33,7 +33,7 @@ impl<'a> RefName<'a> {
 
     /// The reference name that is `text`, or `BadRefName` where it breaks a rule.
     pub fn read(text: &'a [u8]) -> Result<RefName<'a>, NameFault>
-        ensures { MatchResult result (λ name. (name_bytes name ≡ text.now) × IsRefName text.now)
+        ensures name { MatchResult result (λ name. (name_bytes name ≡ text.now) × IsRefName text.now)
             (λ fault. (fault ≡ NameFault.BadRefName) × ¬ IsRefName text.now) }
     {
         if !is_ref_name(text) {
@@ -53,7 +53,7 @@ impl<'a> RefName<'a> {
 
 // The rules for what follows what hold of `HEAD` too, so it takes the same way.
 fn is_ref_name(text: &[u8]) -> bool
-    ensures { IsTrue result ↔ IsRefName text.now }
+    ensures name { IsTrue result ↔ IsRefName text.now }
 {
     if !begins_well(text) {
         return false;
@@ -72,7 +72,7 @@ fn is_ref_name(text: &[u8]) -> bool
 }
 
 fn begins_well(text: &[u8]) -> bool
-    ensures { IsTrue result ↔ (text.now ≢ codes "HEAD" → BeginsWith text.now (codes "refs/")) }
+    ensures begins { IsTrue result ↔ (text.now ≢ codes "HEAD" → BeginsWith text.now (codes "refs/")) }
 {
     if text == b"HEAD".as_slice() {
         return true;
@@ -82,7 +82,7 @@ fn begins_well(text: &[u8]) -> bool
 
 // Whether each byte may stand after those before it.
 fn follows_well(text: &[u8]) -> bool
-    ensures { IsTrue result ↔ ((k : ℕ) → k < length text.now → MayFollow (take k text.now) (slice_index text.now k)) }
+    ensures follows { IsTrue result ↔ ((k : ℕ) → k < length text.now → MayFollow (take k text.now) (slice_index text.now k)) }
 {
     for (i, byte) in text.iter().enumerate() {
         if !is_plain(*byte) && !may_follow(&text[..i], *byte) {
@@ -94,7 +94,7 @@ fn follows_well(text: &[u8]) -> bool
 
 // Whether the rules let the byte stand after `front`.
 fn may_follow(front: &[u8], byte: u8) -> bool
-    ensures { IsTrue result ↔ MayFollow front.now byte }
+    ensures follows { IsTrue result ↔ MayFollow front.now byte }
 {
     match byte {
         b'/' => !front.ends_with_str(b"/") && !front.ends_with_str(b".lock"),
@@ -107,7 +107,7 @@ fn may_follow(front: &[u8], byte: u8) -> bool
 
 // Whether the byte may stand after any other, as most bytes of a name may.
 fn is_plain(byte: u8) -> bool
-    ensures { IsTrue result → IsPlain byte }
+    ensures plain { IsTrue result → IsPlain byte }
 {
     PLAIN_BYTES[byte as usize] != b'.'
 }

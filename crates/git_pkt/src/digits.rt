@@ -17,7 +17,7 @@ pub(crate) enum Digits {
 /// Reads four digits.
 pub(crate) fn read_digits(bytes: &[u8]) -> Digits
     requires { 4 ≤ length bytes.now }
-    ensures { TellsDigits bytes.now result }
+    ensures digits { TellsDigits bytes.now result }
 {
     let first = digit_value(bytes[0]);
     if first > 15 {

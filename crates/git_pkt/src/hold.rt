@@ -15,7 +15,7 @@ pub type Hold = ArrayVec<u8, LONGEST_PACKET>;
 /// Appends bytes for which there is room.
 pub fn append(hold: &mut Hold, bytes: &[u8])
     requires { array_vec_len hold.old + length bytes.now ≤ 65520 }
-    ensures { hold.new.items ≡ hold.old.items ++ bytes.now }
+    ensures appended { hold.new.items ≡ hold.old.items ++ bytes.now }
 {
     let _ = hold.try_extend_from_slice(bytes);
 }
@@ -38,7 +38,7 @@ pub(crate) fn place(hold: &mut Hold, at: usize, bytes: &[u8])
 /// Puts bytes over those of a slice.
 pub(crate) fn overwrite(slice: &mut [u8], at: usize, bytes: &[u8])
     requires { at + length bytes.now ≤ length slice.old }
-    ensures { slice.new ≡ take at slice.old ++ bytes.now ++ drop (at + length bytes.now) slice.old }
+    ensures placed { slice.new ≡ take at slice.old ++ bytes.now ++ drop (at + length bytes.now) slice.old }
 {
     slice[at..at + bytes.len()].copy_from_slice(bytes);
 }

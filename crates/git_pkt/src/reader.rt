@@ -200,7 +200,7 @@ impl PacketReader {
     /// The packet in the hold.
     fn packet(&self) -> Packet<'_>
         requires { IsWhole (held_of self.now) self.now.field }
-        ensures { Spells (seen result) (held_of self.now) }
+        ensures spells { Spells (seen result) (held_of self.now) }
     {
         let bytes = self.hold.as_slice();
         match self.field {
@@ -402,7 +402,7 @@ impl PacketReader {
 
 /// What is wrong with the number in a packet's four digits.
 fn field_fault(field: usize) -> Option<Kind>
-    ensures { TellsField field result }
+    ensures field { TellsField field result }
 {
     match field {
         3 => Some(Kind::BadLength),

@@ -6,5 +6,7 @@ use Rattle.git_msg.proofs.arguments.read_fetch.Goals as goal
 pub returns-in_err-id : goal.returns-in_err-id
 returns-in_err-id c =
     let p = err_from_is_err_and c.from_residual.result c.from_residual.ensures.1 in
-    let bad = c.in_err-id.ensures in
-    rw (p.1, p.2) (inr (of_want, (record { value = c.in-Some.name.now; spelled = search rules; holds = bad.0 }, bad.1)))
+    let bad = c.in_err-id.ensures.name in
+    rw (p.1, p.2) (record {
+      argument = inr (of_want, (record { value = c.in-Some.name.now; spelled = search rules; holds = bad.0 }, bad.1));
+    })

@@ -3,4 +3,6 @@ use Rattle.git_msg.specs.Arguments.{of_ref_prefix}
 use Rattle.git_msg.proofs.arguments.read_ls_refs.Goals as goal
 
 pub returns-then-prefix-gt-MOST_TEXT : goal.returns-then-prefix-gt-MOST_TEXT
-returns-then-prefix-gt-MOST_TEXT c = inr (of_ref_prefix, (record { value = c.in-Some.prefix.now; spelled = search rules; holds = search rules }, refl))
+returns-then-prefix-gt-MOST_TEXT c = record {
+  argument = inr (of_ref_prefix, (record { value = c.in-Some.prefix.now; spelled = search rules; holds = search rules }, refl));
+}

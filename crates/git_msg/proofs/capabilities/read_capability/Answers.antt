@@ -10,9 +10,9 @@ returns-then-not-is_key-clause-line c =
 pub returns-then-not-is_value-clause-line : goal.returns-then-not-is_value-clause-line
 returns-then-not-is_value-clause-line c =
     no_value c.args.text.now _ c.key_length-end.result c.key_length-end.ensures.first c.if-end-text.false
-    (left_of c.args.text.now _ (omega arith)) (sym c.is_value.ensures ∙ c.if-not-is_value.true)
+    (left_of c.args.text.now _ (omega arith)) (sym c.is_value.ensures.value ∙ c.if-not-is_value.true)
 
 pub returns-clause-line : goal.returns-clause-line
 returns-clause-line c =
     key_and_value c.args.text.now _ c.key_length-end.result c.key_length-end.ensures.first c.key_length-end.ensures.within c.if-end-text.false
-    (left_of c.args.text.now _ (omega arith)) (sym c.is_key.ensures ∙ c.if-not-is_key.false) (sym c.is_value.ensures ∙ c.if-not-is_value.false)
+    (left_of c.args.text.now _ (omega arith)) (sym c.is_key.ensures.value ∙ c.if-not-is_key.false) (sym c.is_value.ensures.value ∙ c.if-not-is_value.false)

@@ -23,6 +23,9 @@ by_its_key offer first text key value (Err kind) clean has h =
 pub returns : goal.returns
 returns c =
     let clean : ¬ IsErrorText c.args.text.now = search rules in
-    by_its_key c.args.offer.now c.args.first c.args.text.now c.read_key-key.result (option_copied c.in_ok-capability.capability.value) c.judge_key.result clean
-    (record { word = c.in_ok-capability.capability.key.now; is_capability = c.in_ok-capability.ensures.line; is_word = c.read_key-key.ensures })
-    c.judge_key.ensures
+    record {
+      line = by_its_key c.args.offer.now c.args.first c.args.text.now c.read_key-key.result (option_copied c.in_ok-capability.capability.value)
+          c.judge_key.result clean
+          (record { word = c.in_ok-capability.capability.key.now; is_capability = c.in_ok-capability.ensures.line; is_word = c.read_key-key.ensures.word })
+          c.judge_key.ensures.line;
+    }

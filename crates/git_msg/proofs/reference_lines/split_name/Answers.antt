@@ -3,5 +3,7 @@ use Rattle.git_msg.proofs.reference_lines.split_name.Goals as goal
 
 pub returns-in-Ok : goal.returns-in-Ok
 returns-in-Ok c =
-    let is_name = c.in-Ok.ensures.1 in
-    record { words = word_alone c.args.text.now (lacking_is_unspaced c.args.text.now is_name.no_space); is_name = is_name }
+    let is_name = c.in-Ok.ensures.name.1 in
+    record {
+      parts = record { words = word_alone c.args.text.now (lacking_is_unspaced c.args.text.now is_name.no_space); is_name = is_name };
+    }

@@ -7,4 +7,4 @@ joined held middle all word name p q = q ∙ ap (λ (xs : List ℕ). xs ++ name)
 pub returns-in-Some : goal.returns-in-Some
 returns-in-Some c =
     rw c.in-Some.is (joined c.args.hold.now.items c.append.new.hold.items c.append-in-Some.new.hold.items (codes " symref-target:") c.in-Some.name.now
-    (search rules) c.append-in-Some.ensures)
+    (search rules) c.append-in-Some.ensures.appended)

@@ -4,4 +4,4 @@ use Rattle.std.proofs.lemmas.Slice.Eq.{strip_prefix_is}
 use Rattle.git_msg.proofs.texts.after.Goals as goal
 
 pub returns : goal.returns
-returns c = strip_prefix_is Decides-eqb c.args.text.now c.args.word.now c.strip_prefix.result (search rules)
+returns c = record { rest = strip_prefix_is Decides-eqb c.args.text.now c.args.word.now c.strip_prefix.result (search rules) }

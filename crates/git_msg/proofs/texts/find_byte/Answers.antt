@@ -3,4 +3,4 @@ use Rattle.git_msg.proofs.Places.{first_place}
 use Rattle.git_msg.proofs.texts.find_byte.Goals as goal
 
 pub returns : goal.returns
-returns c = first_place (λ (x : ℕ). x == c.args.byte) c.args.text.now c.find_byte.result (search rules)
+returns c = record { value = first_place (λ (x : ℕ). x == c.args.byte) c.args.text.now c.find_byte.result (search rules) }

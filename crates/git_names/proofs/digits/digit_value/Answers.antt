@@ -15,4 +15,4 @@ unfolding digit_value
 all_have_value = refl
 
 pub returns : goal.returns
-returns c = eqb-true _ _ (all_pass-at (has_value DIGIT_VALUES) 256 c.args.byte all_have_value (omega arith))
+returns c = record { value = eqb-true _ _ (all_pass-at (has_value DIGIT_VALUES) 256 c.args.byte all_have_value (omega arith)) }

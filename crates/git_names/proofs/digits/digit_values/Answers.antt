@@ -5,7 +5,7 @@ use Rattle.git_names.proofs.digits.digit_values.Goals as goal
 
 pub loop-i-preserved : goal.loop-i-preserved
 loop-i-preserved c =
-    let value = c.value_of-value.ensures in
+    let value = c.value_of-value.ensures.value in
     let within : c.loop-i.i < length c.loop-i.values = let long = c.loop-i.invariant.long in omega arith in
     record {
       long = let same = length-set c.loop-i.values c.loop-i.i c.value_of-value.result in let long = c.loop-i.invariant.long in omega arith;

@@ -43,4 +43,4 @@ from_table table b lt h other =
     IsPlain-is_plain b (from_either (slice_index table b == 46) (is_plain b) (all_pass-at (dot_or_plain table) 256 b h lt) other)
 
 pub returns : goal.returns
-returns c = from_table PLAIN_BYTES c.args.byte (omega arith) refl
+returns c = record { plain = from_table PLAIN_BYTES c.args.byte (omega arith) refl }

@@ -11,4 +11,4 @@ returns-in_err-command-clause-err g c =
     let p = err_from_is_err_and c.from_residual.result c.from_residual.ensures.1 in
     let same : c.is_none.result ≡ is_first c.args.self.now = first_by c.args.self.now.command c.is_none.result c.is_none.ensures in
     rw (p.1, p.2)
-    (subst (λ (b : Bool). Refuses (capability_checks c.args.self.now.offer b c.args.text.now) c.in_err-command.field-0.0) same c.in_err-command.ensures)
+    (subst (λ (b : Bool). Refuses (capability_checks c.args.self.now.offer b c.args.text.now) c.in_err-command.field-0.0) same c.in_err-command.ensures.line)

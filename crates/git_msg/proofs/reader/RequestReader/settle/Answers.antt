@@ -9,9 +9,11 @@ pub returns-in-Ok : goal.returns-in-Ok
 returns-in-Ok g c =
     let same : c.max-length.result ≡ max c.in-Waiting.length (length (written_text (shown c.args.argument.now))) =
     c.max-length.ensures ∙ ap (λ (n : ℕ). max c.in-Waiting.length n) c.written_length.ensures in
-    keeps_ok c.args.self.now c.in-Waiting.offset c.in-Waiting.length (shown c.args.argument.now) c.keep.new.self c.in-Waiting.is
-    (subst (λ (n : ℕ). Keeps c.args.self.now.request (shown c.args.argument.now) n c.keep.new.self) same c.in-Ok.ensures.kept)
-    (subst (λ (n : ℕ). Passes (keep_checks c.args.self.now.request (shown c.args.argument.now) n)) same c.in-Ok.ensures.passes)
+    record {
+      keeps = keeps_ok c.args.self.now c.in-Waiting.offset c.in-Waiting.length (shown c.args.argument.now) c.keep.new.self c.in-Waiting.is
+          (subst (λ (n : ℕ). Keeps c.args.self.now.request (shown c.args.argument.now) n c.keep.new.self) same c.in-Ok.ensures.kept)
+          (subst (λ (n : ℕ). Passes (keep_checks c.args.self.now.request (shown c.args.argument.now) n)) same c.in-Ok.ensures.passes);
+    }
 
 pub returns-in-Err : goal.returns-in-Err
 returns-in-Err g c =
@@ -21,4 +23,4 @@ returns-in-Err g c =
     c.in-Waiting.is c.in-Err.ensures.unchanged
     (subst (λ (n : ℕ). IsRefused (keep_checks c.args.self.now.request (shown c.args.argument.now) n) (shown c.args.argument.now) c.in-Err.kind) same
     c.in-Err.ensures.refused) in
-    rw (c.refuse.ensures.ends, c.refuse.ensures.fault) (search (rules, h))
+    rw (c.refuse.ensures.ends, c.refuse.ensures.fault) (record { keeps = search (rules, h) })

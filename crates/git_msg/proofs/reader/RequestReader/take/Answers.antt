@@ -13,11 +13,13 @@ returns-in-Ok g c =
       | in-Arguments w ↦ ap fault_in w.in-Arguments.is
     ] in
     let step : StepsOn c.args.self.now (seen c.args.packet) c.args.offset c.match-self.step c.match-self.self = elim c.match-self.branch [
-      | in-Capabilities w ↦ rw (w.step-is, w.self-is) w.take_capability-step.ensures
-      | in-Arguments w ↦ rw (w.step-is, w.self-is) w.take_argument-step.ensures
+      | in-Capabilities w ↦ rw (w.step-is, w.self-is) w.take_capability-step.ensures.steps
+      | in-Arguments w ↦ rw (w.step-is, w.self-is) w.take_argument-step.ensures.steps
     ] in
     let taken : StepsOn c.args.self.now (seen c.args.packet) c.args.offset (Ok c.in-Ok.taken) c.match-self.self = rw c.in-Ok.is at step in
-    takes_ok c.args.self.now c.match-self.self (seen c.args.packet) c.args.offset c.in-Ok.taken sound c.requires taken
+    record {
+      takes = takes_ok c.args.self.now c.match-self.self (seen c.args.packet) c.args.offset c.in-Ok.taken sound c.requires taken;
+    }
 
 pub returns-in-Err : goal.returns-in-Err
 returns-in-Err g c =
@@ -26,9 +28,9 @@ returns-in-Err g c =
       | in-Arguments w ↦ ap fault_in w.in-Arguments.is
     ] in
     let step : StepsOn c.args.self.now (seen c.args.packet) c.args.offset c.match-self.step c.match-self.self = elim c.match-self.branch [
-      | in-Capabilities w ↦ rw (w.step-is, w.self-is) w.take_capability-step.ensures
-      | in-Arguments w ↦ rw (w.step-is, w.self-is) w.take_argument-step.ensures
+      | in-Capabilities w ↦ rw (w.step-is, w.self-is) w.take_capability-step.ensures.steps
+      | in-Arguments w ↦ rw (w.step-is, w.self-is) w.take_argument-step.ensures.steps
     ] in
     let refused : StepsOn c.args.self.now (seen c.args.packet) c.args.offset (Err c.in-Err.kind) c.match-self.self = rw c.in-Err.is at step in
     let h = takes_err c.args.self.now c.match-self.self (seen c.args.packet) c.args.offset c.in-Err.kind sound c.requires refused in
-    rw (c.refuse.ensures.ends, c.refuse.ensures.fault) h
+    rw (c.refuse.ensures.ends, c.refuse.ensures.fault) (record { takes = h })

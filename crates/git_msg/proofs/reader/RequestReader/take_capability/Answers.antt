@@ -8,31 +8,41 @@ returns-in_err-note-in-Payload g c =
     let p = err_from_is_err_and c.from_residual.result c.from_residual.ensures.1 in
     let h = c.in_err-note-in-Payload.ensures.err in
     rw (p.1, p.2, c.in-Payload.is)
-    (refused c.args.self.now c.note.new.self c.in-Payload.payload.now c.args.offset
-    c.in_err-note-in-Payload.field-0.0 c.requires c.in_err-note-in-Payload.ensures.unchanged
-    (rw c.text.ensures at h))
+    (record {
+      steps = refused c.args.self.now c.note.new.self c.in-Payload.payload.now c.args.offset
+          c.in_err-note-in-Payload.field-0.0 c.requires c.in_err-note-in-Payload.ensures.unchanged
+          (rw c.text.ensures at h);
+    })
 
 pub returns-in_ok-note-in-Payload : goal.returns-in_ok-note-in-Payload
 returns-in_ok-note-in-Payload g c =
     let h = c.in_ok-note-in-Payload.ensures.ok in
-    rw c.in-Payload.is (noted c.args.self.now c.note.new.self c.in-Payload.payload.now c.args.offset c.requires (rw c.text.ensures at h))
+    rw c.in-Payload.is
+    (record { steps = noted c.args.self.now c.note.new.self c.in-Payload.payload.now c.args.offset c.requires (rw c.text.ensures at h) })
 
 pub returns-in_ok-command-in-Delim : goal.returns-in_ok-command-in-Delim
 returns-in_ok-command-in-Delim g c =
-    rw c.in-Delim.is (delimited c.args.self.now c.args.offset c.in_ok-command-in-Delim.command
-    c.empty_request.result c.requires c.in_ok-command-in-Delim.ensures c.empty_request.ensures)
+    rw c.in-Delim.is
+    (record {
+      steps = delimited c.args.self.now c.args.offset c.in_ok-command-in-Delim.command
+          c.empty_request.result c.requires c.in_ok-command-in-Delim.ensures.command c.empty_request.ensures;
+    })
 
 pub returns-in_ok-check_end-in-Flush : goal.returns-in_ok-check_end-in-Flush
 returns-in_ok-check_end-in-Flush g c =
     rw (c.in-Flush.is, c.restart.ensures.given)
-    (flushed c.args.self.now c.restart.new.self c.args.offset c.in_ok-command-in-Flush.command
-    c.empty_request-request.result c.requires c.in_ok-command-in-Flush.ensures
-    c.empty_request-request.ensures c.in_ok-check_end-in-Flush.ensures c.restart.ensures.next c.restart.ensures.new)
+    (record {
+      steps = flushed c.args.self.now c.restart.new.self c.args.offset c.in_ok-command-in-Flush.command
+          c.empty_request-request.result c.requires c.in_ok-command-in-Flush.ensures.command
+          c.empty_request-request.ensures c.in_ok-check_end-in-Flush.ensures c.restart.ensures.next c.restart.ensures.new;
+    })
 
 pub returns-in_err-check_end-in-Flush : goal.returns-in_err-check_end-in-Flush
 returns-in_err-check_end-in-Flush g c =
     let p = err_from_is_err_and c.from_residual-in_err-check_end-in-Flush.result c.from_residual-in_err-check_end-in-Flush.ensures.1 in
     rw (p.1, p.2, c.in-Flush.is)
-    (flush_refused c.args.self.now c.args.offset c.in_ok-command-in-Flush.command
-    c.empty_request-request.result c.in_err-check_end-in-Flush.field-0.0 c.requires (search rules)
-    c.in_ok-command-in-Flush.ensures c.empty_request-request.ensures c.in_err-check_end-in-Flush.ensures)
+    (record {
+      steps = flush_refused c.args.self.now c.args.offset c.in_ok-command-in-Flush.command
+          c.empty_request-request.result c.in_err-check_end-in-Flush.field-0.0 c.requires (search rules)
+          c.in_ok-command-in-Flush.ensures.command c.empty_request-request.ensures c.in_err-check_end-in-Flush.ensures;
+    })

@@ -5,16 +5,24 @@ use Rattle.git_names.proofs.object_name.Oid.read.Goals as goal
 pub returns-then-not-read_pairs : goal.returns-then-not-read_pairs
 returns-then-not-read_pairs c =
     let room = length-room c.args.format c.width.result c.width.ensures in
-    (refl, read_none c.args.format c.args.text.now _ c.width.ensures (λ bytes long pairs. c.if-not-read_pairs.ensures bytes (long ∙ sym room) pairs))
+    record {
+      name = (
+        refl,
+        read_none c.args.format c.args.text.now _ c.width.ensures (λ bytes long pairs. c.if-not-read_pairs.ensures.pairs bytes (long ∙ sym room) pairs),
+      );
+    }
 
 pub invariant_of-result : goal.invariant_of-result
 invariant_of-result c =
     let room = length-room c.args.format c.width.result c.width.ensures in
     let named = IsOid-read c.args.format c.args.text.now c.read_pairs.new.out c.width.result c.width.ensures
-    (c.read_pairs.auto.out ∙ room) c.if-not-read_pairs.ensures in
+    (c.read_pairs.auto.out ∙ room) c.if-not-read_pairs.ensures.pairs in
     search (rules, named)
 
 pub returns : goal.returns
 returns c =
     let room = length-room c.args.format c.width.result c.width.ensures in
-    read_name c.args.format c.args.text.now c.read_pairs.new.out c.width.result c.width.ensures (c.read_pairs.auto.out ∙ room) c.if-not-read_pairs.ensures
+    record {
+      name = read_name c.args.format c.args.text.now c.read_pairs.new.out c.width.result c.width.ensures (c.read_pairs.auto.out ∙ room)
+          c.if-not-read_pairs.ensures.pairs;
+    }

@@ -10,7 +10,7 @@ use Rattle.git_pkt.proofs.reader.PacketReader.begin.Goals as goal
 
 pub returns-in-Bad-clause-moves : goal.returns-in-Bad-clause-moves
 returns-in-Bad-clause-moves c =
-    let bad : FirstBadDigit c.args.piece.now c.in-Bad.at = c.in-Bad.ensures in
+    let bad : FirstBadDigit c.args.piece.now c.in-Bad.at = c.in-Bad.ensures.digits in
     let within : c.in-Bad.at + 1 ≤ length c.args.piece.now = omega (arith, bad.there) in
     let taken : length (take (c.in-Bad.at + 1) c.args.piece.now) ≡ c.in-Bad.at + 1 = length-take-le _ _ within in
     stopped_between _ _ _ _ _ _ _ c.requires.between c.stop-progress.ensures.told (omega arith)
@@ -18,15 +18,15 @@ returns-in-Bad-clause-moves c =
 
 pub returns-in-Some-clause-moves : goal.returns-in-Some-clause-moves
 returns-in-Some-clause-moves c =
-    let head : TellsDigits c.args.piece.now (Number c.in-Number.field) = c.in-Number.ensures in
+    let head : TellsDigits c.args.piece.now (Number c.in-Number.field) = c.in-Number.ensures.digits in
     let taken : length (take 4 c.args.piece.now) ≡ 4 = length-take-le _ _ c.requires.digits in
     stopped_between _ _ _ _ _ _ _ c.requires.between c.stop-progress-in-Some.ensures.told (omega arith)
     (field_ends _ c.in-Number.field _ _ _ _ (digits_of_take _ 4 (omega arith) c.requires.digits head.0)
-    (number_of_take _ 4 (omega arith) c.requires.digits ∙ head.1) c.in-Some.ensures taken refl)
+    (number_of_take _ 4 (omega arith) c.requires.digits ∙ head.1) c.in-Some.ensures.field taken refl)
 
 pub returns-clause-moves : goal.returns-clause-moves
 returns-clause-moves c =
-    let head : TellsDigits c.args.piece.now (Number c.in-Number.field) = c.in-Number.ensures in
+    let head : TellsDigits c.args.piece.now (Number c.in-Number.field) = c.in-Number.ensures.digits in
     let within : c.min-used.result ≤ length c.args.piece.now = omega arith in
     let taken : length (take c.min-used.result c.args.piece.now) ≡ c.min-used.result = length-take-le _ _ within in
     let held : c.truncate.new.self.items ≡ take c.min-used.result c.args.piece.now =
@@ -37,5 +37,5 @@ returns-clause-moves c =
       closed = c.requires.between;
       held = held;
       whole = begun_whole _ _ c.in-Number.field within head.0 head.1
-          (allowed_unrefused _ _ c.field_fault.ensures (λ kind e. c.in_default.not-Some kind e)) (omega arith);
+          (allowed_unrefused _ _ c.field_fault.ensures.field (λ kind e. c.in_default.not-Some kind e)) (omega arith);
     })

@@ -63,17 +63,17 @@ returns-in-Whole c =
     subst (λ (p : Progress). Moves c.args.self.now (take c.step-step.result.used c.args.piece.now) p c.step-step.new.self)
     c.in-Whole.is c.step-step.ensures.moves in
     let behind = whole_behind c.args.self.now c.step-step.new.self _ moves in
-    let uses = whole_uses c.args.self.now c.step-step.new.self _ _ moves c.packet.ensures in (
+    let uses = whole_uses c.args.self.now c.step-step.new.self _ _ moves c.packet.ensures.spells in (
       (
         refl,
         (λ _. tt),
         record {
-          reads = carry_whole _ _ _ _ c.in_default.is moves c.packet.ensures (omega (arith, behind, c.len.ensures.value));
+          reads = carry_whole _ _ _ _ c.in_default.is moves c.packet.ensures.spells (omega (arith, behind, c.len.ensures.value));
           tells = (
             omega (arith, uses, length-take-le c.step-step.result.used c.args.piece.now c.step-step.ensures.used),
             moves.arrives.no_fault,
             moves.arrives.closed,
-            c.packet.ensures,
+            c.packet.ensures.spells,
             omega (arith, behind, c.len.ensures.value),
           );
           news = λ f sound is. absurd (cc);
