@@ -75,7 +75,7 @@ fn fetch(alloc: Global, wants: u32) -> Result<Vec<u8>, AllocError> {
 fn each_growth_of_the_wants_is_refused_in_turn(rt: HostRuntime) -> Result<(), Fail> {
     let request = fetch(rt.alloc(), 20)?;
     let mut last = None;
-    let mut refused = 0;
+    let mut refused: u32 = 0;
     for size in (32..8192).step_by(8) {
         let heap = LocalHeap::new(rt.alloc(), size)?;
         let mut server = new_server(&rt, &heap, usual())?;
@@ -97,7 +97,7 @@ fn each_growth_of_the_wants_is_refused_in_turn(rt: HostRuntime) -> Result<(), Fa
         }
         if last != Some(ended) {
             last = Some(ended);
-            refused += 1;
+            refused = refused.saturating_add(1);
         }
     }
     // Refused at the first want, later on, and not at all.
