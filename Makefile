@@ -23,10 +23,10 @@ cases:
 	@cd crates/worked_conversations/data && ../out/worked_conversations $$(cat ../args) | diff ../stdout - \
 		&& tail -n 1 ../stdout
 
-# By what each wrong body is refused, those of the gate and those in wrong-bodies/: hours of work, which no merge waits for.
+# By what each wrong body is refused, those of the gate and those in wrong-bodies/: more than a merge waits for.
 # CRATES names those to be tried, where not all are; LANES is how many at a time.
 audit:
-	@RT="$(RT)" wrong-bodies/audit.sh $(CRATES)
+	@RT="$(RT)" wrong-bodies/audit.py $(CRATES)
 
 # Builds the Rattle programs, and measures them beside C and the real Git.
 bench:

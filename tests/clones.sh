@@ -173,7 +173,7 @@ case_git_clones_a_branch_alone() {
     same_clones
     has_references 8
     sent include-tag
-    [ "$(grep -c '^want ' requests)" = 1 ] || differs 'more than one want' requests
+    [ "$(grep -c '^want-ref ' requests)" = 1 ] || differs 'more than one want' requests
 }
 
 # A pack of that branch and its tags alone, as Git itself packs them for it.
@@ -224,7 +224,7 @@ case_git_clones_a_pack_of_20_megabytes() {
     has_all heavy
 }
 
-# A repository without a commit takes what another has. Git that has commits of its own says so, which is not answered yet.
+# A repository without a commit takes what another has.
 case_git_fetches_into_an_empty_repository() {
     git init -q --bare taking
     run git -C taking -c protocol.version=2 -c protocol.ext.allow=always fetch -q "$(offered history-sha1)" '+refs/*:refs/*'
@@ -245,10 +245,14 @@ refused() {
     [ ! -e ours ] || differs 'a clone that was refused'
 }
 
+# Git asks for references by their names, and for an object only where it is named itself.
 case_git_is_told_that_an_object_is_not_there() {
     write_patient
     grep -v '^object ' history-sha1.repo > objectless.repo
-    clone "ext::patient serve --repo $room/objectless.repo --pack $room/history-sha1.pack" ours
+    git init -q --bare lacking
+    rm -rf ours
+    run git -C lacking -c protocol.version=2 -c protocol.ext.allow=always fetch -q \
+        "ext::patient serve --repo $room/objectless.repo --pack $room/history-sha1.pack" "$(git -C history-sha1 rev-parse main):refs/heads/main"
     refused NotOurs
 }
 

@@ -10,7 +10,7 @@ advertisement() {
     packet 'version 2'
     packet agent=git2/1
     packet ls-refs
-    packet fetch
+    packet 'fetch=shallow ref-in-want'
     packet server-option
     packet "object-format=$1"
     printf 0000
@@ -318,7 +318,7 @@ case_show_tells_an_input_that_cannot_be_read() {
 
 # capabilities FORMAT: what `check` shows of an advertisement before its end.
 capabilities() {
-    printf 'capability %s\n' agent=git2/1 ls-refs fetch server-option "object-format=$1"
+    printf 'capability %s\n' agent=git2/1 ls-refs "fetch=shallow ref-in-want" server-option "object-format=$1"
 }
 
 case_check_ends_well() {

@@ -1,5 +1,5 @@
 #!/usr/bin/env bash
-# Tests the built program `git2show` from outside: as the real Git calls it (real_git.sh and clones.sh), and by hand
+# Tests the built program `git2show` from outside: as the real Git calls it (real_git.sh, clones.sh and fetches.sh), and by hand
 # (program.sh).
 #
 #     tests/run.sh [PROGRAM]
@@ -60,6 +60,7 @@ export PATH=$room/bin:$PATH
 . "$top/tests/repositories.sh"
 . "$top/tests/real_git.sh"
 . "$top/tests/clones.sh"
+. "$top/tests/fetches.sh"
 . "$top/tests/program.sh"
 
 git --version

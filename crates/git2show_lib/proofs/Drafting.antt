@@ -6,7 +6,7 @@ use Rattle.std.proofs.lemmas.List.{append-nil}
 use Rattle.std.proofs.lemmas.List.Elements.{All-push}
 use Rattle.git_names.specs.declared.object_format.Format.{Format}
 use Rattle.git_names.specs.ObjectName.{ObjectName}
-use Rattle.git_msg.specs.declared.references.Boundary.{Boundary}
+use Rattle.git_msg.specs.declared.Boundary.{Boundary}
 use Rattle.git_msg.specs.References.{Ref}
 use Rattle.git_server.specs.Repository.{Entry, IsNamed, IsOfFormat, IsRising, comes_before}
 use Rattle.git_server.specs.Objects.{AreRising, object_of, precedes}

@@ -2,7 +2,6 @@ pub mod Sendings
 pub mod Printing
 pub mod Transcribing
 pub mod Asking
-pub mod DigitValues
 pub mod Saying
 pub mod Rising
 pub mod Drafting

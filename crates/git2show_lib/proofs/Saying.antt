@@ -4,14 +4,15 @@ use Rattle.git_names.proofs.ObjectNames.{one_object_name}
 use Rattle.git_msg.proofs.ReferenceFaults.{reference_or_fault}
 use Rattle.git_msg.proofs.ReferenceLaws.{one_reference}
 use Rattle.git_msg.proofs.ReferenceWords.{last_value}
-use Rattle.git2show_lib.specs.Numbers.{IsNumber}
+use Rattle.git_msg.specs.Numbers.{IsNumber}
 use Rattle.git2show_lib.specs.Drafts.{IsFit}
 use Rattle.git_names.specs.declared.object_format.Format.{Format}
 use Rattle.git_names.specs.ObjectName.{ObjectName, IsObjectName}
 use Rattle.git_names.specs.RefName.{IsRefName}
 use Rattle.git_pkt.specs.declared.fault.Kind.{Kind}
-use Rattle.git_msg.specs.declared.references.Boundary.TheVariants.{Shallow, Unshallow}
-use Rattle.git_msg.specs.References.{IsReferenceFault, IsMaybeObjectName, IsReferenceLine, last_of, values_of}
+use Rattle.git_msg.specs.declared.Boundary.TheVariants.{Shallow, Unshallow}
+use Rattle.git_msg.specs.Texts.{last_of}
+use Rattle.git_msg.specs.References.{IsReferenceFault, IsMaybeObjectName, IsReferenceLine, values_of}
 use Rattle.git2show_lib.specs.RepositoryLines.{Said, reference, object, ready, boundary, IsSizedObject, Says, SaysNothing}
 
 byte_at : (k : ℕ) (a b : List ℕ) → a ≡ b → get_or a k 0 ≡ get_or b k 0

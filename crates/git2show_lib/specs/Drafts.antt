@@ -2,7 +2,7 @@
 use Rattle.std.specs.Prelude.{◌≡◌, ℕ, ◌-◌, ◌<◌, true, List, [], ◌∷◌, ◌++◌, Some, None, Result, length, slice_index_or, MatchResult}
 use Rattle.git_names.specs.declared.object_format.Format.{Format}
 use Rattle.git_names.specs.ObjectName.{ObjectName}
-use Rattle.git_msg.specs.declared.references.Boundary.{Boundary}
+use Rattle.git_msg.specs.declared.Boundary.{Boundary}
 use Rattle.git_server.specs.Repository.{Entry, IsNamed, IsOfFormat, comes_before}
 use Rattle.git_server.specs.Objects.{object_of, precedes}
 use Rattle.git_server.specs.Lists.{Lists, AreOfFormat}

@@ -3,7 +3,6 @@ pub mod LineBuffer
 pub mod ShownStream
 pub mod Reports
 pub mod CheckedStreams
-pub mod Numbers
 pub mod RepositoryLines
 pub mod RepositoryText
 pub mod DraftLists

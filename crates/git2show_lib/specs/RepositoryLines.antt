@@ -4,11 +4,11 @@ use Rattle.git_names.specs.declared.object_format.Format.{Format}
 use Rattle.git_names.specs.ObjectFormat.{name_of}
 use Rattle.git_names.specs.ObjectName.{ObjectName, IsObjectName}
 use Rattle.git_pkt.specs.Packets.{text_of}
-use Rattle.git_msg.specs.declared.references.Boundary.{Boundary}
-use Rattle.git_msg.specs.declared.references.Boundary.TheVariants.{Shallow, Unshallow}
+use Rattle.git_msg.specs.declared.Boundary.{Boundary}
+use Rattle.git_msg.specs.declared.Boundary.TheVariants.{Shallow, Unshallow}
 use Rattle.git_msg.specs.References.{Ref, IsReferenceLine, shown_reference}
 use Rattle.git_msg.specs.Texts.{Follows, parts_of}
-use Rattle.git2show_lib.specs.Numbers.{IsNumber}
+use Rattle.git_msg.specs.Numbers.{IsNumber}
 use Rattle.git2show_lib.specs.declared.repository_lines.Item.{Item}
 use Rattle.git2show_lib.specs.declared.repository_lines.Item.TheVariants.{Reference, Object, ReadyAfter, BoundaryLine}
 

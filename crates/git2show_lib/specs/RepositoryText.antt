@@ -2,7 +2,7 @@
 use Rattle.std.specs.Prelude.{◌≡◌, ◌≢◌, ◌⊎◌, ℕ, ◌+◌, ◌≤◌, List, [], ◌∷◌, ◌++◌, Option, Some, None, length}
 use Rattle.git_names.specs.declared.object_format.Format.{Format}
 use Rattle.git_names.specs.ObjectName.{ObjectName}
-use Rattle.git_msg.specs.declared.references.Boundary.{Boundary}
+use Rattle.git_msg.specs.declared.Boundary.{Boundary}
 use Rattle.git_msg.specs.References.{Ref}
 use Rattle.git_server.specs.Repository.{Entry, IsRising}
 use Rattle.git_server.specs.Objects.{AreRising}

@@ -4,7 +4,6 @@
 mod checking;
 mod drafts;
 mod lines;
-mod numbers;
 mod reports;
 mod repository_lines;
 mod repository_text;

@@ -5,8 +5,7 @@ ghost use Rattle.git_names.specs.declared.object_format.Format.{Format};
 ghost use Rattle.git_names.specs.ObjectName.{ObjectName};
 ghost use Rattle.git2show_lib.specs.RepositoryLines.{IsCount, IsSizedObject, Says, SaysNothing, format_line, shown};
 
-use crate::numbers::read_number;
-use git_msg::{Boundary, Reference, after, read_reference};
+use git_msg::{Boundary, Reference, after, read_number, read_reference};
 use git_names::{Format, Oid};
 
 /// The most common objects that a repository may want before it is ready.

@@ -161,25 +161,49 @@ fn a_request_of_flags_takes_no_memory(rt: HostRuntime) -> Result<(), AllocError>
     Ok(())
 }
 
-#[test]
-fn a_fetch_takes_memory_for_its_wants_alone(rt: HostRuntime) -> Result<(), AllocError> {
-    let heap = LocalHeap::new(rt.alloc(), 32)?;
+/// Lines of a fetch that take memory, one of each kind.
+const KEPT: [&[u8]; 5] = [
+    b"want aaaaaaaaaaaaaaaaaaaaaaaaaaaaaaaaaaaaaaaa\n",
+    b"have aaaaaaaaaaaaaaaaaaaaaaaaaaaaaaaaaaaaaaaa\n",
+    b"shallow aaaaaaaaaaaaaaaaaaaaaaaaaaaaaaaaaaaaaaaa\n",
+    b"deepen-not v1\n",
+    b"want-ref HEAD\n",
+];
+
+/// Reads the flags and numbers of a fetch, and then this line, with so much memory. What comes of the line.
+fn heard_within(
+    rt: &impl Abort,
+    alloc: Global,
+    size: usize,
+    line: &[u8],
+) -> Result<Result<(), Fault>, AllocError> {
+    let heap = LocalHeap::new(alloc, size)?;
     let mut reader = RequestReader::new(&heap, OFFER, Limits { args: 1000 });
+    let command = hear(&mut reader, Packet::Payload(b"command=fetch\n"), 0);
+    assert_eq!(rt; command, Ok(()));
+    assert_eq!(rt; hear(&mut reader, Packet::Delim, 18), Ok(()));
+    let depth = hear(&mut reader, Packet::Payload(b"deepen 2147483647\n"), 22);
+    assert_eq!(rt; depth, Ok(()));
+    let relative = hear(&mut reader, Packet::Payload(b"deepen-relative\n"), 44);
+    assert_eq!(rt; relative, Ok(()));
+    let time = hear(&mut reader, Packet::Payload(b"deepen-since 0\n"), 64);
+    assert_eq!(rt; time, Ok(()));
+    let heard = hear(&mut reader, Packet::Payload(line), 100);
+    if heard.is_err() {
+        assert_eq!(rt; hear(&mut reader, Packet::Flush, 150), heard);
+    }
+    Ok(heard)
+}
+
+#[test]
+fn a_fetch_takes_memory_for_objects_and_texts_alone(rt: HostRuntime) -> Result<(), AllocError> {
     let refused = Err(Fault {
         kind: Kind::OutOfMemory,
-        offset: 36,
+        offset: 100,
     });
-    assert_eq!(&rt;
-        hear(&mut reader, Packet::Payload(b"command=fetch\n"), 0),
-        Ok(())
-    );
-    assert_eq!(&rt; hear(&mut reader, Packet::Delim, 18), Ok(()));
-    assert_eq!(&rt;
-        hear(&mut reader, Packet::Payload(b"thin-pack\n"), 22),
-        Ok(())
-    );
-    let want = b"want aaaaaaaaaaaaaaaaaaaaaaaaaaaaaaaaaaaaaaaa\n";
-    assert_eq!(&rt; hear(&mut reader, Packet::Payload(want), 36), refused);
-    assert_eq!(&rt; hear(&mut reader, Packet::Flush, 86), refused);
+    for line in KEPT {
+        assert_eq!(&rt; heard_within(&rt, rt.alloc(), 16, line)?, refused);
+        assert_eq!(&rt; heard_within(&rt, rt.alloc(), 8192, line)?, Ok(()));
+    }
     Ok(())
 }

@@ -73,7 +73,7 @@ fn all_is_flushed_where_the_reads_are_spent(rt: HostRuntime) -> Result<(), Fail>
     assert_eq!(rt; passed.len(), 173);
     let (run, passed) = run_held(&rt, b"", advertising(Format::Sha1), 0)?;
     assert_eq!(rt; run, Err(RunFault::ReadLimit));
-    assert_eq!(rt; passed.len(), 98);
+    assert_eq!(rt; passed.len(), 118);
     Ok(())
 }
 

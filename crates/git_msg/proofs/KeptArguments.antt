@@ -1,20 +1,22 @@
 -- A reader of requests that keeps an argument, or does not.
-use Rattle.std.proofs.Common.{arith, ◌≡◌, ℕ, ◌+◌, ◌<◌, ◌≤◌, Bool, true, Ok, Err, List, [], ◌∷◌, ◌++◌}
-use Rattle.std.proofs.Common.{refl, ap, sym, ◌∙◌, subst, length, max, inl, inr, codes, length-append}
+use Rattle.std.proofs.Common.{arith, ◌≡◌, ℕ, ◌+◌, ◌^◌, ◌<◌, ◌≤◌, Bool, true, Ok, Err, List, [], ◌∷◌, ◌++◌}
+use Rattle.std.proofs.Common.{refl, ap, sym, ◌∙◌, subst, length, max, inl, inr, codes, decimal, length-append}
 use Rattle.std.proofs.lemmas.List.{append-nil}
 use Rattle.git_pkt.specs.Packets.{Pkt, payload, text_of}
 use Rattle.git_pkt.specs.Splits.{Given}
 use Rattle.git_pkt.specs.declared.fault.Kind.{Kind}
 use Rattle.git_pkt.specs.declared.fault.Kind.TheVariants.{TooMuchKept, OutOfMemory}
-use Rattle.git_names.specs.ObjectName.{hex_of}
+use Rattle.git_names.specs.ObjectName.{ObjectName, IsObjectName, hex_of}
 use Rattle.git_names.specs.declared.object_format.Format.{Format}
 use Rattle.git_msg.specs.declared.arguments.Command.{Command}
 use Rattle.git_msg.specs.declared.requests.Request.{Request}
 use Rattle.git_msg.specs.declared.reader.Part.{Part}
 use Rattle.git_msg.specs.declared.reader.Part.TheVariants.{Arguments, Waiting, Failed}
 use Rattle.git_msg.specs.declared.reader.RequestReader.{RequestReader}
-use Rattle.git_msg.specs.Arguments.{Arg, symrefs, peel, ref_prefix, want, done, thin_pack, no_progress, include_tag, ofs_delta, SaysArgument}
+use Rattle.git_msg.specs.Arguments.{Arg, symrefs, peel, ref_prefix, want, have, done, thin_pack, no_progress, include_tag, ofs_delta}
+use Rattle.git_msg.specs.Arguments.{shallow, deepen, deepen_relative, deepen_since, deepen_not, want_ref, SaysArgument, IsDepth, IsTime, IsNumberIn}
 use Rattle.git_msg.specs.Arguments.{IsArgument, IsOutOfRange, IsValueFault, written_text, TakesMemory}
+use Rattle.git_msg.specs.Texts.{Follows}
 use Rattle.git_msg.specs.Asked.{asked_by, with_argument}
 use Rattle.git_msg.specs.Checks.{Passes}
 use Rattle.git_msg.specs.HeldRequest.{command_of, format_of, kept_of, limit_of, Keeps, keep_checks, IsRefused}
@@ -22,6 +24,8 @@ use Rattle.git_msg.specs.Lines.{Line, argument, commands_of, arguments_of, IsLin
 use Rattle.git_msg.specs.Requests.{AreLines, FirstFault, WantsMemory, IsTold}
 use Rattle.git_msg.specs.RequestReader.{WaitsIn, WaitsBehind, InArguments, KeepsOn, limit_in}
 use Rattle.git_msg.proofs.ArgumentsInOrder.{asked_snoc}
+use Rattle.git_msg.proofs.DigitValues.{decimal_is_shortest}
+use Rattle.git_msg.proofs.Rows.{revision_or_none}
 use Rattle.git_msg.proofs.WrittenNames.{length-hex_of, named_in}
 use Rattle.git_msg.proofs.LineLists.{commands_snoc, arguments_snoc, delimiter_snoc, kept_snoc, lines_snoc, argument_is_line}
 
@@ -51,26 +55,52 @@ one_more lines arg long r q h k = record {
   format = k.format ∙ h.format;
 }
 
--- an argument's text is not shorter than the argument's written form
-as_written : (format : Format) (text : List ℕ) (arg : Arg) → SaysArgument format text arg → length (written_text arg) ≤ length text
-as_written format text symrefs h = let e = ap length h in omega arith
-as_written format text peel h = let e = ap length h in omega arith
-as_written format text (ref_prefix p) h = let e = ap length h.0 in omega arith
-as_written format text (want id) h =
+-- a line of a word and an object name, or of a word and a number, is not shorter than what is written of it
+name_line : (word : List ℕ) (format : Format) (text : List ℕ) (id : ObjectName) → Follows word (λ name. IsObjectName format name id) text
+    → length (word ++ hex_of id) ≤ length text
+name_line word format text id h =
     let e = ap length h.spelled in
     omega (
       arith,
       e,
       h.holds.count,
       length-hex_of format id (named_in format h.value id h.holds),
-      length-append (codes "want ") h.value,
-      length-append (codes "want ") (hex_of id),
+      length-append word h.value,
+      length-append word (hex_of id),
     )
+
+number_line : (word : List ℕ) (InRange : ℕ → Type 0) (text : List ℕ) (number : ℕ) → number < 2 ^ 64
+    → Follows word (λ digits. IsNumberIn InRange digits number) text → length (word ++ decimal number) ≤ length text
+number_line word InRange text number small h =
+    let e = ap length h.spelled in
+    omega (
+      arith,
+      e,
+      decimal_is_shortest number h.value small h.holds.is_number,
+      length-append word h.value,
+      length-append word (decimal number),
+    )
+
+-- an argument's text is not shorter than the argument's written form
+as_written : (format : Format) (text : List ℕ) (arg : Arg) → SaysArgument format text arg → length (written_text arg) ≤ length text
+as_written format text symrefs h = let e = ap length h in omega arith
+as_written format text peel h = let e = ap length h in omega arith
+as_written format text (ref_prefix p) h = let e = ap length h.0 in omega arith
+as_written format text (want id) h = name_line (codes "want ") format text id h
+as_written format text (have id) h = name_line (codes "have ") format text id h
 as_written format text done h = let e = ap length h in omega arith
 as_written format text thin_pack h = let e = ap length h in omega arith
 as_written format text no_progress h = let e = ap length h in omega arith
 as_written format text include_tag h = let e = ap length h in omega arith
 as_written format text ofs_delta h = let e = ap length h in omega arith
+as_written format text (shallow id) h = name_line (codes "shallow ") format text id h
+as_written format text (deepen depth) h =
+    let small = h.holds.in_range.1 in number_line (codes "deepen ") IsDepth text depth (omega arith) h
+as_written format text deepen_relative h = let e = ap length h in omega arith
+as_written format text (deepen_since time) h =
+    let small = h.holds.in_range in number_line (codes "deepen-since ") IsTime text time (omega arith) h
+as_written format text (deepen_not revision) h = let e = ap length h.0 in omega arith
+as_written format text (want_ref name) h = let e = ap length h.0 in omega arith
 
 counted : {A : Type 0} (packets : List Given) (offset long : ℕ) (arg : Arg) (r : RequestReader A)
     → WaitsBehind packets offset long arg r → max long (length (written_text arg)) ≡ long
@@ -152,6 +182,12 @@ same_command cs c d h k = cc
 range_or_fault : (format : Format) (text : List ℕ) (arg : Arg) (kind : Kind) → SaysArgument format text arg → IsOutOfRange format arg kind → ⊥
 range_or_fault format text (ref_prefix p) kind h fault = omega (arith, h.1, fault.0)
 range_or_fault format text (want id) kind h fault = fault.0 h.holds.of_format
+range_or_fault format text (have id) kind h fault = fault.0 h.holds.of_format
+range_or_fault format text (shallow id) kind h fault = fault.0 h.holds.of_format
+range_or_fault format text (deepen depth) kind h fault = fault.0 h.holds.in_range
+range_or_fault format text (deepen_since time) kind h fault = fault.0 h.holds.in_range
+range_or_fault format text (deepen_not revision) kind h fault = revision_or_none revision h.1 fault.0
+range_or_fault format text (want_ref name) kind h fault = fault.0 h.1
 range_or_fault format text arg kind h fault = fault
 
 value_or_fault : (c : Command) (format : Format) (text : List ℕ) (arg : Arg) (kind : Kind) → IsArgument c format text arg → IsValueFault c format arg kind → ⊥

@@ -1,24 +1,27 @@
 -- What is kept of a request stays counted with each argument more, and what follows for its arguments in their order.
 use Rattle.std.proofs.Common.{arith, ◌≡◌, ℕ, ◌+◌, ◌<◌, ◌≤◌, ◌^◌, Bool, true, Bor, Option, Some, None, List, [], ◌∷◌, ◌++◌, refl, ap, sym, ◌∙◌, subst}
-use Rattle.std.proofs.Common.{length, map, option_map, codes, append_assoc, append-nil, length-append}
+use Rattle.std.proofs.Common.{length, map, option_map, codes, decimal, append_assoc, append-nil, length-append}
 use Rattle.std.specs.Prelude.{All, IfSome, OnSome, slice_get}
 use Rattle.std.specs.Option.{option_copied}
 use Rattle.std.proofs.Math.Seq.{take-append_seam, drop-append_seam}
 use Rattle.std.proofs.lemmas.List.{map-append}
 use Rattle.std.proofs.lemmas.List.Elements.{All-append, All-cons, All-take, All-drop}
 use Rattle.std.proofs.lemmas.List.Sums.{sum_by-append, sum_by-cons}
-use Rattle.std.proofs.lemmas.Grind.{common_steps}
-use Rattle.std.proofs.lemmas.Option.{gets, slice_get-map, slice_get_within, get_or_from_slice_get}
+use Rattle.std.proofs.lemmas.Option.{slice_get-map, slice_get_within, get_or_from_slice_get}
 use Rattle.git_names.specs.ObjectName.{hex_of}
+use Rattle.git_names.specs.RefName.{IsRefName}
 use Rattle.git_names.specs.declared.object_format.Format.{Format}
 use Rattle.git_pkt.specs.Packets.{longest_payload}
+use Rattle.git_pkt.proofs.FaultTexts.{decimal_fits}
 use Rattle.git_msg.specs.declared.arguments.Argument.{Argument}
 use Rattle.git_msg.specs.declared.arguments.Command.{Command}
 use Rattle.git_msg.specs.declared.arguments.Command.TheVariants.{LsRefs, Fetch}
-use Rattle.git_msg.specs.Arguments.{Arg, symrefs, peel, ref_prefix, want, done, thin_pack, no_progress, include_tag, ofs_delta, shown, command_with}
+use Rattle.git_msg.specs.Arguments.{Arg, symrefs, peel, ref_prefix, want, have, done, thin_pack, no_progress, include_tag, ofs_delta, shown, command_with}
+use Rattle.git_msg.specs.Arguments.{shallow, deepen, deepen_relative, deepen_since, deepen_not, want_ref}
 use Rattle.git_msg.specs.Arguments.{most_text, IsInRange, IsValue, written_text}
 use Rattle.git_msg.specs.Asked.{Asked, LsRefsAsked, FetchAsked, ls_refs, fetch, command_asked, with_ls_refs}
-use Rattle.git_msg.specs.Asked.{with_fetch, with_argument, where_asked, arguments_in, bytes_of}
+use Rattle.git_msg.specs.Asked.{with_fetch, with_argument, where_asked, where_given, pack_arguments, shallow_arguments, object_arguments}
+use Rattle.git_msg.specs.Asked.{arguments_in, bytes_of}
 use Rattle.git_msg.specs.Kept.{Kept, IsCounted, IsWithin}
 use Rattle.git_msg.proofs.ArgumentsInOrder.{same_command}
 use Rattle.git_msg.proofs.WrittenNames.{hex_of-at_most}
@@ -59,9 +62,17 @@ adds_last_flag : (flag : Bool) (arg : Arg) → Adds (where_asked flag arg) arg (
 adds_last_flag flag arg =
     record { front = []; gone = where_asked flag arg; back = []; was = sym (append-nil (where_asked flag arg)); is = refl }
 
+adds_value : {X : Type 0} (make : X → Arg) (old : Option X) (value : X) (back : List Arg)
+    → Adds (where_given make old ++ back) (make value) (where_given make (Some value) ++ back)
+adds_value make old value back = record { front = []; gone = where_given make old; back = back; was = refl; is = refl }
+
 adds_last : {X : Type 0} (make : X → Arg) (values : List X) (value : X) → Adds (map make values) (make value) (map make (values ++ value ∷ []))
 adds_last make values value =
     record { front = map make values; gone = []; back = []; was = sym (append-nil (map make values)); is = map-append make values (value ∷ []) }
+
+adds_to_list : {X : Type 0} (make : X → Arg) (values : List X) (value : X) (back : List Arg)
+    → Adds (map make values ++ back) (make value) (map make (values ++ value ∷ []) ++ back)
+adds_to_list make values value back = adds_before back _ (make value) _ (adds_last make values value)
 
 -- so is the list of what is asked for with one more: a row for each kind of argument
 adds_ls_refs : (q : LsRefsAsked) (arg : Arg) → command_with arg ≡ LsRefs → Adds (arguments_in (ls_refs q)) arg (arguments_in (ls_refs (with_ls_refs q arg)))
@@ -72,62 +83,61 @@ adds_ls_refs q (ref_prefix prefix) of =
     (adds_after (where_asked q.symrefs symrefs) _ (ref_prefix prefix) _ (adds_last ref_prefix q.ref_prefixes prefix))
 adds_ls_refs q arg of = absurd (cc)
 
--- the arguments of a fetch from a place on, the last place first
-abbrev pub from_wants : FetchAsked → List Arg
-from_wants q = map want q.wants ++ where_asked q.done done
-
-abbrev pub from_ofs_delta : FetchAsked → List Arg
-from_ofs_delta q = where_asked q.ofs_delta ofs_delta ++ from_wants q
-
-abbrev pub from_include_tag : FetchAsked → List Arg
-from_include_tag q = where_asked q.include_tag include_tag ++ from_ofs_delta q
-
-abbrev pub from_no_progress : FetchAsked → List Arg
-from_no_progress q = where_asked q.no_progress no_progress ++ from_include_tag q
-
--- other arguments after the flags of a fetch
-abbrev behind_flags : FetchAsked → List Arg → List Arg
-behind_flags q others =
-    where_asked q.thin_pack thin_pack ++ (where_asked q.no_progress no_progress ++ (where_asked q.include_tag include_tag
-    ++ (where_asked q.ofs_delta ofs_delta ++ others)))
-
-after_flags : (q : FetchAsked) (old : List Arg) (arg : Arg) (new : List Arg) → Adds old arg new → Adds (behind_flags q old) arg (behind_flags q new)
-after_flags q old arg new h =
+-- other arguments of a fetch after how the pack is to be sent
+after_pack : (q : FetchAsked) (old : List Arg) (arg : Arg) (new : List Arg) → Adds old arg new → Adds (pack_arguments q old) arg (pack_arguments q new)
+after_pack q old arg new h =
     adds_after (where_asked q.thin_pack thin_pack) _ arg _
     (adds_after (where_asked q.no_progress no_progress) _ arg _
     (adds_after (where_asked q.include_tag include_tag) _ arg _ (adds_after (where_asked q.ofs_delta ofs_delta) old arg new h)))
 
+-- and after how the history is cut off
+after_shallow : (q : FetchAsked) (old : List Arg) (arg : Arg) (new : List Arg) → Adds old arg new
+    → Adds (pack_arguments q (shallow_arguments q old)) arg (pack_arguments q (shallow_arguments q new))
+after_shallow q old arg new h =
+    after_pack q _ arg _ (adds_after (map shallow q.shallows) _ arg _
+    (adds_after (where_given deepen q.deepen) _ arg _
+    (adds_after (where_given deepen_since q.deepen_since) _ arg _
+    (adds_after (map deepen_not q.deepen_nots) _ arg _ (adds_after (where_asked q.deepen_relative deepen_relative) old arg new h)))))
+
 adds_fetch : (q : FetchAsked) (arg : Arg) → command_with arg ≡ Fetch → Adds (arguments_in (fetch q)) arg (arguments_in (fetch (with_fetch q arg)))
-adds_fetch q thin_pack of = adds_flag q.thin_pack thin_pack (from_no_progress q)
-adds_fetch q no_progress of = adds_after (where_asked q.thin_pack thin_pack) _ no_progress _ (adds_flag q.no_progress no_progress (from_include_tag q))
+adds_fetch q thin_pack of = adds_flag q.thin_pack thin_pack _
+adds_fetch q no_progress of = adds_after (where_asked q.thin_pack thin_pack) _ no_progress _ (adds_flag q.no_progress no_progress _)
 adds_fetch q include_tag of =
     adds_after (where_asked q.thin_pack thin_pack) _ include_tag _
-    (adds_after (where_asked q.no_progress no_progress) _ include_tag _ (adds_flag q.include_tag include_tag (from_ofs_delta q)))
+    (adds_after (where_asked q.no_progress no_progress) _ include_tag _ (adds_flag q.include_tag include_tag _))
 adds_fetch q ofs_delta of =
     adds_after (where_asked q.thin_pack thin_pack) _ ofs_delta _
     (adds_after (where_asked q.no_progress no_progress) _ ofs_delta _
-    (adds_after (where_asked q.include_tag include_tag) _ ofs_delta _ (adds_flag q.ofs_delta ofs_delta (from_wants q))))
-adds_fetch q (want id) of = after_flags q _ (want id) _ (adds_before (where_asked q.done done) _ (want id) _ (adds_last want q.wants id))
-adds_fetch q done of = after_flags q _ done _ (adds_after (map want q.wants) _ done _ (adds_last_flag q.done done))
+    (adds_after (where_asked q.include_tag include_tag) _ ofs_delta _ (adds_flag q.ofs_delta ofs_delta _)))
+adds_fetch q (shallow id) of = after_pack q _ (shallow id) _ (adds_to_list shallow q.shallows id _)
+adds_fetch q (deepen depth) of =
+    after_pack q _ (deepen depth) _ (adds_after (map shallow q.shallows) _ (deepen depth) _ (adds_value deepen q.deepen depth _))
+adds_fetch q (deepen_since time) of =
+    after_pack q _ (deepen_since time) _ (adds_after (map shallow q.shallows) _ (deepen_since time) _
+    (adds_after (where_given deepen q.deepen) _ (deepen_since time) _ (adds_value deepen_since q.deepen_since time _)))
+adds_fetch q (deepen_not revision) of =
+    after_pack q _ (deepen_not revision) _ (adds_after (map shallow q.shallows) _ (deepen_not revision) _
+    (adds_after (where_given deepen q.deepen) _ (deepen_not revision) _
+    (adds_after (where_given deepen_since q.deepen_since) _ (deepen_not revision) _ (adds_to_list deepen_not q.deepen_nots revision _))))
+adds_fetch q deepen_relative of =
+    after_pack q _ deepen_relative _ (adds_after (map shallow q.shallows) _ deepen_relative _
+    (adds_after (where_given deepen q.deepen) _ deepen_relative _
+    (adds_after (where_given deepen_since q.deepen_since) _ deepen_relative _
+    (adds_after (map deepen_not q.deepen_nots) _ deepen_relative _ (adds_flag q.deepen_relative deepen_relative _)))))
+adds_fetch q (want id) of = after_shallow q _ (want id) _ (adds_to_list want q.wants id _)
+adds_fetch q (want_ref name) of =
+    after_shallow q _ (want_ref name) _ (adds_after (map want q.wants) _ (want_ref name) _ (adds_to_list want_ref q.want_refs name _))
+adds_fetch q (have id) of =
+    after_shallow q _ (have id) _ (adds_after (map want q.wants) _ (have id) _
+    (adds_after (map want_ref q.want_refs) _ (have id) _ (adds_to_list have q.haves id _)))
+adds_fetch q done of =
+    after_shallow q _ done _ (adds_after (map want q.wants) _ done _
+    (adds_after (map want_ref q.want_refs) _ done _ (adds_after (map have q.haves) _ done _ (adds_last_flag q.done done))))
 adds_fetch q arg of = absurd (cc)
 
 adds : (asked : Asked) (arg : Arg) → command_with arg ≡ command_asked asked → Adds (arguments_in asked) arg (arguments_in (with_argument asked arg))
 adds (ls_refs q) arg of = adds_ls_refs q arg of
 adds (fetch q) arg of = adds_fetch q arg of
-
--- the places after those of a list
-past_list : {X : Type 0} (make : X → Arg) (values : List X) (back : List Arg) (i next : ℕ) → i ≡ length values + next
-    → slice_get (map make values ++ back) i ≡ slice_get back next
-past_list make values back i next at = grind (arith, common_steps, gets)
-
--- the places after the flags and the wants of a fetch
-pub past_wants : (q : FetchAsked) (i a b c d next : ℕ) → slice_get (arguments_in (fetch q)) i ≡ slice_get (from_no_progress q) a
-    → slice_get (from_no_progress q) a ≡ slice_get (from_include_tag q) b → slice_get (from_include_tag q) b ≡ slice_get (from_ofs_delta q) c
-    → slice_get (from_ofs_delta q) c ≡ slice_get (from_wants q) d → d ≡ length q.wants + next
-    → slice_get (arguments_in (fetch q)) i ≡ slice_get (where_asked q.done done ++ []) next
-past_wants q i a b c d next first second third fourth at =
-    first ∙ second ∙ third ∙ fourth ∙ past_list want q.wants (where_asked q.done done) d next at
-    ∙ ap (λ (args : List Arg). slice_get args next) (sym (append-nil (where_asked q.done done)))
 
 -- then no more is written than its text
 added_bytes : (old : List Arg) (arg : Arg) (new : List Arg) → Adds old arg new → bytes_of new ≤ bytes_of old + length (written_text arg)
@@ -173,11 +183,18 @@ has_text symrefs = omega arith
 has_text peel = omega arith
 has_text (ref_prefix prefix) = omega (arith, length-append (codes "ref-prefix ") prefix)
 has_text (want id) = omega (arith, length-append (codes "want ") (hex_of id))
+has_text (have id) = omega (arith, length-append (codes "have ") (hex_of id))
 has_text done = omega arith
 has_text thin_pack = omega arith
 has_text no_progress = omega arith
 has_text include_tag = omega arith
 has_text ofs_delta = omega arith
+has_text (shallow id) = omega (arith, length-append (codes "shallow ") (hex_of id))
+has_text (deepen depth) = omega (arith, length-append (codes "deepen ") (decimal depth))
+has_text deepen_relative = omega arith
+has_text (deepen_since time) = omega (arith, length-append (codes "deepen-since ") (decimal time))
+has_text (deepen_not revision) = omega (arith, length-append (codes "deepen-not ") revision)
+has_text (want_ref name) = omega (arith, length-append (codes "want-ref ") name)
 
 count_at_most : (args : List Arg) → length args ≤ bytes_of args
 count_at_most [] = omega arith
@@ -189,11 +206,20 @@ value_fits format symrefs value = omega arith
 value_fits format peel value = omega arith
 value_fits format (ref_prefix prefix) value = omega (arith, value, length-append (codes "ref-prefix ") prefix)
 value_fits format (want id) value = omega (arith, hex_of-at_most format id value, length-append (codes "want ") (hex_of id))
+value_fits format (have id) value = omega (arith, hex_of-at_most format id value, length-append (codes "have ") (hex_of id))
 value_fits format done value = omega arith
 value_fits format thin_pack value = omega arith
 value_fits format no_progress value = omega arith
 value_fits format include_tag value = omega arith
 value_fits format ofs_delta value = omega arith
+value_fits format (shallow id) value = omega (arith, hex_of-at_most format id value, length-append (codes "shallow ") (hex_of id))
+value_fits format (deepen depth) value =
+    omega (arith, decimal_fits depth (omega (arith, value.1)), length-append (codes "deepen ") (decimal depth))
+value_fits format deepen_relative value = omega arith
+value_fits format (deepen_since time) value =
+    omega (arith, decimal_fits time (omega (arith, value)), length-append (codes "deepen-since ") (decimal time))
+value_fits format (deepen_not revision) value = omega (arith, value.1, length-append (codes "deepen-not ") revision)
+value_fits format (want_ref name) value = omega (arith, value.at_most, length-append (codes "want-ref ") name)
 
 -- so what is kept has few arguments, and each of them fits
 pub place_bound : (q : Kept Asked) (i : ℕ) (result : Option Argument) → IsWithin q → option_map shown result ≡ slice_get (arguments_in q.asked) i
@@ -229,4 +255,25 @@ prefix_fits format q kept i (Some prefix) h same =
     let values : All P prefixes =
     all_back P (where_asked q.symrefs symrefs) prefixes (all_back P (where_asked q.peel peel) (where_asked q.symrefs symrefs ++ prefixes) h.values) in
     let value = all_at P prefixes i (ref_prefix prefix.now) values (slice_get-map ref_prefix q.ref_prefixes i ∙ ap (option_map ref_prefix) (sym same)) in
+    value.1
+
+all_pack : (P : Arg → Type 0) (q : FetchAsked) (others : List Arg) → All P (pack_arguments q others) → All P others
+all_pack P q others h =
+    all_back P (where_asked q.ofs_delta ofs_delta) _ (all_back P (where_asked q.include_tag include_tag) _
+    (all_back P (where_asked q.no_progress no_progress) _ (all_back P (where_asked q.thin_pack thin_pack) _ h)))
+
+all_shallow : (P : Arg → Type 0) (q : FetchAsked) (others : List Arg) → All P (shallow_arguments q others) → All P others
+all_shallow P q others h =
+    all_back P (where_asked q.deepen_relative deepen_relative) _ (all_back P (map deepen_not q.deepen_nots) _
+    (all_back P (where_given deepen_since q.deepen_since) _ (all_back P (where_given deepen q.deepen) _ (all_back P (map shallow q.shallows) _ h))))
+
+-- the references that are wanted have names
+pub name_fits : (format : Format) (q : FetchAsked) (kept i : ℕ) (found : Option (Bor (List ℕ))) → IsCounted format (fetch q) kept
+    → option_copied found ≡ slice_get q.want_refs i → IfSome found (λ name. IsRefName name.now)
+name_fits format q kept i None h same = tt
+name_fits format q kept i (Some name) h same =
+    let P : Arg → Type 0 = IsValue Fetch format in
+    let objects : All P (object_arguments q) = all_shallow P q _ (all_pack P q _ h.values) in
+    let names : All P (map want_ref q.want_refs) = all_front P (map want_ref q.want_refs) _ (all_back P (map want q.wants) _ objects) in
+    let value = all_at P (map want_ref q.want_refs) i (want_ref name.now) names (slice_get-map want_ref q.want_refs i ∙ ap (option_map want_ref) (sym same)) in
     value.1

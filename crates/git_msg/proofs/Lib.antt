@@ -21,5 +21,7 @@ pub mod CheckLaws
 pub mod Rows
 pub mod Values
 pub mod WrittenNames
+pub mod DigitValues
 pub mod PacketFaults
 pub mod WholeRequests
+pub mod ResponseLines

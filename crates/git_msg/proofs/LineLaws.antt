@@ -8,7 +8,7 @@ use Rattle.git_pkt.specs.Packets.{Pkt, flush, delim, resp_end, payload, text_of}
 use Rattle.git_pkt.specs.Splits.{Given}
 use Rattle.git_pkt.specs.declared.fault.Kind.{Kind}
 use Rattle.git_pkt.specs.declared.fault.Kind.TheVariants.{BadCapability, UnknownCommand, TwoCommands, NoCommand}
-use Rattle.git_pkt.specs.declared.fault.Kind.TheVariants.{NotAdvertised, WrongFormat, TooMuchKept, RemoteError, NoWants}
+use Rattle.git_pkt.specs.declared.fault.Kind.TheVariants.{NotAdvertised, WrongFormat, TooMuchKept, RemoteError, DeepenConflict, NoWants}
 use Rattle.git_msg.specs.declared.offers.Offer.{Offer}
 use Rattle.git_msg.specs.declared.arguments.Command.{Command}
 use Rattle.git_msg.specs.declared.arguments.Command.TheVariants.{LsRefs, Fetch}
@@ -16,8 +16,8 @@ use Rattle.git_msg.specs.declared.capability_key.Key.{Key}
 use Rattle.git_msg.specs.declared.capability_key.Key.TheVariants.{CommandKey, AgentKey, ServerOptionKey, ObjectFormatKey, OtherKey}
 use Rattle.git_msg.specs.Texts.{IsErrorText}
 use Rattle.git_msg.specs.Capability.{IsNoCapability}
-use Rattle.git_msg.specs.Arguments.{Arg, IsArgument, name_of}
-use Rattle.git_msg.specs.Asked.{Asked, ls_refs, fetch, HasWants, asked_by}
+use Rattle.git_msg.specs.Arguments.{Arg, IsArgument, ReadsAs, name_of}
+use Rattle.git_msg.specs.Asked.{Asked, ls_refs, fetch, HasWants, asked_by, has_deepen_conflict}
 use Rattle.git_msg.specs.Checks.{Refuses, Passes}
 use Rattle.git_msg.specs.Lines.{Line, command, agent, server_option, object_format, delimiter, argument, argument_in}
 use Rattle.git_msg.specs.Lines.{is_none, commands_of, arguments_of, kept_in}
@@ -91,7 +91,7 @@ fair_argument offer limit c kept text = (
   fair_check (¬ IsErrorText text) (IsErrorText text) RemoteError (λ p q. p q),
   (
     record {
-      apart = λ kind p r. argument_or_fault c offer text p.0 kind p.1.is_argument r;
+      apart = λ kind p r. argument_or_fault c offer text p.0 kind p.1 r;
       single = λ kind other r s. one_argument_fault c offer text kind other r s;
     },
     (fair_check (kept + length text ≤ limit) (limit < kept + length text) TooMuchKept (λ p q. omega arith), tt),
@@ -104,7 +104,10 @@ same_command cs c d h k = cc
 fair_end_checks : (asked : Asked) → AllFair (end_checks asked)
 unfolding AllFair
 fair_end_checks (ls_refs q) = tt
-fair_end_checks (fetch q) = (fair_check (HasWants q) (¬ HasWants q) NoWants (λ p r. r p), tt)
+fair_end_checks (fetch q) = (
+  fair_check (has_deepen_conflict q ≡ false) (has_deepen_conflict q ≡ true) DeepenConflict (λ p r. true_false (has_deepen_conflict q) r p),
+  (fair_check (HasWants q) (¬ HasWants q) NoWants (λ p r. r p), tt),
+)
 
 fair_at_end : (lines : List Line) → IsFair (at_end lines)
 fair_at_end lines = record {
@@ -246,7 +249,7 @@ refused_for_limit offer limit before text arg kind h r = by r.refuses
     by (inl error) = absurd (h.no_error error.0)
     by (inr (no_error, inl fault)) =
         let c = same_command (commands_of before) h.of r.of h.asked r.asked in
-        let there : IsArgument r.of offer.format text arg = subst (λ (x : Command). IsArgument x offer.format text arg) c h.reads.is_argument in
+        let there : ReadsAs r.of offer text arg = subst (λ (x : Command). ReadsAs x offer text arg) c h.reads in
         absurd (argument_or_fault r.of offer text arg kind there fault)
     by (inr (no_error, inr (reads, inl limited))) = limited.1
     by (inr (no_error, inr (reads, inr none))) = absurd none.1

@@ -11,7 +11,8 @@ use Rattle.git_msg.specs.declared.arguments.Command.{Command}
 use Rattle.git_msg.specs.declared.arguments.Command.TheVariants.{LsRefs, Fetch}
 use Rattle.git_msg.specs.declared.capability_key.Key.{Key}
 use Rattle.git_msg.specs.declared.capability_key.Key.TheVariants.{CommandKey, AgentKey, ServerOptionKey, ObjectFormatKey, OtherKey}
-use Rattle.git_msg.specs.Arguments.{Row, of_ref_prefix, of_want, IsArgumentFault, IsRowFault}
+use Rattle.git_msg.specs.Arguments.{Row, of_ref_prefix, of_want, of_have, of_shallow, of_deepen, of_deepen_since, of_deepen_not, of_want_ref}
+use Rattle.git_msg.specs.Arguments.{IsArgumentFault, IsRowFault}
 use Rattle.git_msg.specs.Asked.{Asked, ls_refs, fetch}
 use Rattle.git_msg.specs.Checks.{Check, Refuses}
 use Rattle.git_msg.specs.Lines.{Line, argument_checks, capability_checks, commands_of, end_checks, flush_checks_in, has_delimiter, has_format, by_key}
@@ -68,11 +69,18 @@ module _ (kind : Kind) (strange : NotByItself kind) where
   quiet_row : (c : Command) (format : Format) (row : Row) (text : List ℕ) → IsRowFault c format row text kind → ⊥
   quiet_row LsRefs format of_ref_prefix text fault = subst NotByItself fault.1 strange
   quiet_row Fetch format of_want text fault = subst NotByItself fault.1 strange
+  quiet_row Fetch format of_have text fault = subst NotByItself fault.1 strange
+  quiet_row Fetch format of_shallow text fault = subst NotByItself fault.1 strange
+  quiet_row Fetch format of_deepen text fault = subst NotByItself fault.1 strange
+  quiet_row Fetch format of_deepen_since text fault = subst NotByItself fault.1 strange
+  quiet_row Fetch format of_deepen_not text fault = subst NotByItself fault.1 strange
+  quiet_row Fetch format of_want_ref text fault = subst NotByItself fault.1 strange
   quiet_row c format row text fault = fault
 
   quiet_value : (c : Command) (offer : Offer) (text : List ℕ) → IsArgumentFault c offer text kind → ⊥
   quiet_value c offer text (inl fault) = subst NotByItself fault.1 strange
-  quiet_value c offer text (inr fault) = quiet_row c offer.format fault.0 text fault.1
+  quiet_value c offer text (inr (inl fault)) = quiet_row c offer.format fault.0 text fault.1
+  quiet_value c offer text (inr (inr fault)) = subst NotByItself fault.1 strange
 
   quiet_text : (c : Command) (offer : Offer) (text : List ℕ) → AllQuiet kind (text_checks c offer text)
   unfolding AllQuiet
@@ -81,7 +89,7 @@ module _ (kind : Kind) (strange : NotByItself kind) where
   quiet_end : (asked : Asked) → AllQuiet kind (end_checks asked)
   unfolding AllQuiet
   quiet_end (ls_refs q) = tt
-  quiet_end (fetch q) = ((λ r. subst NotByItself r.1 strange), tt)
+  quiet_end (fetch q) = ((λ r. subst NotByItself r.1 strange), ((λ r. subst NotByItself r.1 strange), tt))
 
   quiet_flush : (part : Bool) (offer : Offer) (lines : List Line) → AllQuiet kind (flush_checks_in part offer lines)
   unfolding AllQuiet

@@ -1,9 +1,13 @@
 -- A reference line is one reference.
 use Rattle.std.proofs.Common.{◌≡◌, ℕ, Option, Some, None, List, ◌∷◌, ap, sym, ◌∙◌, subst, codes}
-use Rattle.git_names.specs.ObjectName.{ObjectName, IsObjectName}
+use Rattle.git_names.specs.ObjectName.{ObjectName, IsObjectName, IsOid}
 use Rattle.git_names.specs.declared.object_format.Format.{Format}
-use Rattle.git_names.proofs.ObjectNames.{one_object_name}
-use Rattle.git_msg.specs.References.{Ref, reference_of, IsMaybeObjectName, IsReferenceLine, last_of, values_of}
+use Rattle.git_names.proofs.ObjectNames.{one_object_name, reads_back-hex_of}
+use Rattle.git_msg.specs.Arguments.{IsNameIn}
+use Rattle.git_msg.specs.References.{Ref, reference_of, IsMaybeObjectName, IsReferenceLine, IsWritable, reference_text, values_of}
+use Rattle.git_msg.proofs.ReferenceLines.{reads_back}
+use Rattle.git_msg.proofs.WrittenNames.{hex_of-reads_back}
+use Rattle.git_msg.specs.Texts.{last_of}
 
 same_maybe : (format : Format) (text : Option (List ℕ)) (a b : Option ObjectName) → IsMaybeObjectName format text a → IsMaybeObjectName format text b → a ≡ b
 same_maybe format None a b h k = h ∙ sym k
@@ -28,3 +32,10 @@ one_reference format text a b h k =
     same_parts a b (one_object_name format k.id a.id b.id there k.id_is) second.0
     (h.attributes_are.target_is ∙ ap (λ (ws : List (List ℕ)). last_of (values_of (codes "symref-target:") ws)) second.1 ∙ sym k.attributes_are.target_is)
     (same_maybe format (last_of (values_of (codes "peeled:") k.attributes)) a.peeled b.peeled peeled k.attributes_are.peeled_is)
+
+-- what is written of a reference is that reference
+pub reference_reads_back : (format : Format) (ref : Ref) → IsNameIn format ref.id → ((peeled : ObjectName) → ref.peeled ≡ Some peeled → IsOid peeled)
+    → IsWritable ref → IsReferenceLine format (reference_text ref) ref
+reference_reads_back format ref h oids w =
+    reads_back format ref.id ref.name ref.target ref.peeled w h.of_format (hex_of-reads_back format ref.id h)
+    (λ peeled e. reads_back-hex_of peeled (oids peeled e))

@@ -12,10 +12,10 @@ use Rattle.git_names.specs.ObjectName.{ObjectName, IsObjectName, hex_of}
 use Rattle.git_names.specs.RefName.{IsRefName, Lacks}
 use Rattle.git_names.specs.declared.object_format.Format.{Format}
 use Rattle.git_names.proofs.WrittenForms.{digits-object_name}
-use Rattle.git_msg.specs.Texts.{spaced_words}
+use Rattle.git_msg.specs.Texts.{spaced_words, last_of}
 use Rattle.git_msg.specs.Checks.{Passes}
 use Rattle.git_msg.proofs.WrittenNames.{digits_at_most}
-use Rattle.git_msg.specs.References.{reference_of, IsAttribute, IsReferenceLine, IsMaybeObjectName, IsWritable, last_of, values_of, attribute_checks}
+use Rattle.git_msg.specs.References.{reference_of, IsAttribute, IsReferenceLine, IsMaybeObjectName, IsWritable, values_of, attribute_checks}
 use Rattle.git_msg.specs.References.{target_text, peeled_text, peeled_count, reference_text}
 
 eq_false : (c : ℕ) → c ≢ 32 → (c == 32) ≡ false

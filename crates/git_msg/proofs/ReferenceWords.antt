@@ -13,8 +13,8 @@ use Rattle.git_pkt.specs.declared.fault.Kind.TheVariants.{BadObjectName}
 use Rattle.git_msg.specs.declared.reference_lines.Attribute.{Attribute}
 use Rattle.git_msg.specs.declared.reference_lines.Attribute.TheVariants.{Other}
 use Rattle.git_msg.specs.Checks.{Passes, Refuses}
-use Rattle.git_msg.specs.Texts.{BeginsOtherThan, parts_left, spaced_words}
-use Rattle.git_msg.specs.References.{value_behind, values_of, last_of, IsAttribute, IsAttributeFault, IsReferenceFault, attribute_checks, reference_checks}
+use Rattle.git_msg.specs.Texts.{BeginsOtherThan, parts_left, spaced_words, last_of}
+use Rattle.git_msg.specs.References.{value_behind, values_of, IsAttribute, IsAttributeFault, IsReferenceFault, attribute_checks, reference_checks}
 use Rattle.git_msg.specs.ReferenceParts.{target_in, peeled_in, IsFound, LastValues, ReadSoFar}
 use Rattle.git_msg.proofs.LineLists.{filter_map_snoc}
 

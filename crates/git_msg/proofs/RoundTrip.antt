@@ -1,6 +1,6 @@
 -- What is written of a request is read again.
 use Rattle.std.proofs.Common.{arith, ◌≡◌, ◌≢◌, ℕ, ◌+◌, ◌-◌, ◌<◌, ◌≤◌, ◌==◌, ◌&&◌, Bool, true, false, Some, None, List, [], ◌∷◌, ◌++◌, refl, ap, sym}
-use Rattle.std.proofs.Common.{◌∙◌, subst, length, take, slice_index, codes, length-append}
+use Rattle.std.proofs.Common.{◌∙◌, ◌^◌, subst, length, take, slice_index, codes, decimal, length-append}
 use Rattle.std.specs.Prelude.{All, IsTrue, map, nat_lt, if◌then◌else◌}
 use Rattle.std.proofs.lemmas.Grind.{common_steps}
 use Rattle.std.proofs.lemmas.Bool.Decides.{nat_tests}
@@ -9,7 +9,7 @@ use Rattle.std.proofs.lemmas.List.Elements.{All-head, All-tail}
 use Rattle.std.proofs.lemmas.List.Sums.{sum_by-cons}
 use Rattle.std.proofs.Math.Seq.{take-append_seam}
 use Rattle.git_names.specs.ObjectFormat.{name_of as format_name}
-use Rattle.git_names.specs.ObjectName.{hex_of}
+use Rattle.git_names.specs.ObjectName.{ObjectName, IsObjectName, hex_of}
 use Rattle.git_names.specs.declared.object_format.Format.{Format}
 use Rattle.git_names.specs.declared.object_format.Format.TheVariants.{Sha1, Sha256}
 use Rattle.git_pkt.specs.Packets.{Pkt, flush, delim, text_of}
@@ -18,11 +18,12 @@ use Rattle.git_msg.specs.declared.offers.Offer.{Offer}
 use Rattle.git_msg.specs.declared.arguments.Command.{Command}
 use Rattle.git_msg.specs.declared.arguments.Command.TheVariants.{LsRefs, Fetch}
 use Rattle.git_msg.specs.declared.capability_key.Key.TheVariants.{CommandKey, AgentKey, ObjectFormatKey}
-use Rattle.git_msg.specs.Texts.{IsErrorText}
-use Rattle.git_msg.specs.Arguments.{Arg, symrefs, peel, ref_prefix, want, done, thin_pack, no_progress, include_tag, ofs_delta, SaysArgument}
-use Rattle.git_msg.specs.Arguments.{IsInRange, IsValue, name_of, written_text}
+use Rattle.git_msg.specs.Texts.{Follows, IsErrorText}
+use Rattle.git_msg.specs.Arguments.{Arg, symrefs, peel, ref_prefix, want, have, done, thin_pack, no_progress, include_tag, ofs_delta}
+use Rattle.git_msg.specs.Arguments.{shallow, deepen, deepen_relative, deepen_since, deepen_not, want_ref, SaysArgument, IsDepth, IsTime, IsNumberIn}
+use Rattle.git_msg.specs.Arguments.{IsInRange, IsNameIn, IsValue, is_offered, name_of, written_text}
 use Rattle.git_msg.specs.Capability.{is_value}
-use Rattle.git_msg.specs.Asked.{Asked, command_asked, asked_by, arguments_in, bytes_of, written_bytes, HasValues}
+use Rattle.git_msg.specs.Asked.{Asked, command_asked, asked_by, arguments_in, bytes_of, written_bytes, HasValues, AreOffered}
 use Rattle.git_msg.specs.Lines.{Line, command, agent, object_format, delimiter, argument, is_none, is_delimiter, command_in, argument_in, commands_of}
 use Rattle.git_msg.specs.Lines.{arguments_of, kept_in, has_format, has_delimiter, long_of, end_checks, flush_checks_in, IsCapabilityLine}
 use Rattle.git_msg.specs.Lines.{IsArgumentLine, IsFormatMeant, IsLine, IsLineIn}
@@ -31,6 +32,7 @@ use Rattle.git_msg.specs.Checks.{Passes}
 use Rattle.git_msg.specs.Requests.{AreLines, Asks}
 use Rattle.git_msg.specs.WrittenRequest.{text_line, where_set, agent_line, format_line, argument_lines, lines_written}
 use Rattle.git_msg.proofs.ArgumentsInOrder.{arguments_in_order}
+use Rattle.git_msg.proofs.DigitValues.{decimal_reads_back}
 use Rattle.git_msg.proofs.WrittenNames.{hex_of-reads_back}
 use Rattle.git_msg.proofs.LineLists.{commands_snoc, delimiter_snoc, format_snoc, kept_snoc, argument_is_line, capability_is_line}
 
@@ -126,27 +128,51 @@ written_clean symrefs = not_error (codes "symrefs") (λ e. omega arith)
 written_clean peel = not_error (codes "peel") (λ e. omega arith)
 written_clean (ref_prefix prefix) = not_error (codes "ref-prefix " ++ prefix) (λ e. omega arith)
 written_clean (want id) = not_error (codes "want " ++ hex_of id) (λ e. omega arith)
+written_clean (have id) = not_error (codes "have " ++ hex_of id) (λ e. omega arith)
 written_clean done = not_error (codes "done") (λ e. omega arith)
 written_clean thin_pack = not_error (codes "thin-pack") (λ e. omega arith)
 written_clean no_progress = not_error (codes "no-progress") (λ e. omega arith)
 written_clean include_tag = not_error (codes "include-tag") (λ e. omega arith)
 written_clean ofs_delta = not_error (codes "ofs-delta") (λ e. omega arith)
+written_clean (shallow id) = not_error (codes "shallow " ++ hex_of id) (λ e. omega arith)
+written_clean (deepen depth) = not_error (codes "deepen " ++ decimal depth) (λ e. omega arith)
+written_clean deepen_relative = not_error (codes "deepen-relative") (λ e. omega arith)
+written_clean (deepen_since time) = not_error (codes "deepen-since " ++ decimal time) (λ e. omega arith)
+written_clean (deepen_not revision) = not_error (codes "deepen-not " ++ revision) (λ e. omega arith)
+written_clean (want_ref name) = not_error (codes "want-ref " ++ name) (λ e. omega arith)
+
+name_says : (word : List ℕ) (format : Format) (id : ObjectName) → IsNameIn format id
+    → Follows word (λ name. IsObjectName format name id) (word ++ hex_of id)
+name_says word format id value = record { value = hex_of id; spelled = refl; holds = hex_of-reads_back format id value }
+
+number_says : (word : List ℕ) (InRange : ℕ → Type 0) (number : ℕ) → number < 2 ^ 64 → InRange number
+    → Follows word (λ digits. IsNumberIn InRange digits number) (word ++ decimal number)
+number_says word InRange number small value =
+    record { value = decimal number; spelled = refl; holds = record { is_number = decimal_reads_back number small; in_range = value } }
 
 -- and says that argument
 written_says : (format : Format) (arg : Arg) → IsInRange format arg → SaysArgument format (written_text arg) arg
 written_says format symrefs value = refl
 written_says format peel value = refl
 written_says format (ref_prefix prefix) value = (refl, value)
-written_says format (want id) value = record { value = hex_of id; spelled = refl; holds = hex_of-reads_back format id value }
+written_says format (want id) value = name_says (codes "want ") format id value
+written_says format (have id) value = name_says (codes "have ") format id value
 written_says format done value = refl
 written_says format thin_pack value = refl
 written_says format no_progress value = refl
 written_says format include_tag value = refl
 written_says format ofs_delta value = refl
+written_says format (shallow id) value = name_says (codes "shallow ") format id value
+written_says format (deepen depth) value = number_says (codes "deepen ") IsDepth depth (omega (arith, value.1)) value
+written_says format deepen_relative value = refl
+written_says format (deepen_since time) value = number_says (codes "deepen-since ") IsTime time (omega (arith, value)) value
+written_says format (deepen_not revision) value = (refl, value)
+written_says format (want_ref name) value = (refl, value)
 
-argument_reads : (c : Command) (offer : Offer) (arg : Arg) → IsValue c offer.format arg → IsText c offer (written_text arg) arg
-argument_reads c offer arg value =
-    record { no_error = written_clean arg; reads = record { is_argument = (value.0, written_says offer.format arg value.1); offered = tt } }
+argument_reads : (c : Command) (offer : Offer) (arg : Arg) → IsValue c offer.format arg → is_offered offer arg ≡ true
+    → IsText c offer (written_text arg) arg
+argument_reads c offer arg value offered =
+    record { no_error = written_clean arg; reads = record { is_argument = (value.0, written_says offer.format arg value.1); offered = offered } }
 
 -- the line of an argument, as it is written
 abbrev written_line : Arg → Line
@@ -389,13 +415,13 @@ lines_say says_agent says_format c args =
 
 -- what is written of a request is a request for the same
 pub reads_back : (offer : Offer) (limit : ℕ) (says_agent says_format : Bool) (asked : Asked) (gs : List Given) → IsFormatMeant offer.format says_format
-    → HasValues offer.format asked → written_bytes asked ≤ limit → Passes (end_checks asked)
+    → HasValues offer.format asked → AreOffered offer asked → written_bytes asked ≤ limit → Passes (end_checks asked)
     → packets_of gs ≡ lines_written says_agent says_format offer.format asked → Asks offer limit gs asked (written_bytes asked)
-reads_back offer limit says_agent says_format asked gs meant values fits passes h =
+reads_back offer limit says_agent says_format asked gs meant values offered fits passes h =
     let c = command_asked asked in
     let args = arguments_in asked in
     let lines = lines_read says_agent says_format c args in
-    let texts : AreTexts c offer args = λ k d within. argument_reads c offer _ (values k d within) in
+    let texts : AreTexts c offer args = λ k d within. argument_reads c offer _ (values k d within) (offered k d within) in
     let f = lines_finish offer limit c says_agent says_format args gs meant texts fits h in
     let says = lines_say says_agent says_format c args in
     let asks : asked ≡ asked_by c (arguments_of lines) = sym (ap (asked_by c) says.says_arguments ∙ arguments_in_order asked) in

@@ -1,16 +1,19 @@
 -- The argument lines of requests, by gitprotocol-v2(5).
-use Rattle.std.specs.Prelude.{◌≡◌, ◌≢◌, ◌⊎◌, ℕ, ◌<◌, ◌≤◌, ◌==◌, List, [], ◌∷◌, ◌++◌, length, codes, if◌then◌else◌}
+use Rattle.std.specs.Prelude.{◌≡◌, ◌≢◌, ◌⊎◌, ℕ, ◌<◌, ◌≤◌, ◌==◌, Bool, true, false, List, [], ◌∷◌, ◌++◌, length, codes, decimal, if◌then◌else◌}
 use Rattle.std.specs.List.{before_first}
 use Rattle.std.specs.Str.{bytes_eq}
 use Rattle.git_names.specs.ObjectName.{ObjectName, IsObjectName, IsNoObjectName, IsOid, hex_of}
+use Rattle.git_names.specs.RefName.{IsRefName}
 use Rattle.git_names.specs.declared.object_format.Format.{Format}
 use Rattle.git_pkt.specs.declared.fault.Kind.{Kind}
-use Rattle.git_pkt.specs.declared.fault.Kind.TheVariants.{UnknownArgument, BadLine, BadObjectName}
+use Rattle.git_pkt.specs.declared.fault.Kind.TheVariants.{UnknownArgument, BadLine, BadNumber, BadObjectName, BadRefName, NotAdvertised}
 use Rattle.git_msg.specs.declared.arguments.Command.{Command}
 use Rattle.git_msg.specs.declared.arguments.Command.TheVariants.{LsRefs, Fetch}
 use Rattle.git_msg.specs.declared.arguments.Argument.{Argument}
-use Rattle.git_msg.specs.declared.arguments.Argument.TheVariants.{Symrefs, Peel, RefPrefix, Want, IsDone, ThinPack, NoProgress, IncludeTag, OfsDelta}
+use Rattle.git_msg.specs.declared.arguments.Argument.TheVariants.{Symrefs, Peel, RefPrefix, Want, Have, IsDone, ThinPack, NoProgress, IncludeTag, OfsDelta}
+use Rattle.git_msg.specs.declared.arguments.Argument.TheVariants.{Shallow, Deepen, DeepenRelative, DeepenSince, DeepenNot, WantRef}
 use Rattle.git_msg.specs.declared.offers.Offer.{Offer}
+use Rattle.git_msg.specs.Numbers.{IsNumber}
 use Rattle.git_msg.specs.Texts.{Follows, IsNoneOf, BeginsWithNone}
 
 -- an argument, wherever its text lies
@@ -19,11 +22,18 @@ pub data Arg : Type 0 where
   peel : Arg
   ref_prefix : List ℕ → Arg
   want : ObjectName → Arg
+  have : ObjectName → Arg
   done : Arg
   thin_pack : Arg
   no_progress : Arg
   include_tag : Arg
   ofs_delta : Arg
+  shallow : ObjectName → Arg
+  deepen : ℕ → Arg
+  deepen_relative : Arg
+  deepen_since : ℕ → Arg
+  deepen_not : List ℕ → Arg
+  want_ref : List ℕ → Arg
 
 -- the argument that a borrowed one shows
 abbrev pub shown : Argument → Arg
@@ -31,11 +41,18 @@ shown Symrefs = symrefs
 shown Peel = peel
 shown (RefPrefix prefix) = ref_prefix prefix.now
 shown (Want id) = want id
+shown (Have id) = have id
 shown IsDone = done
 shown ThinPack = thin_pack
 shown NoProgress = no_progress
 shown IncludeTag = include_tag
 shown OfsDelta = ofs_delta
+shown (Shallow id) = shallow id
+shown (Deepen depth) = deepen depth
+shown DeepenRelative = deepen_relative
+shown (DeepenSince time) = deepen_since time
+shown (DeepenNot revision) = deepen_not revision.now
+shown (WantRef name) = want_ref name.now
 
 -- the command's key, as it stands after `command=`
 abbrev pub name_of : Command → List ℕ
@@ -48,15 +65,47 @@ command_with symrefs = LsRefs
 command_with peel = LsRefs
 command_with (ref_prefix prefix) = LsRefs
 command_with (want id) = Fetch
+command_with (have id) = Fetch
 command_with done = Fetch
 command_with thin_pack = Fetch
 command_with no_progress = Fetch
 command_with include_tag = Fetch
 command_with ofs_delta = Fetch
+command_with (shallow id) = Fetch
+command_with (deepen depth) = Fetch
+command_with deepen_relative = Fetch
+command_with (deepen_since time) = Fetch
+command_with (deepen_not revision) = Fetch
+command_with (want_ref name) = Fetch
 
 -- the most bytes that a text which is kept may have
 abbrev pub most_text : ℕ
 most_text = 32000
+
+-- the depth of a shallow history: of so many commits
+abbrev pub IsDepth : ℕ → Type 0
+IsDepth depth = (1 ≤ depth) × (depth ≤ 2147483647)
+
+-- a time, in seconds
+abbrev pub IsTime : ℕ → Type 0
+IsTime time = time ≤ 9223372036854775807
+
+-- a number in the range, in decimal digits
+pub record IsNumberIn (InRange : ℕ → Type 0) (text : List ℕ) (number : ℕ) : Type 0 where
+  pub is_number : IsNumber text number
+  pub in_range : InRange number
+
+-- no such number
+abbrev pub IsNoNumberIn : (ℕ → Type 0) → List ℕ → Type 0
+IsNoNumberIn InRange text = (number : ℕ) → ¬ IsNumberIn InRange text number
+
+-- a text that names a revision, which is not looked at
+abbrev pub IsRevision : List ℕ → Type 0
+IsRevision text = (1 ≤ length text) × (length text ≤ most_text)
+
+-- a text that is too short for one, or too long
+abbrev pub IsNoRevision : List ℕ → Type 0
+IsNoRevision text = (length text < 1) ⊎ (most_text < length text)
 
 -- the most that a limit on the bytes of kept texts may be
 abbrev pub most_limit : ℕ
@@ -68,11 +117,18 @@ SaysArgument format text symrefs = text ≡ codes "symrefs"
 SaysArgument format text peel = text ≡ codes "peel"
 SaysArgument format text (ref_prefix prefix) = (text ≡ codes "ref-prefix " ++ prefix) × (length prefix ≤ most_text)
 SaysArgument format text (want id) = Follows (codes "want ") (λ name. IsObjectName format name id) text
+SaysArgument format text (have id) = Follows (codes "have ") (λ name. IsObjectName format name id) text
 SaysArgument format text done = text ≡ codes "done"
 SaysArgument format text thin_pack = text ≡ codes "thin-pack"
 SaysArgument format text no_progress = text ≡ codes "no-progress"
 SaysArgument format text include_tag = text ≡ codes "include-tag"
 SaysArgument format text ofs_delta = text ≡ codes "ofs-delta"
+SaysArgument format text (shallow id) = Follows (codes "shallow ") (λ name. IsObjectName format name id) text
+SaysArgument format text (deepen depth) = Follows (codes "deepen ") (λ digits. IsNumberIn IsDepth digits depth) text
+SaysArgument format text deepen_relative = text ≡ codes "deepen-relative"
+SaysArgument format text (deepen_since time) = Follows (codes "deepen-since ") (λ digits. IsNumberIn IsTime digits time) text
+SaysArgument format text (deepen_not revision) = (text ≡ codes "deepen-not " ++ revision) × IsRevision revision
+SaysArgument format text (want_ref name) = (text ≡ codes "want-ref " ++ name) × IsRefName name
 
 -- the text is this argument of the command
 abbrev pub IsArgument : Command → Format → List ℕ → Arg → Type 0
@@ -87,12 +143,24 @@ pub record IsNameIn (format : Format) (id : ObjectName) : Type 0 where
 abbrev pub IsInRange : Format → Arg → Type 0
 IsInRange format (ref_prefix prefix) = length prefix ≤ most_text
 IsInRange format (want id) = IsNameIn format id
+IsInRange format (have id) = IsNameIn format id
+IsInRange format (shallow id) = IsNameIn format id
+IsInRange format (deepen depth) = IsDepth depth
+IsInRange format (deepen_since time) = IsTime time
+IsInRange format (deepen_not revision) = IsRevision revision
+IsInRange format (want_ref name) = IsRefName name
 IsInRange format _ = Unit {0}
 
 -- by which name it may not
 abbrev pub IsOutOfRange : Format → Arg → Kind → Type 0
 IsOutOfRange format (ref_prefix prefix) kind = (most_text < length prefix) × (kind ≡ BadLine)
 IsOutOfRange format (want id) kind = (id.format ≢ format) × (kind ≡ BadObjectName)
+IsOutOfRange format (have id) kind = (id.format ≢ format) × (kind ≡ BadObjectName)
+IsOutOfRange format (shallow id) kind = (id.format ≢ format) × (kind ≡ BadObjectName)
+IsOutOfRange format (deepen depth) kind = (¬ IsDepth depth) × (kind ≡ BadNumber)
+IsOutOfRange format (deepen_since time) kind = (¬ IsTime time) × (kind ≡ BadNumber)
+IsOutOfRange format (deepen_not revision) kind = IsNoRevision revision × (kind ≡ BadLine)
+IsOutOfRange format (want_ref name) kind = (¬ IsRefName name) × (kind ≡ BadRefName)
 IsOutOfRange format _ kind = ⊥
 
 -- the argument may stand in a request of the command and the format
@@ -104,24 +172,32 @@ abbrev pub IsValueFault : Command → Format → Arg → Kind → Type 0
 IsValueFault command format arg kind =
     ((command_with arg ≢ command) × (kind ≡ UnknownArgument)) ⊎ ((command_with arg ≡ command) × IsOutOfRange format arg kind)
 
--- the feature that the argument needs is offered: so far none needs one
-abbrev pub IsOffered : Offer → Arg → Type 0
-IsOffered offer arg = Unit {0}
+-- whether the feature that the argument needs is offered
+abbrev pub is_offered : Offer → Arg → Bool
+is_offered offer (shallow id) = offer.shallow
+is_offered offer (deepen depth) = offer.shallow
+is_offered offer deepen_relative = offer.shallow
+is_offered offer (deepen_since time) = offer.shallow
+is_offered offer (deepen_not revision) = offer.shallow
+is_offered offer (want_ref name) = offer.ref_in_want
+is_offered offer _ = true
 
 -- the text is an argument that a request of this command may have
 pub record ReadsAs (command : Command) (offer : Offer) (text : List ℕ) (arg : Arg) : Type 0 where
   pub is_argument : IsArgument command offer.format text arg
-  pub offered : IsOffered offer arg
+  pub offered : is_offered offer arg ≡ true
 
 -- the arguments of the command that are a word alone
 abbrev pub flags_of : Command → List (List ℕ)
 flags_of LsRefs = codes "symrefs" ∷ codes "peel" ∷ []
-flags_of Fetch = codes "done" ∷ codes "thin-pack" ∷ codes "no-progress" ∷ codes "include-tag" ∷ codes "ofs-delta" ∷ []
+flags_of Fetch =
+    codes "done" ∷ codes "thin-pack" ∷ codes "no-progress" ∷ codes "include-tag" ∷ codes "ofs-delta" ∷ codes "deepen-relative" ∷ []
 
 -- what stands before a value in the command's other arguments
 abbrev pub keywords_of : Command → List (List ℕ)
 keywords_of LsRefs = codes "ref-prefix " ∷ []
-keywords_of Fetch = codes "want " ∷ []
+keywords_of Fetch =
+    codes "want " ∷ codes "have " ∷ codes "shallow " ∷ codes "deepen " ∷ codes "deepen-since " ∷ codes "deepen-not " ∷ codes "want-ref " ∷ []
 
 -- the rows of the table of arguments
 pub data Row : Type 0 where
@@ -129,11 +205,18 @@ pub data Row : Type 0 where
   of_peel : Row
   of_ref_prefix : Row
   of_want : Row
+  of_have : Row
   of_done : Row
   of_thin_pack : Row
   of_no_progress : Row
   of_include_tag : Row
   of_ofs_delta : Row
+  of_shallow : Row
+  of_deepen : Row
+  of_deepen_relative : Row
+  of_deepen_since : Row
+  of_deepen_not : Row
+  of_want_ref : Row
   of_none : Row
 
 -- the row that a word stands for
@@ -143,11 +226,18 @@ row_by word =
     else if bytes_eq word (codes "peel") then of_peel
     else if bytes_eq word (codes "ref-prefix") then of_ref_prefix
     else if bytes_eq word (codes "want") then of_want
+    else if bytes_eq word (codes "have") then of_have
     else if bytes_eq word (codes "done") then of_done
     else if bytes_eq word (codes "thin-pack") then of_thin_pack
     else if bytes_eq word (codes "no-progress") then of_no_progress
     else if bytes_eq word (codes "include-tag") then of_include_tag
     else if bytes_eq word (codes "ofs-delta") then of_ofs_delta
+    else if bytes_eq word (codes "shallow") then of_shallow
+    else if bytes_eq word (codes "deepen") then of_deepen
+    else if bytes_eq word (codes "deepen-relative") then of_deepen_relative
+    else if bytes_eq word (codes "deepen-since") then of_deepen_since
+    else if bytes_eq word (codes "deepen-not") then of_deepen_not
+    else if bytes_eq word (codes "want-ref") then of_want_ref
     else of_none
 
 -- the row of a text, by its first word
@@ -160,26 +250,46 @@ row_in symrefs = of_symrefs
 row_in peel = of_peel
 row_in (ref_prefix prefix) = of_ref_prefix
 row_in (want id) = of_want
+row_in (have id) = of_have
 row_in done = of_done
 row_in thin_pack = of_thin_pack
 row_in no_progress = of_no_progress
 row_in include_tag = of_include_tag
 row_in ofs_delta = of_ofs_delta
+row_in (shallow id) = of_shallow
+row_in (deepen depth) = of_deepen
+row_in deepen_relative = of_deepen_relative
+row_in (deepen_since time) = of_deepen_since
+row_in (deepen_not revision) = of_deepen_not
+row_in (want_ref name) = of_want_ref
 
 -- by which name a text of this row is refused for its value
 abbrev pub IsRowFault : Command → Format → Row → List ℕ → Kind → Type 0
 IsRowFault LsRefs format of_ref_prefix text kind = Follows (codes "ref-prefix ") (λ prefix. most_text < length prefix) text × (kind ≡ BadLine)
 IsRowFault Fetch format of_want text kind = Follows (codes "want ") (IsNoObjectName format) text × (kind ≡ BadObjectName)
+IsRowFault Fetch format of_have text kind = Follows (codes "have ") (IsNoObjectName format) text × (kind ≡ BadObjectName)
+IsRowFault Fetch format of_shallow text kind = Follows (codes "shallow ") (IsNoObjectName format) text × (kind ≡ BadObjectName)
+IsRowFault Fetch format of_deepen text kind = Follows (codes "deepen ") (IsNoNumberIn IsDepth) text × (kind ≡ BadNumber)
+IsRowFault Fetch format of_deepen_since text kind = Follows (codes "deepen-since ") (IsNoNumberIn IsTime) text × (kind ≡ BadNumber)
+IsRowFault Fetch format of_deepen_not text kind = Follows (codes "deepen-not ") IsNoRevision text × (kind ≡ BadLine)
+IsRowFault Fetch format of_want_ref text kind = Follows (codes "want-ref ") (λ name. ¬ IsRefName name) text × (kind ≡ BadRefName)
 IsRowFault _ format _ text kind = ⊥
 
 -- the text is no argument of the command
 abbrev pub IsNoArgument : Command → List ℕ → Type 0
 IsNoArgument command text = IsNoneOf (flags_of command) text × BeginsWithNone (keywords_of command) text
 
--- the text is no argument of the command, or one whose value may not stand there
+-- the text is an argument of the command that needs a feature which is not offered
+pub record IsUnoffered (command : Command) (offer : Offer) (text : List ℕ) : Type 0 where
+  pub arg : Arg
+  pub is_argument : IsArgument command offer.format text arg
+  pub unoffered : is_offered offer arg ≡ false
+
+-- the text is no argument of the command, or one whose value may not stand there, or one that was not offered
 abbrev pub IsArgumentFault : Command → Offer → List ℕ → Kind → Type 0
 IsArgumentFault command offer text kind =
-    (IsNoArgument command text × (kind ≡ UnknownArgument)) ⊎ ((row : Row) × IsRowFault command offer.format row text kind)
+    (IsNoArgument command text × (kind ≡ UnknownArgument))
+    ⊎ (((row : Row) × IsRowFault command offer.format row text kind) ⊎ (IsUnoffered command offer text × (kind ≡ NotAdvertised)))
 
 -- the line of an argument, as it is written
 abbrev pub written_text : Arg → List ℕ
@@ -187,14 +297,25 @@ written_text symrefs = codes "symrefs"
 written_text peel = codes "peel"
 written_text (ref_prefix prefix) = codes "ref-prefix " ++ prefix
 written_text (want id) = codes "want " ++ hex_of id
+written_text (have id) = codes "have " ++ hex_of id
 written_text done = codes "done"
 written_text thin_pack = codes "thin-pack"
 written_text no_progress = codes "no-progress"
 written_text include_tag = codes "include-tag"
 written_text ofs_delta = codes "ofs-delta"
+written_text (shallow id) = codes "shallow " ++ hex_of id
+written_text (deepen depth) = codes "deepen " ++ decimal depth
+written_text deepen_relative = codes "deepen-relative"
+written_text (deepen_since time) = codes "deepen-since " ++ decimal time
+written_text (deepen_not revision) = codes "deepen-not " ++ revision
+written_text (want_ref name) = codes "want-ref " ++ name
 
 -- the argument has a value for which memory is taken
 abbrev pub TakesMemory : Arg → Type 0
 TakesMemory (ref_prefix prefix) = Unit {0}
 TakesMemory (want id) = Unit {0}
+TakesMemory (have id) = Unit {0}
+TakesMemory (shallow id) = Unit {0}
+TakesMemory (deepen_not revision) = Unit {0}
+TakesMemory (want_ref name) = Unit {0}
 TakesMemory _ = ⊥

@@ -10,9 +10,16 @@ module _ {A : Type 0} where
   abbrev pub fetch_inside : FetchInside A → FetchAsked
   fetch_inside q = record {
     wants = q.wants.items;
+    haves = q.haves.items;
     done = q.done;
     thin_pack = q.thin_pack;
     no_progress = q.no_progress;
     include_tag = q.include_tag;
     ofs_delta = q.ofs_delta;
+    shallows = q.shallows.items;
+    deepen = q.deepen;
+    deepen_relative = q.deepen_relative;
+    deepen_since = q.deepen_since;
+    deepen_nots = q.deepen_nots;
+    want_refs = q.want_refs;
   }

@@ -8,11 +8,13 @@ pub mod Insides
 pub mod JudgedLine
 pub mod Kept
 pub mod Lines
+pub mod Numbers
 pub mod ReferenceParts
 pub mod References
 pub mod Requests
 pub mod RequestReader
 pub mod RequestReaderSteps
+pub mod ResponseLines
 pub mod Texts
 pub mod WholeRequests
 pub mod WrittenRequest

@@ -8,7 +8,7 @@ use Rattle.git_names.specs.declared.object_format.Format.TheVariants.{Sha1, Sha2
 use Rattle.git_pkt.specs.Packets.{Pkt, flush, delim, payload, text_of}
 use Rattle.git_pkt.specs.declared.fault.Kind.{Kind}
 use Rattle.git_pkt.specs.declared.fault.Kind.TheVariants.{BadCapability, UnknownCommand, TwoCommands, NoCommand, NotAdvertised, WrongFormat}
-use Rattle.git_pkt.specs.declared.fault.Kind.TheVariants.{TooMuchKept, UnexpectedPacket, RemoteError, NoWants}
+use Rattle.git_pkt.specs.declared.fault.Kind.TheVariants.{TooMuchKept, UnexpectedPacket, RemoteError, DeepenConflict, NoWants}
 use Rattle.git_msg.specs.declared.offers.Offer.{Offer}
 use Rattle.git_msg.specs.declared.arguments.Command.{Command}
 use Rattle.git_msg.specs.declared.capability_key.Key.{Key}
@@ -16,7 +16,7 @@ use Rattle.git_msg.specs.declared.capability_key.Key.TheVariants.{CommandKey, Ag
 use Rattle.git_msg.specs.Texts.{IsErrorText, IsNoneOf}
 use Rattle.git_msg.specs.Capability.{IsCapability, IsNoCapability}
 use Rattle.git_msg.specs.Arguments.{Arg, name_of, ReadsAs, IsArgumentFault}
-use Rattle.git_msg.specs.Asked.{Asked, ls_refs, fetch, HasWants, asked_by}
+use Rattle.git_msg.specs.Asked.{Asked, ls_refs, fetch, HasWants, asked_by, has_deepen_conflict}
 use Rattle.git_msg.specs.Checks.{Check, check, unless, Refuses, Passes}
 
 -- a packet of a request that is not refused: the capability lines, the delimiter, and the arguments with the
@@ -193,7 +193,9 @@ pub record IsArgumentRefused (offer : Offer) (limit : ℕ) (before : List Line) 
 -- what refuses a request at its flush, by what it asks for
 abbrev pub end_checks : Asked → List Check
 end_checks (ls_refs q) = []
-end_checks (fetch q) = check (HasWants q) (¬ HasWants q) NoWants ∷ []
+end_checks (fetch q) =
+    check (has_deepen_conflict q ≡ false) (has_deepen_conflict q ≡ true) DeepenConflict
+    ∷ check (HasWants q) (¬ HasWants q) NoWants ∷ []
 
 abbrev pub at_end : List Line → Check
 at_end lines = record {

@@ -4,9 +4,9 @@ use Rattle.git_names.specs.declared.object_format.Format.{Format}
 use Rattle.git_names.specs.RefName.{IsRefName}
 use Rattle.git_msg.specs.declared.reference_lines.Attribute.{Attribute}
 use Rattle.git_msg.specs.declared.reference_lines.Attribute.TheVariants.{Target, Peeled, Other}
-use Rattle.git_msg.specs.Texts.{parts_left, spaced_words}
+use Rattle.git_msg.specs.Texts.{parts_left, spaced_words, last_of}
 use Rattle.git_msg.specs.Checks.{Passes}
-use Rattle.git_msg.specs.References.{value_behind, values_of, last_of, IsAttribute, attribute_checks}
+use Rattle.git_msg.specs.References.{value_behind, values_of, IsAttribute, attribute_checks}
 
 -- the first word of the text is this reference name, and these are the others
 pub record BeginsWithName (text name : List ℕ) (others : List (List ℕ)) : Type 0 where

@@ -10,7 +10,7 @@ use Rattle.git_names.specs.declared.object_format.Format.{Format}
 use Rattle.git_pkt.specs.declared.fault.Kind.{Kind}
 use Rattle.git_pkt.specs.declared.fault.Kind.TheVariants.{BadLine, BadObjectName, BadRefName}
 use Rattle.git_msg.specs.declared.references.Reference.{Reference}
-use Rattle.git_msg.specs.Texts.{Follows, spaced_words}
+use Rattle.git_msg.specs.Texts.{Follows, last_of, spaced_words}
 use Rattle.git_msg.specs.Checks.{Check, check, Refuses, Passes}
 
 -- a reference, wherever its texts lie
@@ -30,12 +30,6 @@ shown_reference r = record { id = r.id; name = r.name.now; target = option_copie
 -- what stands after the word, where the text begins with it
 abbrev pub value_behind : List ℕ → List ℕ → Option (List ℕ)
 value_behind word text = if bytes_eq (take (length word) text) word then Some (drop (length word) text) else None
-
--- the last of a list
-abbrev pub last_of : {X : Type 0} → List X → Option X
-last_of [] = None
-last_of (x ∷ []) = Some x
-last_of (x ∷ y ∷ xs) = last_of (y ∷ xs)
 
 -- the texts that attributes of this key have
 abbrev pub values_of : List ℕ → List (List ℕ) → List (List ℕ)

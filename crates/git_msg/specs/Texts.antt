@@ -11,6 +11,12 @@ abbrev pub parts_left : ℕ → Option (List ℕ) → List (List ℕ)
 parts_left byte None = []
 parts_left byte (Some text) = parts_of byte text
 
+-- the last of a list
+abbrev pub last_of : {X : Type 0} → List X → Option X
+last_of [] = None
+last_of (x ∷ []) = Some x
+last_of (x ∷ y ∷ xs) = last_of (y ∷ xs)
+
 -- the parts of a text between single spaces
 abbrev pub spaced_words : List ℕ → List (List ℕ)
 spaced_words text = parts_of 32 text

@@ -1,11 +1,16 @@
 //! The argument lines of requests, gitprotocol-v2(5).
-ghost use Rattle.std.specs.Prelude.{◌≡◌, MatchResult};
+ghost use Rattle.std.specs.Prelude.{◌≡◌, ◌⊎◌, MatchBool, MatchOption, MatchResult};
 ghost use Rattle.git_names.specs.ObjectName.{IsNoObjectName, IsObjectName};
-ghost use Rattle.git_msg.specs.Arguments.{IsArgumentFault, ReadsAs, name_of, shown};
+ghost use Rattle.git_names.specs.RefName.{IsRefName};
+ghost use Rattle.git_names.specs.declared.object_format.Format.{Format};
+ghost use Rattle.git_msg.specs.Arguments.{IsArgument, IsArgumentFault, IsDepth, IsNoArgument, IsNoNumberIn, IsNoRevision, IsNumberIn, IsRevision, IsRowFault, IsTime, ReadsAs, Row};
+ghost use Rattle.git_msg.specs.Arguments.{flags_of, keywords_of, is_offered as offers, name_of, shown};
+ghost use Rattle.git_msg.specs.Texts.{BeginsWithNone, IsNoneOf};
 
+use crate::numbers::read_number;
 use crate::offers::Offer;
 use crate::texts::{after, is_word};
-use git_names::{Format, Oid};
+use git_names::{Format, Oid, RefName};
 use git_pkt::Kind;
 
 /// A command of a request, gitprotocol-v2(5).
@@ -28,6 +33,8 @@ pub enum Argument<'a> {
     RefPrefix(&'a [u8]),
     /// `want`: send this object.
     Want(Oid),
+    /// `have`: the client has this object.
+    Have(Oid),
     /// `done`: do not negotiate any further, and send the pack.
     IsDone,
     /// `thin-pack`: the pack may have deltas against objects that are not in it.
@@ -38,6 +45,19 @@ pub enum Argument<'a> {
     IncludeTag,
     /// `ofs-delta`: the pack may name the base of a delta by its place in the pack.
     OfsDelta,
+    /// `shallow`: the client has this commit without its parents.
+    Shallow(Oid),
+    /// `deepen`: cut the history off at this depth, of 1 to 2,147,483,647 commits.
+    Deepen(u64),
+    /// `deepen-relative`: count the depth from where the client's history is cut off now.
+    DeepenRelative,
+    /// `deepen-since`: cut the history off at this time, in seconds since 1970, of 9,223,372,036,854,775,807 at most.
+    DeepenSince(u64),
+    /// `deepen-not`: leave out what this revision reaches, whose text has 1 to 32,000 bytes.
+    DeepenNot(&'a [u8]),
+    /// `want-ref`: send the object of the reference of this name, whose text is a [`git_names::RefName`]. It is the text
+    /// that is lent, since the check has no rule yet for an enum by value of an object name and a struct that borrows.
+    WantRef(&'a [u8]),
 }
 
 // The same argument, taken apart and put together: the check has no rule yet for lending or copying a whole parameter that
@@ -49,11 +69,18 @@ macro_rules! put_together {
             Argument::Peel => Argument::Peel,
             Argument::RefPrefix(prefix) => Argument::RefPrefix(prefix),
             Argument::Want(id) => Argument::Want(id),
+            Argument::Have(id) => Argument::Have(id),
             Argument::IsDone => Argument::IsDone,
             Argument::ThinPack => Argument::ThinPack,
             Argument::NoProgress => Argument::NoProgress,
             Argument::IncludeTag => Argument::IncludeTag,
             Argument::OfsDelta => Argument::OfsDelta,
+            Argument::Shallow(id) => Argument::Shallow(id),
+            Argument::Deepen(depth) => Argument::Deepen(depth),
+            Argument::DeepenRelative => Argument::DeepenRelative,
+            Argument::DeepenSince(time) => Argument::DeepenSince(time),
+            Argument::DeepenNot(revision) => Argument::DeepenNot(revision),
+            Argument::WantRef(name) => Argument::WantRef(name),
         }
     };
 }
@@ -62,6 +89,11 @@ pub(crate) use put_together;
 
 /// The most bytes that a text which is kept may have.
 pub(crate) const MOST_TEXT: usize = 32_000;
+
+// The largest depth, and the latest time.
+const MOST_DEPTH: u64 = 2_147_483_647;
+
+const MOST_TIME: u64 = 9_223_372_036_854_775_807;
 
 impl Command {
     /// The command's key, as it stands after `command=`.
@@ -76,7 +108,9 @@ impl Command {
 }
 
 /// Reads the text of an argument line: `UnknownArgument` where the command has no such argument, then what is wrong
-/// with the value: `BadLine` for a text of a wrong length, `BadObjectName` for what is no object name of the format.
+/// with the value: `BadLine` for a text of a wrong length, `BadObjectName` for what is no object name of the format,
+/// `BadRefName` for what is no reference name, `BadNumber` for what is no number in its range. Then `NotAdvertised`
+/// where the feature that the argument needs was not offered.
 pub fn read_argument<'a>(
     command: Command,
     offer: &Offer,
@@ -114,26 +148,109 @@ fn read_fetch<'a>(offer: &Offer, text: &'a [u8]) -> Result<Argument<'a>, Kind>
     ensures argument { MatchResult result (λ argument. ReadsAs Command.Fetch offer.now text.now (shown argument))
         (IsArgumentFault Command.Fetch offer.now text.now) }
 {
+    match read_fetch_text(offer.format, text) {
+        Ok(argument) => {
+            if !is_offered(offer, &argument) {
+                return Err(Kind::NotAdvertised);
+            }
+            Ok(argument)
+        }
+        Err(kind) => Err(kind),
+    }
+}
+
+// The argument of `fetch` that the text is, whether or not it was offered.
+fn read_fetch_text<'a>(format: Format, text: &'a [u8]) -> Result<Argument<'a>, Kind>
+    ensures argument { MatchResult result (λ argument. IsArgument Command.Fetch format text.now (shown argument))
+        (λ kind. (IsNoArgument Command.Fetch text.now × (kind ≡ Kind.UnknownArgument))
+        ⊎ ((row : Row) × IsRowFault Command.Fetch format row text.now kind)) }
+{
+    match fetch_flag(text) {
+        Some(flag) => Ok(flag),
+        None => read_fetch_value(format, text),
+    }
+}
+
+// The argument of `fetch` that is this word alone.
+fn fetch_flag(text: &[u8]) -> Option<Argument<'_>>
+    ensures flag { MatchOption result (IsNoneOf (flags_of Command.Fetch) text.now)
+        (λ argument. (format : Format) → IsArgument Command.Fetch format text.now (shown argument)) }
+{
     if is_word(text, b"done") {
-        return Ok(Argument::IsDone);
+        return Some(Argument::IsDone);
     }
     if is_word(text, b"thin-pack") {
-        return Ok(Argument::ThinPack);
+        return Some(Argument::ThinPack);
     }
     if is_word(text, b"no-progress") {
-        return Ok(Argument::NoProgress);
+        return Some(Argument::NoProgress);
     }
     if is_word(text, b"include-tag") {
-        return Ok(Argument::IncludeTag);
+        return Some(Argument::IncludeTag);
     }
     if is_word(text, b"ofs-delta") {
-        return Ok(Argument::OfsDelta);
+        return Some(Argument::OfsDelta);
     }
+    if is_word(text, b"deepen-relative") {
+        return Some(Argument::DeepenRelative);
+    }
+    None
+}
+
+// The argument of `fetch` that is a word and a value.
+fn read_fetch_value<'a>(format: Format, text: &'a [u8]) -> Result<Argument<'a>, Kind>
+    ensures argument { MatchResult result (λ argument. IsArgument Command.Fetch format text.now (shown argument))
+        (λ kind. (BeginsWithNone (keywords_of Command.Fetch) text.now × (kind ≡ Kind.UnknownArgument))
+        ⊎ ((row : Row) × IsRowFault Command.Fetch format row text.now kind)) }
+{
     if let Some(name) = after(text, b"want ") {
-        let id = read_id(offer.format, name)?;
+        let id = read_id(format, name)?;
         return Ok(Argument::Want(id));
     }
+    if let Some(name) = after(text, b"have ") {
+        let id = read_id(format, name)?;
+        return Ok(Argument::Have(id));
+    }
+    if let Some(name) = after(text, b"shallow ") {
+        let id = read_id(format, name)?;
+        return Ok(Argument::Shallow(id));
+    }
+    if let Some(digits) = after(text, b"deepen ") {
+        let depth = read_depth(digits)?;
+        return Ok(Argument::Deepen(depth));
+    }
+    if let Some(digits) = after(text, b"deepen-since ") {
+        let time = read_time(digits)?;
+        return Ok(Argument::DeepenSince(time));
+    }
+    if let Some(revision) = after(text, b"deepen-not ") {
+        if !is_revision(revision) {
+            return Err(Kind::BadLine);
+        }
+        return Ok(Argument::DeepenNot(revision));
+    }
+    if let Some(name) = after(text, b"want-ref ") {
+        if !is_ref_name(name) {
+            return Err(Kind::BadRefName);
+        }
+        return Ok(Argument::WantRef(name));
+    }
     Err(Kind::UnknownArgument)
+}
+
+// Whether the feature that the argument needs was offered.
+fn is_offered(offer: &Offer, argument: &Argument<'_>) -> bool
+    ensures { result ≡ offers offer.now (shown argument.now) }
+{
+    match argument {
+        Argument::Shallow(_) => offer.shallow,
+        Argument::Deepen(_) => offer.shallow,
+        Argument::DeepenRelative => offer.shallow,
+        Argument::DeepenSince(_) => offer.shallow,
+        Argument::DeepenNot(_) => offer.shallow,
+        Argument::WantRef(_) => offer.ref_in_want,
+        _ => true,
+    }
 }
 
 fn read_id(format: Format, name: &[u8]) -> Result<Oid, Kind>
@@ -143,4 +260,52 @@ fn read_id(format: Format, name: &[u8]) -> Result<Oid, Kind>
         Ok(id) => Ok(id),
         Err(_) => Err(Kind::BadObjectName),
     }
+}
+
+fn read_depth(digits: &[u8]) -> Result<u64, Kind>
+    ensures depth { MatchResult result (IsNumberIn IsDepth digits.now)
+        (λ kind. IsNoNumberIn IsDepth digits.now × (kind ≡ Kind.BadNumber)) }
+{
+    match read_number(digits) {
+        Some(depth) if is_depth(depth) => Ok(depth),
+        _ => Err(Kind::BadNumber),
+    }
+}
+
+fn read_time(digits: &[u8]) -> Result<u64, Kind>
+    ensures time { MatchResult result (IsNumberIn IsTime digits.now)
+        (λ kind. IsNoNumberIn IsTime digits.now × (kind ≡ Kind.BadNumber)) }
+{
+    match read_number(digits) {
+        Some(time) if is_time(time) => Ok(time),
+        _ => Err(Kind::BadNumber),
+    }
+}
+
+/// Whether a history may be cut off at this depth.
+pub(crate) fn is_depth(depth: u64) -> bool
+    ensures { MatchBool result (IsDepth depth) (¬ IsDepth depth) }
+{
+    1 <= depth && depth <= MOST_DEPTH
+}
+
+/// Whether a history may be cut off at this time.
+pub(crate) fn is_time(time: u64) -> bool
+    ensures { MatchBool result (IsTime time) (¬ IsTime time) }
+{
+    time <= MOST_TIME
+}
+
+/// Whether the text is a reference name.
+pub(crate) fn is_ref_name(text: &[u8]) -> bool
+    ensures { MatchBool result (IsRefName text.now) (¬ IsRefName text.now) }
+{
+    RefName::read(text).is_ok()
+}
+
+/// Whether the text may name a revision: it has 1 to 32,000 bytes.
+pub(crate) fn is_revision(text: &[u8]) -> bool
+    ensures { MatchBool result (IsRevision text.now) (IsNoRevision text.now) }
+{
+    !text.is_empty() && text.len() <= MOST_TEXT
 }

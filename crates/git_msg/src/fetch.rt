@@ -1,11 +1,12 @@
 //! Requests for objects, `fetch` of gitprotocol-v2(5), as they are kept.
-ghost use Rattle.std.specs.Prelude.{◌≡◌, ◌+◌, ◌≤◌, length, OnOk, OnErr, IfErr, slice_get};
-ghost use Rattle.std.specs.Option.{option_map};
+ghost use Rattle.std.specs.Prelude.{◌≡◌, ◌≢◌, ◌+◌, ◌≤◌, ◌++◌, ◌^◌, ◌<◌, length, map, MatchBool, MatchResult, OnOk, OnErr, IfErr, IfSome, slice_get, OnSome};
+ghost use Rattle.std.specs.Option.{option_copied, option_map};
+ghost use Rattle.git_names.specs.RefName.{IsRefName};
 ghost use Rattle.git_msg.specs.Arguments.{shown, written_text};
 
-use crate::arguments::{Argument, Command};
+use crate::arguments::{Argument, Command, is_depth, is_ref_name, is_revision, is_time};
 use crate::limits::{Budget, Limits};
-use crate::parts::past_flag;
+use crate::parts::{Texts, keep_id, number_at, past_flag};
 use git_names::{Format, Oid};
 use git_pkt::Kind;
 use std::alloc::Allocator;
@@ -17,11 +18,18 @@ pub struct Fetch<A: Allocator + Copy> {
     format: Format,
     budget: Budget,
     wants: Vec<Oid, A>,
+    haves: Vec<Oid, A>,
     done: bool,
     thin_pack: bool,
     no_progress: bool,
     include_tag: bool,
     ofs_delta: bool,
+    shallows: Vec<Oid, A>,
+    deepen: Option<u64>,
+    deepen_relative: bool,
+    deepen_since: Option<u64>,
+    deepen_nots: Texts<A>,
+    want_refs: Texts<A>,
 }
 
 impl<A: Allocator + Copy> Model for Fetch<A> {
@@ -38,8 +46,8 @@ impl<A: Allocator + Copy> Model for Fetch<A> {
 }
 
 impl<A: Allocator + Copy> Fetch<A> {
-    ghost use Rattle.git_msg.specs.Arguments.{IsValue, IsValueFault};
-    ghost use Rattle.git_msg.specs.Asked.{arguments_in, fetch};
+    ghost use Rattle.git_msg.specs.Arguments.{done, deepen_not, deepen_relative, have, IsNameIn, IsValue, IsValueFault};
+    ghost use Rattle.git_msg.specs.Asked.{HasWants, arguments_in, fetch, has_deepen_conflict, object_arguments, shallow_arguments, where_asked};
     ghost use Rattle.git_msg.specs.Kept.{IsNew, IsUnkept, IsWithin, KeepsArgument, kept_as};
 
     /// The objects that the client wants to retrieve, in the order of their lines.
@@ -47,6 +55,13 @@ impl<A: Allocator + Copy> Fetch<A> {
         ensures { result.now ≡ self.now.asked.wants }
     {
         &self.wants
+    }
+
+    /// The objects that the client has, in the order of their lines.
+    pub fn haves(&self) -> &[Oid]
+        ensures { result.now ≡ self.now.asked.haves }
+    {
+        &self.haves
     }
 
     /// Whether negotiation is over, or not even to begin: the pack is to be made of what the request says.
@@ -84,6 +99,64 @@ impl<A: Allocator + Copy> Fetch<A> {
         self.ofs_delta
     }
 
+    /// The commits that the client has without their parents, in the order of their lines.
+    pub fn shallows(&self) -> &[Oid]
+        ensures { result.now ≡ self.now.asked.shallows }
+    {
+        &self.shallows
+    }
+
+    /// The depth at which the history is to be cut off, if it was given: of several the last.
+    pub fn deepen(&self) -> Option<u64>
+        ensures { result ≡ self.now.asked.deepen }
+    {
+        self.deepen
+    }
+
+    /// Whether that depth counts from where the client's history is cut off now.
+    pub fn deepen_relative(&self) -> bool
+        ensures { result ≡ self.now.asked.deepen_relative }
+    {
+        self.deepen_relative
+    }
+
+    /// The time at which the history is to be cut off, in seconds since 1970, if it was given: of several the last.
+    pub fn deepen_since(&self) -> Option<u64>
+        ensures { result ≡ self.now.asked.deepen_since }
+    {
+        self.deepen_since
+    }
+
+    /// The revision of the `deepen-not` line at place `i`, whose history is to be left out.
+    pub fn deepen_not(&self, i: usize) -> Option<&[u8]>
+        ensures { option_copied result ≡ slice_get self.now.asked.deepen_nots i }
+    {
+        self.deepen_nots.get(i)
+    }
+
+    /// The name of the reference of the `want-ref` line at place `i`, whose object is wanted.
+    pub fn want_ref(&self, i: usize) -> Option<&[u8]>
+        ensures value { option_copied result ≡ slice_get self.now.asked.want_refs i }
+        ensures name { IfSome result (λ name. IsRefName name.now) }
+        ensures bound { OnSome result (i + 1 < 2 ^ 64) }
+    {
+        self.want_refs.get(i)
+    }
+
+    /// Whether it wants an object or a reference.
+    pub(crate) fn has_wants(&self) -> bool
+        ensures { MatchBool result (HasWants self.now.asked) (¬ HasWants self.now.asked) }
+    {
+        !self.wants.is_empty() || self.want_refs.get(0).is_some()
+    }
+
+    /// Whether the history is cut off by a depth and by something else, which exclude each other.
+    pub(crate) fn has_deepen_conflict(&self) -> bool
+        ensures { result ≡ has_deepen_conflict self.now.asked }
+    {
+        self.deepen.is_some() && (self.deepen_since.is_some() || self.deepen_nots.get(0).is_some())
+    }
+
     pub(crate) fn new(alloc: A, format: Format, limits: Limits) -> Fetch<A>
         ensures { IsNew Command.Fetch format limits.args (kept_as fetch result) }
     {
@@ -91,11 +164,18 @@ impl<A: Allocator + Copy> Fetch<A> {
             format,
             budget: Budget::new(limits),
             wants: Vec::new(alloc),
+            haves: Vec::new(alloc),
             done: false,
             thin_pack: false,
             no_progress: false,
             include_tag: false,
             ofs_delta: false,
+            shallows: Vec::new(alloc),
+            deepen: None,
+            deepen_relative: false,
+            deepen_since: None,
+            deepen_nots: Texts::new(alloc),
+            want_refs: Texts::new(alloc),
         }
     }
 
@@ -135,12 +215,67 @@ impl<A: Allocator + Copy> Fetch<A> {
         let Some(i) = past_flag(self.ofs_delta, i) else {
             return Some(Argument::OfsDelta);
         };
-        let Some(i) = i.checked_sub(self.wants.len()) else {
-            return Some(Argument::Want(self.wants[i]));
+        self.shallow_argument(i)
+    }
+
+    // The argument at place `i` after those that say how the pack is to be sent.
+    fn shallow_argument(&self, i: usize) -> Option<Argument<'_>>
+        ensures { option_map shown result ≡ slice_get (shallow_arguments self.now.asked (object_arguments self.now.asked)) i }
+    {
+        if let Some(id) = self.shallows.get(i) {
+            return Some(Argument::Shallow(*id));
+        }
+        let i = i - self.shallows.len();
+        let i = match number_at(self.deepen, i) {
+            Ok(depth) => return Some(Argument::Deepen(depth)),
+            Err(next) => next,
         };
-        let Some(_) = past_flag(self.done, i) else {
+        let i = match number_at(self.deepen_since, i) {
+            Ok(time) => return Some(Argument::DeepenSince(time)),
+            Err(next) => next,
+        };
+        self.revision_argument(i)
+    }
+
+    // The argument at place `i` after the depth and the time.
+    fn revision_argument(&self, i: usize) -> Option<Argument<'_>>
+        ensures { option_map shown result ≡ slice_get (map deepen_not self.now.asked.deepen_nots
+            ++ (where_asked self.now.asked.deepen_relative deepen_relative ++ object_arguments self.now.asked)) i }
+    {
+        if let Some(revision) = self.deepen_nots.get(i) {
+            return Some(Argument::DeepenNot(revision));
+        }
+        let i = i - self.deepen_nots.len();
+        let Some(i) = past_flag(self.deepen_relative, i) else {
+            return Some(Argument::DeepenRelative);
+        };
+        self.object_argument(i)
+    }
+
+    // The argument at place `i` among those that say what is wanted and what the client has.
+    fn object_argument(&self, i: usize) -> Option<Argument<'_>>
+        ensures { option_map shown result ≡ slice_get (object_arguments self.now.asked) i }
+    {
+        if let Some(id) = self.wants.get(i) {
+            return Some(Argument::Want(*id));
+        }
+        let i = i - self.wants.len();
+        if let Some(name) = self.want_refs.get(i) {
+            return Some(Argument::WantRef(name));
+        }
+        self.have_argument(i - self.want_refs.len())
+    }
+
+    // The argument at place `i` among those that say what the client has, and whether it is done.
+    fn have_argument(&self, i: usize) -> Option<Argument<'_>>
+        ensures { option_map shown result ≡ slice_get (map have self.now.asked.haves ++ where_asked self.now.asked.done done) i }
+    {
+        if let Some(id) = self.haves.get(i) {
+            return Some(Argument::Have(*id));
+        }
+        if self.done && i == self.haves.len() {
             return Some(Argument::IsDone);
-        };
+        }
         None
     }
 
@@ -150,15 +285,27 @@ impl<A: Allocator + Copy> Fetch<A> {
         ensures err { IfErr result (IsValueFault Command.Fetch self.now.format (shown argument.now)) }
     {
         match argument {
-            Argument::Want(id) if id.format() != self.format => Err(Kind::BadObjectName),
-            Argument::Want(_) => Ok(()),
-            Argument::IsDone => Ok(()),
-            Argument::ThinPack => Ok(()),
-            Argument::NoProgress => Ok(()),
-            Argument::IncludeTag => Ok(()),
-            Argument::OfsDelta => Ok(()),
-            _ => Err(Kind::UnknownArgument),
+            Argument::Want(id) | Argument::Have(id) | Argument::Shallow(id) => self.check_id(id),
+            Argument::Deepen(depth) if !is_depth(*depth) => Err(Kind::BadNumber),
+            Argument::DeepenSince(time) if !is_time(*time) => Err(Kind::BadNumber),
+            Argument::DeepenNot(revision) if !is_revision(revision) => Err(Kind::BadLine),
+            Argument::WantRef(name) if !is_ref_name(name) => Err(Kind::BadRefName),
+            Argument::Symrefs => Err(Kind::UnknownArgument),
+            Argument::Peel => Err(Kind::UnknownArgument),
+            Argument::RefPrefix(_) => Err(Kind::UnknownArgument),
+            _ => Ok(()),
         }
+    }
+
+    // Whether the object name is of the request's format.
+    fn check_id(&self, id: &Oid) -> Result<(), Kind>
+        ensures { MatchResult result (λ _. IsNameIn self.now.format id.now)
+            (λ kind. (id.now.format ≢ self.now.format) × (kind ≡ Kind.BadObjectName)) }
+    {
+        if id.format() != self.format {
+            return Err(Kind::BadObjectName);
+        }
+        Ok(())
     }
 
     /// Keeps an argument whose line has a text of so many bytes.
@@ -173,16 +320,19 @@ impl<A: Allocator + Copy> Fetch<A> {
         let mut budget = self.budget;
         budget.charge(text_length)?;
         match argument {
-            Argument::Want(id) => {
-                if self.wants.push(*id).is_err() {
-                    return Err(Kind::OutOfMemory);
-                }
-            }
+            Argument::Want(id) => keep_id(&mut self.wants, *id)?,
+            Argument::Have(id) => keep_id(&mut self.haves, *id)?,
             Argument::IsDone => self.done = true,
             Argument::ThinPack => self.thin_pack = true,
             Argument::NoProgress => self.no_progress = true,
             Argument::IncludeTag => self.include_tag = true,
             Argument::OfsDelta => self.ofs_delta = true,
+            Argument::Shallow(id) => keep_id(&mut self.shallows, *id)?,
+            Argument::Deepen(depth) => self.deepen = Some(*depth),
+            Argument::DeepenRelative => self.deepen_relative = true,
+            Argument::DeepenSince(time) => self.deepen_since = Some(*time),
+            Argument::DeepenNot(revision) => self.deepen_nots.keep(revision)?,
+            Argument::WantRef(name) => self.want_refs.keep(name)?,
             _ => unreachable!(),
         }
         self.budget = budget;

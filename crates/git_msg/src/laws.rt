@@ -1,6 +1,8 @@
 //! What follows from the definitions alone: each law is the contract of a function without parameters.
 
-ghost use Rattle.std.specs.Prelude.{◌≡◌, ◌≤◌, ℕ, List, Option, length, map, sum_by};
+ghost use Rattle.std.specs.Prelude.{◌≡◌, ◌≤◌, ℕ, List, Option, Some, length, map, sum_by};
+ghost use Rattle.git_names.specs.ObjectName.{ObjectName, IsOid};
+ghost use Rattle.git_names.specs.RefName.{IsRefName};
 ghost use Rattle.git_names.specs.declared.object_format.Format.{Format};
 ghost use Rattle.git_pkt.specs.Packets.{Pkt};
 ghost use Rattle.git_pkt.specs.Splits.{Given};
@@ -9,14 +11,16 @@ ghost use Rattle.git_msg.specs.declared.arguments.Command.{Command};
 ghost use Rattle.git_msg.specs.declared.offers.Caps.{Caps};
 ghost use Rattle.git_msg.specs.declared.offers.Offer.{Offer};
 ghost use Rattle.git_msg.specs.declared.requests.Request.{Request};
-ghost use Rattle.git_msg.specs.Arguments.{Arg, IsArgumentFault, ReadsAs, written_text};
-ghost use Rattle.git_msg.specs.Asked.{Asked, HasValues, arguments_in, asked_by, command_asked, written_bytes};
+ghost use Rattle.git_msg.specs.declared.response_lines.Boundary.{Boundary};
+ghost use Rattle.git_msg.specs.Arguments.{Arg, IsArgumentFault, IsNameIn, ReadsAs, written_text};
+ghost use Rattle.git_msg.specs.Asked.{Asked, AreOffered, HasValues, arguments_in, asked_by, command_asked, written_bytes};
 ghost use Rattle.git_msg.specs.Capability.{IsCapability};
 ghost use Rattle.git_msg.specs.Checks.{Passes, Refuses};
 ghost use Rattle.git_msg.specs.HeldRequest.{IsEmpty, AddsAll, add_checks, asked_of, kept_of};
 ghost use Rattle.git_msg.specs.Lines.{Line, IsFormatMeant, IsLine, HasFault, end_checks};
-ghost use Rattle.git_msg.specs.References.{Ref, IsReferenceFault, IsReferenceLine};
+ghost use Rattle.git_msg.specs.References.{Ref, IsReferenceFault, IsReferenceLine, IsWritable, reference_text};
 ghost use Rattle.git_msg.specs.Requests.{Asks, FirstFault};
+ghost use Rattle.git_msg.specs.ResponseLines.{Wanted, IsAckLine, IsBoundaryLine, IsWantedLine, ack_text, boundary_text, object_of, wanted_text};
 ghost use Rattle.git_msg.specs.WrittenRequest.{lines_written};
 
 use crate::limits::Limits;
@@ -55,6 +59,43 @@ pub fn argument_or_fault()
         → ReadsAs command offer text arg → IsArgumentFault command offer text kind → ⊥ }
     ensures one { (command : Command) (offer : Offer) (text : List ℕ) (kind other : Kind)
         → IsArgumentFault command offer text kind → IsArgumentFault command offer text other → kind ≡ other }
+{}
+
+/// A text acknowledges one object at most.
+pub fn one_ack()
+    ensures { (format : Format) (text : List ℕ) (a b : ObjectName) → IsAckLine format text a → IsAckLine format text b → a ≡ b }
+{}
+
+/// A text is one line of the shallow boundary at most.
+pub fn one_boundary()
+    ensures { (format : Format) (text : List ℕ) (a b : Boundary) → IsBoundaryLine format text a → IsBoundaryLine format text b → a ≡ b }
+{}
+
+/// A text is one wanted reference at most.
+pub fn one_wanted()
+    ensures { (format : Format) (text : List ℕ) (a b : Wanted) → IsWantedLine format text a → IsWantedLine format text b → a ≡ b }
+{}
+
+/// The line that is written of a reference is that reference, where its object name has the format.
+pub fn written_reference_reads_back()
+    ensures { (format : Format) (ref : Ref) → IsNameIn format ref.id → ((peeled : ObjectName) → ref.peeled ≡ Some peeled → IsOid peeled)
+        → IsWritable ref → IsReferenceLine format (reference_text ref) ref }
+{}
+
+/// The line that is written of an acknowledgment acknowledges that object.
+pub fn written_ack_reads_back()
+    ensures { (format : Format) (id : ObjectName) → IsNameIn format id → IsAckLine format (ack_text id) id }
+{}
+
+/// The line that is written of the shallow boundary is that line.
+pub fn written_boundary_reads_back()
+    ensures { (format : Format) (line : Boundary) → IsNameIn format (object_of line) → IsBoundaryLine format (boundary_text line) line }
+{}
+
+/// The line that is written of a wanted reference is that one, where its name is a reference name.
+pub fn written_wanted_reads_back()
+    ensures { (format : Format) (wanted : Wanted) → IsNameIn format wanted.id → IsRefName wanted.name
+        → IsWantedLine format (wanted_text wanted) wanted }
 {}
 
 // Packets of requests.
@@ -98,13 +139,15 @@ pub fn one_first_fault()
 {}
 
 /// The packets that are written of a request are a request for the same, whatever their offsets: where the format is
-/// that of the reader, each argument may stand in such a request, the texts of its lines are within the limit, and
-/// nothing refuses what is asked for at its end, as a fetch without a want is. For SHA-256 the format has to be among
-/// what was advertised.
+/// that of the reader, each argument may stand in such a request, the reader offers what the arguments need (as `shallow`
+/// for `deepen`: a reader that does not offer it refuses the line), the texts of its lines are within the limit, and nothing
+/// refuses what is asked for at its end, as a fetch without a want is. For SHA-256 the format has to be among what was
+/// advertised.
 pub fn written_request_reads_back()
     ensures { (offer : Offer) (limit : ℕ) (caps : Caps) (asked : Asked) (packets : List Given)
-        → IsFormatMeant offer.format caps.object_format → HasValues offer.format asked → written_bytes asked ≤ limit
-        → Passes (end_checks asked) → map (λ g. g.packet) packets ≡ lines_written caps.agent caps.object_format offer.format asked
+        → IsFormatMeant offer.format caps.object_format → HasValues offer.format asked → AreOffered offer asked
+        → written_bytes asked ≤ limit → Passes (end_checks asked)
+        → map (λ g. g.packet) packets ≡ lines_written caps.agent caps.object_format offer.format asked
         → Asks offer limit packets asked (written_bytes asked) }
 {}
 

@@ -138,11 +138,7 @@ impl<A: Allocator + Copy> LsRefs<A> {
         match argument {
             Argument::Symrefs => self.symrefs = true,
             Argument::Peel => self.peel = true,
-            Argument::RefPrefix(prefix) => {
-                if self.ref_prefixes.push(prefix).is_err() {
-                    return Err(Kind::OutOfMemory);
-                }
-            }
+            Argument::RefPrefix(prefix) => self.ref_prefixes.keep(prefix)?,
             _ => unreachable!(),
         }
         self.budget = budget;

@@ -13,8 +13,7 @@ use crate::capabilities::Capability;
 use crate::texts::is_word;
 use git_names::Format;
 
-/// What a server offers to a client, beside `agent` and the command `ls-refs`, which are in every offer. The command
-/// `fetch` is not served yet, so no advertisement of this project names it or its features.
+/// What a server offers to a client, beside `agent` and the commands `ls-refs` and `fetch`, which are in every offer.
 #[derive(Clone, Copy, Debug, PartialEq, Eq)]
 pub struct Offer {
     /// The format of the object names that are spoken of.

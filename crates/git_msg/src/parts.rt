@@ -1,9 +1,11 @@
 //! What kept requests are made of: texts, and the places of their arguments.
-ghost use Rattle.std.specs.Prelude.{◌≡◌, ◌+◌, ◌^◌, ◌<◌, [], ◌∷◌, ◌++◌, List, Some, OnOk, OnSome, OnErr, MatchOption, slice_get};
+ghost use Rattle.std.specs.Prelude.{◌≡◌, ◌+◌, ◌^◌, ◌<◌, [], ◌∷◌, ◌++◌, ℕ, List, Some, OnOk, OnSome, OnErr, IfErr, MatchOption, MatchResult, length, slice_get};
 ghost use Rattle.std.specs.Option.{option_copied};
 ghost use Rattle.git_msg.specs.Arguments.{Arg};
-ghost use Rattle.git_msg.specs.Asked.{where_asked};
+ghost use Rattle.git_msg.specs.Asked.{where_asked, where_given};
 
+use git_names::Oid;
+use git_pkt::Kind;
 use std::alloc::{AllocError, Allocator};
 use std::marker::Model;
 
@@ -40,7 +42,25 @@ impl<A: Allocator + Copy> Texts<A> {
         }
     }
 
-    pub(crate) fn push(&mut self, text: &[u8]) -> Result<(), AllocError>
+    pub(crate) fn len(&self) -> usize
+        ensures { result ≡ length self.now }
+    {
+        self.items.len()
+    }
+
+    /// Keeps a copy of the text after the others; `OutOfMemory` where there is no memory for it.
+    pub(crate) fn keep(&mut self, text: &[u8]) -> Result<(), Kind>
+        ensures ok { OnOk result (self.new ≡ self.old ++ text.now ∷ []) }
+        ensures err { OnErr result (self.new ≡ self.old) }
+        ensures kind { IfErr result (λ kind. kind ≡ Kind.OutOfMemory) }
+    {
+        if self.push(text).is_err() {
+            return Err(Kind::OutOfMemory);
+        }
+        Ok(())
+    }
+
+    fn push(&mut self, text: &[u8]) -> Result<(), AllocError>
         ensures ok { OnOk result (self.new ≡ self.old ++ text.now ∷ []) }
         ensures err { OnErr result (self.new ≡ self.old) }
     {
@@ -48,6 +68,18 @@ impl<A: Allocator + Copy> Texts<A> {
         self.items.push(copy)?;
         Ok(())
     }
+}
+
+/// Keeps an object name after the others; `OutOfMemory` where there is no memory for it.
+pub(crate) fn keep_id<A: Allocator + Copy>(ids: &mut Vec<Oid, A>, id: Oid) -> Result<(), Kind>
+    ensures ok { OnOk result (ids.new.items ≡ ids.old.items ++ id ∷ []) }
+    ensures err { OnErr result (ids.new.items ≡ ids.old.items) }
+    ensures kind { IfErr result (λ kind. kind ≡ Kind.OutOfMemory) }
+{
+    if ids.push(id).is_err() {
+        return Err(Kind::OutOfMemory);
+    }
+    Ok(())
 }
 
 /// The place after a flag's argument, if that is among the arguments; none where the place is its own.
@@ -63,4 +95,21 @@ pub(crate) fn past_flag(set: bool, i: usize) -> Option<usize>
         return None;
     }
     Some(i - 1)
+}
+
+/// The number whose argument has this place, if one was given; otherwise the place after it.
+pub(crate) fn number_at(number: Option<u64>, i: usize) -> Result<u64, usize>
+    ensures { MatchResult result
+        (λ own. (make : ℕ → Arg) (others : List Arg) → slice_get (where_given make number ++ others) i ≡ Some (make own))
+        (λ next. (make : ℕ → Arg) (others : List Arg) → slice_get (where_given make number ++ others) i ≡ slice_get others next) }
+{
+    match number {
+        None => Err(i),
+        Some(own) => {
+            if i == 0 {
+                return Ok(own);
+            }
+            Err(i - 1)
+        }
+    }
 }

@@ -23,15 +23,6 @@ pub struct Reference<'a> {
     pub peeled: Option<Oid>,
 }
 
-/// A line of a shallow boundary, gitprotocol-v2(5).
-#[derive(Clone, Copy, Debug, PartialEq, Eq)]
-pub enum Boundary {
-    /// The parents of this commit are not sent.
-    Shallow(Oid),
-    /// The parents of this commit, which had none, are sent now.
-    Unshallow(Oid),
-}
-
 /// Makes the hold the packet of the reference's line, with an LF at its end. The name and the target have to be such as
 /// [`git_names::RefName::read`] takes, and a peeled object of the same format as the object itself.
 pub fn put_reference(hold: &mut Hold, reference: Reference<'_>)

@@ -1,13 +1,16 @@
 //! Requests as they are kept.
-ghost use Rattle.std.specs.Prelude.{◌≡◌, ◌+◌, ◌^◌, ◌≤◌, ◌<◌, length, OnOk, OnSome, OnErr, IfErr, IfSome, MatchResult, slice_get};
+ghost use Rattle.std.specs.Prelude.{◌≡◌, ◌+◌, ◌^◌, ◌≤◌, ◌<◌, decimal, length, OnOk, OnSome, OnErr, IfErr, IfSome, MatchResult, slice_get};
 ghost use Rattle.std.specs.Option.{option_copied, option_map};
+ghost use Rattle.git_names.specs.ObjectName.{hex_of};
+ghost use Rattle.git_names.specs.RefName.{IsRefName};
 ghost use Rattle.git_pkt.specs.Packets.{longest_payload};
-ghost use Rattle.git_msg.specs.Arguments.{shown, written_text};
+ghost use Rattle.git_msg.specs.Arguments.{most_text, shown, written_text};
 
 use crate::arguments::{Argument, Command, put_together};
 use crate::fetch::Fetch;
 use crate::limits::Limits;
 use crate::ls_refs::LsRefs;
+use crate::numbers::decimal_length;
 use git_names::{Format, Oid};
 use git_pkt::Kind;
 use std::alloc::Allocator;
@@ -22,8 +25,9 @@ pub enum Request<A: Allocator + Copy> {
 }
 
 impl<A: Allocator + Copy> Request<A> {
-    ghost use Rattle.git_msg.specs.Arguments.{most_text, IsValue, IsValueFault};
-    ghost use Rattle.git_msg.specs.Asked.{arguments_in, symrefs_of, peel_of, ref_prefixes_of, wants_of, done_of, thin_pack_of, no_progress_of, include_tag_of, ofs_delta_of, written_bytes, HasValues};
+    ghost use Rattle.git_msg.specs.Arguments.{IsValue, IsValueFault};
+    ghost use Rattle.git_msg.specs.Asked.{arguments_in, symrefs_of, peel_of, ref_prefixes_of, wants_of, haves_of, done_of, thin_pack_of, no_progress_of, include_tag_of, ofs_delta_of, written_bytes, HasValues};
+    ghost use Rattle.git_msg.specs.Asked.{shallows_of, deepen_of, deepen_relative_of, deepen_since_of, deepen_nots_of, want_refs_of};
     ghost use Rattle.git_msg.specs.Checks.{Passes, Refuses};
     ghost use Rattle.git_msg.specs.Lines.{end_checks};
     ghost use Rattle.git_msg.specs.HeldRequest.{IsEmpty, asked_of, command_of, format_of, kept_of, limit_of, Keeps, add_checks, keep_checks, IsRefused};
@@ -40,8 +44,9 @@ impl<A: Allocator + Copy> Request<A> {
     }
 
     /// Adds an argument after the others. Refused in this order: `UnknownArgument` for an argument of another command, a
-    /// value that may not stand there (`BadObjectName` for an object name of another format, `BadLine` for a text of more
-    /// than 32,000 bytes), `TooMuchKept` where the texts of all lines, as they are written, would pass the limit, and
+    /// value that may not stand there (`BadObjectName` for an object name of another format, `BadNumber` for a number out of
+    /// its range, `BadRefName` for a `want-ref` of what is no reference name, `BadLine` for a text of more than 32,000 bytes
+    /// or an empty `deepen-not`), `TooMuchKept` where the texts of all lines, as they are written, would pass the limit, and
     /// `OutOfMemory`. Then the request stays as it was.
     pub fn add(&mut self, argument: Argument<'_>) -> Result<(), Kind>
         ensures added { OnOk result (Keeps self.old (shown argument.entry) (length (written_text (shown argument.entry))) self.new) }
@@ -54,14 +59,18 @@ impl<A: Allocator + Copy> Request<A> {
         self.keep(&argument, length)
     }
 
-    /// Judges what the request asks for, at its end: `NoWants` for a fetch that wants nothing.
+    /// Judges what the request asks for, at its end: `DeepenConflict` for a fetch that cuts the history off by a depth and
+    /// by a time or a revision too, and then `NoWants` for one that wants nothing.
     pub fn check_end(&self) -> Result<(), Kind>
         ensures { MatchResult result (λ _. Passes (end_checks (asked_of self.now))) (Refuses (end_checks (asked_of self.now))) }
     {
         match self {
             Request::LsRefs(_) => Ok(()),
             Request::Fetch(request) => {
-                if request.wants().is_empty() {
+                if request.has_deepen_conflict() {
+                    return Err(Kind::DeepenConflict);
+                }
+                if !request.has_wants() {
                     return Err(Kind::NoWants);
                 }
                 Ok(())
@@ -157,6 +166,16 @@ impl<A: Allocator + Copy> Request<A> {
         }
     }
 
+    /// The objects of the `have` lines of `fetch`, in their order.
+    pub fn haves(&self) -> &[Oid]
+        ensures { result.now ≡ haves_of (asked_of self.now) }
+    {
+        match self {
+            Request::LsRefs(_) => &[],
+            Request::Fetch(request) => request.haves(),
+        }
+    }
+
     /// The flag `done` of `fetch`.
     pub fn done(&self) -> bool
         ensures { result ≡ done_of (asked_of self.now) }
@@ -207,6 +226,68 @@ impl<A: Allocator + Copy> Request<A> {
         }
     }
 
+    /// The commits of the `shallow` lines of `fetch`, in their order.
+    pub fn shallows(&self) -> &[Oid]
+        ensures { result.now ≡ shallows_of (asked_of self.now) }
+    {
+        match self {
+            Request::LsRefs(_) => &[],
+            Request::Fetch(request) => request.shallows(),
+        }
+    }
+
+    /// The number of the last `deepen` line of `fetch`.
+    pub fn deepen(&self) -> Option<u64>
+        ensures { result ≡ deepen_of (asked_of self.now) }
+    {
+        match self {
+            Request::LsRefs(_) => None,
+            Request::Fetch(request) => request.deepen(),
+        }
+    }
+
+    /// The flag `deepen-relative` of `fetch`.
+    pub fn deepen_relative(&self) -> bool
+        ensures { result ≡ deepen_relative_of (asked_of self.now) }
+    {
+        match self {
+            Request::LsRefs(_) => false,
+            Request::Fetch(request) => request.deepen_relative(),
+        }
+    }
+
+    /// The number of the last `deepen-since` line of `fetch`.
+    pub fn deepen_since(&self) -> Option<u64>
+        ensures { result ≡ deepen_since_of (asked_of self.now) }
+    {
+        match self {
+            Request::LsRefs(_) => None,
+            Request::Fetch(request) => request.deepen_since(),
+        }
+    }
+
+    /// The text of the `deepen-not` line at place `i` of `fetch`.
+    pub fn deepen_not(&self, i: usize) -> Option<&[u8]>
+        ensures { option_copied result ≡ slice_get (deepen_nots_of (asked_of self.now)) i }
+    {
+        match self {
+            Request::LsRefs(_) => None,
+            Request::Fetch(request) => request.deepen_not(i),
+        }
+    }
+
+    /// The name of the `want-ref` line at place `i` of `fetch`.
+    pub fn want_ref(&self, i: usize) -> Option<&[u8]>
+        ensures value { option_copied result ≡ slice_get (want_refs_of (asked_of self.now)) i }
+        ensures bound { OnSome result (i + 1 < 2 ^ 64) }
+        ensures name { IfSome result (λ name. IsRefName name.now) }
+    {
+        match self {
+            Request::LsRefs(_) => None,
+            Request::Fetch(request) => request.want_ref(i),
+        }
+    }
+
     /// The argument at place `i`, in the order in which they are written.
     pub(crate) fn argument(&self, i: usize) -> Option<Argument<'_>>
         ensures value { option_map shown result ≡ slice_get (arguments_in (asked_of self.now)) i }
@@ -254,11 +335,34 @@ pub(crate) fn written_length(argument: &Argument<'_>) -> usize
         Argument::Symrefs => 7,
         Argument::Peel => 4,
         Argument::RefPrefix(prefix) => 11 + prefix.len(),
-        Argument::Want(id) => 5 + id.format().digits(),
+        Argument::Want(id) => name_length(5, id),
+        Argument::Have(id) => name_length(5, id),
         Argument::IsDone => 4,
         Argument::ThinPack => 9,
         Argument::NoProgress => 11,
         Argument::IncludeTag => 11,
         Argument::OfsDelta => 9,
+        Argument::Shallow(id) => name_length(8, id),
+        Argument::Deepen(depth) => number_length(7, *depth),
+        Argument::DeepenRelative => 15,
+        Argument::DeepenSince(time) => number_length(13, *time),
+        Argument::DeepenNot(revision) => 11 + revision.len(),
+        Argument::WantRef(name) => 9 + name.len(),
     }
+}
+
+// How many bytes a word of so many and an object name have.
+fn name_length(word: usize, id: &Oid) -> usize
+    requires { word ≤ most_text }
+    ensures { result ≡ word + length (hex_of id.now) }
+{
+    word + id.format().digits()
+}
+
+// How many bytes a word of so many and a number have.
+fn number_length(word: usize, number: u64) -> usize
+    requires { word ≤ most_text }
+    ensures { result ≡ word + length (decimal number) }
+{
+    word + decimal_length(number)
 }

@@ -1,6 +1,6 @@
 //! Lines, written into a hold part by part.
-ghost use Rattle.std.specs.Prelude.{◌≡◌, ◌+◌, ◌<◌, ◌++◌, length};
-ghost use Rattle.git_names.specs.ObjectName.{hex_of};
+ghost use Rattle.std.specs.Prelude.{◌≡◌, ◌+◌, ◌<◌, ◌++◌, decimal, length};
+ghost use Rattle.git_names.specs.ObjectName.{IsObjectName, hex_of};
 ghost use Rattle.git_pkt.specs.Packets.{longest_payload, spelling_of};
 ghost use Rattle.git_msg.specs.Arguments.{shown, written_text};
 ghost use Rattle.git_msg.specs.WrittenRequest.{text_line};
@@ -8,11 +8,14 @@ ghost use Rattle.git_msg.specs.WrittenRequest.{text_line};
 use crate::arguments::Argument;
 use git_names::Oid;
 use git_pkt::{Hold, append, begin};
+use itoa::Buffer;
 
-/// Makes the hold the packet of a line: a word, a value after it, and LF.
-pub(crate) fn put_line(hold: &mut Hold, word: &[u8], value: &[u8])
+/// Makes the hold the packet of a line: a word, a value right after it, and LF. With the LF they are as many bytes as a
+/// payload may have, at the most.
+pub fn put_line(hold: &mut Hold, word: &[u8], value: &[u8])
     requires { length word.now + length value.now < longest_payload }
-    ensures { hold.new.items ≡ spelling_of (text_line (word.now ++ value.now)) }
+    ensures written { hold.new.items ≡ spelling_of (text_line (word.now ++ value.now)) }
+    ensures fits { length (word.now ++ value.now) < longest_payload }
 {
     begin(hold, word.len() + value.len() + 1);
     append(hold, word);
@@ -30,20 +33,38 @@ pub(crate) fn put_argument(hold: &mut Hold, argument: Argument<'_>)
         Argument::Peel => put_line(hold, b"peel", b""),
         Argument::RefPrefix(prefix) => put_line(hold, b"ref-prefix ", prefix),
         Argument::Want(id) => put_name_line(hold, b"want ", &id),
+        Argument::Have(id) => put_name_line(hold, b"have ", &id),
         Argument::IsDone => put_line(hold, b"done", b""),
         Argument::ThinPack => put_line(hold, b"thin-pack", b""),
         Argument::NoProgress => put_line(hold, b"no-progress", b""),
         Argument::IncludeTag => put_line(hold, b"include-tag", b""),
         Argument::OfsDelta => put_line(hold, b"ofs-delta", b""),
+        Argument::Shallow(id) => put_name_line(hold, b"shallow ", &id),
+        Argument::Deepen(depth) => put_number_line(hold, b"deepen ", depth),
+        Argument::DeepenRelative => put_line(hold, b"deepen-relative", b""),
+        Argument::DeepenSince(time) => put_number_line(hold, b"deepen-since ", time),
+        Argument::DeepenNot(revision) => put_line(hold, b"deepen-not ", revision),
+        Argument::WantRef(name) => put_line(hold, b"want-ref ", name),
     }
 }
 
 /// Makes the hold the packet of the line of a word and an object name.
-fn put_name_line(hold: &mut Hold, word: &[u8], id: &Oid)
+pub(crate) fn put_name_line(hold: &mut Hold, word: &[u8], id: &Oid)
     requires { length word.now + 64 < longest_payload }
-    ensures { hold.new.items ≡ spelling_of (text_line (word.now ++ hex_of id.now)) }
+    ensures written { hold.new.items ≡ spelling_of (text_line (word.now ++ hex_of id.now)) }
+    ensures reads_back { IsObjectName id.now.format (hex_of id.now) id.now }
+    ensures fits { length (word.now ++ hex_of id.now) < longest_payload }
 {
     let mut digits = [0; 64];
     let count = id.write(&mut digits);
     put_line(hold, word, &digits[..count]);
+}
+
+/// Makes the hold the packet of the line of a word and a number.
+fn put_number_line(hold: &mut Hold, word: &[u8], number: u64)
+    requires { length word.now + 20 < longest_payload }
+    ensures { hold.new.items ≡ spelling_of (text_line (word.now ++ decimal number)) }
+{
+    let mut buffer = Buffer::new();
+    put_line(hold, word, buffer.format(number).as_bytes());
 }

@@ -3,16 +3,17 @@ use Rattle.std.proofs.Common.{◌≡◌, ◌≢◌, ℕ, Bool, true, false, if�
 use Rattle.std.proofs.Common.{refl, sym, ap, ◌∙◌, subst, inl, inr}
 use Rattle.std.specs.List.{filter_map}
 use Rattle.std.proofs.lemmas.List.Elements.{All-nil, All-cons, All-head, All-tail, All-append, All-pop}
+use Rattle.git_names.specs.ObjectName.{ObjectName}
 use Rattle.git_pkt.specs.Packets.{Pkt, flush, payload, text_of}
 use Rattle.git_pkt.specs.Splits.{Given}
 use Rattle.git_pkt.specs.declared.fault.Fault.{Fault}
 use Rattle.git_pkt.specs.declared.fault.Kind.{Kind}
-use Rattle.git_pkt.specs.declared.fault.Kind.TheVariants.{NotOurs, TooMuchKept}
+use Rattle.git_pkt.specs.declared.fault.Kind.TheVariants.{NotOurs, TooMuchKept, UnknownRef}
 use Rattle.git_msg.specs.declared.offers.Offer.{Offer}
 use Rattle.git_msg.specs.declared.arguments.Command.{Command}
 use Rattle.git_msg.specs.declared.arguments.Command.TheVariants.{LsRefs, Fetch}
-use Rattle.git_msg.specs.Arguments.{Arg, want}
-use Rattle.git_msg.specs.Asked.{Asked, asked_by, want_in}
+use Rattle.git_msg.specs.Arguments.{Arg, want, want_ref}
+use Rattle.git_msg.specs.Asked.{Asked, asked_by, want_in, want_ref_in}
 use Rattle.git_msg.specs.Lines.{Line, argument_in, arguments_of, HasFault, HasFaultIn, IsArgumentText, IsLine, IsLineIn}
 use Rattle.git_msg.specs.Requests.{AreLines, Asks, FirstFault, IsPlainLine}
 use Rattle.git_msg.proofs.FaultLaws.{fault_at_last}
@@ -20,21 +21,34 @@ use Rattle.git_msg.proofs.LineLaws.{argument_payload, fronts_same, one_argument_
 use Rattle.git_msg.proofs.LineLists.{arguments_snoc, last_line}
 use Rattle.git_msg.proofs.PacketFaults.{NotOfPackets, told_of_packets}
 use Rattle.git_msg.proofs.WholeRequests.{last_same}
-use Rattle.git_server.specs.Repository.{Repository}
-use Rattle.git_server.specs.Admission.{barred, IsAdmitted, AreAdmitted, HasAsked, IsBarred, IsBarredAtLast, IsToldFor, IsUnbarred}
+use Rattle.git_server.specs.Repository.{Repository, found_ref}
+use Rattle.git_server.specs.Admission.{barred, barred_ref, IsAdmitted, AreAdmitted, HasAsked, IsBarred, IsBarredAtLast, IsToldFor, IsUnbarred}
 
 had_by : (b : Bool) → (if b then None else Some NotOurs) ≡ None → b ≡ true
 had_by true h = refl
 had_by false h = absurd (cc)
 
-barred_by : (b : Bool) (kind : Kind) → (if b then None else Some NotOurs) ≡ Some kind → kind ≡ NotOurs
-barred_by true kind h = absurd (cc)
-barred_by false kind h = cc
+found_by : (found : Option ObjectName) → barred_ref found ≡ None → found ≢ None
+found_by (Some id) h none = cc
+found_by None h none = cc
 
--- a repository refuses an argument by one name
-barred_kind : (repo : Repository) (arg : Arg) (kind : Kind) → barred repo arg ≡ Some kind → kind ≡ NotOurs
-barred_kind repo (want id) kind h = barred_by (repo.has id) kind h
-barred_kind repo arg kind h = absurd (cc)
+-- not one of the names by which a repository refuses an argument
+pub record NotOfRepository (kind : Kind) : Type 0 where
+  pub not_ours : kind ≢ NotOurs
+  pub not_unknown : kind ≢ UnknownRef
+
+barred_by : (b : Bool) (kind : Kind) → NotOfRepository kind → (if b then None else Some NotOurs) ≡ Some kind → ⊥
+barred_by true kind other h = cc
+barred_by false kind other h = other.not_ours (cc)
+
+unfound_by : (found : Option ObjectName) (kind : Kind) → NotOfRepository kind → barred_ref found ≡ Some kind → ⊥
+unfound_by (Some id) kind other h = cc
+unfound_by None kind other h = other.not_unknown (cc)
+
+not_barred : (repo : Repository) (arg : Arg) (kind : Kind) → NotOfRepository kind → barred repo arg ≡ Some kind → ⊥
+not_barred repo (want id) kind other h = barred_by (repo.has id) kind other h
+not_barred repo (want_ref name) kind other h = unfound_by (found_ref repo.refs name) kind other h
+not_barred repo arg kind other h = absurd (cc)
 
 wants_had : (repo : Repository) (args : List Arg) → All (IsAdmitted repo) args → All (λ id. repo.has id ≡ true) (filter_map want_in args)
 wants_had repo [] h = All-nil (λ id. repo.has id ≡ true)
@@ -43,10 +57,18 @@ wants_had repo (want id ∷ args) h =
     All-cons (λ id. repo.has id ≡ true) id (filter_map want_in args) had (wants_had repo args (All-tail (IsAdmitted repo) (want id) args h))
 wants_had repo (arg ∷ args) h = wants_had repo args (All-tail (IsAdmitted repo) arg args h)
 
--- a request of admitted arguments asks for objects that the repository has
+refs_found : (repo : Repository) (args : List Arg) → All (IsAdmitted repo) args → All (λ name. found_ref repo.refs name ≢ None) (filter_map want_ref_in args)
+refs_found repo [] h = All-nil (λ name. found_ref repo.refs name ≢ None)
+refs_found repo (want_ref name ∷ args) h =
+    let found = found_by (found_ref repo.refs name) (All-head (IsAdmitted repo) (want_ref name) args h) in
+    All-cons (λ n. found_ref repo.refs n ≢ None) name (filter_map want_ref_in args) found
+    (refs_found repo args (All-tail (IsAdmitted repo) (want_ref name) args h))
+refs_found repo (arg ∷ args) h = refs_found repo args (All-tail (IsAdmitted repo) arg args h)
+
+-- a request of admitted arguments asks for objects and references that the repository has
 asked_had : (repo : Repository) (c : Command) (args : List Arg) → All (IsAdmitted repo) args → HasAsked repo (asked_by c args)
 asked_had repo LsRefs args h = tt
-asked_had repo Fetch args h = wants_had repo args h
+asked_had repo Fetch args h = (wants_had repo args h, refs_found repo args h)
 
 module _ (offer : Offer) (limit : ℕ) (repo : Repository) where
   -- what is barred is the argument of its line
@@ -127,10 +149,10 @@ module _ (offer : Offer) (limit : ℕ) (repo : Repository) where
       other (barred_for_limit b.lines b.last.packet kind name fault b.is_barred)
 
   -- a fault of the packets that no packet is refused for, but by a repository
-  pub not_told_for : (packets : List Given) (fault : Fault) (kind : Kind) → NotOfPackets kind → kind ≢ NotOurs → IsToldFor offer limit repo packets fault
-      → fault.kind ≢ kind
+  pub not_told_for : (packets : List Given) (fault : Fault) (kind : Kind) → NotOfPackets kind → NotOfRepository kind
+      → IsToldFor offer limit repo packets fault → fault.kind ≢ kind
   not_told_for packets fault kind strange other (inl b) is =
-      other (sym is ∙ barred_kind repo b.is_barred.arg fault.kind b.is_barred.refuses)
+      not_barred repo b.is_barred.arg kind other (b.is_barred.refuses ∙ ap Some is)
   not_told_for packets fault kind strange other (inr (unbarred, told)) is = told_of_packets kind strange offer limit packets fault told is
 
   -- with one argument more, which is not barred

@@ -7,7 +7,7 @@ use Rattle.git_pkt.specs.Splits.{Given}
 use Rattle.git_pkt.specs.PacketReader.{Reads, is_open, fault_of, ShownByFeed}
 use Rattle.git_pkt.specs.declared.fault.Fault.{Fault}
 use Rattle.git_pkt.specs.declared.fault.Kind.{Kind}
-use Rattle.git_pkt.specs.declared.fault.Kind.TheVariants.{NotOurs, PackSource, RemoteError, Truncated, StreamTooLong}
+use Rattle.git_pkt.specs.declared.fault.Kind.TheVariants.{PackSource, RemoteError, Truncated, StreamTooLong}
 use Rattle.git_msg.specs.Asked.{Asked}
 use Rattle.git_msg.specs.HeldRequest.{asked_of, kept_of}
 use Rattle.git_msg.specs.Requests.{Asks}
@@ -23,6 +23,7 @@ use Rattle.git_server.specs.declared.answer.Answer.TheVariants.{References, Fetc
 use Rattle.git_server.specs.Repository.{Repository, RepoState}
 use Rattle.git_server.specs.Admission.{IsToldFor}
 use Rattle.git_server.specs.Packs.{Manner, whole, broken}
+use Rattle.git_server.specs.FetchAnswers.{negotiates}
 use Rattle.git_server.specs.Answers.{AllFit, IsAnswerAs, error_packet, spelled}
 use Rattle.git_server.specs.AdvertisementLines.{advertisement_from}
 use Rattle.git_server.specs.Sessions.{Begins, IsTail, IsTailBy, Setting, IsRequest, IsSent, IsAnswering, IsEnding, IsRefused, EndsBy}
@@ -39,11 +40,11 @@ use Rattle.git_server.specs.declared.server.Phase.{Phase}
 use Rattle.git_server.specs.declared.server.Phase.TheVariants.{Advertising, Between, Within, Answering, Refusing, Ended}
 use Rattle.git_server.specs.declared.server.Server.{Server}
 use Rattle.git_pkt.proofs.KnownRest.{sound_rest, none_between}
-use Rattle.git_server.proofs.Admission.{not_told_for, request_had}
+use Rattle.git_server.proofs.Admission.{NotOfRepository, not_told_for, request_had}
 use Rattle.git_server.proofs.Begun.{begins_more, nothing_begins}
 use Rattle.git_server.proofs.Readers.{stopped_by}
 use Rattle.git_server.proofs.Outcomes.{failures_as, failures_end, other_lost}
-use Rattle.git_server.proofs.PackPackets.{some_packfile}
+use Rattle.git_server.proofs.FetchPackets.{some_fetch, whole_fetch}
 use Rattle.git_server.proofs.Sent.{all_sent, one_more_asked}
 
 -- an answer of which nothing was given is the answer
@@ -51,7 +52,7 @@ whole_answer : {A : Type 0} (manner : Manner) (repo : Repository) (request : Req
     → IsAnswerFrom manner repo (answer_to request) later → IsAnswerAs manner repo (asked_of request) later
 whole_answer whole repo (OfLsRefs request) later h = h
 whole_answer broken repo (OfLsRefs request) later h = h
-whole_answer manner repo (OfFetch request) later h = h
+whole_answer manner repo (OfFetch request) later h = whole_fetch manner repo request.asked (negotiates request.asked) later h
 
 kept_to_answer : {A : Type 0} (request : Request A) → kept_with (answer_to request) ≡ kept_of request
 kept_to_answer (OfLsRefs request) = refl
@@ -119,7 +120,7 @@ module _ {A : Type 0} where
 pub owes_some : {A : Type 0} (offer : Offer) (repo : Repository) (phase : Phase A) → (owed : List Pkt) × Owes offer repo phase owed
 owes_some offer repo (Advertising line) = (advertisement_from offer line, refl)
 owes_some offer repo (Answering (References request next) offset) = (references_from request.asked repo.refs next, refl)
-owes_some offer repo (Answering (Fetching request place) offset) = some_packfile (repo.pack request.asked) place
+owes_some offer repo (Answering (Fetching request place) offset) = some_fetch repo request.asked place
 owes_some offer repo (Refusing fault) = (error_packet fault ∷ [], refl)
 owes_some offer repo Between = ([], refl)
 owes_some offer repo Within = ([], refl)
@@ -130,7 +131,7 @@ one_more [] x e = cc
 one_more (y ∷ ys) x e = cc
 
 -- a packet of a request is not told as what neither a packet nor a repository is refused for
-not_told : {A : Type 0} (kind : Kind) (strange : NotOfPackets kind) → kind ≢ NotOurs → (offset : ℕ) (packets : List Given) (brought : Brought A)
+not_told : {A : Type 0} (kind : Kind) (strange : NotOfPackets kind) → NotOfRepository kind → (offset : ℕ) (packets : List Given) (brought : Brought A)
     (requests : RequestReader A) (repo : Repository) → IsBrought repo packets brought requests
     → (fault : Fault) → outcome_in (phase_after offset brought) ≡ Some (Refused fault) → fault.kind ≡ kind → ⊥
 not_told kind strange other offset packets Part requests repo h fault ended is = cc
@@ -140,6 +141,13 @@ not_told {A = A} kind strange other offset packets (RefusedPacket f) requests re
     let same : Some (Refused f) ≡ Some (Refused fault) = sym (refused_outcome_by A f.kind f) ∙ ended in
     let one : f ≡ fault = cc in
     not_told_for (offer_of requests) (limit_in requests) repo packets f kind strange other h (ap (λ (x : Fault). x.kind) one ∙ is)
+
+-- a repository refuses no argument by these names
+pack_source_other : NotOfRepository PackSource
+pack_source_other = record { not_ours = λ e. cc; not_unknown = λ e. cc }
+
+too_long_other : NotOfRepository StreamTooLong
+too_long_other = record { not_ours = λ e. cc; not_unknown = λ e. cc }
 
 -- bytes are not refused for the source of a pack
 no_pack_in_bytes : (p : ℕ) (rest : List ℕ) (end : ℕ) (kind : Kind) (offset : ℕ) → StopsBy p rest end kind offset → kind ≢ PackSource
@@ -315,7 +323,7 @@ module _ {R A : Type 0} (state : R → RepoState) (old new : Server R A) (u : Li
       (with_packet s so_far before h g)
       (inl (inl (record { front = h.left; last = g; whole = refl; begins = h.begins; told = told; no_rest = no_rest _ _ rest sound shut stream }))) owed
       (refused_owes_by A new.offer s (h.left ++ g ∷ []) fault.kind fault owed
-      (not_told_for s.offer s.limit s.repo (h.left ++ g ∷ []) fault PackSource tt (λ e. cc) told)
+      (not_told_for s.offer s.limit s.repo (h.left ++ g ∷ []) fault PackSource tt pack_source_other told)
       (owes_at s (refused_by fault.kind fault) owed phase_is owes)))
 
   -- a packet came of the bytes
@@ -336,7 +344,7 @@ module _ {R A : Type 0} (state : R → RepoState) (old new : Server R A) (u : Li
         limit = limit;
         repo = ap (λ (x : RepoState). x.answers) reads.repo ∙ r.repo;
         failures = failures_end (outcome_of old) (outcome_of new) s.failures _ _ open_ended (ap (λ (x : RepoState). x.failures) reads.repo)
-            (λ (fault, is, name). not_told PackSource tt (λ e. cc) g.offset (h.left ++ g ∷ []) brought new.requests (state old.repo).answers
+            (λ (fault, is, name). not_told PackSource tt pack_source_other g.offset (h.left ++ g ∷ []) brought new.requests (state old.repo).answers
             (brings.brings h.left h.takes) fault (sym (ap outcome_in phase_is) ∙ is) name) r.failures;
         within = omega (arith, kept_behind g.offset brought new.requests (brings.within kept), limit, ap kept_in phase_is);
         stands = subst (λ (o : Option Outcome). StandsBy o s (so_far ++ u) over (before ++ []) new) (sym (ap outcome_in phase_is))
@@ -402,7 +410,7 @@ module _ {R A : Type 0} (state : R → RepoState) (old : Server R A) (used : ℕ
       → StopsInTime state old used piece (outcome_in phase)
   packet_in_time g brought requests phase brings phase_is s so_far over before r wants fault ended too_long =
       let h = serves_of state old old [] s so_far over before wants r in
-      absurd (not_told StreamTooLong tt (λ e. cc) g.offset (h.left ++ g ∷ []) brought requests (state old.repo).answers (brings.brings h.left h.takes)
+      absurd (not_told StreamTooLong tt too_long_other g.offset (h.left ++ g ∷ []) brought requests (state old.repo).answers (brings.brings h.left h.takes)
       fault (sym (ap outcome_in phase_is) ∙ ended) too_long)
 
   -- the bytes were refused

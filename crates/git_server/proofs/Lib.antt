@@ -2,6 +2,8 @@ pub mod Adjacent
 pub mod Admission
 pub mod EachSoFar
 pub mod NameOrder
+pub mod FoundReference
+pub mod BoundaryLines
 pub mod Prefixes
 pub mod TakenArguments
 pub mod Readers
@@ -18,6 +20,9 @@ pub mod Owing
 pub mod SessionLaws
 pub mod Flushes
 pub mod PackPackets
+pub mod FetchPackets
+pub mod Dropped
+pub mod WantedLines
 pub mod OneSession
 pub mod TooLong
 pub mod RunLemmas

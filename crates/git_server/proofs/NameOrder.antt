@@ -3,9 +3,7 @@ use Rattle.std.proofs.Common.{◌≡◌, ◌≢◌, ◌↔◌, ℕ, ◌<◌, tru
 use Rattle.std.specs.Cmp.{IsTotalOrder}
 use Rattle.std.specs.List.{AllAdjacentBelow, HoldsAt}
 use Rattle.std.specs.List.Sorted.{IsNonDecreasingBy, IsPartitionPoint}
-use Rattle.std.specs.Ordering.{nat_cmp, is_lt, is_eq, ordering_index, ordering_reverse, ordering_then}
-use Rattle.std.specs.Cmp.Lexicographic.{slice_cmp}
-use Rattle.std.specs.FinMap.{nat_cmp-IsAntisymmetric, slice_cmp-IsAntisymmetric}
+use Rattle.std.specs.Ordering.{is_lt, is_eq, ordering_index, ordering_reverse}
 use Rattle.std.specs.declared.cmp.Ordering.{Ordering}
 use Rattle.std.specs.declared.cmp.Ordering.TheVariants.{Less, Equal, Greater}
 use Rattle.std.proofs.lemmas.Bool.{cases_lt}
@@ -16,6 +14,7 @@ use Rattle.git_names.specs.declared.object_format.Format.{Format}
 use Rattle.git_names.specs.declared.object_format.Format.TheVariants.{Sha1, Sha256}
 use Rattle.git_names.specs.ObjectName.{ObjectName}
 use Rattle.git_server.specs.Objects.{format_cmp, has_object, object_cmp}
+use Rattle.git_server.specs.SameObjects.{is_tied, same_object}
 
 module _ {X K : Type 0} {R : K → K → Ordering} (total : IsTotalOrder R) (key : X → K) where
   not_before : (a b : K) → is_lt (R a b) ≡ true → is_lt (R b a) ≡ false
@@ -44,9 +43,6 @@ module _ {X K : Type 0} {R : K → K → Ordering} (total : IsTotalOrder R) (key
         | inr high ↦ differs _ n Greater (parts.1 k d high below) (λ h. cc)
       ]
 
-pub same_name : (a b : List ℕ) → slice_cmp nat_cmp a b ≡ Equal → a ≡ b
-same_name a b h = slice_cmp-IsAntisymmetric nat_cmp-IsAntisymmetric a b h
-
 format_total : IsTotalOrder format_cmp
 format_total = record { antisymm = back; trans = low; congr = tied }
   where
@@ -72,30 +68,6 @@ format_total = record { antisymm = back; trans = low; congr = tied }
 -- the order of object names is total
 pub object_total : IsTotalOrder object_cmp
 object_total = then_total (on_total (λ (id : ObjectName). id.format) format_total) (on_total (λ (id : ObjectName). id.bytes) nat_list_cmp_total)
-
-same_format : (a b : Format) → format_cmp a b ≡ Equal → a ≡ b
-same_format Sha1 Sha1 h = refl
-same_format Sha1 Sha256 h = cc
-same_format Sha256 Sha1 h = cc
-same_format Sha256 Sha256 h = refl
-
-both_tied : (o p : Ordering) → ordering_then o p ≡ Equal → (o ≡ Equal) × (p ≡ Equal)
-both_tied Less p h = cc
-both_tied Equal p h = (refl, h)
-both_tied Greater p h = cc
-
--- object names of which neither comes before the other are one
-pub same_object : (a b : ObjectName) → object_cmp a b ≡ Equal → a ≡ b
-same_object a b h =
-    let both = both_tied _ _ h in
-    let of_format = same_format _ _ both.0 in
-    let of_bytes = same_name _ _ both.1 in
-    λ i. record { format = of_format i; bytes = of_bytes i }
-
-is_tied : (o : Ordering) → is_eq o ≡ true → o ≡ Equal
-is_tied Less h = cc
-is_tied Equal h = refl
-is_tied Greater h = cc
 
 not_tied : (o : Ordering) → o ≢ Equal → is_eq o ≡ false
 not_tied Less h = refl

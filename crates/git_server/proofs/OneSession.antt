@@ -1,7 +1,7 @@
 -- What was asked by the bytes that a server used, and how it is answered, is one thing: so a server that has given all
 -- of it owes nothing.
 use Rattle.std.proofs.Common.{◌≡◌, ℕ, drop, map, codes, Bool, true, false, List, [], ◌∷◌}
-use Rattle.std.proofs.Common.{◌++◌, length, length-append, None, refl, sym, ap, ◌∙◌, subst, arith}
+use Rattle.std.proofs.Common.{◌↔◌, IsTrue, ◌++◌, length, length-append, None, refl, sym, ap, ◌∙◌, subst, arith}
 use Rattle.git_pkt.specs.Digits.{digits_of}
 use Rattle.git_pkt.specs.Packets.{Pkt, flush, flushes, body_of, length_field, spelling_of}
 use Rattle.git_pkt.proofs.Spelling.{same_start}
@@ -25,10 +25,10 @@ use Rattle.git_server.specs.declared.server.Phase.{Phase}
 use Rattle.git_server.specs.declared.server.Phase.TheVariants.{Advertising, Between, Within, Answering, Refusing, Ended}
 use Rattle.git_server.specs.declared.server.Server.{Server}
 use Rattle.git_server.proofs.Flushes.{flushes-append}
-use Rattle.git_server.proofs.PackPackets.{packfile_ends_once, packfile_ends_later}
+use Rattle.git_server.proofs.FetchPackets.{fetch_ends_once, fetch_ends_later}
 use Rattle.git_server.proofs.Begun.{begun_has_no_flush}
 use Rattle.git_server.proofs.Sent.{is_whole}
-use Rattle.git_server.proofs.Going.{goes_on, owes_some}
+use Rattle.git_server.proofs.Going.{goes_on, no_outcome, owes_nothing, owes_some}
 
 module _ (s : Setting) where
   pub no_request : (left : List Given) → NoFlush left → NoRequest (IsRequest s) left
@@ -49,7 +49,7 @@ ends_once symrefs peel refs = omega (arith, flushes-append (map (reference_packe
 -- an answer has one flush
 answer_ends : (repo : Repository) (q : Asked) (answer : List Pkt) → IsAnswer repo q answer → flushes answer ≡ 1
 answer_ends repo (ls_refs q) answer h = ap flushes h ∙ ends_once q.symrefs q.peel (shown_refs q.ref_prefixes repo.refs)
-answer_ends repo (fetch q) answer h = packfile_ends_once (repo.pack q) answer h
+answer_ends repo (fetch q) answer h = fetch_ends_once repo q answer h
 
 answers_end : (repo : Repository) (asked : List Asked) (packets : List Pkt) → AreAnswers repo asked packets → flushes packets ≡ length asked
 answers_end repo [] packets h = ap flushes h
@@ -90,9 +90,17 @@ owes_flush offer repo (Answering (References request next) offset) owed none owe
     let q = request.asked in
     absurd (omega (arith, zero, ap flushes owes, ends_once q.symrefs q.peel (shown_refs q.ref_prefixes (drop next repo.refs))))
 owes_flush offer repo (Answering (Fetching request place) offset) owed none owes zero =
-    absurd (omega (arith, zero, packfile_ends_later (repo.pack request.asked) place owed owes))
+    absurd (omega (arith, zero, fetch_ends_later repo request.asked place owed owes))
 owes_flush offer repo (Refusing fault) owed none owes zero = absurd (cc)
 owes_flush offer repo (Ended outcome) owed none owes zero = absurd (cc)
+
+-- so a server waits for bytes exactly where it has no outcome and nothing is owed
+pub waits_where_none_owed : {A : Type 0} (offer : Offer) (repo : Repository) (phase : Phase A)
+    → IsTrue (reads_in phase) ↔ ((outcome_in phase ≡ None) × Owes offer repo phase [])
+waits_where_none_owed offer repo phase = (
+  λ reads. (no_outcome phase reads, owes_nothing offer repo phase reads),
+  λ h. owes_flush offer repo phase [] h.0 h.1 refl,
+)
 
 module _ {R A : Type 0} (state : R → RepoState) (server : Server R A) (s : Setting) (used : List ℕ)
     (over : Bool) (given : List ℕ) (r : Running state s used over given server) where

@@ -16,10 +16,10 @@ use Rattle.git_server.specs.declared.advertisement.AdvertisementLine.TheVariants
 use Rattle.git_server.specs.declared.answer.Answer.{Answer}
 use Rattle.git_server.specs.declared.answer.Answer.TheVariants.{References, Fetching}
 use Rattle.git_server.specs.declared.answer.Answered.TheVariants.{Part}
-use Rattle.git_server.specs.declared.packing.PackPlace.TheVariants.{Header, Pack}
 use Rattle.git_server.specs.declared.outcome.Outcome.TheVariants.{Refused}
 use Rattle.git_server.specs.declared.server.Phase.{Phase}
 use Rattle.git_server.specs.declared.server.Phase.TheVariants.{Advertising, Between, Answering, Refusing}
+use Rattle.git_server.proofs.FetchPackets.{some_of_fetch}
 
 option_lines : (offer : Offer) (b : Bool)
     → offered_line b (codes "server-option") ++ format_on offer ≡ advertisement_from offer (if b then ServerOption else ObjectFormat)
@@ -84,8 +84,7 @@ module _ {A : Type 0} where
   pub some_left : (repo : Repository) (answer : Answer A) → 0 < most_from repo answer
   some_left repo (References request next) = some_packets (map (reference_packet request.asked.symrefs request.asked.peel)
       (shown_refs request.asked.ref_prefixes (drop next repo.refs)))
-  some_left repo (Fetching request Header) = omega arith
-  some_left repo (Fetching request (Pack offset)) = omega arith
+  some_left repo (Fetching request place) = some_of_fetch repo request.asked place
 
   module _ (offer : Offer) (repo : Repository) (old : Phase A) (answer : Answer A) (offset : ℕ) (packet : Pkt) (was : old ≡ Answering answer offset) where
     -- one packet of an answer, and more of it

@@ -6,7 +6,7 @@ use Rattle.std.proofs.lemmas.Grind.{common_steps}
 use Rattle.git_pkt.specs.Packets.{Pkt, flush, flushes, longest_payload}
 use Rattle.git_pkt.specs.Bands.{AreBands, band_packet}
 use Rattle.git_pkt.specs.declared.band.Band.TheVariants.{Pack as PackBand}
-use Rattle.git_server.specs.AnsweredRequest.{IsPackfileFrom}
+use Rattle.git_server.specs.FetchPlaces.{IsPackfileFrom}
 use Rattle.git_server.specs.Packs.{Manner, whole, broken, IsPackPart, EndsPack, EndsWhole, IsPackfile, packfile_header}
 use Rattle.git_server.specs.declared.packing.PackPlace.{PackPlace}
 use Rattle.git_server.specs.declared.packing.PackPlace.TheVariants.{Header, Pack}

@@ -13,7 +13,7 @@ use Rattle.git_server.proofs.Admission.{not_told_for}
 refused_too_long : (s : Setting) (over : Bool) (left : List Given) (rest : List ℕ) (end : ℕ) (fault : Fault) → IsRefused s over left rest end fault
     → fault.kind ≡ StreamTooLong → (over ≡ false) × (end ≡ last_position)
 refused_too_long s over left rest end fault (inl (inl r)) is =
-    absurd (not_told_for s.offer s.limit s.repo left fault StreamTooLong tt (λ e. cc) r.told is)
+    absurd (not_told_for s.offer s.limit s.repo left fault StreamTooLong tt (record { not_ours = λ e. cc; not_unknown = λ e. cc }) r.told is)
 refused_too_long s over left rest end fault (inl (inr (inl r))) is =
     let stops : StopsBy (end - length rest) rest end StreamTooLong fault.offset =
     subst (λ (k : Kind). StopsBy (end - length rest) rest end k fault.offset) is r.stops in

@@ -1,20 +1,27 @@
--- What a repository refuses of a request: objects that it does not have.
-use Rattle.std.specs.Prelude.{◌≡◌, ◌⊎◌, ℕ, if◌then◌else◌, true, All, Option, Some, None, List, [], ◌∷◌, ◌++◌}
+-- What a repository refuses of a request: objects and references that it does not have.
+use Rattle.std.specs.Prelude.{◌≡◌, ◌≢◌, ◌⊎◌, ℕ, if◌then◌else◌, true, All, Option, Some, None, List, [], ◌∷◌, ◌++◌}
+use Rattle.git_names.specs.ObjectName.{ObjectName}
 use Rattle.git_pkt.specs.Packets.{Pkt, payload, text_of}
 use Rattle.git_pkt.specs.Splits.{Given}
 use Rattle.git_pkt.specs.declared.fault.Fault.{Fault}
 use Rattle.git_pkt.specs.declared.fault.Kind.{Kind}
-use Rattle.git_pkt.specs.declared.fault.Kind.TheVariants.{NotOurs}
+use Rattle.git_pkt.specs.declared.fault.Kind.TheVariants.{NotOurs, UnknownRef}
 use Rattle.git_msg.specs.declared.offers.Offer.{Offer}
-use Rattle.git_msg.specs.Arguments.{Arg, want}
+use Rattle.git_msg.specs.Arguments.{Arg, want, want_ref}
 use Rattle.git_msg.specs.Asked.{Asked, ls_refs, fetch}
 use Rattle.git_msg.specs.Lines.{Line, arguments_of, has_delimiter, IsArgumentText}
 use Rattle.git_msg.specs.Requests.{AreLines, IsTold}
-use Rattle.git_server.specs.Repository.{Repository}
+use Rattle.git_server.specs.Repository.{Repository, found_ref}
+
+-- by which name a reference is refused, where none is found
+abbrev pub barred_ref : Option ObjectName → Option Kind
+barred_ref (Some id) = None
+barred_ref None = Some UnknownRef
 
 -- by which name the repository refuses an argument
 abbrev pub barred : Repository → Arg → Option Kind
 barred repo (want id) = if repo.has id then None else Some NotOurs
+barred repo (want_ref name) = barred_ref (found_ref repo.refs name)
 barred repo _ = None
 
 -- it refuses the argument by none
@@ -25,10 +32,10 @@ IsAdmitted repo arg = barred repo arg ≡ None
 abbrev pub AreAdmitted : Repository → List Line → Type 0
 AreAdmitted repo lines = All (IsAdmitted repo) (arguments_of lines)
 
--- the repository has each object that is asked for
+-- the repository has each object and each reference that is asked for
 abbrev pub HasAsked : Repository → Asked → Type 0
 HasAsked repo (ls_refs q) = Unit {0}
-HasAsked repo (fetch q) = All (λ id. repo.has id ≡ true) q.wants
+HasAsked repo (fetch q) = All (λ id. repo.has id ≡ true) q.wants × All (λ name. found_ref repo.refs name ≢ None) q.want_refs
 
 -- after these lines, the packet is an argument that the repository refuses by this name
 pub record IsBarred (offer : Offer) (repo : Repository) (before : List Line) (packet : Pkt) (kind : Kind) : Type 0 where

@@ -3,7 +3,7 @@ use Rattle.std.specs.Prelude.{if◌then◌else◌, Option, Some, None, List, [],
 use Rattle.git_pkt.specs.Packets.{Pkt, flush}
 use Rattle.git_msg.specs.declared.offers.Offer.{Offer}
 use Rattle.git_msg.specs.WrittenRequest.{text_line, agent_line, format_line}
-use Rattle.git_server.specs.Answers.{offered_line, advertisement_of}
+use Rattle.git_server.specs.Answers.{offered_line, fetch_line, advertisement_of}
 use Rattle.git_server.specs.declared.advertisement.AdvertisementLine.{AdvertisementLine}
 use Rattle.git_server.specs.declared.advertisement.AdvertisementLine.TheVariants.{Version, Agent, LsRefs, Fetch, ServerOption, ObjectFormat, End}
 
@@ -12,7 +12,7 @@ abbrev pub advertisement_packet : Offer → AdvertisementLine → Pkt
 advertisement_packet offer Version = text_line (codes "version 2")
 advertisement_packet offer Agent = agent_line
 advertisement_packet offer LsRefs = text_line (codes "ls-refs")
-advertisement_packet offer Fetch = text_line (codes "fetch")
+advertisement_packet offer Fetch = fetch_line offer
 advertisement_packet offer ServerOption = text_line (codes "server-option")
 advertisement_packet offer ObjectFormat = format_line offer.format
 advertisement_packet offer End = flush

@@ -1,5 +1,5 @@
 -- A request that is answered, and one packet more of its answer.
-use Rattle.std.specs.Prelude.{◌≡◌, ◌<◌, ◌+◌, ◌-◌, ℕ, Option, Some, None, List, [], ◌∷◌, ◌++◌, drop, length, map}
+use Rattle.std.specs.Prelude.{◌≡◌, ◌<◌, ℕ, Option, Some, None, List, [], ◌∷◌, ◌++◌, drop, length, map}
 use Rattle.git_pkt.specs.Packets.{Pkt, flush}
 use Rattle.git_pkt.specs.declared.reader.PacketReader.{PacketReader}
 use Rattle.git_msg.specs.Asked.{Asked, FetchAsked, LsRefsAsked, ls_refs, fetch}
@@ -7,10 +7,11 @@ use Rattle.git_msg.specs.declared.requests.Request.{Request}
 use Rattle.git_msg.specs.declared.requests.Request.TheVariants.{LsRefs as OfLsRefs, Fetch as OfFetch}
 use Rattle.git_server.specs.Repository.{Entry, Repository, RepoState}
 use Rattle.git_server.specs.Answers.{reference_packet, shown_refs}
-use Rattle.git_server.specs.Packs.{Manner, whole, broken, EndsPack, IsPackfile}
+use Rattle.git_server.specs.Packs.{Manner, whole, broken}
 use Rattle.git_server.specs.WrittenPackets.{Writes}
 use Rattle.git_server.specs.declared.packing.PackPlace.{PackPlace}
-use Rattle.git_server.specs.declared.packing.PackPlace.TheVariants.{Header, Pack}
+use Rattle.git_server.specs.declared.fetching.FetchPlace.{FetchPlace}
+use Rattle.git_server.specs.FetchPlaces.{IsFetchFrom, IsPackfileFrom, first_place, most_fetch, most_packets}
 use Rattle.git_server.specs.declared.answer.Answered.{Answered}
 use Rattle.git_server.specs.declared.answer.Answered.TheVariants.{Part, Whole, Broken}
 use Rattle.git_server.specs.declared.answer.Answer.{Answer}
@@ -24,16 +25,6 @@ references_from q refs next = map (reference_packet q.symrefs q.peel) (shown_ref
 abbrev pub AreReferencesFrom : Manner → LsRefsAsked → List Entry → ℕ → List Pkt → Type 0
 AreReferencesFrom whole q refs next later = later ≡ references_from q refs next
 AreReferencesFrom broken q refs next later = ⊥
-
--- the packets end the section of the pack, from this place on
-abbrev pub IsPackfileFrom : Manner → List ℕ → PackPlace → List Pkt → Type 0
-IsPackfileFrom manner pack Header later = IsPackfile manner pack later
-IsPackfileFrom manner pack (Pack offset) later = EndsPack manner (drop offset pack) later
-
--- no more packets than these end it
-abbrev pub most_packets : List ℕ → PackPlace → ℕ
-most_packets pack Header = length pack + 2
-most_packets pack (Pack offset) = length pack - offset + 1
 
 module _ {A : Type 0} where
   -- what is answered
@@ -49,17 +40,17 @@ module _ {A : Type 0} where
   -- the answer to a request, of which nothing was given
   abbrev pub answer_to : Request A → Answer A
   answer_to (OfLsRefs request) = References request 0
-  answer_to (OfFetch request) = Fetching request Header
+  answer_to (OfFetch request) = Fetching request (first_place request.asked)
 
   -- from its place on, the packets end the answer
   abbrev pub IsAnswerFrom : Manner → Repository → Answer A → List Pkt → Type 0
   IsAnswerFrom manner repo (References request next) later = AreReferencesFrom manner request.asked repo.refs next later
-  IsAnswerFrom manner repo (Fetching request place) later = IsPackfileFrom manner (repo.pack request.asked) place later
+  IsAnswerFrom manner repo (Fetching request place) later = IsFetchFrom manner repo request.asked place later
 
   -- no more packets than these end it
   abbrev pub most_from : Repository → Answer A → ℕ
   most_from repo (References request next) = length (references_from request.asked repo.refs next)
-  most_from repo (Fetching request place) = most_packets (repo.pack request.asked) place
+  most_from repo (Fetching request place) = most_fetch repo request.asked place
 
 -- the packets from the reference at a place on, or none where the answer ended
 abbrev pub references_after : LsRefsAsked → List Entry → Option ℕ → List Pkt
@@ -100,6 +91,12 @@ pub record WritesNext {P : Type 0} (OwesFrom : Manner → P → List Pkt → Typ
 -- the next packet of the section of this pack was written
 abbrev pub WritesPack : List ℕ → RepoState → PackPlace → PacketReader → Answered → RepoState → PackPlace → PacketReader → Type 0
 WritesPack pack = WritesNext (λ manner place later. IsPackfileFrom manner pack place later) (most_packets pack)
+
+-- the next packet of the answer to this fetch was written
+abbrev pub WritesFetch : FetchAsked → RepoState → FetchPlace → PacketReader → Answered → RepoState → FetchPlace → PacketReader → Type 0
+WritesFetch q repo_old old reader_old answered repo_new new reader_new =
+    WritesNext (λ manner place later. IsFetchFrom manner repo_old.answers q place later) (most_fetch repo_old.answers q)
+    repo_old old reader_old answered repo_new new reader_new
 
 -- the next packet of an answer was written
 abbrev pub WritesAnswer : {A : Type 0} → RepoState → Answer A → PacketReader → Answered → RepoState → Answer A → PacketReader → Type 0

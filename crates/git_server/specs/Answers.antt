@@ -11,7 +11,8 @@ use Rattle.git_msg.specs.Asked.{Asked, LsRefsAsked, ls_refs, fetch}
 use Rattle.git_msg.specs.WrittenRequest.{text_line, agent_line, format_line}
 use Rattle.git_msg.specs.References.{Ref, reference_text}
 use Rattle.git_server.specs.Repository.{Entry, Repository}
-use Rattle.git_server.specs.Packs.{Manner, whole, broken, IsPackfile}
+use Rattle.git_server.specs.Packs.{Manner, whole, broken}
+use Rattle.git_server.specs.FetchAnswers.{IsFetchAnswer}
 
 -- the packets as they are written
 abbrev pub spelled : List Pkt → List ℕ
@@ -26,10 +27,21 @@ AllFit (p ∷ ps) = (length (body_of p) ≤ longest_payload) × AllFit ps
 abbrev pub offered_line : Bool → List ℕ → List Pkt
 offered_line offered text = if offered then text_line text ∷ [] else []
 
+-- the words of the line for fetch: the command, and those of its features that are offered
+abbrev pub fetch_words : (shallow ref_in_want : Bool) → List ℕ
+fetch_words false false = codes "fetch"
+fetch_words true false = codes "fetch=shallow"
+fetch_words false true = codes "fetch=ref-in-want"
+fetch_words true true = codes "fetch=shallow ref-in-want"
+
+-- the line for fetch
+abbrev pub fetch_line : Offer → Pkt
+fetch_line offer = text_line (fetch_words offer.shallow offer.ref_in_want)
+
 -- what a server says first
 abbrev pub advertisement_of : Offer → List Pkt
 advertisement_of offer =
-    text_line (codes "version 2") ∷ agent_line ∷ text_line (codes "ls-refs") ∷ text_line (codes "fetch")
+    text_line (codes "version 2") ∷ agent_line ∷ text_line (codes "ls-refs") ∷ fetch_line offer
     ∷ (offered_line offer.server_option (codes "server-option") ++ format_line offer.format ∷ flush ∷ [])
 
 abbrev pub is_empty : List (List ℕ) → Bool
@@ -69,7 +81,7 @@ IsReferencesAnswer broken q refs packets = ⊥
 -- the packets are an answer of the repository to the request, whole or broken off
 abbrev pub IsAnswerAs : Manner → Repository → Asked → List Pkt → Type 0
 IsAnswerAs manner repo (ls_refs q) packets = IsReferencesAnswer manner q repo.refs packets
-IsAnswerAs manner repo (fetch q) packets = IsPackfile manner (repo.pack q) packets
+IsAnswerAs manner repo (fetch q) packets = IsFetchAnswer manner repo q packets
 
 -- the packets are a whole answer
 abbrev pub IsAnswer : Repository → Asked → List Pkt → Type 0

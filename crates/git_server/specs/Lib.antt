@@ -1,8 +1,12 @@
 pub mod Repository
 pub mod Objects
+pub mod SameObjects
 pub mod Lists
+pub mod ToldBoundary
+pub mod BoundaryLaws
 pub mod ListRepo
 pub mod Faulty
+pub mod FetchAnswers
 pub mod Answers
 pub mod Admission
 pub mod Sessions
@@ -10,6 +14,7 @@ pub mod AdvertisementLines
 pub mod NextShown
 pub mod WrittenPackets
 pub mod Brought
+pub mod FetchPlaces
 pub mod AnsweredRequest
 pub mod Packs
 pub mod Phases

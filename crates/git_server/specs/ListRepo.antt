@@ -1,8 +1,10 @@
 -- What a clause sees of a `ListRepo`.
+use Rattle.std.specs.Prelude.{filter, length}
 use Rattle.git_server.specs.declared.list_repo.ListRepo.{ListRepo}
 use Rattle.git_server.specs.Repository.{RepoState}
 use Rattle.git_server.specs.Lists.{Lists}
 use Rattle.git_server.specs.Objects.{has_object}
+use Rattle.git_server.specs.ToldBoundary.{boundary_for, is_enough}
 
 -- the lists that it is made of
 abbrev pub lists_of : ListRepo → Lists
@@ -18,6 +20,13 @@ lists_of repo = record {
 -- what it answers: none of its reads fails
 abbrev pub state_of : ListRepo → RepoState
 state_of repo = record {
-  answers = record { format = repo.format; refs = repo.refs.items; has = has_object repo.objects.items; pack = λ request. repo.pack.items };
+  answers = record {
+    format = repo.format;
+    refs = repo.refs.items;
+    has = has_object repo.objects.items;
+    is_ready = λ request. is_enough repo.ready_after (length (filter (has_object repo.objects.items) request.haves));
+    boundaries = boundary_for repo.boundaries.items;
+    pack = λ request. repo.pack.items;
+  };
   failures = 0;
 }

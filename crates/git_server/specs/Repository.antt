@@ -1,13 +1,17 @@
 -- A repository as the protocol sees it.
-use Rattle.std.specs.Prelude.{◌≡◌, ◌≢◌, ℕ, Bool, true, length, All, Any, MatchOption, List, Option, Some, None, Vec}
+use Rattle.std.specs.Prelude.{◌≡◌, ◌≢◌, ℕ, Bool, true, length, All, Any, MatchOption, List, [], ◌∷◌, Option, Some, None, Vec, if◌then◌else◌}
 use Rattle.std.specs.List.{AllAdjacentBelow}
+use Rattle.std.specs.Str.{bytes_eq}
 use Rattle.std.specs.Option.{ForSome}
 use Rattle.std.specs.Ordering.{nat_cmp, is_lt}
 use Rattle.std.specs.Cmp.Lexicographic.{slice_cmp}
 use Rattle.git_names.specs.declared.object_format.Format.{Format}
 use Rattle.git_names.specs.ObjectName.{ObjectName}
 use Rattle.git_names.specs.RefName.{IsRefName}
+use Rattle.git_msg.specs.declared.Boundary.{Boundary}
+use Rattle.git_msg.specs.declared.Boundary.TheVariants.{Shallow, Unshallow}
 use Rattle.git_msg.specs.Asked.{FetchAsked}
+use Rattle.git_server.specs.Objects.{object_of}
 
 -- a reference: its name, what it names, for a symbolic one its target, for a tag object what it peels to
 pub record Entry : Type 0 where
@@ -43,12 +47,20 @@ pub record IsOfFormat (format : Format) (ref : Entry) : Type 0 where
 pub record HasOneFormat (ref : Entry) : Type 0 where
   pub by_peeled : (id : ObjectName) → ref.peeled ≡ Some id → id.format ≡ ref.id.format
 
--- what a repository answers: its format, its references, which objects it has, and the pack for a request
+-- what a repository answers: its format, its references, which objects it has, and for a request whether it is ready to send
+-- a pack, the commits at the shallow boundary, and the pack
 pub record Repository : Type 0 where
   pub format : Format
   pub refs : List Entry
   pub has : ObjectName → Bool
+  pub is_ready : FetchAsked → Bool
+  pub boundaries : FetchAsked → List Boundary
   pub pack : FetchAsked → List ℕ
+
+-- the line says of no commit that it is no longer shallow, or of one of these
+abbrev pub IsUnshallowOf : List ObjectName → Boundary → Type 0
+IsUnshallowOf shallows (Shallow id) = Unit {0}
+IsUnshallowOf shallows (Unshallow id) = Any (λ shallow. shallow ≡ id) shallows
 
 -- what a repository answers, and how many of its reads have failed
 pub record RepoState : Type 0 where
@@ -60,8 +72,15 @@ pub record IsSound (repo : Repository) : Type 0 where
   pub rising : IsRising repo.refs
   pub named : All (λ ref. IsNamed ref.name ref.target) repo.refs
   pub of_format : All (IsOfFormat repo.format) repo.refs
+  pub boundaries_of_format : (request : FetchAsked) → All (λ boundary. (object_of boundary).format ≡ repo.format) (repo.boundaries request)
+  pub unshallow : (request : FetchAsked) → All (IsUnshallowOf request.shallows) (repo.boundaries request)
 
 -- what a repository has under a name: the object, or nothing where no reference has the name
 abbrev pub IsFound : List Entry → List ℕ → Option ObjectName → Type 0
 IsFound refs name found =
     MatchOption found (All (λ ref. ref.name ≢ name) refs) (λ id. Any (λ ref. (ref.name ≡ name) × (ref.id ≡ id)) refs)
+
+-- the object of the first reference that has the name
+abbrev pub found_ref : List Entry → List ℕ → Option ObjectName
+found_ref [] name = None
+found_ref (ref ∷ refs) name = if bytes_eq ref.name name then Some ref.id else found_ref refs name

@@ -1,5 +1,5 @@
 -- What writing a packet into a reader's hold does to the reader.
-use Rattle.std.specs.Prelude.{◌≡◌, ◌≤◌, ℕ, false, List, length}
+use Rattle.std.specs.Prelude.{◌≡◌, ◌≤◌, ℕ, false, List, ◌∷◌, length}
 use Rattle.git_pkt.specs.Packets.{Pkt, spelling_of, body_of, longest_payload}
 use Rattle.git_pkt.specs.Splits.{Given}
 use Rattle.git_pkt.specs.PacketReader.{Reads, held_of, fault_of, is_open, position_of}
@@ -13,3 +13,9 @@ pub record Writes (old : PacketReader) (packet : Pkt) (new : PacketReader) : Typ
   pub fault : fault_of new ≡ fault_of old
   pub position : position_of new ≡ position_of old
   pub reads : (start : ℕ) (bytes : List ℕ) (given : List Given) (rest : List ℕ) → Reads old start bytes given rest → Reads new start bytes given rest
+
+-- the first of the packets that are owed was written, and these others are owed then
+pub record WritesFirst (owed : List Pkt) (old : PacketReader) (others : List Pkt) (new : PacketReader) : Type 0 where
+  pub packet : Pkt
+  pub comes_first : owed ≡ packet ∷ others
+  pub writes : Writes old packet new

@@ -1,8 +1,9 @@
 //! The capability advertisement, a line at a time.
 
-ghost use Rattle.std.specs.Prelude.{◌≡◌, false};
+ghost use Rattle.std.specs.Prelude.{◌≡◌, ◌≤◌, false, length};
 ghost use Rattle.git_pkt.specs.PacketReader.{is_open};
 ghost use Rattle.git_server.specs.AdvertisementLines.{advertisement_line_after, advertisement_packet};
+ghost use Rattle.git_server.specs.Answers.{fetch_words};
 ghost use Rattle.git_server.specs.WrittenPackets.{Writes};
 
 use crate::packets::{write_line, write_packet};
@@ -31,7 +32,7 @@ impl AdvertisementLine {
             AdvertisementLine::Version => write_line(reader, b"version 2", b""),
             AdvertisementLine::Agent => write_packet(reader, Packet::Payload(AGENT_LINE)),
             AdvertisementLine::LsRefs => write_line(reader, b"ls-refs", b""),
-            AdvertisementLine::Fetch => write_line(reader, b"fetch", b""),
+            AdvertisementLine::Fetch => write_line(reader, fetch_text(offer), b""),
             AdvertisementLine::ServerOption => write_line(reader, b"server-option", b""),
             AdvertisementLine::ObjectFormat => {
                 write_line(reader, b"object-format=", offer.format.name().as_bytes());
@@ -59,5 +60,18 @@ impl AdvertisementLine {
             AdvertisementLine::ObjectFormat => Some(AdvertisementLine::End),
             AdvertisementLine::End => None,
         }
+    }
+}
+
+// The text of the line for `fetch`: its value names the features of it that are offered.
+fn fetch_text(offer: &Offer) -> &'static [u8]
+    ensures words { result.now ≡ fetch_words offer.now.shallow offer.now.ref_in_want }
+    ensures short { length result.now ≤ 25 }
+{
+    match (offer.shallow, offer.ref_in_want) {
+        (false, false) => b"fetch",
+        (true, false) => b"fetch=shallow",
+        (false, true) => b"fetch=ref-in-want",
+        (true, true) => b"fetch=shallow ref-in-want",
     }
 }

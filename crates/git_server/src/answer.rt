@@ -11,8 +11,8 @@ ghost use Rattle.git_server.specs.WrittenPackets.{Writes};
 ghost use Rattle.git_server.specs.Repository.{HasOneFormat};
 
 use crate::entry::RefEntry;
+use crate::fetching::{FetchPlace, write_fetch};
 use crate::packets::write_packet;
-use crate::packing::{PackPlace, write_pack};
 use crate::repo::Repo;
 use crate::shown::next_shown;
 use git_msg::{Fetch, LsRefs, Reference, Request, put_reference};
@@ -25,8 +25,8 @@ use std::alloc::Allocator;
 pub(crate) enum Answer<A: Allocator + Copy> {
     /// Of a request for references: from the reference at this place on.
     References(LsRefs<A>, usize),
-    /// Of a request for objects: from this place in the section of the pack on.
-    Fetching(Fetch<A>, PackPlace),
+    /// Of a request for objects: from this place on.
+    Fetching(Fetch<A>, FetchPlace),
 }
 
 /// What came of writing a packet of an answer.
@@ -47,7 +47,10 @@ impl<A: Allocator + Copy> Answer<A> {
     {
         match request {
             Request::LsRefs(request) => Answer::References(request, 0),
-            Request::Fetch(request) => Answer::Fetching(request, PackPlace::Header),
+            Request::Fetch(request) => {
+                let place = FetchPlace::first(&request);
+                Answer::Fetching(request, place)
+            }
         }
     }
 
@@ -65,7 +68,7 @@ impl<A: Allocator + Copy> Answer<A> {
                 }
                 None => Answered::Whole,
             },
-            Answer::Fetching(request, place) => write_pack(repo, request, place, reader),
+            Answer::Fetching(request, place) => write_fetch(repo, request, place, reader),
         }
     }
 }

@@ -5,7 +5,7 @@ ghost use Rattle.git_server.specs.Packs.{IsPackPart};
 
 use crate::entry::RefEntry;
 use crate::repo::{PackFault, Repo};
-use git_msg::Fetch;
+use git_msg::{Boundary, Fetch};
 use git_names::{Format, Oid, Steps};
 use std::alloc::Allocator;
 
@@ -73,6 +73,18 @@ impl<R: Repo> Repo for Faulty<R> {
 
     fn has(&self, id: &Oid) -> bool {
         self.inner.has(id)
+    }
+
+    fn is_ready<A: Allocator + Copy>(&self, request: &Fetch<A>) -> bool {
+        self.inner.is_ready(request)
+    }
+
+    fn boundaries<A: Allocator + Copy>(&self, request: &Fetch<A>) -> usize {
+        self.inner.boundaries(request)
+    }
+
+    fn boundary<A: Allocator + Copy>(&self, request: &Fetch<A>, i: usize) -> Boundary {
+        self.inner.boundary(request, i)
     }
 
     fn pack_read<A: Allocator + Copy>(

@@ -2,10 +2,13 @@
 //! machine that reads requests and gives answers.
 #![tactic(auto)]
 
+mod acknowledging;
 mod advertisement;
 mod answer;
+mod bounding;
 mod entry;
 mod faulty;
+mod fetching;
 pub mod laws;
 mod list_repo;
 mod outcome;
@@ -15,8 +18,10 @@ mod refusal;
 mod repo;
 mod requests;
 mod run;
+mod sections;
 mod server;
 mod shown;
+mod wanting;
 
 pub use entry::RefEntry;
 pub use faulty::Faulty;

@@ -1,6 +1,6 @@
 //! A repository that is a few lists: of references, of objects, of shallow boundaries, and one pack.
 
-ghost use Rattle.std.specs.Prelude.{◌≡◌, ◌≢◌, ◌<◌, ◌-◌, ◌↔◌, IsTrue, IfOk, MatchOption, MatchResult, All, Any, Ok, Some, length, min};
+ghost use Rattle.std.specs.Prelude.{◌≡◌, ◌≢◌, ◌<◌, ◌-◌, ◌↔◌, IsTrue, IfOk, MatchOption, MatchResult, All, Any, Ok, Some, filter, length, min, nat_le, slice_get};
 ghost use Rattle.std.specs.List.{HoldsAt};
 ghost use Rattle.std.specs.Ordering.{nat_cmp};
 ghost use Rattle.std.specs.Cmp.Lexicographic.{slice_cmp};
@@ -8,6 +8,7 @@ ghost use Rattle.git_server.specs.Lists.{repo_fault_name};
 ghost use Rattle.git_server.specs.Objects.{object_cmp, object_of, has_object, precedes, AreRising};
 ghost use Rattle.git_server.specs.Packs.{IsPackPart};
 ghost use Rattle.git_server.specs.Repository.{IsFound, IsNamed, IsOfFormat, IsRising, comes_before};
+ghost use Rattle.git_server.specs.ToldBoundary.{is_deepened, says_shallow, says_unshallow, told_lines};
 
 use crate::entry::RefEntry;
 use crate::repo::{PackFault, Repo};
@@ -56,6 +57,7 @@ pub struct ListRepo {
     ghost rising_objects: { AreRising objects.items },
     ghost named: { All (λ ref. IsNamed ref.name ref.target) refs.items },
     ghost of_format: { All (IsOfFormat format) refs.items },
+    ghost of_boundaries: { All (λ boundary. (object_of boundary).format ≡ format) boundaries.items },
     ghost short: { length pack.items < 9223372036854775808 },
 }
 
@@ -64,7 +66,9 @@ impl ListRepo {
     ghost use Rattle.git_server.specs.ListRepo.{lists_of};
 
     /// The repository with these references, these objects with their sizes in bytes, this shallow boundary and
-    /// this pack for each request. It is ready to send a pack after so many common objects, or never.
+    /// this pack for each request. It is ready to send a pack after so many common objects, or never. A request that
+    /// cuts the history off hears of the boundary the shallow commits in their order, and then those that it called
+    /// shallow itself and that are no longer.
     ///
     /// The references have to rise strictly by their names (`UnsortedRefs`), the objects by theirs
     /// (`UnsortedObjects`), and all object names are of the format (`MixedFormats`).
@@ -142,11 +146,18 @@ impl ListRepo {
 }
 
 impl Repo for ListRepo {
+    ghost use Rattle.git_server.specs.BoundaryLaws.{told_keep, told_unshallow};
     ghost use Rattle.git_server.specs.ListRepo.{lists_of, state_of};
 
     ghost state = { state_of };
 
-    ghost sound = { λ repo. record { rising = repo.rising; named = repo.named; of_format = repo.of_format } };
+    ghost sound = { λ repo. record {
+      rising = repo.rising;
+      named = repo.named;
+      of_format = repo.of_format;
+      boundaries_of_format = λ request. told_keep (λ line. (object_of line).format ≡ repo.format) repo.boundaries.items request repo.of_boundaries;
+      unshallow = λ request. told_unshallow repo.boundaries.items request;
+    } };
 
     ghost short = { λ repo request. repo.short };
 
@@ -168,6 +179,28 @@ impl Repo for ListRepo {
         ensures among { IsTrue result ↔ Any (λ object. object.0 ≡ id.now) (lists_of self.now).objects }
     {
         stands_among(&self.objects, id)
+    }
+
+    fn is_ready<A: Allocator + Copy>(&self, request: &Fetch<A>) -> bool {
+        match self.ready_after {
+            Some(least) => are_common(&self.objects, request.haves(), least as usize),
+            None => false,
+        }
+    }
+
+    fn boundaries<A: Allocator + Copy>(&self, request: &Fetch<A>) -> usize {
+        if deepens(request) {
+            count_told(&self.boundaries, request.shallows())
+        } else {
+            0
+        }
+    }
+
+    fn boundary<A: Allocator + Copy>(&self, request: &Fetch<A>, i: usize) -> Boundary {
+        match told_at(&self.boundaries, request.shallows(), i) {
+            Some(line) => line,
+            None => unreachable!(),
+        }
     }
 
     fn pack_read<A: Allocator + Copy>(
@@ -276,4 +309,65 @@ fn stands_among(objects: &[(Oid, u64)], id: &Oid) -> bool
         Ok(_) => true,
         Err(_) => false,
     }
+}
+
+// Whether at least so many of the names are of one of the objects; a repeated name counts each time. It looks no further
+// than it has to.
+fn are_common(objects: &[(Oid, u64)], names: &[Oid], least: usize) -> bool
+    requires { AreRising objects.now }
+    ensures { result ≡ nat_le least (length (filter (has_object objects.now) names.now)) }
+{
+    names
+        .iter()
+        .filter(|id| stands_among(objects, id))
+        .take(least)
+        .count()
+        == least
+}
+
+// Whether the request cuts the history off: at a depth, at a time, or at what a revision reaches.
+fn deepens<A: Allocator + Copy>(request: &Fetch<A>) -> bool
+    ensures { result ≡ is_deepened request.now.asked }
+{
+    request.deepen().is_some()
+        || request.deepen_since().is_some()
+        || request.deepen_not(0).is_some()
+}
+
+// Whether the line says that a commit is shallow.
+fn is_shallow(line: &Boundary) -> bool
+    ensures { result ≡ says_shallow line.now }
+{
+    matches!(line, Boundary::Shallow(_))
+}
+
+// Whether the line says that one of these commits is no longer shallow.
+fn is_unshallow_of(line: &Boundary, shallows: &[Oid]) -> bool
+    ensures { result ≡ says_unshallow shallows.now line.now }
+{
+    match line {
+        Boundary::Shallow(_) => false,
+        Boundary::Unshallow(id) => shallows.iter().any(|shallow| shallow.cmp(id).is_eq()),
+    }
+}
+
+// How many lines of the boundary a client is told that has these commits without their parents.
+fn count_told(lines: &[Boundary], shallows: &[Oid]) -> usize
+    ensures { result ≡ length (told_lines lines.now shallows.now) }
+{
+    let shallow = lines.iter().filter(|line| is_shallow(line)).count();
+    let unshallow = lines
+        .iter()
+        .filter(|line| is_unshallow_of(line, shallows))
+        .count();
+    shallow + unshallow
+}
+
+// The line at place `i` of those that it is told: the shallow commits come first.
+fn told_at(lines: &[Boundary], shallows: &[Oid], i: usize) -> Option<Boundary>
+    ensures { result ≡ slice_get (told_lines lines.now shallows.now) i }
+{
+    let shallow = lines.iter().filter(|line| is_shallow(line));
+    let unshallow = lines.iter().filter(|line| is_unshallow_of(line, shallows));
+    shallow.chain(unshallow).nth(i).copied()
 }

@@ -1,12 +1,13 @@
 //! What is written into the packet reader's hold.
 
 ghost use Rattle.std.specs.Prelude.{◌≡◌, ◌≤◌, ◌<◌, ◌+◌, ◌++◌, length, false};
-ghost use Rattle.git_pkt.specs.Packets.{body_of, seen, longest_payload, spelling_of};
+ghost use Rattle.git_pkt.specs.Packets.{body_of, seen, longest_payload};
 ghost use Rattle.git_pkt.specs.PacketReader.{is_open};
 ghost use Rattle.git_msg.specs.WrittenRequest.{text_line};
 ghost use Rattle.git_server.specs.WrittenPackets.{Writes};
 
-use git_pkt::{Hold, Packet, PacketReader, append, begin, put};
+use git_msg::put_line;
+use git_pkt::{Packet, PacketReader, put};
 
 /// Makes the hold the packet's spelling, between two packets that are read.
 pub(crate) fn write_packet(reader: &mut PacketReader, packet: Packet<'_>)
@@ -24,16 +25,4 @@ pub(crate) fn write_line(reader: &mut PacketReader, word: &[u8], value: &[u8])
     ensures { Writes reader.old (text_line (word.now ++ value.now)) reader.new }
 {
     put_line(reader.lend(), word, value);
-}
-
-// Makes the hold the packet of a line, part by part.
-fn put_line(hold: &mut Hold, word: &[u8], value: &[u8])
-    requires { length word.now + length value.now < longest_payload }
-    ensures written { hold.new.items ≡ spelling_of (text_line (word.now ++ value.now)) }
-    ensures fits { length (body_of (text_line (word.now ++ value.now))) ≤ longest_payload }
-{
-    begin(hold, word.len() + value.len() + 1);
-    append(hold, word);
-    append(hold, value);
-    append(hold, b"\n");
 }

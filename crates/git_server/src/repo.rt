@@ -1,12 +1,12 @@
 //! What a server asks of a repository.
 
-ghost use Rattle.std.specs.Prelude.{◌≡◌, ◌<◌, Some, codes, length, IfOk, OnErr, OnOk};
+ghost use Rattle.std.specs.Prelude.{◌≡◌, ◌<◌, Some, codes, length, slice_get, IfOk, OnErr, OnOk};
 ghost use Rattle.git_msg.specs.Asked.{FetchAsked};
 ghost use Rattle.git_server.specs.Packs.{IsPackPart};
 ghost use Rattle.git_server.specs.Repository.{RepoState, IsFound, IsSound};
 
 use crate::entry::RefEntry;
-use git_msg::Fetch;
+use git_msg::{Boundary, Fetch};
 use git_names::{Format, Oid};
 use std::alloc::Allocator;
 use std::error::Error;
@@ -47,6 +47,20 @@ pub trait Repo {
     fn has(&self, id: &Oid) -> bool
         ensures { result ≡ (state self.now).answers.has id.now };
 
+    /// Whether it is ready to send a pack for the request: of what the client has, enough is common to make one.
+    /// The answer to a request that negotiates then says `ready`, gitprotocol-v2(5), and the pack follows.
+    fn is_ready<A: Allocator + Copy>(&self, request: &Fetch<A>) -> bool
+        ensures { result ≡ (state self.now).answers.is_ready request.now.asked };
+
+    /// How many lines the shallow boundary for the request has: the section `shallow-info` of gitprotocol-v2(5).
+    fn boundaries<A: Allocator + Copy>(&self, request: &Fetch<A>) -> usize
+        ensures { result ≡ length ((state self.now).answers.boundaries request.now.asked) };
+
+    /// The line at place `i` of the shallow boundary for the request.
+    fn boundary<A: Allocator + Copy>(&self, request: &Fetch<A>, i: usize) -> Boundary
+        requires { i < length ((state self.now).answers.boundaries request.now.asked) }
+        ensures { slice_get ((state self.now).answers.boundaries request.now.asked) i ≡ Some result };
+
     /// Reads bytes of the pack for the request, from an offset on, to the front of `out`: at least one before the
     /// pack's end, and none at its end or after it. It answers how many. The pack for a request stays the same.
     fn pack_read<A: Allocator + Copy>(
@@ -62,7 +76,8 @@ pub trait Repo {
         ensures same { (state self.new).answers ≡ (state self.old).answers };
 
     /// The names of the references rise, they and the targets are names that a reference may have, and all object names
-    /// are of the format.
+    /// are of the format, also those of a shallow boundary. There none but a commit that the request calls shallow is
+    /// said to be no longer shallow.
     ghost sound: { (repo : Self) → IsSound (state repo).answers };
 
     /// A pack has less than 2^63 bytes.

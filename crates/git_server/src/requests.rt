@@ -65,6 +65,10 @@ fn refusal_of<R: Repo>(repo: &R, argument: &Argument<'_>) -> Option<Kind>
             }
             Some(Kind::NotOurs)
         }
+        Argument::WantRef(name) => match repo.find(name) {
+            Some(_) => None,
+            None => Some(Kind::UnknownRef),
+        },
         _ => None,
     }
 }

@@ -21,7 +21,7 @@ pub struct Asking {
 
 // The argument that a text is, of whichever command.
 fn argument_of(format: Format, text: &[u8]) -> Option<Argument<'_>> {
-    let offer = offer(format);
+    let offer = offer(format, true);
     for command in [Command::LsRefs, Command::Fetch] {
         if let Ok(argument) = read_argument(command, &offer, text) {
             return Some(argument);

@@ -86,6 +86,11 @@ impl<'a> Words<'a> {
         }))
     }
 
+    // Whether the features of `fetch` are offered.
+    fn features(self) -> bool {
+        !self.has("no-features")
+    }
+
     fn start(self) -> Result<u64, Trouble> {
         match self.after("at") {
             Some(start) => start
@@ -105,7 +110,7 @@ fn table_of(words: Words<'_>) -> Option<Table> {
         "reference-names" => Some(Table::ReferenceNames),
         "capability-lines" => Some(Table::CapabilityLines),
         "notes" => Some(Table::Notes),
-        "arguments" => Some(Table::Arguments(words.command(), format)),
+        "arguments" => Some(Table::Arguments(words.command(), format, words.features())),
         "reference-lines" => Some(Table::ReferenceLines(format)),
         "repository-texts" => Some(Table::RepositoryTexts),
         "lists" => Some(Table::Lists(format)),
@@ -126,7 +131,7 @@ fn subject_of<'a>(
     let limit = words.limit()?;
     Ok(match words.text.split_whitespace().next() {
         Some("packets") => Subject::End(End::Packets(words.start()?)),
-        Some("requests") => Subject::End(End::Requests(format, limit)),
+        Some("requests") => Subject::End(End::Requests(format, limit, words.features())),
         Some("client") => Subject::End(End::Client(format)),
         Some("check") => Subject::End(End::Check(format)),
         Some("server") => Subject::End(End::Server(Setup {
@@ -134,6 +139,7 @@ fn subject_of<'a>(
             pack,
             reads: words.reads()?,
             limit,
+            features: words.features(),
             advertises: words.has("advertises"),
         })),
         Some("asking") => Subject::Asking(Asking {

@@ -2,7 +2,7 @@
 
 use crate::runs::{Due, compare};
 use crate::script::{Given, Script};
-use crate::setup::LAST_POSITION;
+use crate::setup::{LAST_POSITION, offer};
 use crate::trouble::Trouble;
 use crate::{checks, clients, packets, requests, sessions};
 use git_names::Format;
@@ -13,8 +13,8 @@ use std::alloc::{AllocError, Global};
 pub enum End<'a> {
     /// The packet reader from this offset on, and `show`.
     Packets(u64),
-    /// A request reader that keeps each argument.
-    Requests(Format, u32),
+    /// A request reader that keeps each argument, within a limit. The features of `fetch` are offered to it or not.
+    Requests(Format, u32, bool),
     /// A server of a repository's text.
     Server(sessions::Setup<'a>),
     /// A client.
@@ -99,8 +99,9 @@ impl<'a> End<'a> {
                 }
                 Ok(())
             }
-            End::Requests(format, limit) => {
-                let run = requests::heard(alloc, *format, *limit, pieces)?;
+            End::Requests(format, limit, features) => {
+                let offer = offer(*format, *features);
+                let run = requests::heard(alloc, offer, *limit, pieces)?;
                 compare(alloc, &run, due, place)
             }
             End::Server(setup) => {

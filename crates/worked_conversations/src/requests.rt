@@ -5,10 +5,10 @@ ghost use Rattle.git_msg.specs.RequestReader.{is_waiting};
 
 use crate::escapes::escaped;
 use crate::runs::Run;
-use crate::setup::{MANY, limits, offer};
+use crate::setup::{MANY, limits};
 use crate::trouble::Trouble;
-use git_msg::{Request, RequestReader, Taken};
-use git_names::Format;
+use git_msg::{Offer, Request, RequestReader, Taken};
+use git_names::Oid;
 use git_pkt::{Fault, Got, Packet, PacketReader, text};
 use std::alloc::{AllocError, Global};
 
@@ -73,6 +73,55 @@ fn append_text(
     lines.extend_from_slice(b"\n")
 }
 
+// Appends lines of a word and an object name.
+fn append_objects(
+    alloc: Global,
+    lines: &mut Vec<u8>,
+    word: &str,
+    ids: &[Oid],
+) -> Result<(), AllocError> {
+    for id in ids {
+        let mut digits = [0; 64];
+        let end = id.write(&mut digits).min(64);
+        append_text(alloc, lines, word, &digits[..end])?;
+    }
+    Ok(())
+}
+
+// Appends the line of a number that a request may have.
+fn append_number(
+    alloc: Global,
+    lines: &mut Vec<u8>,
+    word: &str,
+    number: Option<u64>,
+) -> Result<(), AllocError> {
+    match number {
+        Some(number) => {
+            let number = format!(in alloc; "{number}")?;
+            append_text(alloc, lines, word, number.as_bytes())
+        }
+        None => Ok(()),
+    }
+}
+
+// Appends how a request cuts the history off.
+fn append_shallow(
+    alloc: Global,
+    lines: &mut Vec<u8>,
+    request: &Request<Global>,
+) -> Result<(), AllocError> {
+    append_objects(alloc, lines, "shallow", request.shallows())?;
+    append_number(alloc, lines, "deepen", request.deepen())?;
+    append_number(alloc, lines, "deepen-since", request.deepen_since())?;
+    for i in 0..MANY {
+        match request.deepen_not(i) {
+            Some(revision) => append_text(alloc, lines, "deepen-not", revision)?,
+            None => break,
+        }
+    }
+    append_flags(lines, &[(request.deepen_relative(), "deepen-relative")])
+}
+
 // Appends what a request asks for, a line each.
 fn append_request(
     alloc: Global,
@@ -98,11 +147,15 @@ fn append_request(
             None => break,
         }
     }
-    for id in request.wants() {
-        let mut digits = [0; 64];
-        let end = id.write(&mut digits).min(64);
-        append_text(alloc, lines, "want", &digits[..end])?;
+    append_shallow(alloc, lines, request)?;
+    append_objects(alloc, lines, "want", request.wants())?;
+    for i in 0..MANY {
+        match request.want_ref(i) {
+            Some(name) => append_text(alloc, lines, "want-ref", name)?,
+            None => break,
+        }
     }
+    append_objects(alloc, lines, "have", request.haves())?;
     append_flags(lines, &[(request.done(), "done")])
 }
 
@@ -160,11 +213,11 @@ fn feed(
     Err(Trouble::Breaks("a piece is never used up"))
 }
 
-/// What a reader of all that is offered hears in the pieces, after which the input ends.
-pub fn heard(alloc: Global, format: Format, limit: u32, pieces: &[&[u8]]) -> Result<Run, Trouble> {
+/// What a reader that keeps so much of a request hears in the pieces, after which the input ends.
+pub fn heard(alloc: Global, offer: Offer, limit: u32, pieces: &[&[u8]]) -> Result<Run, Trouble> {
     let mut packets = PacketReader::new();
     let mut keeper = Keeper {
-        reader: RequestReader::new(alloc, offer(format), limits(limit)),
+        reader: RequestReader::new(alloc, offer, limits(limit)),
     };
     let mut lines = Vec::new(alloc);
     let mut ending = None;

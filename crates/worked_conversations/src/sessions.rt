@@ -29,6 +29,8 @@ pub struct Setup<'a> {
     pub reads: Option<Reads>,
     /// How many bytes of a request's arguments it keeps at the most.
     pub limit: u32,
+    /// Whether it offers the features of `fetch`.
+    pub features: bool,
     /// Whether its advertisement comes first.
     pub advertises: bool,
 }
@@ -43,7 +45,7 @@ fn repository(alloc: Global, setup: &Setup<'_>) -> Result<ListRepo, Trouble> {
 }
 
 fn new_server<R: Repo>(alloc: Global, repo: R, setup: &Setup<'_>) -> Server<R, Global> {
-    let offer = offer(repo.format());
+    let offer = offer(repo.format(), setup.features);
     let limits = limits(setup.limit);
     Server::new(alloc, repo, offer, limits, setup.advertises)
 }

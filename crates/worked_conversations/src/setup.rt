@@ -17,15 +17,15 @@ pub const LAST_POSITION: u64 = 9_223_372_036_854_775_807;
 /// The most bytes that the texts of a request's arguments may have.
 const MOST_KEPT: u32 = 1_073_741_824;
 
-/// All that is offered so far, in this format.
-pub fn offer(format: Format) -> Offer
+/// All that is offered so far, in this format, but the features of `fetch` where they are left out.
+pub fn offer(format: Format, features: bool) -> Offer
     ensures format { result.format ≡ format }
     ensures no_object_info { result.object_info ≡ false }
 {
     Offer {
         format,
-        shallow: true,
-        ref_in_want: true,
+        shallow: features,
+        ref_in_want: features,
         object_info: false,
         server_option: true,
     }

@@ -23,8 +23,8 @@ pub enum Table {
     CapabilityLines,
     /// It is the capability lines of an advertisement, parted by LF.
     Notes,
-    /// It is an argument of this command.
-    Arguments(Command, Format),
+    /// It is an argument of this command, whose features are offered or not.
+    Arguments(Command, Format, bool),
     ReferenceLines(Format),
     RepositoryTexts,
     /// It is lists that may make a repository.
@@ -66,6 +66,17 @@ fn say_object(alloc: Global, lines: &mut Vec<u8>, word: &str, id: Oid) -> Result
     let mut digits = [0; 64];
     let end = id.write(&mut digits).min(64);
     say(alloc, lines, word, Said::Bytes(&digits[..end]))
+}
+
+// Appends the line of a number.
+fn say_number(
+    alloc: Global,
+    lines: &mut Vec<u8>,
+    word: &str,
+    number: u64,
+) -> Result<(), AllocError> {
+    let number = format!(in alloc; "{number}")?;
+    say(alloc, lines, word, Said::Bytes(number.as_bytes()))
 }
 
 fn say_object_name(
@@ -146,10 +157,10 @@ fn say_notes(alloc: Global, lines: &mut Vec<u8>, text: &[u8]) -> Result<(), Allo
 fn say_argument(
     alloc: Global,
     lines: &mut Vec<u8>,
-    (command, format): (Command, Format),
+    (command, format, features): (Command, Format, bool),
     text: &[u8],
 ) -> Result<(), AllocError> {
-    let argument = match read_argument(command, &offer(format), text) {
+    let argument = match read_argument(command, &offer(format, features), text) {
         Ok(argument) => argument,
         Err(kind) => return say(alloc, lines, kind.name(), Said::Nothing),
     };
@@ -163,6 +174,13 @@ fn say_argument(
         Argument::NoProgress => say(alloc, lines, "no-progress", Said::Nothing),
         Argument::IncludeTag => say(alloc, lines, "include-tag", Said::Nothing),
         Argument::OfsDelta => say(alloc, lines, "ofs-delta", Said::Nothing),
+        Argument::Have(id) => say_object(alloc, lines, "have", id),
+        Argument::Shallow(id) => say_object(alloc, lines, "shallow", id),
+        Argument::Deepen(depth) => say_number(alloc, lines, "deepen", depth),
+        Argument::DeepenRelative => say(alloc, lines, "deepen-relative", Said::Nothing),
+        Argument::DeepenSince(time) => say_number(alloc, lines, "deepen-since", time),
+        Argument::DeepenNot(revision) => say(alloc, lines, "deepen-not", Said::Bytes(revision)),
+        Argument::WantRef(name) => say(alloc, lines, "want-ref", Said::Bytes(name)),
     }
 }
 
@@ -225,8 +243,8 @@ impl Table {
             Table::ReferenceNames => say_reference_name(alloc, &mut lines, text)?,
             Table::CapabilityLines => say_capability(alloc, &mut lines, text)?,
             Table::Notes => say_notes(alloc, &mut lines, text)?,
-            Table::Arguments(command, format) => {
-                say_argument(alloc, &mut lines, (command, format), text)?;
+            Table::Arguments(command, format, features) => {
+                say_argument(alloc, &mut lines, (command, format, features), text)?;
             }
             Table::ReferenceLines(format) => say_reference(alloc, &mut lines, format, text)?,
             Table::RepositoryTexts => say_repository(alloc, &mut lines, text)?,

@@ -4,7 +4,8 @@ use Rattle.std.specs.Cmp.Lexicographic.{slice_cmp}
 use Rattle.std.specs.declared.cmp.Ordering.{Ordering}
 use Rattle.std.proofs.lemmas.Fn.{always_returns_same}
 use Rattle.git_server.specs.Repository.{Entry}
-use Rattle.git_server.proofs.NameOrder.{none_is, ranks_rise, same_name}
+use Rattle.git_server.specs.SameObjects.{same_name}
+use Rattle.git_server.proofs.NameOrder.{none_is, ranks_rise}
 use Rattle.std.proofs.lemmas.Cmp.{nat_list_cmp_total}
 use Rattle.git_server.proofs.list_repo.find_name.Goals as goal
 

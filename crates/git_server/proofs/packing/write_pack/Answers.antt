@@ -1,7 +1,8 @@
 use Rattle.std.proofs.Common.{arith, rules, ◌<◌, ◌+◌, sym, subst, take}
 use Rattle.git_pkt.specs.Bands.{band_packet}
 use Rattle.git_pkt.specs.declared.band.Band.TheVariants.{Pack as PackBand}
-use Rattle.git_server.specs.AnsweredRequest.{IsNext, IsPackfileFrom, most_packets}
+use Rattle.git_server.specs.AnsweredRequest.{IsNext}
+use Rattle.git_server.specs.FetchPlaces.{IsPackfileFrom, most_packets}
 use Rattle.git_server.specs.declared.answer.Answered.TheVariants.{Part}
 use Rattle.git_server.specs.declared.packing.PackPlace.{PackPlace}
 use Rattle.git_server.specs.declared.packing.PackPlace.TheVariants.{Pack}

@@ -5,7 +5,7 @@ use Rattle.git_msg.specs.Kept.{IsCounted}
 use Rattle.git_msg.specs.Insides.{ls_refs_inside}
 use Rattle.git_msg.proofs.KeptBytes.{counted_more}
 use Rattle.git_msg.proofs.ls_refs.LsRefs.keep.Goals as goal
-use Rattle.git_msg.proofs.ls_refs.LsRefs.keep.Goals.{in-Symrefs, in-Peel, in-RefPrefix+else-is_err}
+use Rattle.git_msg.proofs.ls_refs.LsRefs.keep.Goals.{in-Symrefs, in-Peel, in-RefPrefix+in_ok-keep-in-RefPrefix}
 
 pub invariant_of-self-2 : goal.invariant_of-self-2
 invariant_of-self-2 g c =
@@ -18,7 +18,7 @@ invariant_of-self-2 g c =
     elim c.match-argument.branch [
       | in-Symrefs w ↦ rw w.self-inside-is (rw w.in-Symrefs.is at more)
       | in-Peel w ↦ rw w.self-inside-is (rw w.in-Peel.is at more)
-      | in-RefPrefix+else-is_err w ↦
-          let grown : w.push.new.self ≡ c.self.inside.ref_prefixes ++ w.in-RefPrefix.prefix.now ∷ [] = search rules in
+      | in-RefPrefix+in_ok-keep-in-RefPrefix w ↦
+          let grown : w.keep.new.self ≡ c.self.inside.ref_prefixes ++ w.in-RefPrefix.prefix.now ∷ [] = search rules in
           rw (w.self-inside-is, grown) (rw w.in-RefPrefix.is at more)
     ]

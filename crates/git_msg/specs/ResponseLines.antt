@@ -1,0 +1,57 @@
+-- The lines of fetch's response sections, by gitprotocol-v2(5).
+use Rattle.std.specs.Prelude.{◌≡◌, ℕ, List, ◌∷◌, ◌++◌, codes}
+use Rattle.git_names.specs.ObjectName.{ObjectName, IsObjectName, hex_of}
+use Rattle.git_names.specs.RefName.{IsRefName}
+use Rattle.git_names.specs.declared.object_format.Format.{Format}
+use Rattle.git_msg.specs.declared.response_lines.Boundary.{Boundary}
+use Rattle.git_msg.specs.declared.response_lines.Boundary.TheVariants.{Shallow, Unshallow}
+use Rattle.git_msg.specs.declared.response_lines.WantedRef.{WantedRef}
+use Rattle.git_msg.specs.Texts.{Follows}
+
+-- a reference that was asked for by its name, wherever that lies, and the object that it points to
+pub record Wanted : Type 0 where
+  pub id : ObjectName
+  pub name : List ℕ
+
+abbrev pub wanted_of : ObjectName → List ℕ → Wanted
+wanted_of id name = record { id = id; name = name }
+
+-- the wanted reference that a borrowed one shows
+abbrev pub shown_wanted : WantedRef → Wanted
+shown_wanted wanted = wanted_of wanted.id wanted.name.now
+
+-- the object of a line of the boundary
+abbrev pub object_of : Boundary → ObjectName
+object_of (Shallow id) = id
+object_of (Unshallow id) = id
+
+-- the text is the word and then the object's name, in digits of either case
+abbrev pub IsNamed : List ℕ → Format → List ℕ → ObjectName → Type 0
+IsNamed word format text id = Follows word (λ name. IsObjectName format name id) text
+
+-- the text says that the object is common to both ends
+abbrev pub IsAckLine : Format → List ℕ → ObjectName → Type 0
+IsAckLine format text id = IsNamed (codes "ACK ") format text id
+
+-- the text is this line of the shallow boundary
+abbrev pub IsBoundaryLine : Format → List ℕ → Boundary → Type 0
+IsBoundaryLine format text (Shallow id) = IsNamed (codes "shallow ") format text id
+IsBoundaryLine format text (Unshallow id) = IsNamed (codes "unshallow ") format text id
+
+-- the text is this wanted reference: an object name, a space, and all after the first space, which is a reference name
+pub record IsWantedLine (format : Format) (text : List ℕ) (wanted : Wanted) : Type 0 where
+  pub id : List ℕ
+  pub spelled : text ≡ id ++ 32 ∷ wanted.name
+  pub id_is : IsObjectName format id wanted.id
+  pub name_is : IsRefName wanted.name
+
+-- the lines as they are written
+abbrev pub ack_text : ObjectName → List ℕ
+ack_text id = codes "ACK " ++ hex_of id
+
+abbrev pub boundary_text : Boundary → List ℕ
+boundary_text (Shallow id) = codes "shallow " ++ hex_of id
+boundary_text (Unshallow id) = codes "unshallow " ++ hex_of id
+
+abbrev pub wanted_text : Wanted → List ℕ
+wanted_text wanted = hex_of wanted.id ++ 32 ∷ wanted.name

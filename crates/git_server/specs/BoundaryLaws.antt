@@ -1,0 +1,45 @@
+-- What holds of each line of a boundary holds of those that are told, and what is no longer shallow is one of the client's.
+use Rattle.std.proofs.Common.{◌≡◌, Bool, true, false, List, [], All, filter, if◌then◌else◌}
+use Rattle.std.specs.Ordering.{is_eq}
+use Rattle.std.proofs.lemmas.List.Elements.{All-append, All-filter, All-nil, All-weaker, filter_passes}
+use Rattle.std.proofs.lemmas.List.Folds.{Any-from_list_any}
+use Rattle.git_names.specs.ObjectName.{ObjectName}
+use Rattle.git_msg.specs.declared.Boundary.{Boundary}
+use Rattle.git_msg.specs.declared.Boundary.TheVariants.{Shallow, Unshallow}
+use Rattle.git_msg.specs.Asked.{FetchAsked}
+use Rattle.git_server.specs.Objects.{object_cmp}
+use Rattle.git_server.specs.Repository.{IsUnshallowOf}
+use Rattle.git_server.specs.SameObjects.{is_tied, same_object}
+use Rattle.git_server.specs.ToldBoundary.{boundary_for, is_deepened, says_shallow, says_unshallow, told_lines}
+
+where_deepened : (P : Boundary → Type 0) (deepened : Bool) (lines : List Boundary) → All P lines → All P (if deepened then lines else [])
+where_deepened P true lines all = all
+where_deepened P false lines all = All-nil P
+
+-- what holds of each line of the boundary holds of each that is told
+pub told_keep : (P : Boundary → Type 0) (lines : List Boundary) (q : FetchAsked) → All P lines → All P (boundary_for lines q)
+told_keep P lines q all =
+    where_deepened P (is_deepened q) (told_lines lines q.shallows)
+    (All-append P (filter says_shallow lines) (filter (says_unshallow q.shallows) lines)
+    (All-filter says_shallow P lines all) (All-filter (says_unshallow q.shallows) P lines all))
+
+shallow_means : (shallows : List ObjectName) (line : Boundary) → says_shallow line ≡ true → IsUnshallowOf shallows line
+shallow_means shallows (Shallow id) says = tt
+shallow_means shallows (Unshallow id) says = absurd (cc)
+
+unshallow_means : (shallows : List ObjectName) (line : Boundary) → says_unshallow shallows line ≡ true → IsUnshallowOf shallows line
+unshallow_means shallows (Shallow id) says = tt
+unshallow_means shallows (Unshallow id) says =
+    let at = Any-from_list_any (λ (shallow : ObjectName). is_eq (object_cmp shallow id)) shallows says in
+    (at.0, at.1, at.2, at.3, same_object _ _ (is_tied _ at.4))
+
+-- what is told to be no longer shallow is what the request called shallow
+pub told_unshallow : (lines : List Boundary) (q : FetchAsked) → All (IsUnshallowOf q.shallows) (boundary_for lines q)
+told_unshallow lines q =
+    let shallow = filter says_shallow lines in
+    let unshallow = filter (says_unshallow q.shallows) lines in
+    where_deepened (IsUnshallowOf q.shallows) (is_deepened q) (told_lines lines q.shallows)
+    (All-append (IsUnshallowOf q.shallows) shallow unshallow
+    (All-weaker (λ line. says_shallow line ≡ true) (IsUnshallowOf q.shallows) (shallow_means q.shallows) shallow (filter_passes says_shallow lines))
+    (All-weaker (λ line. says_unshallow q.shallows line ≡ true) (IsUnshallowOf q.shallows) (unshallow_means q.shallows) unshallow
+    (filter_passes (says_unshallow q.shallows) lines)))

@@ -1,0 +1,37 @@
+-- What a repository that is a few lists tells of its shallow boundary, and when it is ready to send a pack.
+use Rattle.std.specs.Prelude.{ℕ, Bool, true, false, not, ◌||◌, Option, Some, None, List, [], ◌++◌, filter, is_some, nat_le, if◌then◌else◌}
+use Rattle.std.specs.List.{list_any}
+use Rattle.std.specs.Ordering.{is_eq}
+use Rattle.git_names.specs.ObjectName.{ObjectName}
+use Rattle.git_msg.specs.declared.Boundary.{Boundary}
+use Rattle.git_msg.specs.declared.Boundary.TheVariants.{Shallow, Unshallow}
+use Rattle.git_msg.specs.Asked.{FetchAsked, is_empty}
+use Rattle.git_server.specs.Objects.{object_cmp}
+
+-- whether so many common objects are enough to send a pack
+abbrev pub is_enough : Option ℕ → ℕ → Bool
+is_enough None count = false
+is_enough (Some least) count = nat_le least count
+
+-- whether the request cuts the history off
+abbrev pub is_deepened : FetchAsked → Bool
+is_deepened q = is_some q.deepen || (is_some q.deepen_since || not (is_empty q.deepen_nots))
+
+-- whether the line says that a commit is shallow
+abbrev pub says_shallow : Boundary → Bool
+says_shallow (Shallow id) = true
+says_shallow (Unshallow id) = false
+
+-- whether the line says that one of these commits is no longer shallow
+abbrev pub says_unshallow : List ObjectName → Boundary → Bool
+says_unshallow shallows (Shallow id) = false
+says_unshallow shallows (Unshallow id) = list_any (λ shallow. is_eq (object_cmp shallow id)) shallows
+
+-- the lines that a client hears that has these commits without their parents: the shallow commits in their order, and then
+-- those of its own that are no longer shallow
+abbrev pub told_lines : List Boundary → List ObjectName → List Boundary
+told_lines lines shallows = filter says_shallow lines ++ filter (says_unshallow shallows) lines
+
+-- the shallow boundary for a request, which is there where the request cuts the history off
+abbrev pub boundary_for : List Boundary → FetchAsked → List Boundary
+boundary_for lines q = if is_deepened q then told_lines lines q.shallows else []

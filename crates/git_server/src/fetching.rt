@@ -1,0 +1,145 @@
+//! The answer to `fetch`, a packet at a time: its sections, one after another.
+
+ghost use Rattle.std.specs.Prelude.{◌≡◌, false};
+ghost use Rattle.git_pkt.specs.PacketReader.{is_open};
+ghost use Rattle.git_server.specs.AnsweredRequest.{WritesFetch};
+ghost use Rattle.git_server.specs.FetchPlaces.{first_place};
+
+use crate::acknowledging::{Acknowledged, AcknowledgmentsPlace, write_acknowledgments};
+use crate::answer::Answered;
+use crate::bounding::write_shallow_info;
+use crate::packets::write_packet;
+use crate::packing::{PackPlace, write_pack};
+use crate::repo::Repo;
+use crate::sections::{SectionPart, SectionPlace};
+use crate::wanting::write_wanted_refs;
+use git_msg::Fetch;
+use git_pkt::{Packet, PacketReader};
+use std::alloc::Allocator;
+
+/// The place from which on an answer to `fetch` is owed, gitprotocol-v2(5).
+#[derive(Clone, Copy, Debug)]
+pub(crate) enum FetchPlace {
+    /// From this place in the acknowledgments on.
+    Acknowledgments(AcknowledgmentsPlace),
+    /// From the delimiter after the acknowledgments on.
+    Delimiter,
+    /// From this place in the section of the shallow boundary on.
+    ShallowInfo(SectionPlace),
+    /// From this place in the section of wanted references on.
+    WantedRefs(SectionPlace),
+    /// From this place in the section of the pack on.
+    Packfile(PackPlace),
+}
+
+impl FetchPlace {
+    /// Where the answer to a request begins: with acknowledgments, if it negotiates.
+    pub(crate) fn first<A: Allocator + Copy>(request: &Fetch<A>) -> FetchPlace
+        ensures { result ≡ first_place request.now.asked }
+    {
+        if request.haves().is_empty() || request.done() {
+            return FetchPlace::ShallowInfo(SectionPlace::Header);
+        }
+        FetchPlace::Acknowledgments(AcknowledgmentsPlace::Header)
+    }
+}
+
+/// Writes the next packet of the answer into the reader's hold, and goes on to the place after it.
+pub(crate) fn write_fetch<R: Repo, A: Allocator + Copy>(
+    repo: &mut R,
+    request: &Fetch<A>,
+    place: &mut FetchPlace,
+    reader: &mut PacketReader,
+) -> Answered
+    requires { is_open reader.old ≡ false }
+    ensures { WritesFetch request.now.asked (R.state repo.old) place.old reader.old result (R.state repo.new) place.new reader.new }
+{
+    match *place {
+        FetchPlace::Acknowledgments(at) => match write_acknowledgments(repo, request, at, reader) {
+            Acknowledged::Part(next) => {
+                *place = FetchPlace::Acknowledgments(next);
+                Answered::Part
+            }
+            Acknowledged::Ready => {
+                *place = FetchPlace::Delimiter;
+                Answered::Part
+            }
+            Acknowledged::Whole => Answered::Whole,
+        },
+        FetchPlace::Delimiter => {
+            write_packet(reader, Packet::Delim);
+            *place = FetchPlace::ShallowInfo(SectionPlace::Header);
+            Answered::Part
+        }
+        FetchPlace::ShallowInfo(at) => write_from_boundary(repo, request, at, place, reader),
+        FetchPlace::WantedRefs(at) => write_from_refs(repo, request, at, place, reader),
+        FetchPlace::Packfile(at) => write_from_pack(repo, request, at, place, reader),
+    }
+}
+
+// The next packet, from a place in the section of the shallow boundary on.
+fn write_from_boundary<R: Repo, A: Allocator + Copy>(
+    repo: &mut R,
+    request: &Fetch<A>,
+    at: SectionPlace,
+    place: &mut FetchPlace,
+    reader: &mut PacketReader,
+) -> Answered
+    requires { is_open reader.old ≡ false }
+    ensures { WritesFetch request.now.asked (R.state repo.old) (FetchPlace.ShallowInfo at) reader.old result (R.state repo.new) place.new reader.new }
+{
+    match write_shallow_info(repo, request, at, reader) {
+        SectionPart::Absent => {
+            write_from_refs(repo, request, SectionPlace::Header, place, reader)
+        }
+        SectionPart::Line(next) => {
+            *place = FetchPlace::ShallowInfo(SectionPlace::Line(next));
+            Answered::Part
+        }
+        SectionPart::Over => {
+            *place = FetchPlace::WantedRefs(SectionPlace::Header);
+            Answered::Part
+        }
+    }
+}
+
+// The next packet, from a place in the section of wanted references on.
+fn write_from_refs<R: Repo, A: Allocator + Copy>(
+    repo: &mut R,
+    request: &Fetch<A>,
+    at: SectionPlace,
+    place: &mut FetchPlace,
+    reader: &mut PacketReader,
+) -> Answered
+    requires { is_open reader.old ≡ false }
+    ensures { WritesFetch request.now.asked (R.state repo.old) (FetchPlace.WantedRefs at) reader.old result (R.state repo.new) place.new reader.new }
+{
+    match write_wanted_refs(repo, request, at, reader) {
+        SectionPart::Absent => write_from_pack(repo, request, PackPlace::Header, place, reader),
+        SectionPart::Line(next) => {
+            *place = FetchPlace::WantedRefs(SectionPlace::Line(next));
+            Answered::Part
+        }
+        SectionPart::Over => {
+            *place = FetchPlace::Packfile(PackPlace::Header);
+            Answered::Part
+        }
+    }
+}
+
+// The next packet, from a place in the section of the pack on.
+fn write_from_pack<R: Repo, A: Allocator + Copy>(
+    repo: &mut R,
+    request: &Fetch<A>,
+    at: PackPlace,
+    place: &mut FetchPlace,
+    reader: &mut PacketReader,
+) -> Answered
+    requires { is_open reader.old ≡ false }
+    ensures { WritesFetch request.now.asked (R.state repo.old) (FetchPlace.Packfile at) reader.old result (R.state repo.new) place.new reader.new }
+{
+    let mut at = at;
+    let answered = write_pack(repo, request, &mut at, reader);
+    *place = FetchPlace::Packfile(at);
+    answered
+}
