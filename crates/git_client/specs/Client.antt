@@ -1,266 +1,445 @@
--- What a client stands for: the bytes that it used and the events that it handed out.
-use Rattle.std.specs.Prelude.{◌≡◌, ◌≢◌, ◌⊎◌, ℕ, ◌-◌, ◌<◌, Bool, true, false, List, [], ◌∷◌, ◌++◌, length, take, Option, Some, None, Result, Ok, Err}
-use Rattle.std.specs.Option.{option_copied}
+-- What a client stands for: what it was asked to ask, the bytes that it used, the events that it handed out and the bytes
+-- that it gave.
+use Rattle.std.specs.Prelude.{◌≡◌, ◌≢◌, ◌⊎◌, ℕ, suc, ◌+◌, ◌-◌, ◌<◌, Bool, true, false, List, [], ◌∷◌, ◌++◌, length, take, drop, flat_map, Option, Some, None, Result, Ok, Err}
 use Rattle.git_names.specs.declared.object_format.Format.{Format}
-use Rattle.git_pkt.specs.Packets.{Pkt, payload, Spells, text_of, flushes}
+use Rattle.git_pkt.specs.Packets.{Pkt, flush, payload, Spells, spelling_of, text_of, flushes}
 use Rattle.git_pkt.specs.Splits.{Given, Splits}
 use Rattle.git_pkt.specs.Faults.{StopsBy}
 use Rattle.git_pkt.specs.PacketReader.{Reads, position_of, ShownByFeed, is_open, held_of, fault_of as reader_fault_of}
 use Rattle.git_pkt.specs.declared.fault.Fault.{Fault}
 use Rattle.git_pkt.specs.declared.fault.Kind.{Kind}
-use Rattle.git_pkt.specs.declared.fault.Kind.TheVariants.{RemoteError, Truncated}
+use Rattle.git_pkt.specs.declared.fault.Kind.TheVariants.{RemoteError, RemoteFatal, NotAdvertised, WrongFormat, Truncated}
 use Rattle.git_pkt.specs.declared.reader.PacketReader.{PacketReader}
-use Rattle.git_msg.specs.Capability.{IsCapability}
+use Rattle.git_msg.specs.Advertisement.{noted_of, noted_offer, offers_command}
+use Rattle.git_msg.specs.Asked.{Asked, ls_refs, fetch, command_asked, AreOffered}
+use Rattle.git_msg.specs.Checks.{Check, check, Refuses as RefusesBy, Passes}
+use Rattle.git_msg.specs.HeldRequest.{asked_of, format_of as request_format}
+use Rattle.git_msg.specs.Lines.{end_checks}
 use Rattle.git_msg.specs.Texts.{IsErrorOf}
-use Rattle.git_msg.specs.Advertisement.{noted_of}
+use Rattle.git_msg.specs.WrittenRequest.{lines_written, written_of}
 use Rattle.git_msg.specs.declared.offers.Caps.{Caps}
-use Rattle.git_client.specs.Parts.{nearest, advertisement_of}
-use Rattle.git_client.specs.Events.{EventValue, capability, offered}
-use Rattle.git_client.specs.Conversation.{GiveAll, RefusesAt}
-use Rattle.git_client.specs.Turns.{takes_packets}
+use Rattle.git_msg.specs.declared.requests.Request.{Request}
+use Rattle.git_client.specs.Parts.{Terms, Part, opening, advertisement, listing, sections, closing, nearest, advertisement_of, message_of, is_end_due, part_of}
+use Rattle.git_client.specs.Sections.{is_header_due, section_of, lines_of, open_after, told_by}
+use Rattle.git_client.specs.Events.{EventValue}
+use Rattle.git_client.specs.Conversation.{GiveAll, RefusesAt, HasDue}
+use Rattle.git_client.specs.Turns.{takes_packets, fault_in, is_ready, has_left_in, is_asking, left_in, question_in, values_of, events_at, Fits, after_acknowledgments}
+use Rattle.git_client.specs.declared.sections.Section.{Section}
+use Rattle.git_client.specs.declared.sections.Section.TheVariants.{Acknowledgments as AcknowledgmentsSection, ShallowInfo as ShallowInfoSection, WantedRefs as WantedRefsSection, Packfile as PackfileSection}
 use Rattle.git_client.specs.declared.phase.Phase.{Phase}
-use Rattle.git_client.specs.declared.phase.Phase.TheVariants.{Opening, Advertisement, Ready, Failed as FailedPhase}
+use Rattle.git_client.specs.declared.phase.Phase.TheVariants.{Hearing, Ready, Asking, Leaving, Left, Failed as FailedPhase}
+use Rattle.git_client.specs.declared.phase.Due.{Due}
+use Rattle.git_client.specs.declared.phase.Due.TheVariants.{Version, Capabilities, References, Header, Acknowledgments, ShallowInfo, WantedRefs, Packfile, ResponseEnd}
+use Rattle.git_client.specs.declared.phase.Said.{Said}
+use Rattle.git_client.specs.declared.phase.Said.TheVariants.{Nothing, Offered as OfferedSaid, Ended as EndedSaid}
 use Rattle.git_client.specs.declared.phase.Turn.{Turn}
-use Rattle.git_client.specs.declared.phase.Turn.TheVariants.{Version, Capability as CapabilityTurn, Offered as OfferedTurn}
-use Rattle.git_client.specs.declared.conversation.Advance.{Advance}
-use Rattle.git_client.specs.declared.conversation.Client.{Client}
-use Rattle.git_client.specs.declared.conversation.Outcome.{Outcome}
-use Rattle.git_client.specs.declared.conversation.Outcome.TheVariants.{More as Nothing, Capability as CapabilityLine}
-use Rattle.git_client.specs.declared.conversation.Outcome.TheVariants.{Offered as OfferedNow, Failed as FailedNow}
+use Rattle.git_client.specs.declared.client.Advance.{Advance}
+use Rattle.git_client.specs.declared.client.Client.{Client}
+use Rattle.git_client.specs.declared.client.Outcome.{Outcome}
+use Rattle.git_client.specs.declared.client.Outcome.TheVariants.{More as NothingYet, Event as EventNow, Failed as FailedNow}
 use Rattle.git_client.specs.declared.events.Ending.{Ending}
 use Rattle.git_client.specs.declared.events.Event.{Event}
-use Rattle.git_client.specs.declared.events.Event.TheVariants.{Capability as CapabilityEvent, Offered}
+use Rattle.git_client.specs.declared.events.Event.TheVariants.{Offered, Ended}
 use Rattle.git_client.specs.declared.events.Heard.{Heard}
 use Rattle.git_client.specs.declared.events.HeardGot.{HeardGot}
 use Rattle.git_client.specs.declared.events.HeardGot.TheVariants.{More, Event as EventGot, Failed}
 use Rattle.git_client.specs.declared.events.Sent.{Sent}
 use Rattle.git_client.specs.declared.events.Sent.TheVariants.{Packet, NeedInput, CanAsk, Finished, Failed as FailedSent}
 
-abbrev pub fault_in : Phase → Option Fault
-fault_in (FailedPhase fault) = Some fault
-fault_in phase = None
+-- all that came and went between a client and those around it
+pub record History : Type 0 where
+  pub asked : List Asked
+  pub left : Bool
+  pub used : List ℕ
+  pub events : List EventValue
+  pub given : List ℕ
 
-abbrev pub is_ready : Phase → Bool
-is_ready Ready = true
-is_ready phase = false
+abbrev pub nothing_yet : History
+nothing_yet = record { asked = []; left = false; used = []; events = []; given = [] }
 
--- the fault that ended the conversation
-abbrev pub fault_of : Client → Option Fault
-fault_of client = fault_in client.phase
+-- the bytes of packets as they are written
+abbrev pub spelled : List Pkt → List ℕ
+spelled = flat_map spelling_of
 
--- the advertisement is whole, and nothing is asked that was not answered
-abbrev pub can_ask : Client → Bool
-can_ask client = is_ready client.phase
+-- what is written of each question, where this was advertised
+abbrev pub questions_of : Format → Caps → List Asked → List Pkt
+questions_of format caps = flat_map (lines_written caps.agent caps.object_format format)
 
--- bytes of the server are due
-abbrev pub wants_input : Client → Bool
-wants_input client = takes_packets client.phase
+-- what is written at leaving: the flush of a request for nothing
+abbrev pub farewell : Bool → List Pkt
+farewell true = flush ∷ []
+farewell false = []
 
--- the object format that the client speaks
-abbrev pub format_of : Client → Format
-format_of client = client.format
+-- all that a client says
+abbrev pub said_of : Format → Caps → List Asked → Bool → List Pkt
+said_of format caps asked left = questions_of format caps asked ++ farewell left
 
--- how each response ends
-abbrev pub ending_of : Client → Ending
-ending_of client = client.ending
+-- whether the first or only response end is due
+abbrev pub awaits_end : Due → ℕ
+awaits_end ResponseEnd = 1
+awaits_end due = 0
 
--- how many bytes were used
-abbrev pub bytes_used : Client → ℕ
-bytes_used client = position_of client.reader
+-- the packets so far end inside this section
+pub record IsInside (section : Section) (message : List Pkt) : Type 0 where
+  pub inside : is_header_due message ≡ false
+  pub begun : section_of message ≡ Some section
 
--- what was noted of the advertisement
-abbrev pub caps_of : Client → Caps
-caps_of client = client.caps
+-- after these packets of a message that belong to this part, this is due
+abbrev pub IsDueIn : Part → List Pkt → Due → Type 0
+IsDueIn opening message Version = Unit {0}
+IsDueIn advertisement message Capabilities = Unit {0}
+IsDueIn listing message References = Unit {0}
+IsDueIn (sections done) message (Header open) = (is_header_due message ≡ true) × (open ≡ open_after done message)
+IsDueIn (sections done) message (Acknowledgments told) =
+    IsInside AcknowledgmentsSection message × (told ≡ told_by (lines_of message)) × (open_after done message ≡ after_acknowledgments)
+IsDueIn (sections done) message (ShallowInfo open) = IsInside ShallowInfoSection message × (open ≡ open_after done message)
+IsDueIn (sections done) message (WantedRefs open) = IsInside WantedRefsSection message × (open ≡ open_after done message)
+IsDueIn (sections done) message Packfile = IsInside PackfileSection message
+IsDueIn closing message ResponseEnd = Unit {0}
+IsDueIn part message due = ⊥
 
--- the reader of the client's packets
-abbrev pub reader_of : Client → PacketReader
-reader_of client = client.reader
+-- this is due after these packets, as many messages as were asked for aside
+pub record IsDue (t : Terms) (asked : List Asked) (before : List Pkt) (due : Due) : Type 0 where
+  pub part : Part
+  pub is_part : part_of t asked before ≡ Some part
+  pub counts : flushes before ≡ length asked + awaits_end due
+  pub same_lines : flushes before ≡ 0 → message_of before ≡ advertisement_of before
+  pub is_due : IsDueIn part (message_of before) due
 
-abbrev pub phase_of : Client → Phase
-phase_of client = client.phase
+-- the packets are a whole advertisement and a whole response to each question
+pub record AreWhole (t : Terms) (asked : List Asked) (before : List Pkt) : Type 0 where
+  pub all_flushes : flushes before ≡ suc (length asked)
+  pub no_end_due : is_end_due t.ending before ≡ false
+  pub no_message : message_of before ≡ []
+
+-- the last question is being asked after the responses to all before it
+pub record IsAsked (t : Terms) (asked : List Asked) (before : List Pkt) (question : Option Asked) : Type 0 where
+  pub earlier : List Asked
+  pub last : Asked
+  pub asked_is : asked ≡ earlier ++ last ∷ []
+  pub question_is : question ≡ Some last
+  pub whole : AreWhole t earlier before
+
+module _ {A : Type 0} where
+  -- the fault that ended the conversation
+  abbrev pub fault_of : Client A → Option Fault
+  fault_of client = fault_in client.phase
+
+  -- the advertisement is whole, as is the response to each question, and the client has not left
+  abbrev pub can_ask : Client A → Bool
+  can_ask client = is_ready client.phase
+
+  -- bytes of the server are due
+  abbrev pub wants_input : Client A → Bool
+  wants_input client = takes_packets client.phase
+
+  -- the conversation was left
+  abbrev pub has_left : Client A → Bool
+  has_left client = has_left_in client.phase
+
+  -- the object format that the client speaks
+  abbrev pub format_of : Client A → Format
+  format_of client = client.format
+
+  -- how each response ends
+  abbrev pub ending_of : Client A → Ending
+  ending_of client = client.ending
+
+  -- how many bytes were used
+  abbrev pub bytes_used : Client A → ℕ
+  bytes_used client = position_of client.reader
+
+  -- what was noted of the advertisement
+  abbrev pub caps_of : Client A → Caps
+  caps_of client = client.caps
+
+  -- the reader of the client's packets
+  abbrev pub reader_of : Client A → PacketReader
+  reader_of client = client.reader
+
+  abbrev pub phase_of : Client A → Phase
+  phase_of client = client.phase
+
+  -- what the last packet was found to say
+  abbrev pub said_last : Client A → Said
+  said_last client = client.said
+
+  -- the request that is being asked
+  abbrev pub request_of : Client A → Option (Request A)
+  request_of client = client.request
+
+  -- the packets that are still to be pulled
+  abbrev pub left_to_say : Client A → List Pkt
+  left_to_say client = left_in client.phase client.request
+
+-- what packets, the nearest first, stand before this phase
+abbrev pub Behind : Terms → List Asked → List Pkt → Option Asked → Phase → Type 0
+Behind t asked before question (Hearing due) = IsDue t asked before due
+Behind t asked before question (Asking writer) = IsAsked t asked before question
+Behind t asked before question (FailedPhase fault) = ⊥
+Behind t asked before question phase = AreWhole t asked before
 
 -- the packet after the clean ones is refused; nothing was used after it, and it lies in the hold
-pub record RefusedPacket (format : Format) (clean given : List Given) (rest : List ℕ) (fault : Fault) (reader : PacketReader) : Type 0 where
+pub record RefusedPacket (t : Terms) (asked : List Asked) (clean given : List Given) (rest : List ℕ) (fault : Fault) (reader : PacketReader) : Type 0 where
   pub bad : Given
   pub cut : given ≡ clean ++ bad ∷ []
   pub nothing : rest ≡ []
-  pub refused : RefusesAt format (nearest clean []) bad.packet fault.kind
+  pub refused : RefusesAt t asked (nearest clean []) bad.packet fault.kind
   pub at : fault.offset ≡ bad.offset
   pub held : Spells bad.packet (held_of reader)
 
 -- the bytes after the packets, of which none is refused, are no packet and can't become one, or ended in one
-pub record RefusedBytes (clean given : List Given) (rest : List ℕ) (end : ℕ) (fault : Fault) : Type 0 where
+pub record RefusedBytes (t : Terms) (asked : List Asked) (clean given : List Given) (rest : List ℕ) (end : ℕ) (fault : Fault) : Type 0 where
   pub cut : given ≡ clean
-  pub due : flushes (nearest clean []) ≡ 0
+  pub due : HasDue t asked (nearest clean [])
   pub by : StopsBy (end - length rest) rest end fault.kind fault.offset
 
 -- the input ended after a whole packet, where more was due
-pub record EndedEarly (clean given : List Given) (rest : List ℕ) (end : ℕ) (fault : Fault) : Type 0 where
+pub record EndedEarly (t : Terms) (asked : List Asked) (clean given : List Given) (rest : List ℕ) (end : ℕ) (fault : Fault) : Type 0 where
   pub cut : given ≡ clean
   pub nothing : rest ≡ []
-  pub due : flushes (nearest clean []) ≡ 0
+  pub due : HasDue t asked (nearest clean [])
   pub kind : fault.kind ≡ Truncated
   pub at : fault.offset ≡ end
 
--- what packets, the nearest first, stand before this phase
-abbrev pub Behind : Phase → List Pkt → Type 0
-Behind Opening before = before ≡ []
-Behind Advertisement before = (before ≢ []) × (flushes before ≡ 0)
-Behind Ready before = flushes before ≡ 1
-Behind (FailedPhase fault) before = ⊥
-
--- no packet so far has a fault, and neither have the bytes after them; none have come where the client can ask
-pub record Goes (phase : Phase) (clean given : List Given) (rest : List ℕ) (reader : PacketReader) : Type 0 where
+-- no packet so far has a fault, and neither have the bytes after them; none have come where no input is wanted
+pub record Goes (t : Terms) (asked : List Asked) (clean given : List Given) (rest : List ℕ) (question : Option Asked) (phase : Phase) (reader : PacketReader) : Type 0 where
   pub cut : given ≡ clean
   pub sound : reader_fault_of reader ≡ None
-  pub behind : Behind phase (nearest clean [])
-  pub shut : is_ready phase ≡ true → rest ≡ []
+  pub behind : Behind t asked (nearest clean []) question phase
+  pub shut : takes_packets phase ≡ false → rest ≡ []
 
 -- how the conversation stands in this phase
-abbrev pub StandsIn : Phase → Format → List Given → List Given → List ℕ → ℕ → PacketReader → Type 0
-StandsIn (FailedPhase fault) format clean given rest end reader =
-    RefusedPacket format clean given rest fault reader ⊎ (RefusedBytes clean given rest end fault ⊎ EndedEarly clean given rest end fault)
-StandsIn phase format clean given rest end reader = Goes phase clean given rest reader
+abbrev pub StandsIn : Phase → Terms → List Asked → List Given → List Given → List ℕ → ℕ → Option Asked → PacketReader → Type 0
+StandsIn (FailedPhase fault) t asked clean given rest end question reader =
+    RefusedPacket t asked clean given rest fault reader
+    ⊎ (RefusedBytes t asked clean given rest end fault ⊎ EndedEarly t asked clean given rest end fault)
+StandsIn phase t asked clean given rest end question reader = Goes t asked clean given rest question phase reader
 
--- a client of this format, of responses with this ending, has used these bytes and handed out these events
-pub record Hears (format : Format) (ending : Ending) (client : Client) (bytes : List ℕ) (events : List EventValue) : Type 0 where
-  pub given : List Given
-  pub rest : List ℕ
-  pub clean : List Given
-  pub format_is : format_of client ≡ format
-  pub ending_is : ending_of client ≡ ending
-  pub reads : Reads (reader_of client) 0 bytes given rest
-  pub gives : GiveAll format [] clean events
-  pub notes : caps_of client ≡ noted_of (advertisement_of (nearest clean []))
-  pub stands : StandsIn (phase_of client) format clean given rest (length bytes) (reader_of client)
+module _ {A : Type 0} where
+  -- a client on these terms stands after this history
+  pub record Converses (t : Terms) (h : History) (client : Client A) : Type 0 where
+    pub given : List Given
+    pub rest : List ℕ
+    pub clean : List Given
+    pub format_is : format_of client ≡ t.format
+    pub ending_is : ending_of client ≡ t.ending
+    pub reads : Reads (reader_of client) 0 h.used given rest
+    pub gives : GiveAll t h.asked [] clean h.events
+    pub notes : caps_of client ≡ noted_of (advertisement_of (nearest clean []))
+    pub stands : StandsIn (phase_of client) t h.asked clean given rest (length h.used) (question_in (request_of client)) (reader_of client)
+    pub left : h.left ≡ has_left client
+    pub spoken : h.given ++ spelled (left_to_say client) ≡ spelled (said_of t.format (caps_of client) h.asked h.left)
 
--- whatever was heard so far, it goes on by the bytes used and the events handed out
-abbrev pub HearsOn : Client → List ℕ → List EventValue → Client → Type 0
-HearsOn old used more new =
-    (format : Format) (ending : Ending) (bytes : List ℕ) (events : List EventValue) → Hears format ending old bytes events
-    → Hears format ending new (bytes ++ used) (events ++ more)
+  -- whatever the history was, it goes on by a question
+  abbrev pub AsksOn : Client A → Asked → Client A → Type 0
+  AsksOn old question new =
+      (t : Terms) (h : History) → Converses t h old → Converses t (record h { asked = h.asked ++ question ∷ [] }) new
 
--- an event, wherever its bytes lie
-abbrev pub value_of : Event → EventValue
-value_of (CapabilityEvent c) = capability c.key.now (option_copied c.value)
-value_of Offered = offered
+  -- it goes on by leaving
+  abbrev pub LeavesOn : Client A → Client A → Type 0
+  LeavesOn old new = (t : Terms) (h : History) → Converses t h old → Converses t (record h { left = true }) new
 
--- the events of an answer
-abbrev pub events_of : HeardGot → List EventValue
-events_of More = []
-events_of (EventGot event) = value_of event ∷ []
-events_of (Failed fault) = []
+  -- it goes on by the bytes used and the events handed out
+  abbrev pub HearsOn : Client A → List ℕ → List EventValue → Client A → Type 0
+  HearsOn old used more new =
+      (t : Terms) (h : History) → Converses t h old → Converses t (record h { used = h.used ++ used; events = h.events ++ more }) new
 
--- the state that an event leaves the client in; no packet is open
-abbrev pub LeavesAfter : Event → Client → Type 0
-LeavesAfter (CapabilityEvent c) new = wants_input new ≡ true
-LeavesAfter Offered new = can_ask new ≡ true
+  -- it goes on by the bytes given
+  abbrev pub SaysOn : Client A → List ℕ → Client A → Type 0
+  SaysOn old more new = (t : Terms) (h : History) → Converses t h old → Converses t (record h { given = h.given ++ more }) new
 
--- what each answer of `feed` says
-abbrev pub Tells : HeardGot → ℕ → List ℕ → Client → Client → Type 0
-Tells More used piece old new = wants_input old ≡ true → (used ≡ length piece) × (wants_input new ≡ true)
-Tells (EventGot event) used piece old new = (0 < used) × (is_open (reader_of new) ≡ false) × LeavesAfter event new
-Tells (Failed fault) used piece old new = fault_of new ≡ Some fault
+  -- what refuses a question: its format, its command and then its arguments where they are not offered, and what is
+  -- judged at a request's end
+  abbrev pub ask_checks : Format → Caps → Request A → List Check
+  ask_checks format caps request =
+      check (request_format request ≡ format) (request_format request ≢ format) WrongFormat
+      ∷ check (offers_command caps (command_asked (asked_of request)) ≡ true) (offers_command caps (command_asked (asked_of request)) ≡ false) NotAdvertised
+      ∷ check (AreOffered (noted_offer caps format) (asked_of request)) (¬ AreOffered (noted_offer caps format) (asked_of request)) NotAdvertised
+      ∷ end_checks (asked_of request)
 
--- a client that had no fault tells only what the piece shows
-abbrev pub IsNews : Client → List ℕ → Heard → Type 0
-IsNews old piece heard = (f : Fault) → fault_of old ≡ None → heard.got ≡ Failed f → ShownByFeed f heard.used piece
+  -- a question that was taken: all of it is owed
+  pub record Asks (old : Client A) (request : Request A) (new : Client A) : Type 0 where
+    pub passes : Passes (ask_checks (format_of old) (caps_of old) request)
+    pub asks : AsksOn old (asked_of request) new
+    pub owes : left_to_say new ≡ written_of request (caps_of old)
+    pub no_more : can_ask new ≡ false
 
--- a client with this fault uses nothing and answers it again
-abbrev pub Repeats : Client → Heard → Client → Type 0
-Repeats old heard new = (f : Fault) → fault_of old ≡ Some f → (heard.used ≡ 0) × (heard.got ≡ Failed f) × (new ≡ old)
+  -- a question that was refused: it is handed back, and the client stays as it was
+  pub record RefusesToAsk (old : Client A) (request handed_back : Request A) (fault : Fault) (new : Client A) : Type 0 where
+    pub refused : RefusesBy (ask_checks (format_of old) (caps_of old) request) fault.kind
+    pub at : fault.offset ≡ bytes_used old
+    pub back : handed_back ≡ request
+    pub stays : new ≡ old
 
--- a client that can ask uses nothing
-abbrev pub Waits : Client → Heard → Client → Type 0
-Waits old heard new = can_ask old ≡ true → (heard.used ≡ 0) × (heard.got ≡ More) × (new ≡ old)
+  -- what a call of `leave` does
+  pub record Leaves (old new : Client A) : Type 0 where
+    pub leaves : LeavesOn old new
+    pub owes : left_to_say new ≡ flush ∷ []
+    pub no_more : has_left new ≡ true
 
--- what a call of `feed` does
-pub record Feeds (old : Client) (piece : List ℕ) (heard : Heard) (new : Client) : Type 0 where
-  pub hears : HearsOn old (take heard.used piece) (events_of heard.got) new
-  pub tells : Tells heard.got heard.used piece old new
-  pub news : IsNews old piece heard
-  pub stays : Repeats old heard new
-  pub waits : Waits old heard new
+  -- the events of an answer
+  abbrev pub events_of : HeardGot → List EventValue
+  events_of More = []
+  events_of (EventGot event) = values_of event
+  events_of (Failed fault) = []
 
--- what `pull` answers
-abbrev pub TellsSent : Sent → Client → Type 0
-TellsSent (Packet bytes) client = ⊥
-TellsSent NeedInput client = wants_input client ≡ true
-TellsSent CanAsk client = can_ask client ≡ true
-TellsSent Finished client = ⊥
-TellsSent (FailedSent fault) client = fault_of client ≡ Some fault
+  -- the state that an event leaves the client in
+  abbrev pub LeavesAfter : Event → Client A → Type 0
+  LeavesAfter Offered new = can_ask new ≡ true
+  LeavesAfter Ended new = can_ask new ≡ true
+  LeavesAfter event new = wants_input new ≡ true
 
--- what a call of `pull` does
-pub record Pulls (old : Client) (sent : Sent) (new : Client) : Type 0 where
-  pub tells : TellsSent sent old
-  pub stays : new ≡ old
+  -- what each answer of `feed` says; after an event no packet is open, and there is something to it
+  abbrev pub Tells : HeardGot → ℕ → List ℕ → Client A → Client A → Type 0
+  Tells More used piece old new = wants_input old ≡ true → (used ≡ length piece) × (wants_input new ≡ true)
+  Tells (EventGot event) used piece old new =
+      (0 < used) × (is_open (reader_of new) ≡ false) × (values_of event ≢ []) × LeavesAfter event new
+  Tells (Failed fault) used piece old new = fault_of new ≡ Some fault
 
--- the bytes end with an error packet, which has this message
-pub record EndsWithError (format : Format) (bytes message : List ℕ) : Type 0 where
+  -- a client that had no fault tells only what the piece shows
+  abbrev pub IsNews : Client A → List ℕ → Heard → Type 0
+  IsNews old piece heard = (f : Fault) → fault_of old ≡ None → heard.got ≡ Failed f → ShownByFeed f heard.used piece
+
+  -- a client with this fault uses nothing and answers it again
+  abbrev pub Repeats : Client A → Heard → Client A → Type 0
+  Repeats old heard new = (f : Fault) → fault_of old ≡ Some f → (heard.used ≡ 0) × (heard.got ≡ Failed f) × (new ≡ old)
+
+  -- a client that waits for no input uses nothing
+  abbrev pub Waits : Client A → Heard → Client A → Type 0
+  Waits old heard new =
+      wants_input old ≡ false → fault_of old ≡ None → (heard.used ≡ 0) × (heard.got ≡ More) × (new ≡ old)
+
+  -- what a call of `feed` does
+  pub record Feeds (old : Client A) (piece : List ℕ) (heard : Heard) (new : Client A) : Type 0 where
+    pub hears : HearsOn old (take heard.used piece) (events_of heard.got) new
+    pub tells : Tells heard.got heard.used piece old new
+    pub news : IsNews old piece heard
+    pub stays : Repeats old heard new
+    pub waits : Waits old heard new
+
+  -- the bytes of an answer of `pull`
+  abbrev pub given_by : Sent → List ℕ
+  given_by (Packet bytes) = bytes.now
+  given_by sent = []
+
+  -- one packet of those that were owed was given; the client hears after the last of a question, and has left after the flush
+  pub record GivesOne (old new : Client A) (bytes : List ℕ) : Type 0 where
+    pub packet : Pkt
+    pub first : left_to_say old ≡ packet ∷ left_to_say new
+    pub written : bytes ≡ spelling_of packet
+    pub same_leaving : has_left new ≡ has_left old
+    pub sound : fault_of new ≡ None
+    pub not_ready : can_ask new ≡ false
+
+  -- what each answer of `pull` says
+  abbrev pub TellsSent : Sent → Client A → Client A → Type 0
+  TellsSent (Packet bytes) old new = GivesOne old new bytes.now
+  TellsSent NeedInput old new = (wants_input old ≡ true) × (new ≡ old)
+  TellsSent CanAsk old new = (can_ask old ≡ true) × (new ≡ old)
+  TellsSent Finished old new = (has_left old ≡ true) × (left_to_say old ≡ []) × (new ≡ old)
+  TellsSent (FailedSent fault) old new = (fault_of old ≡ Some fault) × (new ≡ old)
+
+  -- what a call of `pull` does
+  pub record Pulls (old : Client A) (sent : Sent) (new : Client A) : Type 0 where
+    pub says : SaysOn old (given_by sent) new
+    pub tells : TellsSent sent old new
+
+  -- a client that owes a packet has put it into its hold
+  pub record Puts (old new : Client A) : Type 0 where
+    pub says : SaysOn old (held_of (reader_of new)) new
+    pub gives : GivesOne old new (held_of (reader_of new))
+
+-- what the server says in a payload that is refused by this name
+abbrev pub IsMessage : Kind → List ℕ → List ℕ → Type 0
+IsMessage RemoteError line message = IsErrorOf (text_of line) message
+IsMessage RemoteFatal line message = line ≡ 3 ∷ message
+IsMessage kind line message = ⊥
+
+-- the bytes end with a packet in which the server tells a fault, with this message
+pub record EndsWithMessage (t : Terms) (asked : List Asked) (bytes message : List ℕ) : Type 0 where
   pub clean : List Given
   pub bad : Given
   pub rest : List ℕ
   pub line : List ℕ
+  pub kind : Kind
   pub splits : Splits 0 bytes (clean ++ bad ∷ []) rest
-  pub refused : RefusesAt format (nearest clean []) bad.packet RemoteError
+  pub refused : RefusesAt t asked (nearest clean []) bad.packet kind
   pub packet : bad.packet ≡ payload line
-  pub text : IsErrorOf (text_of line) message
+  pub says : IsMessage kind line message
 
--- the conversation was not ended by an error packet
-abbrev pub EndsWithoutError : Client → Type 0
-EndsWithoutError client = (f : Fault) → fault_of client ≡ Some f → f.kind ≢ RemoteError
+-- by these names the server tells its own faults
+abbrev pub is_told : Kind → Bool
+is_told RemoteError = true
+is_told RemoteFatal = true
+is_told kind = false
 
--- the hold has a line with this capability
-pub record HoldsCapability (held : List ℕ) (key : List ℕ) (value : Option (List ℕ)) : Type 0 where
-  pub line : List ℕ
-  pub spells : Spells (payload line) held
-  pub is_line : IsCapability (text_of line) key value
+module _ {A : Type 0} where
+  -- the conversation was not ended by a fault that the server told
+  abbrev pub EndsWithoutMessage : Client A → Type 0
+  EndsWithoutMessage client = (f : Fault) → fault_of client ≡ Some f → is_told f.kind ≡ false
 
--- the event of an outcome, whose bytes lie in the hold
-abbrev pub Comes : Outcome → List EventValue → Client → Type 0
-Comes Nothing events new = events ≡ []
-Comes CapabilityLine events new =
-    (key : List ℕ) × (value : Option (List ℕ)) × HoldsCapability (held_of (reader_of new)) key value × (events ≡ capability key value ∷ [])
-Comes OfferedNow events new = events ≡ offered ∷ []
-Comes (FailedNow fault) events new = events ≡ []
+  -- the events of an outcome, whose bytes lie in the hold
+  abbrev pub Comes : Outcome → List EventValue → Client A → Type 0
+  Comes NothingYet events new = events ≡ []
+  Comes EventNow events new =
+      (events ≡ events_at (said_last new) (drop 4 (held_of (reader_of new)))) × (said_last new ≢ Nothing)
+      × Fits (said_last new) (drop 4 (held_of (reader_of new)))
+  Comes (FailedNow fault) events new = events ≡ []
 
--- the phase after a packet that was judged, where `phase` was before it
-abbrev pub phase_after : Phase → ℕ → Result Turn Kind → Phase
-phase_after phase offset (Ok Version) = Advertisement
-phase_after phase offset (Ok (CapabilityTurn caps)) = phase
-phase_after phase offset (Ok OfferedTurn) = Ready
-phase_after phase offset (Err kind) = FailedPhase (record { kind = kind; offset = offset })
+  -- the phase after a packet that was judged
+  abbrev pub phase_judged : ℕ → Result Turn Kind → Phase
+  phase_judged offset (Ok turn) = turn.next
+  phase_judged offset (Err kind) = FailedPhase (record { kind = kind; offset = offset })
 
--- what is noted after it
-abbrev pub caps_after : Caps → Result Turn Kind → Caps
-caps_after caps (Ok (CapabilityTurn after)) = after
-caps_after caps result = caps
+  -- what is noted after it
+  abbrev pub caps_judged : Caps → Result Turn Kind → Caps
+  caps_judged caps (Ok turn) = turn.caps
+  caps_judged caps (Err kind) = caps
 
-abbrev pub outcome_of : ℕ → Result Turn Kind → Outcome
-outcome_of offset (Ok Version) = Nothing
-outcome_of offset (Ok (CapabilityTurn caps)) = CapabilityLine
-outcome_of offset (Ok OfferedTurn) = OfferedNow
-outcome_of offset (Err kind) = FailedNow (record { kind = kind; offset = offset })
+  abbrev pub outcome_said : Said → Outcome
+  outcome_said Nothing = NothingYet
+  outcome_said said = EventNow
 
--- a packet that was judged is settled; the reader is left alone
-pub record Settles (old : Client) (judged : Result Turn Kind) (offset : ℕ) (outcome : Outcome) (new : Client) : Type 0 where
-  pub reader : reader_of new ≡ reader_of old
-  pub format : format_of new ≡ format_of old
-  pub ending : ending_of new ≡ ending_of old
-  pub phase : phase_of new ≡ phase_after (phase_of old) offset judged
-  pub caps : caps_of new ≡ caps_after (caps_of old) judged
-  pub tells : outcome ≡ outcome_of offset judged
+  abbrev pub outcome_judged : ℕ → Result Turn Kind → Outcome
+  outcome_judged offset (Ok turn) = outcome_said turn.said
+  outcome_judged offset (Err kind) = FailedNow (record { kind = kind; offset = offset })
 
--- the state that a step leaves the client in
-abbrev pub Leaves : Outcome → ℕ → List ℕ → Client → Type 0
-Leaves Nothing used piece new = (wants_input new ≡ true) × (0 < length piece → 0 < used)
-Leaves CapabilityLine used piece new = (wants_input new ≡ true) × (0 < used) × (is_open (reader_of new) ≡ false)
-Leaves OfferedNow used piece new = (can_ask new ≡ true) × (0 < used) × (is_open (reader_of new) ≡ false)
-Leaves (FailedNow fault) used piece new = (fault_of new ≡ Some fault) × ShownByFeed fault used piece
+  abbrev pub said_judged : Said → Result Turn Kind → Said
+  said_judged said (Ok turn) = turn.said
+  said_judged said (Err kind) = said
 
--- a client that waits for input has used some of the piece
-pub record Takes (old : Client) (piece : List ℕ) (step : Advance) (new : Client) : Type 0 where
-  pub events : List EventValue
-  pub comes : Comes step.outcome events new
-  pub hears : HearsOn old (take step.used piece) events new
-  pub leaves : Leaves step.outcome step.used piece new
+  -- the server is heard on, or can be asked, after a packet that was judged well
+  abbrev pub HearsNext : Result Turn Kind → Type 0
+  HearsNext (Ok turn) = (is_asking turn.next ≡ false) × (fault_in turn.next ≡ None)
+  HearsNext (Err kind) = Unit {0}
+
+  -- a packet that was judged is settled; the reader is left alone
+  pub record Settles (old : Client A) (judged : Result Turn Kind) (offset : ℕ) (outcome : Outcome) (new : Client A) : Type 0 where
+    pub reader : reader_of new ≡ reader_of old
+    pub format : format_of new ≡ format_of old
+    pub ending : ending_of new ≡ ending_of old
+    pub request : request_of new ≡ request_of old
+    pub phase : phase_of new ≡ phase_judged offset judged
+    pub caps : caps_of new ≡ caps_judged (caps_of old) judged
+    pub said : said_last new ≡ said_judged (said_last old) judged
+    pub tells : outcome ≡ outcome_judged offset judged
+
+  -- where the client stands after what was said
+  abbrev pub StandsAfter : Said → Client A → Type 0
+  StandsAfter OfferedSaid new = can_ask new ≡ true
+  StandsAfter EndedSaid new = can_ask new ≡ true
+  StandsAfter said new = wants_input new ≡ true
+
+  -- the state that a step leaves the client in
+  abbrev pub LeavesStep : Outcome → ℕ → List ℕ → Client A → Type 0
+  LeavesStep NothingYet used piece new = (wants_input new ≡ true) × (0 < length piece → 0 < used)
+  LeavesStep EventNow used piece new = (0 < used) × (is_open (reader_of new) ≡ false) × StandsAfter (said_last new) new
+  LeavesStep (FailedNow fault) used piece new = (fault_of new ≡ Some fault) × ShownByFeed fault used piece
+
+  -- a client that waits for input has used some of the piece
+  pub record Takes (old : Client A) (piece : List ℕ) (step : Advance) (new : Client A) : Type 0 where
+    pub events : List EventValue
+    pub comes : Comes step.outcome events new
+    pub hears : HearsOn old (take step.used piece) events new
+    pub leaves : LeavesStep step.outcome step.used piece new

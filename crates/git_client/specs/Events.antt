@@ -1,69 +1,149 @@
--- What a packet gives, and what refuses it, by the part of the conversation that it belongs to.
-use Rattle.std.specs.Prelude.{◌≡◌, ℕ, suc, Bool, true, false, List, [], ◌∷◌, Option, codes}
+-- What a packet gives, and what refuses it, by the place where it stands.
+use Rattle.std.specs.Prelude.{◌≡◌, ◌≢◌, ◌⊎◌, ℕ, suc, ◌==◌, ◌||◌, Bool, true, false, List, [], ◌∷◌, ◌++◌, Option, Some, None, Result, Ok, Err, codes, map}
+use Rattle.std.specs.Prelude.{if◌then◌else◌}
+use Rattle.git_names.specs.ObjectName.{ObjectName, IsNoObjectName}
 use Rattle.git_names.specs.declared.object_format.Format.{Format}
-use Rattle.git_pkt.specs.Packets.{Pkt, flush, payload, text_of}
+use Rattle.git_pkt.specs.Packets.{Pkt, flush, delim, resp_end, payload, text_of}
 use Rattle.git_pkt.specs.declared.fault.Kind.{Kind}
-use Rattle.git_pkt.specs.declared.fault.Kind.TheVariants.{RemoteError, NotVersion2, BadCapability, WrongFormat, UnexpectedPacket}
+use Rattle.git_pkt.specs.declared.fault.Kind.TheVariants.{RemoteError, RemoteFatal, NotVersion2, BadCapability, WrongFormat, UnexpectedPacket}
+use Rattle.git_pkt.specs.declared.fault.Kind.TheVariants.{UnexpectedSection, BadLine, BadObjectName, NoBand, BadBand}
 use Rattle.git_msg.specs.Capability.{IsCapability, IsNoCapability}
-use Rattle.git_msg.specs.Texts.{IsErrorText}
-use Rattle.git_msg.specs.Advertisement.{noted_of, is_spoken}
-use Rattle.git_client.specs.Parts.{Part, opening, advertisement, advertisement_of}
+use Rattle.git_msg.specs.References.{Ref, IsReferenceLine, IsReferenceFault}
+use Rattle.git_msg.specs.ResponseLines.{Wanted, IsAckLine, IsBoundaryLine, IsBoundaryFault, IsWantedLine, IsWantedFault}
+use Rattle.git_msg.specs.declared.response_lines.Boundary.TheVariants.{Shallow, Unshallow}
+use Rattle.git_msg.specs.Texts.{Follows, IsErrorText}
+use Rattle.git_client.specs.declared.events.Ending.{Ending}
+use Rattle.git_client.specs.declared.events.Ending.TheVariants.{FlushOnly, ResponseEnd}
+use Rattle.git_client.specs.declared.sections.Told.{Told}
+use Rattle.git_client.specs.Sections.{section_named, may_begin}
+use Rattle.git_client.specs.Places.{Place, version, capabilities, references, header, acknowledgments, shallow_info, wanted_refs, packfile, response_end}
 
--- an event, wherever its bytes lie
+-- an event, wherever its bytes lie; of the pack and of the progress each byte is one
 pub data EventValue : Type 0 where
   capability : (key : List ℕ) (value : Option (List ℕ)) → EventValue
   offered : EventValue
+  reference : Ref → EventValue
+  ack : ObjectName → EventValue
+  nak : EventValue
+  ready : EventValue
+  shallow : ObjectName → EventValue
+  unshallow : ObjectName → EventValue
+  wanted_ref : Wanted → EventValue
+  pack : ℕ → EventValue
+  progress : ℕ → EventValue
+  ended : EventValue
 
--- the line that begins an advertisement
-abbrev pub IsVersion : Pkt → Type 0
-IsVersion (payload line) = text_of line ≡ codes "version 2"
-IsVersion _ = ⊥
+-- a text at this place that is no error packet's gives these events
+abbrev pub SaysLine : Place → Format → List ℕ → List EventValue → Type 0
+SaysLine version format text [] = text ≡ codes "version 2"
+SaysLine (capabilities spoken) format text (capability key value ∷ []) = IsCapability text key value
+SaysLine references format text (reference ref ∷ []) = IsReferenceLine format text ref
+SaysLine (header open) format text [] = may_begin open (section_named text) ≡ true
+SaysLine (acknowledgments told) format text (nak ∷ []) = (text ≡ codes "NAK") × (told.any ≡ false)
+SaysLine (acknowledgments told) format text (ready ∷ []) = (text ≡ codes "ready") × (told.ready ≡ false)
+SaysLine (acknowledgments told) format text (ack id ∷ []) = IsAckLine format text id × ((told.nak || told.ready) ≡ false)
+SaysLine shallow_info format text (shallow id ∷ []) = IsBoundaryLine format text (Shallow id)
+SaysLine shallow_info format text (unshallow id ∷ []) = IsBoundaryLine format text (Unshallow id)
+SaysLine wanted_refs format text (wanted_ref wanted ∷ []) = IsWantedLine format text wanted
+SaysLine _ format text _ = ⊥
 
--- the first packet is refused
-abbrev pub RefusesOpening : Pkt → Kind → Type 0
-RefusesOpening (payload line) RemoteError = IsErrorText (text_of line)
-RefusesOpening (payload line) NotVersion2 = (¬ IsErrorText (text_of line)) × ¬ IsVersion (payload line)
-RefusesOpening (payload line) _ = ⊥
-RefusesOpening _ NotVersion2 = Unit {0}
-RefusesOpening _ _ = ⊥
+-- the text is no line that may come after the acknowledgments so far: `NAK` comes alone, and nothing after `ready`
+pub record IsNotDue (told : Told) (text : List ℕ) : Type 0 where
+  pub nak : text ≡ codes "NAK" → told.any ≡ true
+  pub ready : text ≡ codes "ready" → told.ready ≡ true
+  pub ack : (name : List ℕ) → text ≡ codes "ACK " ++ name → (told.nak || told.ready) ≡ true
 
--- a line of an advertisement is refused
-abbrev pub RefusesLine : List ℕ → Kind → Type 0
-RefusesLine text RemoteError = IsErrorText text
-RefusesLine text BadCapability = (¬ IsErrorText text) × IsNoCapability text
-RefusesLine text _ = ⊥
+-- a line of the acknowledgments may come, and has no object name
+pub record IsBadAck (format : Format) (told : Told) (text : List ℕ) : Type 0 where
+  pub due : (told.nak || told.ready) ≡ false
+  pub no_name : Follows (codes "ACK ") (IsNoObjectName format) text
 
--- the end of an advertisement is refused, which notes that the client's format is spoken, or not
-abbrev pub RefusesFlush : Bool → Kind → Type 0
-RefusesFlush spoken WrongFormat = spoken ≡ false
-RefusesFlush spoken _ = ⊥
+-- by which name a text at this place that is no error packet's is refused
+abbrev pub IsLineFault : Place → Format → List ℕ → Kind → Type 0
+IsLineFault version format text kind = (text ≢ codes "version 2") × (kind ≡ NotVersion2)
+IsLineFault (capabilities spoken) format text kind = IsNoCapability text × (kind ≡ BadCapability)
+IsLineFault references format text kind = IsReferenceFault format text kind
+IsLineFault (header open) format text kind = (may_begin open (section_named text) ≡ false) × (kind ≡ UnexpectedSection)
+IsLineFault (acknowledgments told) format text kind =
+    (IsNotDue told text × (kind ≡ BadLine)) ⊎ (IsBadAck format told text × (kind ≡ BadObjectName))
+IsLineFault shallow_info format text kind = IsBoundaryFault format text kind
+IsLineFault wanted_refs format text kind = IsWantedFault format text kind
+IsLineFault _ format text kind = ⊥
 
-abbrev pub RefusesOther : Kind → Type 0
-RefusesOther UnexpectedPacket = Unit {0}
-RefusesOther _ = ⊥
+-- the flush of a response ends it, or the response end after it does
+abbrev pub ended_by : Ending → List EventValue
+ended_by FlushOnly = ended ∷ []
+ended_by ResponseEnd = []
 
--- the packets before it, the nearest first, say that names of this format are spoken
-abbrev pub speaks : Format → List Pkt → Bool
-speaks format before = is_spoken (noted_of (advertisement_of before)) format
+-- what a payload of the packfile section says: its first byte is the band of the others
+abbrev pub band_says : List ℕ → Result (List EventValue) Kind
+band_says [] = Err NoBand
+band_says (band ∷ bytes) =
+    if band == 1 then Ok (map pack bytes)
+    else if band == 2 then Ok (map progress bytes)
+    else if band == 3 then Err RemoteFatal
+    else Err BadBand
 
--- a packet of the part gives these events
-abbrev pub Gives : Part → Format → List Pkt → Pkt → List EventValue → Type 0
-Gives opening format before p events = IsVersion p × (events ≡ [])
-Gives advertisement format before (payload line) events =
-    (¬ IsErrorText (text_of line))
-    × ((key : List ℕ) × (value : Option (List ℕ)) × IsCapability (text_of line) key value × (events ≡ capability key value ∷ []))
-Gives advertisement format before flush events = (speaks format before ≡ true) × (events ≡ offered ∷ [])
-Gives advertisement format before _ events = ⊥
+-- what a flush says
+abbrev pub flush_says : Ending → Place → Result (List EventValue) Kind
+flush_says ending version = Err NotVersion2
+flush_says ending (capabilities spoken) = if spoken then Ok (offered ∷ []) else Err WrongFormat
+flush_says ending references = Ok (ended_by ending)
+flush_says ending (acknowledgments told) = if told.ready then Err UnexpectedPacket else Ok (ended_by ending)
+flush_says ending packfile = Ok (ended_by ending)
+flush_says ending place = Err UnexpectedPacket
 
--- a packet of the part is refused by this name
-abbrev pub Refuses : Part → Format → List Pkt → Pkt → Kind → Type 0
-Refuses opening format before p kind = RefusesOpening p kind
-Refuses advertisement format before (payload line) kind = RefusesLine (text_of line) kind
-Refuses advertisement format before flush kind = RefusesFlush (speaks format before) kind
-Refuses advertisement format before _ kind = RefusesOther kind
+-- what a delimiter says
+abbrev pub delimiter_says : Place → Result (List EventValue) Kind
+delimiter_says version = Err NotVersion2
+delimiter_says (acknowledgments told) = if told.ready then Ok [] else Err UnexpectedPacket
+delimiter_says shallow_info = Ok []
+delimiter_says wanted_refs = Ok []
+delimiter_says place = Err UnexpectedPacket
+
+-- what a response end says
+abbrev pub response_end_says : Place → Result (List EventValue) Kind
+response_end_says version = Err NotVersion2
+response_end_says response_end = Ok (ended ∷ [])
+response_end_says place = Err UnexpectedPacket
+
+-- a text line at this place gives these events
+pub record GivesLine (place : Place) (format : Format) (text : List ℕ) (events : List EventValue) : Type 0 where
+  pub no_error : ¬ IsErrorText text
+  pub says : SaysLine place format text events
+
+-- a text line at this place is refused by this name: an error packet may stand wherever a text line may
+abbrev pub RefusesLine : Place → Format → List ℕ → Kind → Type 0
+RefusesLine place format text kind =
+    (IsErrorText text × (kind ≡ RemoteError)) ⊎ ((¬ IsErrorText text) × IsLineFault place format text kind)
+
+-- a packet at this place gives these events
+abbrev pub Gives : Format → Ending → Place → Pkt → List EventValue → Type 0
+Gives format ending packfile (payload bytes) events = band_says bytes ≡ Ok events
+Gives format ending response_end (payload bytes) events = ⊥
+Gives format ending place (payload bytes) events = GivesLine place format (text_of bytes) events
+Gives format ending place flush events = flush_says ending place ≡ Ok events
+Gives format ending place delim events = delimiter_says place ≡ Ok events
+Gives format ending place resp_end events = response_end_says place ≡ Ok events
+
+-- a packet at this place is refused by this name
+abbrev pub Refuses : Format → Ending → Place → Pkt → Kind → Type 0
+Refuses format ending packfile (payload bytes) kind = band_says bytes ≡ Err kind
+Refuses format ending response_end (payload bytes) kind = kind ≡ UnexpectedPacket
+Refuses format ending place (payload bytes) kind = RefusesLine place format (text_of bytes) kind
+Refuses format ending place flush kind = flush_says ending place ≡ Err kind
+Refuses format ending place delim kind = delimiter_says place ≡ Err kind
+Refuses format ending place resp_end kind = response_end_says place ≡ Err kind
 
 -- how often the client came to where it can ask
 abbrev pub turns_of : List EventValue → ℕ
 turns_of [] = 0
 turns_of (offered ∷ events) = suc (turns_of events)
-turns_of (capability key value ∷ events) = turns_of events
+turns_of (ended ∷ events) = suc (turns_of events)
+turns_of (event ∷ events) = turns_of events
+
+-- the bytes of the pack
+abbrev pub pack_bytes : List EventValue → List ℕ
+pack_bytes [] = []
+pack_bytes (pack byte ∷ events) = byte ∷ pack_bytes events
+pack_bytes (event ∷ events) = pack_bytes events

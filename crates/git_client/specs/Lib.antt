@@ -1,6 +1,9 @@
 pub mod Parts
+pub mod Sections
+pub mod Places
 pub mod Events
 pub mod Conversation
+pub mod Packs
 pub mod Turns
 pub mod Client
 pub mod Transcript

@@ -1,7 +1,19 @@
--- Which part of a conversation a packet belongs to. What is looked at are the packets before it, the nearest first.
-use Rattle.std.specs.Prelude.{◌≡◌, ◌≢◌, ℕ, suc, zero, Bool, true, false, List, [], ◌∷◌, if◌then◌else◌}
-use Rattle.git_pkt.specs.Packets.{Pkt, flushes}
+-- Which part of a conversation a packet belongs to: by what was asked and by the packets before it, the nearest first.
+use Rattle.std.specs.Prelude.{ℕ, suc, zero, Bool, true, false, not, List, [], ◌∷◌, Option, Some, None, slice_get, if◌then◌else◌}
+use Rattle.git_names.specs.declared.object_format.Format.{Format}
+use Rattle.git_pkt.specs.Packets.{Pkt, flush, delim, resp_end, payload, flushes}
 use Rattle.git_pkt.specs.Splits.{Given}
+use Rattle.git_msg.specs.Asked.{Asked, ls_refs, fetch}
+use Rattle.git_client.specs.declared.events.Ending.{Ending}
+use Rattle.git_client.specs.declared.events.Ending.TheVariants.{ResponseEnd}
+
+-- what holds all through a conversation: the format of its object names, and how each response ends
+pub record Terms : Type 0 where
+  pub format : Format
+  pub ending : Ending
+
+abbrev pub terms_of : Format → Ending → Terms
+terms_of format ending = record { format = format; ending = ending }
 
 -- the packets of a list, the last one first, after those that were there before
 abbrev pub nearest : List Given → List Pkt → List Pkt
@@ -18,12 +30,41 @@ advertisement_of [] = []
 advertisement_of (p ∷ before) =
     if is_zero (flushes before) then p ∷ advertisement_of before else advertisement_of before
 
--- the first packet, and the rest of the advertisement
+-- the packets of a message so far: those since the flush or the response end before it
+abbrev pub message_of : List Pkt → List Pkt
+message_of [] = []
+message_of (flush ∷ before) = []
+message_of (resp_end ∷ before) = []
+message_of (delim ∷ before) = delim ∷ message_of before
+message_of (payload line ∷ before) = payload line ∷ message_of before
+
+-- the packet before is the flush of a response, after which a response end is due
+abbrev pub is_end_due : Ending → List Pkt → Bool
+is_end_due ResponseEnd (flush ∷ before) = not (is_zero (flushes before))
+is_end_due _ _ = false
+
+-- the parts of a conversation: the first packet, the rest of the advertisement, the response to ls-refs, the response to
+-- fetch, which was asked with `done` or not, and the response end
 pub data Part : Type 0 where
   opening : Part
   advertisement : Part
+  listing : Part
+  sections : (done : Bool) → Part
+  closing : Part
 
--- a packet after those before it belongs to this part
-abbrev pub IsPart : List Pkt → Part → Type 0
-IsPart before opening = before ≡ []
-IsPart before advertisement = (before ≢ []) × (flushes before ≡ 0)
+-- the part that answers a question
+abbrev pub answer_to : Option Asked → Option Part
+answer_to None = None
+answer_to (Some (ls_refs q)) = Some listing
+answer_to (Some (fetch q)) = Some (sections q.done)
+
+-- the part after so many flushes
+abbrev pub part_after : List Asked → ℕ → Option Part
+part_after asked zero = Some advertisement
+part_after asked (suc k) = answer_to (slice_get asked k)
+
+-- the part of the packet after these; none where nothing was asked that it could answer
+abbrev pub part_of : Terms → List Asked → List Pkt → Option Part
+part_of terms asked [] = Some opening
+part_of terms asked (p ∷ before) =
+    if is_end_due terms.ending (p ∷ before) then Some closing else part_after asked (flushes (p ∷ before))

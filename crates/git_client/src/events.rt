@@ -1,6 +1,7 @@
 //! What a client is told and what it answers.
 
 use git_msg::Capability;
+use git_names::Oid;
 use git_pkt::Fault;
 
 /// How each response ends.
@@ -19,6 +20,40 @@ pub enum Event<'a> {
     Capability(Capability<'a>),
     /// The advertisement is whole, and the client's object format is spoken.
     Offered,
+    /// A reference, in the response to `ls-refs`.
+    Reference {
+        /// The object that it points to.
+        id: &'a Oid,
+        /// Its name.
+        name: &'a [u8],
+        /// For a symbolic reference, where it is told, the name of the reference that it points to.
+        target: Option<&'a [u8]>,
+        /// For an annotated tag, where it is told, the object that it stands for.
+        peeled: Option<&'a Oid>,
+    },
+    /// Both ends have this object: a line of `acknowledgments`, as all up to `Ready` are.
+    Ack(&'a Oid),
+    /// None of the objects that the request says the client has is common.
+    Nak,
+    /// The server has found enough that is common: a pack follows.
+    Ready,
+    /// The parents of this commit are not sent: a line of `shallow-info`.
+    Shallow(&'a Oid),
+    /// The parents of this commit, which had none, are sent now: a line of `shallow-info`.
+    Unshallow(&'a Oid),
+    /// A reference that was asked for by its name: a line of `wanted-refs`.
+    WantedRef {
+        /// The object that it points to.
+        id: &'a Oid,
+        /// Its name.
+        name: &'a [u8],
+    },
+    /// Bytes of the pack: one at least.
+    Pack(&'a [u8]),
+    /// Bytes of a text for the user, on the second side band: one at least.
+    Progress(&'a [u8]),
+    /// The response is whole: the next request can be asked.
+    Ended,
 }
 
 /// What one call of [`Client::feed`](crate::Client::feed) did.

@@ -1,85 +1,113 @@
 //! What follows from the definitions alone: each law is the contract of a function without parameters.
 
-ghost use Rattle.std.specs.Prelude.{◌≡◌, ◌≢◌, ℕ, List, Some, None, true};
-ghost use Rattle.git_names.specs.declared.object_format.Format.{Format};
+ghost use Rattle.std.specs.Prelude.{◌≡◌, ◌≢◌, ℕ, List, ◌++◌, Some, None, true};
 ghost use Rattle.git_pkt.specs.Packets.{Pkt};
 ghost use Rattle.git_pkt.specs.Splits.{Given};
 ghost use Rattle.git_pkt.specs.declared.fault.Fault.{Fault};
 ghost use Rattle.git_pkt.specs.declared.fault.Kind.{Kind};
 ghost use Rattle.git_pkt.specs.declared.fault.Kind.TheVariants.{Truncated, StreamTooLong};
+ghost use Rattle.git_msg.specs.Asked.{Asked};
 ghost use Rattle.git_msg.specs.declared.offers.Caps.{Caps};
-ghost use Rattle.git_client.specs.Events.{EventValue};
-ghost use Rattle.git_client.specs.Conversation.{GivesAt, RefusesAt, FirstFault, HasEvents, HasNoted, FirstMalformed, GoesWell, IsAdvertisement};
-ghost use Rattle.git_client.specs.Client.{Hears, fault_of, can_ask};
-ghost use Rattle.git_client.specs.declared.conversation.Client.{Client};
-ghost use Rattle.git_client.specs.declared.events.Ending.{Ending};
+ghost use Rattle.git_client.specs.Parts.{Terms};
+ghost use Rattle.git_client.specs.Events.{EventValue, pack_bytes};
+ghost use Rattle.git_client.specs.Packs.{HasPack};
+ghost use Rattle.git_client.specs.Conversation.{GivesAt, RefusesAt, FirstFault, HasEvents, HasNoted, FirstMalformed, GoesWell, IsConversation};
+ghost use Rattle.git_client.specs.Client.{Converses, History, fault_of, can_ask, left_to_say, said_of, spelled, caps_of};
+ghost use Rattle.git_client.specs.declared.client.Client.{Client};
+
+use std::alloc::Allocator;
 
 /// No packet is both taken and refused.
 pub fn taken_or_refused()
-    ensures { (format : Format) (before : List Pkt) (p : Pkt) (events : List EventValue) (kind : Kind)
-        → GivesAt format before p events → RefusesAt format before p kind → ⊥ }
+    ensures { (t : Terms) (asked : List Asked) (before : List Pkt) (p : Pkt) (events : List EventValue) (kind : Kind)
+        → GivesAt t asked before p events → RefusesAt t asked before p kind → ⊥ }
 {}
 
 /// A packet gives one list of events.
 pub fn one_gift()
-    ensures { (format : Format) (before : List Pkt) (p : Pkt) (events others : List EventValue)
-        → GivesAt format before p events → GivesAt format before p others → events ≡ others }
+    ensures { (t : Terms) (asked : List Asked) (before : List Pkt) (p : Pkt) (events others : List EventValue)
+        → GivesAt t asked before p events → GivesAt t asked before p others → events ≡ others }
 {}
 
 /// A packet is refused by one name.
 pub fn one_refusal()
-    ensures { (format : Format) (before : List Pkt) (p : Pkt) (kind other : Kind)
-        → RefusesAt format before p kind → RefusesAt format before p other → kind ≡ other }
+    ensures { (t : Terms) (asked : List Asked) (before : List Pkt) (p : Pkt) (kind other : Kind)
+        → RefusesAt t asked before p kind → RefusesAt t asked before p other → kind ≡ other }
 {}
 
-/// Bytes give one list of events, however they came.
+/// Bytes give one list of events under what was asked, however they came.
 pub fn one_event_list()
-    ensures { (format : Format) (bytes : List ℕ) (events others : List EventValue)
-        → HasEvents format bytes events → HasEvents format bytes others → events ≡ others }
+    ensures { (t : Terms) (asked : List Asked) (bytes : List ℕ) (events others : List EventValue)
+        → HasEvents t asked bytes events → HasEvents t asked bytes others → events ≡ others }
 {}
 
 /// What is noted of bytes is one, however they came.
 pub fn one_note()
-    ensures { (format : Format) (bytes : List ℕ) (caps others : Caps)
-        → HasNoted format bytes caps → HasNoted format bytes others → caps ≡ others }
+    ensures { (t : Terms) (asked : List Asked) (bytes : List ℕ) (caps others : Caps)
+        → HasNoted t asked bytes caps → HasNoted t asked bytes others → caps ≡ others }
 {}
 
 /// Packets have one first fault.
 pub fn one_first_fault()
-    ensures { (format : Format) (given : List Given) (kind other : Kind) (offset place : ℕ)
-        → FirstFault format given kind offset → FirstFault format given other place → (kind ≡ other) × (offset ≡ place) }
+    ensures { (t : Terms) (asked : List Asked) (given : List Given) (kind other : Kind) (offset place : ℕ)
+        → FirstFault t asked given kind offset → FirstFault t asked given other place → (kind ≡ other) × (offset ≡ place) }
 {}
 
 /// Bytes have one first malformed packet: beside it stand only the faults of an input that ended and of a stream that is
 /// too long, each at one offset.
 pub fn one_first_malformed()
-    ensures shown { (format : Format) (bytes : List ℕ) (fault other : Fault)
-        → FirstMalformed format bytes fault → FirstMalformed format bytes other
+    ensures shown { (t : Terms) (asked : List Asked) (bytes : List ℕ) (fault other : Fault)
+        → FirstMalformed t asked bytes fault → FirstMalformed t asked bytes other
         → fault.kind ≢ Truncated → fault.kind ≢ StreamTooLong → fault ≡ other }
-    ensures by_name { (format : Format) (bytes : List ℕ) (fault other : Fault)
-        → FirstMalformed format bytes fault → FirstMalformed format bytes other → fault.kind ≡ other.kind → fault ≡ other }
+    ensures by_name { (t : Terms) (asked : List Asked) (bytes : List ℕ) (fault other : Fault)
+        → FirstMalformed t asked bytes fault → FirstMalformed t asked bytes other → fault.kind ≡ other.kind → fault ≡ other }
 {}
 
 /// What a client has handed out are the events of the bytes that it used.
-pub fn heard_events()
-    ensures { (format : Format) (ending : Ending) (client : Client) (bytes : List ℕ) (events : List EventValue)
-        → Hears format ending client bytes events → HasEvents format bytes events }
+pub fn heard_events<A: Allocator + Copy>()
+    ensures { (t : Terms) (h : History) (client : Client A) → Converses t h client → HasEvents t h.asked h.used h.events }
 {}
 
 /// A client fails at the first fault of the bytes that it used.
-pub fn first_fault()
-    ensures { (format : Format) (ending : Ending) (client : Client) (bytes : List ℕ) (events : List EventValue) (fault : Fault)
-        → Hears format ending client bytes events → fault_of client ≡ Some fault → FirstMalformed format bytes fault }
+pub fn first_fault<A: Allocator + Copy>()
+    ensures { (t : Terms) (h : History) (client : Client A) (fault : Fault)
+        → Converses t h client → fault_of client ≡ Some fault → FirstMalformed t h.asked h.used fault }
 {}
 
 /// A client that has not failed was told nothing with a fault.
-pub fn no_fault()
-    ensures { (format : Format) (ending : Ending) (client : Client) (bytes : List ℕ) (events : List EventValue)
-        → Hears format ending client bytes events → fault_of client ≡ None → GoesWell format bytes events }
+pub fn no_fault<A: Allocator + Copy>()
+    ensures { (t : Terms) (h : History) (client : Client A)
+        → Converses t h client → fault_of client ≡ None → GoesWell t h.asked h.used h.events }
 {}
 
-/// A client that can ask has used just one whole advertisement.
-pub fn whole_advertisement()
-    ensures { (format : Format) (ending : Ending) (client : Client) (bytes : List ℕ) (events : List EventValue)
-        → Hears format ending client bytes events → can_ask client ≡ true → IsAdvertisement format bytes events }
+/// A client that can ask has used just one whole advertisement and one whole response to each question.
+pub fn whole_responses<A: Allocator + Copy>()
+    ensures { (t : Terms) (h : History) (client : Client A)
+        → Converses t h client → can_ask client ≡ true → IsConversation t h.asked h.used h.events }
+{}
+
+/// To ask later takes nothing back: the events of a whole conversation stay when more is asked.
+pub fn later_questions()
+    ensures { (t : Terms) (asked more : List Asked) (bytes : List ℕ) (events : List EventValue)
+        → IsConversation t asked bytes events → HasEvents t (asked ++ more) bytes events }
+{}
+
+/// Where a client owes nothing, it has given just what is written of each question, and the flush where it has left.
+pub fn all_is_said<A: Allocator + Copy>()
+    ensures { (t : Terms) (h : History) (client : Client A)
+        → Converses t h client → left_to_say client ≡ [] → h.given ≡ spelled (said_of t.format (caps_of client) h.asked h.left) }
+{}
+
+/// Bytes have one pack.
+pub fn one_pack()
+    ensures { (t : Terms) (asked : List Asked) (bytes pack other : List ℕ)
+        → HasPack t asked bytes pack → HasPack t asked bytes other → pack ≡ other }
+{}
+
+/// The pack bytes that were handed out are a front of the pack of the bytes used, and of a whole conversation all of it.
+pub fn heard_pack()
+    ensures front { (t : Terms) (asked : List Asked) (bytes : List ℕ) (events : List EventValue) (pack : List ℕ)
+        → HasEvents t asked bytes events → HasPack t asked bytes pack → (more : List ℕ) × (pack ≡ pack_bytes events ++ more) }
+    ensures whole { (t : Terms) (asked : List Asked) (bytes : List ℕ) (events : List EventValue) (pack : List ℕ)
+        → IsConversation t asked bytes events → HasPack t asked bytes pack → pack ≡ pack_bytes events }
 {}

@@ -1,96 +1,78 @@
-//! Where a conversation stands, and what each packet says there.
+//! Where a conversation stands, and what a packet says there.
 
-ghost use Rattle.std.specs.Prelude.{MatchResult};
-ghost use Rattle.git_pkt.specs.Packets.{seen, text_of};
-ghost use Rattle.git_client.specs.Events.{RefusesLine};
-ghost use Rattle.git_client.specs.Turns.{Judges, JudgesAdvertised, JudgesOpening, NotesLine};
-
-use git_msg::{Caps, is_error, read_capability};
-use git_names::Format;
-use git_pkt::{Fault, Kind, Packet, text};
+use crate::sections::{Open, Told};
+use git_msg::{Caps, ReferencePlaces, RequestWriter};
+use git_names::Oid;
+use git_pkt::Fault;
 
 /// Where a conversation stands.
-#[derive(Clone, Copy, Debug, PartialEq, Eq)]
+#[derive(Clone, Copy, Debug)]
 pub(crate) enum Phase {
-    /// The first packet is due.
-    Opening,
-    /// The lines of the advertisement are due, or its flush.
-    Advertisement,
-    /// The advertisement is whole: a request can be asked.
+    /// Packets of the server are due.
+    Hearing(Due),
+    /// A request can be asked.
     Ready,
+    /// The packets of the request are owed, and then its response is due.
+    Asking(RequestWriter),
+    /// The flush that ends the conversation is owed.
+    Leaving,
+    /// All was said.
+    Left,
     /// The conversation was refused.
     Failed(Fault),
 }
 
-/// What a packet without a fault says.
+/// What is due of the server.
 #[derive(Clone, Copy, Debug)]
-pub(crate) enum Turn {
-    /// The line `version 2`.
+pub(crate) enum Due {
+    /// The line that begins an advertisement.
     Version,
-    /// A capability line, with what is noted now.
-    Capability(Caps),
-    /// The end of the advertisement.
+    /// The lines of the advertisement, or its flush.
+    Capabilities,
+    /// References, or the flush.
+    References,
+    /// The header of a section of a response to `fetch`.
+    Header(Open),
+    Acknowledgments(Told),
+    /// Lines of the section, or the delimiter, after which these sections may begin.
+    ShallowInfo(Open),
+    WantedRefs(Open),
+    Packfile,
+    /// The response-end packet after a response's flush.
+    ResponseEnd,
+}
+
+/// What a packet without a fault says, and where in its payload: with this no line is read twice.
+#[derive(Clone, Copy, Debug)]
+pub(crate) enum Said {
+    Nothing,
+    Capability(CapabilityPlaces),
     Offered,
+    Reference(ReferencePlaces),
+    Ack(Oid),
+    Nak,
+    Ready,
+    Shallow(Oid),
+    Unshallow(Oid),
+    /// The wanted reference that points to this object. Its name is what stands after the object's.
+    WantedRef(Oid),
+    Pack,
+    Progress,
+    Ended,
 }
 
-/// What the packet says in this phase, where `caps` was noted before it, or why it is refused.
-pub(crate) fn judge(
-    phase: Phase,
-    format: Format,
-    caps: Caps,
-    packet: Packet<'_>,
-) -> Result<Turn, Kind>
-    ensures { Judges phase format caps (seen packet.entry) result }
-{
-    match phase {
-        Phase::Opening => judge_opening(packet),
-        _ => judge_advertised(format, caps, packet),
-    }
+/// Where the parts of a capability line lie in its text: the key at its head, and the value after one `=`.
+#[derive(Clone, Copy, Debug)]
+pub(crate) struct CapabilityPlaces {
+    pub(crate) key_length: usize,
+    pub(crate) has_value: bool,
 }
 
-fn judge_opening(packet: Packet<'_>) -> Result<Turn, Kind>
-    ensures { JudgesOpening (seen packet.entry) result }
-{
-    let Packet::Payload(payload) = packet else {
-        return Err(Kind::NotVersion2);
-    };
-    let line = text(payload);
-    if line == b"version 2".as_slice() {
-        return Ok(Turn::Version);
-    }
-    if is_error(line) {
-        return Err(Kind::RemoteError);
-    }
-    Err(Kind::NotVersion2)
-}
-
-fn judge_advertised(format: Format, caps: Caps, packet: Packet<'_>) -> Result<Turn, Kind>
-    ensures { JudgesAdvertised format caps (seen packet.entry) result }
-{
-    match packet {
-        Packet::Payload(payload) => {
-            let after = judge_line(caps, payload)?;
-            Ok(Turn::Capability(after))
-        }
-        Packet::Flush => {
-            if !caps.speaks(format) {
-                return Err(Kind::WrongFormat);
-            }
-            Ok(Turn::Offered)
-        }
-        Packet::Delim => Err(Kind::UnexpectedPacket),
-        Packet::RespEnd => Err(Kind::UnexpectedPacket),
-    }
-}
-
-/// What is noted when this line of an advertisement comes too.
-fn judge_line(caps: Caps, payload: &[u8]) -> Result<Caps, Kind>
-    ensures { MatchResult result (NotesLine caps payload.now) (RefusesLine (text_of payload.now)) }
-{
-    let line = text(payload);
-    if is_error(line) {
-        return Err(Kind::RemoteError);
-    }
-    let capability = read_capability(line)?;
-    Ok(caps.with(&capability))
+/// A packet without a fault: what it says, what of the advertisement is noted after it, and where the conversation
+/// stands then.
+#[derive(Clone, Copy, Debug)]
+pub(crate) struct Turn {
+    pub(crate) said: Said,
+    pub(crate) caps: Caps,
+    pub(crate) next: Phase,
 }

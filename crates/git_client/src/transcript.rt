@@ -1,22 +1,26 @@
 //! The transcript of a conversation: one line of text for each event.
 
-ghost use Rattle.std.specs.Prelude.{◌≡◌, ◌≤◌, ◌-◌, ◌<◌, ◌*◌, length, take, ◌||◌, ◌++◌, codes, OnOk, OnErr, IfErr, is_err};
+ghost use Rattle.std.specs.Prelude.{◌≡◌, ◌≤◌, ◌-◌, ◌<◌, ◌*◌, length, take, ◌||◌, ◌++◌, codes, decimal, OnOk, OnErr, IfErr, is_err};
 ghost use Rattle.std.specs.Option.{option_copied};
 ghost use Rattle.std.specs.Io.KnownBytes.{Appends};
 ghost use Rattle.git_pkt.specs.Told.{inner_of, has_failed, AppendsFront, ReadsNothing};
 ghost use Rattle.git_pkt.specs.Escape.{escaped_of};
-ghost use Rattle.git_client.specs.Client.{value_of};
-ghost use Rattle.git_client.specs.Transcript.{line_of, value_shown};
+ghost use Rattle.git_names.specs.ObjectName.{hex_of};
+ghost use Rattle.git_msg.specs.References.{reference_of, peeled_text};
+ghost use Rattle.git_client.specs.Turns.{values_of};
+ghost use Rattle.git_client.specs.Transcript.{lines_of, value_shown, target_shown, reference_shown, asked_line};
 
 use crate::events::Event;
-use git_msg::Capability;
+use git_msg::{Capability, Command};
+use git_names::Oid;
 use git_pkt::{RunFault, Told, escape_into, send};
+use itoa::Buffer;
 use std::io::Write;
 
 /// How many bytes are escaped at a time.
 const BLOCK: usize = 64;
 
-/// Writes the transcript's line of an event, and nothing else. The numbers are those of the pack and progress bytes of
+/// Writes the transcript's line of an event, and nothing else: none for bytes of the pack or the progress. The numbers are those of the pack and progress bytes of
 /// the response: the line of a response's end shows them.
 ///
 /// The fault is `WriteFault`, where the writing fails; a front of the line was written then. A writer that has not
@@ -27,8 +31,8 @@ pub fn write_event<W: Write>(
     pack: u64,
     progress: u64,
 ) -> Result<(), RunFault>
-    ensures ok { OnOk result (Appends (W.contents (inner_of out.old)) (W.contents (inner_of out.new)) (line_of (value_of event.now) pack progress)) }
-    ensures err { OnErr result (AppendsFront (W.contents (inner_of out.old)) (W.contents (inner_of out.new)) (line_of (value_of event.now) pack progress)) }
+    ensures ok { OnOk result (Appends (W.contents (inner_of out.old)) (W.contents (inner_of out.new)) (lines_of (values_of event.now) pack progress)) }
+    ensures err { OnErr result (AppendsFront (W.contents (inner_of out.old)) (W.contents (inner_of out.new)) (lines_of (values_of event.now) pack progress)) }
     ensures fault { IfErr result (λ fault. fault ≡ RunFault.WriteFault) }
     ensures failed { has_failed out.new ≡ (has_failed out.old || is_err result) }
     ensures reads { ReadsNothing out.old out.new }
@@ -36,7 +40,35 @@ pub fn write_event<W: Write>(
     match event {
         Event::Capability(capability) => write_capability(out, capability),
         Event::Offered => send(out, b"offered\n"),
+        Event::Reference {
+            id,
+            name,
+            target,
+            peeled,
+        } => write_reference(out, id, name, *target, *peeled),
+        Event::Ack(id) => write_named(out, b"ack ", id),
+        Event::Nak => send(out, b"nak\n"),
+        Event::Ready => send(out, b"ready\n"),
+        Event::Shallow(id) => write_named(out, b"shallow ", id),
+        Event::Unshallow(id) => write_named(out, b"unshallow ", id),
+        Event::WantedRef { id, name } => write_wanted(out, id, name),
+        Event::Pack(_) => Ok(()),
+        Event::Progress(_) => Ok(()),
+        Event::Ended => write_ended(out, pack, progress),
     }
+}
+
+/// Writes the transcript's line of a question, and nothing else, on the terms of [`write_event`].
+pub fn write_asked<W: Write>(out: &mut Told<W>, command: Command) -> Result<(), RunFault>
+    ensures ok { OnOk result (Appends (W.contents (inner_of out.old)) (W.contents (inner_of out.new)) (asked_line command)) }
+    ensures err { OnErr result (AppendsFront (W.contents (inner_of out.old)) (W.contents (inner_of out.new)) (asked_line command)) }
+    ensures fault { IfErr result (λ fault. fault ≡ RunFault.WriteFault) }
+    ensures failed { has_failed out.new ≡ (has_failed out.old || is_err result) }
+    ensures reads { ReadsNothing out.old out.new }
+{
+    send(out, b"request ")?;
+    send(out, command.name().as_bytes())?;
+    send(out, b"\n")
 }
 
 fn write_capability<W: Write>(
@@ -54,6 +86,110 @@ fn write_capability<W: Write>(
     send(out, b"capability ")?;
     write_escaped(out, capability.key)?;
     write_value(out, capability.value)?;
+    send(out, b"\n")
+}
+
+fn write_reference<W: Write>(
+    out: &mut Told<W>,
+    id: &Oid,
+    name: &[u8],
+    target: Option<&[u8]>,
+    peeled: Option<&Oid>,
+) -> Result<(), RunFault>
+    ensures ok { OnOk result (Appends (W.contents (inner_of out.old)) (W.contents (inner_of out.new)) (reference_shown (reference_of id.now name.now (option_copied target.entry) (option_copied peeled.entry)))) }
+    ensures err { OnErr result (AppendsFront (W.contents (inner_of out.old)) (W.contents (inner_of out.new)) (reference_shown (reference_of id.now name.now (option_copied target.entry) (option_copied peeled.entry)))) }
+    ensures fault { IfErr result (λ fault. fault ≡ RunFault.WriteFault) }
+    ensures failed { has_failed out.new ≡ (has_failed out.old || is_err result) }
+    ensures reads { ReadsNothing out.old out.new }
+{
+    send(out, b"ref ")?;
+    write_id(out, id)?;
+    send(out, b" ")?;
+    write_escaped(out, name)?;
+    write_target(out, target)?;
+    write_peeled(out, peeled)?;
+    send(out, b"\n")
+}
+
+fn write_target<W: Write>(out: &mut Told<W>, target: Option<&[u8]>) -> Result<(), RunFault>
+    ensures ok { OnOk result (Appends (W.contents (inner_of out.old)) (W.contents (inner_of out.new)) (target_shown (option_copied target.entry))) }
+    ensures err { OnErr result (AppendsFront (W.contents (inner_of out.old)) (W.contents (inner_of out.new)) (target_shown (option_copied target.entry))) }
+    ensures fault { IfErr result (λ fault. fault ≡ RunFault.WriteFault) }
+    ensures failed { has_failed out.new ≡ (has_failed out.old || is_err result) }
+    ensures reads { ReadsNothing out.old out.new }
+{
+    let Some(name) = target else {
+        return Ok(());
+    };
+    send(out, b" symref-target:")?;
+    write_escaped(out, name)
+}
+
+fn write_peeled<W: Write>(out: &mut Told<W>, peeled: Option<&Oid>) -> Result<(), RunFault>
+    ensures ok { OnOk result (Appends (W.contents (inner_of out.old)) (W.contents (inner_of out.new)) (peeled_text (option_copied peeled.entry))) }
+    ensures err { OnErr result (AppendsFront (W.contents (inner_of out.old)) (W.contents (inner_of out.new)) (peeled_text (option_copied peeled.entry))) }
+    ensures fault { IfErr result (λ fault. fault ≡ RunFault.WriteFault) }
+    ensures failed { has_failed out.new ≡ (has_failed out.old || is_err result) }
+    ensures reads { ReadsNothing out.old out.new }
+{
+    let Some(id) = peeled else {
+        return Ok(());
+    };
+    send(out, b" peeled:")?;
+    write_id(out, id)
+}
+
+fn write_wanted<W: Write>(out: &mut Told<W>, id: &Oid, name: &[u8]) -> Result<(), RunFault>
+    ensures ok { OnOk result (Appends (W.contents (inner_of out.old)) (W.contents (inner_of out.new)) (codes "wanted-ref " ++ hex_of id.now ++ codes " " ++ escaped_of name.now ++ codes "\n")) }
+    ensures err { OnErr result (AppendsFront (W.contents (inner_of out.old)) (W.contents (inner_of out.new)) (codes "wanted-ref " ++ hex_of id.now ++ codes " " ++ escaped_of name.now ++ codes "\n")) }
+    ensures fault { IfErr result (λ fault. fault ≡ RunFault.WriteFault) }
+    ensures failed { has_failed out.new ≡ (has_failed out.old || is_err result) }
+    ensures reads { ReadsNothing out.old out.new }
+{
+    send(out, b"wanted-ref ")?;
+    write_id(out, id)?;
+    send(out, b" ")?;
+    write_escaped(out, name)?;
+    send(out, b"\n")
+}
+
+/// Writes a word and the name of an object.
+fn write_named<W: Write>(out: &mut Told<W>, word: &[u8], id: &Oid) -> Result<(), RunFault>
+    ensures ok { OnOk result (Appends (W.contents (inner_of out.old)) (W.contents (inner_of out.new)) (word.now ++ hex_of id.now ++ codes "\n")) }
+    ensures err { OnErr result (AppendsFront (W.contents (inner_of out.old)) (W.contents (inner_of out.new)) (word.now ++ hex_of id.now ++ codes "\n")) }
+    ensures fault { IfErr result (λ fault. fault ≡ RunFault.WriteFault) }
+    ensures failed { has_failed out.new ≡ (has_failed out.old || is_err result) }
+    ensures reads { ReadsNothing out.old out.new }
+{
+    send(out, word)?;
+    write_id(out, id)?;
+    send(out, b"\n")
+}
+
+fn write_id<W: Write>(out: &mut Told<W>, id: &Oid) -> Result<(), RunFault>
+    ensures ok { OnOk result (Appends (W.contents (inner_of out.old)) (W.contents (inner_of out.new)) (hex_of id.now)) }
+    ensures err { OnErr result (AppendsFront (W.contents (inner_of out.old)) (W.contents (inner_of out.new)) (hex_of id.now)) }
+    ensures fault { IfErr result (λ fault. fault ≡ RunFault.WriteFault) }
+    ensures failed { has_failed out.new ≡ (has_failed out.old || is_err result) }
+    ensures reads { ReadsNothing out.old out.new }
+{
+    let mut digits = [0; 64];
+    let count = id.write(&mut digits);
+    send(out, &digits[..count])
+}
+
+/// Writes the line of a response's end.
+fn write_ended<W: Write>(out: &mut Told<W>, pack: u64, progress: u64) -> Result<(), RunFault>
+    ensures ok { OnOk result (Appends (W.contents (inner_of out.old)) (W.contents (inner_of out.new)) (codes "end " ++ decimal pack ++ codes " " ++ decimal progress ++ codes "\n")) }
+    ensures err { OnErr result (AppendsFront (W.contents (inner_of out.old)) (W.contents (inner_of out.new)) (codes "end " ++ decimal pack ++ codes " " ++ decimal progress ++ codes "\n")) }
+    ensures fault { IfErr result (λ fault. fault ≡ RunFault.WriteFault) }
+    ensures failed { has_failed out.new ≡ (has_failed out.old || is_err result) }
+    ensures reads { ReadsNothing out.old out.new }
+{
+    send(out, b"end ")?;
+    send(out, Buffer::new().format(pack).as_bytes())?;
+    send(out, b" ")?;
+    send(out, Buffer::new().format(progress).as_bytes())?;
     send(out, b"\n")
 }
 

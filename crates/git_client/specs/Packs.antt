@@ -1,0 +1,43 @@
+-- The pack of a conversation: what came on the first side band, joined in order.
+use Rattle.std.specs.Prelude.{◌≡◌, ℕ, ◌==◌, Bool, true, false, List, [], ◌∷◌, ◌++◌, length, drop, Option, Some, None, if◌then◌else◌}
+use Rattle.git_pkt.specs.Packets.{Pkt, payload}
+use Rattle.git_pkt.specs.Splits.{Given, Splits}
+use Rattle.git_msg.specs.Asked.{Asked}
+use Rattle.git_client.specs.Parts.{Terms, nearest}
+use Rattle.git_client.specs.Places.{Place, packfile, place_after}
+use Rattle.git_client.specs.Events.{EventValue}
+use Rattle.git_client.specs.Conversation.{GiveAll, IsStop}
+
+-- the bytes that a payload has on the first band
+abbrev pub on_first_band : List ℕ → List ℕ
+on_first_band [] = []
+on_first_band (band ∷ bytes) = if band == 1 then bytes else []
+
+abbrev pub pack_in : Option Place → Pkt → List ℕ
+pack_in (Some packfile) (payload bytes) = on_first_band bytes
+pack_in place p = []
+
+-- the pack bytes of packets after those before them
+abbrev pub pack_of : Terms → List Asked → List Pkt → List Given → List ℕ
+pack_of t asked before [] = []
+pack_of t asked before (g ∷ gs) = pack_in (place_after t asked before) g.packet ++ pack_of t asked (g.packet ∷ before) gs
+
+abbrev pub open_pack_in : Option Place → List ℕ → List ℕ
+open_pack_in (Some packfile) rest = on_first_band (drop 4 rest)
+open_pack_in place rest = []
+
+-- what an open packet after all others has of the pack
+abbrev pub open_part : List Given → Option Place → List ℕ → List ℕ
+open_part [] place rest = open_pack_in place rest
+open_part (g ∷ gs) place rest = []
+
+-- the pack of the bytes: that of their packets up to the first that is refused, and what has come of an open one
+pub record HasPack (t : Terms) (asked : List Asked) (bytes pack : List ℕ) : Type 0 where
+  pub clean : List Given
+  pub more : List Given
+  pub rest : List ℕ
+  pub events : List EventValue
+  pub splits : Splits 0 bytes (clean ++ more) rest
+  pub gives : GiveAll t asked [] clean events
+  pub stops : IsStop t asked (nearest clean []) more
+  pub pack_is : pack ≡ pack_of t asked [] clean ++ open_part more (place_after t asked (nearest clean [])) rest

@@ -1,0 +1,47 @@
+-- What may stand at a place of a conversation.
+use Rattle.std.specs.Prelude.{Bool, List, [], ◌∷◌, Option, Some, None, if◌then◌else◌}
+use Rattle.git_names.specs.declared.object_format.Format.{Format}
+use Rattle.git_pkt.specs.Packets.{Pkt}
+use Rattle.git_msg.specs.Advertisement.{noted_of, is_spoken}
+use Rattle.git_msg.specs.Asked.{Asked}
+use Rattle.git_client.specs.declared.sections.Section.{Section}
+use Rattle.git_client.specs.declared.sections.Section.TheVariants.{Acknowledgments, ShallowInfo, WantedRefs, Packfile}
+use Rattle.git_client.specs.declared.sections.Open.{Open}
+use Rattle.git_client.specs.declared.sections.Told.{Told}
+use Rattle.git_client.specs.Parts.{Terms, Part, opening, advertisement, listing, sections, closing, part_of, message_of}
+use Rattle.git_client.specs.Sections.{is_header_due, section_of, lines_of, open_after, told_by}
+
+-- the places: the line that begins an advertisement, its other lines, which so far say that the format is spoken or not,
+-- references, the header of a section, the lines of each section, and a response end
+pub data Place : Type 0 where
+  version : Place
+  capabilities : (spoken : Bool) → Place
+  references : Place
+  header : Open → Place
+  acknowledgments : Told → Place
+  shallow_info : Place
+  wanted_refs : Place
+  packfile : Place
+  response_end : Place
+
+-- the place inside a section, after its lines so far
+abbrev pub place_in : Option Section → List Pkt → Option Place
+place_in None lines = None
+place_in (Some Acknowledgments) lines = Some (acknowledgments (told_by lines))
+place_in (Some ShallowInfo) lines = Some shallow_info
+place_in (Some WantedRefs) lines = Some wanted_refs
+place_in (Some Packfile) lines = Some packfile
+
+-- the place after the packets of a message, by the part that they belong to
+abbrev pub place_of : Format → Option Part → List Pkt → Option Place
+place_of format None message = None
+place_of format (Some opening) message = Some version
+place_of format (Some advertisement) message = Some (capabilities (is_spoken (noted_of message) format))
+place_of format (Some listing) message = Some references
+place_of format (Some (sections done)) message =
+    if is_header_due message then Some (header (open_after done message)) else place_in (section_of message) (lines_of message)
+place_of format (Some closing) message = Some response_end
+
+-- the place after these packets of a conversation
+abbrev pub place_after : Terms → List Asked → List Pkt → Option Place
+place_after terms asked before = place_of terms.format (part_of terms asked before) (message_of before)

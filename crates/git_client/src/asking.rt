@@ -1,0 +1,133 @@
+//! What a client says: the requests that it is handed, packet by packet, and the flush at leaving.
+
+ghost use Rattle.std.specs.Prelude.{◌≡◌, ◌≢◌, true, MatchResult};
+ghost use Rattle.std.specs.Borrow.{sem};
+ghost use Rattle.std.specs.Io.BufRead.{Rests};
+ghost use Rattle.git_pkt.specs.PacketReader.{held_of};
+ghost use Rattle.git_msg.specs.Checks.{Passes, Refuses};
+ghost use Rattle.git_msg.specs.HeldRequest.{asked_of};
+ghost use Rattle.git_client.specs.Turns.{first_due, is_asking};
+
+use crate::client::Client;
+use crate::events::Sent;
+use crate::phase::{Due, Phase};
+use crate::sections::Open;
+use git_msg::{Request, RequestWriter};
+use git_pkt::{Fault, Kind, Packet, put};
+use std::alloc::Allocator;
+
+impl<A: Allocator + Copy> Client<A> {
+    ghost use Rattle.git_client.specs.Client.{Asks, RefusesToAsk, Leaves, Pulls, Puts, ask_checks, can_ask, fault_of, left_to_say, caps_of, format_of, phase_of, reader_of};
+    ghost use Rattle.git_client.specs.contracts.asking.Client.{the_row};
+
+    /// Asks: from now on the packets of the request are to be pulled, and then its response is due. Refused in this order, at
+    /// the client's position, with the request handed back and the client as it was: `WrongFormat` for a request of another
+    /// object format, `NotAdvertised` for a command or an argument that was not offered, and what
+    /// [`Request::check_end`](git_msg::Request::check_end) refuses.
+    pub fn ask(&mut self, request: Request<A>) -> Result<(), (Request<A>, Fault)>
+        requires { can_ask self.old ≡ true }
+        ensures asked { MatchResult result (λ _. Asks self.old request self.new) (λ refusal. RefusesToAsk self.old request refusal.0 refusal.1 self.new) }
+    {
+        match self.check(&request) {
+            Ok(()) => {
+                self.phase = Phase::Asking(RequestWriter::new(&request, &self.caps));
+                self.request = Some(request);
+                Ok(())
+            }
+            Err(kind) => {
+                let offset = self.position();
+                Err((request, Fault { kind, offset }))
+            }
+        }
+    }
+
+    /// Leaves: the flush that ends the conversation is to be pulled, and nothing is asked any more.
+    pub fn leave(&mut self)
+        requires { can_ask self.old ≡ true }
+        ensures { Leaves self.old self.new }
+    {
+        self.phase = Phase::Leaving;
+    }
+
+    /// What is to be done next: a packet is to be sent, bytes of the server are needed, a request can be asked, or nothing is
+    /// left to do. Each packet is given once.
+    pub fn pull(&mut self) -> Sent<'_>
+        ensures* after { sem 𝓛 (Rests the_row self.entry (λ new. Pulls self.old result new)) }
+    {
+        match self.phase {
+            Phase::Hearing(_) => Sent::NeedInput,
+            Phase::Ready => Sent::CanAsk,
+            Phase::Left => Sent::Finished,
+            Phase::Failed(fault) => Sent::Failed(fault),
+            Phase::Asking(_) => {
+                self.put_question();
+                Sent::Packet(self.held())
+            }
+            Phase::Leaving => {
+                self.put_farewell();
+                Sent::Packet(self.held())
+            }
+        }
+    }
+
+    /// What refuses the request.
+    fn check(&self, request: &Request<A>) -> Result<(), Kind>
+        ensures { MatchResult result (λ _. Passes (ask_checks (format_of self.now) (caps_of self.now) request.now))
+            (Refuses (ask_checks (format_of self.now) (caps_of self.now) request.now)) }
+    {
+        if request.format() != self.format {
+            return Err(Kind::WrongFormat);
+        }
+        if !self.caps.offers(request.command()) {
+            return Err(Kind::NotAdvertised);
+        }
+        request.check_features(&self.caps.offer(self.format))?;
+        request.check_end()
+    }
+
+    /// Puts the next packet of the request into the hold. After the last one its response is due.
+    fn put_question(&mut self)
+        requires { is_asking (phase_of self.old) ≡ true }
+        ensures { Puts self.old self.new }
+    {
+        let Phase::Asking(mut writer) = self.phase else {
+            unreachable!()
+        };
+        let Some(request) = &self.request else {
+            unreachable!()
+        };
+        writer.pull(request, self.reader.lend());
+        if !writer.is_done() {
+            self.phase = Phase::Asking(writer);
+            return;
+        }
+        self.phase = Phase::Hearing(response_due(request));
+        self.request = None;
+    }
+
+    /// Puts the flush into the hold that ends the conversation.
+    fn put_farewell(&mut self)
+        requires { phase_of self.old ≡ Phase.Leaving }
+        ensures { Puts self.old self.new }
+    {
+        put(self.reader.lend(), Packet::Flush);
+        self.phase = Phase::Left;
+    }
+
+    /// What the hold has.
+    fn held(&self) -> &[u8]
+        ensures { result.now ≡ held_of (reader_of self.now) }
+    {
+        self.reader.hold().as_slice()
+    }
+}
+
+/// What is due first of the response to the request.
+fn response_due<A: Allocator + Copy>(request: &Request<A>) -> Due
+    ensures { result ≡ first_due (asked_of request.now) }
+{
+    match request {
+        Request::LsRefs(_) => Due::References,
+        Request::Fetch(fetch) => Due::Header(Open::at_head(fetch.done())),
+    }
+}

@@ -1,0 +1,350 @@
+//! The client: it asks, reads what a server says in pieces of any size, and hands out events.
+
+ghost use Rattle.std.specs.Prelude.{◌≡◌, ◌≢◌, ◌+◌, ◌-◌, ◌≤◌, ◌<◌, ◌↔◌, IsTrue, ℕ, suc, List, [], Option, Some, None, true, false, length, take, drop, MatchOption};
+ghost use Rattle.std.specs.Borrow.{sem};
+ghost use Rattle.std.specs.Io.BufRead.{Rests};
+ghost use Rattle.git_names.specs.declared.object_format.Format.{Format};
+ghost use Rattle.git_pkt.specs.Splits.{Given, Splits};
+ghost use Rattle.git_pkt.specs.PacketReader.{fault_of as reader_fault_of, held_of, is_open};
+ghost use Rattle.git_msg.specs.HeldRequest.{format_of as request_format};
+ghost use Rattle.git_client.specs.Parts.{Terms, terms_of};
+ghost use Rattle.git_client.specs.Turns.{takes_packets, fault_in, is_asking, left_in, Fits, LiesIn, events_at, value_at, values_of, capability_value, wanted_at};
+ghost use Rattle.git_client.specs.Events.{turns_of, capability, reference, wanted_ref};
+ghost use Rattle.git_names.specs.ObjectFormat.{digits_of};
+ghost use Rattle.git_msg.specs.References.{FitsIn, reference_at};
+ghost use Rattle.git_client.specs.Conversation.{HasNoted};
+ghost use Rattle.git_client.specs.declared.events.Ending.{Ending};
+
+use crate::events::{Ending, Event, Heard, HeardGot};
+use crate::judge::judge;
+use crate::phase::{CapabilityPlaces, Due, Phase, Said, Turn};
+use git_msg::{Capability, Caps, ReferencePlaces, Request, error_message};
+use git_names::{Format, Oid};
+use git_pkt::{Fault, Got, Kind, PacketReader, text};
+use std::alloc::Allocator;
+
+/// What some bytes of a piece came to.
+#[derive(Clone, Copy, Debug)]
+pub(crate) enum Outcome {
+    /// No event, and all bytes are used.
+    More,
+    /// An event: what was said of it stands in the client, and its bytes in the reader's hold.
+    Event,
+    Failed(Fault),
+}
+
+/// What one step over a piece did.
+#[derive(Clone, Copy, Debug)]
+pub(crate) struct Advance {
+    pub(crate) used: usize,
+    pub(crate) outcome: Outcome,
+}
+
+/// The fetching side of a conversation, as gitprotocol-v2(5) has it. It gives the packets of what it is asked to ask, reads
+/// what the server says from pieces of any size, and hands out events. Its one buffer is that of its packet reader, and it
+/// takes no memory beside it: of a request it keeps what it was handed until the last packet of it was given.
+///
+/// A program goes by [`Client::pull`]: it sends the packets, reads where input is needed, and asks or leaves where it can.
+#[derive(Drop)]
+pub struct Client<A: Allocator + Copy> {
+    pub(crate) reader: PacketReader,
+    pub(crate) format: Format,
+    pub(crate) ending: Ending,
+    pub(crate) phase: Phase,
+    pub(crate) caps: Caps,
+    // The request whose packets are owed.
+    pub(crate) request: Option<Request<A>>,
+    // What the last packet said. Events are lent of it and of the reader's hold.
+    pub(crate) said: Said,
+    ghost sound: { fault_in phase ≡ None → reader_fault_of reader ≡ None },
+    ghost shut: { fault_in phase ≡ None → takes_packets phase ≡ false → is_open reader ≡ false },
+    ghost owes: { is_asking phase ≡ true → left_in phase request ≢ [] },
+    ghost formats: { (q : Request A) → request ≡ Some q → request_format q ≡ format },
+}
+
+impl<A: Allocator + Copy> Client<A> {
+    ghost use Rattle.git_client.specs.Client.{said_last, HearsNext, Converses, History, nothing_yet, HearsOn, Feeds, EndsWithMessage, EndsWithoutMessage, fault_of, can_ask, wants_input, has_left, left_to_say, bytes_used, caps_of, reader_of, Takes, Settles};
+    ghost use Rattle.git_client.specs.contracts.client.Client.{the_row};
+
+    /// A client of this object format, before the first byte of the advertisement.
+    pub fn new(format: Format, ending: Ending) -> Self
+        ensures converses { Converses (terms_of format ending) nothing_yet result }
+        ensures waits { wants_input result ≡ true }
+    {
+        Client {
+            reader: PacketReader::new(),
+            format,
+            ending,
+            phase: Phase::Hearing(Due::Version),
+            caps: Caps::new(),
+            request: None,
+            said: Said::Nothing,
+        }
+    }
+
+    /// Whether a request can be asked, or the conversation be left: after the advertisement, and after each response.
+    pub fn can_ask(&self) -> bool
+        ensures value { result ≡ can_ask self.now }
+        ensures turn { (t : Terms) (h : History) → Converses t h self.now
+            → IsTrue result ↔ ((fault_of self.now ≡ None) × (h.left ≡ false) × (turns_of h.events ≡ suc (length h.asked))) }
+    {
+        match self.phase {
+            Phase::Ready => true,
+            _ => false,
+        }
+    }
+
+    /// Whether bytes of the server are due: the client neither can ask, nor has left or failed, and owes no packet.
+    pub fn wants_input(&self) -> bool
+        ensures value { result ≡ wants_input self.now }
+        ensures due { IsTrue result ↔ ((can_ask self.now ≡ false) × (has_left self.now ≡ false) × (fault_of self.now ≡ None)
+            × (left_to_say self.now ≡ [])) }
+    {
+        match self.phase {
+            Phase::Hearing(_) => true,
+            _ => false,
+        }
+    }
+
+    /// The number of bytes used.
+    pub fn position(&self) -> u64
+        ensures value { result ≡ bytes_used self.now }
+        ensures stream { (t : Terms) (h : History) → Converses t h self.now → result ≡ length h.used }
+    {
+        self.reader.position()
+    }
+
+    /// What was noted of the advertisement so far.
+    pub fn caps(&self) -> Caps
+        ensures value { result ≡ caps_of self.now }
+        ensures noted { (t : Terms) (h : History) → Converses t h self.now → HasNoted t h.asked h.used result }
+    {
+        self.caps
+    }
+
+    /// What the server said of the fault that ended the conversation: of an error packet the text after `ERR `, of a fatal
+    /// error in the packfile section the bytes after its band.
+    pub fn message(&self) -> Option<&[u8]>
+        ensures { (t : Terms) (h : History) → Converses t h self.now
+            → MatchOption result (EndsWithoutMessage self.now) (λ message. EndsWithMessage t h.asked h.used message.now) }
+    {
+        let Phase::Failed(fault) = self.phase else {
+            return None;
+        };
+        match fault.kind {
+            Kind::RemoteError => error_message(text(self.payload())),
+            Kind::RemoteFatal => self.payload().get(1..),
+            _ => None,
+        }
+    }
+
+    /// Reads on. It returns after one event, or with the whole piece used, or at the first fault. A client that does not
+    /// wait for input uses nothing. Call it again with the bytes that it did not use.
+    pub fn feed<'a>(&'a mut self, piece: &'a [u8]) -> Heard<'a>
+        ensures* after { sem 𝓛 (Rests the_row self.entry (λ new. Feeds self.old piece.now result new)) }
+        ensures used { result.used ≤ length piece.now }
+    {
+        if let Phase::Failed(fault) = self.phase {
+            return Heard {
+                used: 0,
+                got: HeardGot::Failed(fault),
+            };
+        }
+        if !self.wants_input() {
+            return Heard {
+                used: 0,
+                got: HeardGot::More,
+            };
+        }
+        let step = self.advance(piece);
+        match step.outcome {
+            Outcome::More => Heard {
+                used: step.used,
+                got: HeardGot::More,
+            },
+            Outcome::Event => Heard {
+                used: step.used,
+                got: HeardGot::Event(self.event()),
+            },
+            Outcome::Failed(fault) => Heard {
+                used: step.used,
+                got: HeardGot::Failed(fault),
+            },
+        }
+    }
+
+    /// Tells that the input ends here, where more was due: the conversation is refused as truncated, at the end of
+    /// its last whole packet.
+    pub fn close(&mut self) -> Fault
+        requires { wants_input self.old ≡ true }
+        ensures carries { HearsOn self.old [] [] self.new }
+        ensures told { fault_of self.new ≡ Some result }
+        ensures kind { result.kind ≡ Kind.Truncated }
+        ensures offset { (t : Terms) (h : History) (given : List Given) (rest : List ℕ)
+            → Converses t h self.old → Splits 0 h.used given rest → result.offset + length rest ≡ length h.used }
+    {
+        let fault = match self.reader.close() {
+            Ok(()) => Fault {
+                kind: Kind::Truncated,
+                offset: self.position(),
+            },
+            Err(fault) => fault,
+        };
+        self.phase = Phase::Failed(fault);
+        fault
+    }
+
+    /// Uses bytes up to the first event or fault, or all of them.
+    fn advance(&mut self, piece: &[u8]) -> Advance
+        requires { wants_input self.old ≡ true }
+        ensures used { result.used ≤ length piece.now }
+        ensures all { result.outcome ≡ Outcome.More → result.used ≡ length piece.now }
+        ensures takes { Takes self.old piece.now result self.new }
+    {
+        let mut used = 0;
+        while used < piece.len() {
+            let step = self.take(&piece[used..]);
+            used += step.used;
+            match step.outcome {
+                Outcome::More => {}
+                outcome => return Advance { used, outcome },
+            }
+        }
+        Advance {
+            used,
+            outcome: Outcome::More,
+        }
+    }
+
+    /// Uses bytes up to the end of a packet, or all of them.
+    fn take(&mut self, piece: &[u8]) -> Advance
+        requires { wants_input self.old ≡ true }
+        ensures used { result.used ≤ length piece.now }
+        ensures takes { Takes self.old piece.now result self.new }
+    {
+        let Phase::Hearing(due) = self.phase else {
+            unreachable!()
+        };
+        let format = self.format;
+        let ending = self.ending;
+        let caps = self.caps;
+        let fed = self.reader.feed(piece);
+        let used = fed.used;
+        match fed.got {
+            Got::More => Advance {
+                used,
+                outcome: Outcome::More,
+            },
+            Got::Failed(fault) => {
+                self.phase = Phase::Failed(fault);
+                Advance {
+                    used,
+                    outcome: Outcome::Failed(fault),
+                }
+            }
+            Got::Packet(packet, offset) => {
+                let judged = judge(format, ending, due, caps, packet);
+                let outcome = self.settle(judged, offset);
+                Advance { used, outcome }
+            }
+        }
+    }
+
+    /// Goes on after a packet that was judged.
+    fn settle(&mut self, judged: Result<Turn, Kind>, offset: u64) -> Outcome
+        requires whole { is_open (reader_of self.old) ≡ false }
+        requires sound { reader_fault_of (reader_of self.old) ≡ None }
+        requires hears { HearsNext judged }
+        ensures { Settles self.old judged offset result self.new }
+    {
+        match judged {
+            Ok(turn) => {
+                self.caps = turn.caps;
+                self.phase = turn.next;
+                self.said = turn.said;
+                match turn.said {
+                    Said::Nothing => Outcome::More,
+                    _ => Outcome::Event,
+                }
+            }
+            Err(kind) => {
+                let fault = Fault { kind, offset };
+                self.phase = Phase::Failed(fault);
+                Outcome::Failed(fault)
+            }
+        }
+    }
+
+    /// The event of what the last packet said.
+    fn event(&self) -> Event<'_>
+        requires something { said_last self.now ≢ Said.Nothing }
+        requires fits { Fits (said_last self.now) (drop 4 (held_of (reader_of self.now))) }
+        ensures { values_of result ≡ events_at (said_last self.now) (drop 4 (held_of (reader_of self.now))) }
+    {
+        let payload = self.payload();
+        match &self.said {
+            Said::Nothing => unreachable!(),
+            Said::Capability(places) => Event::Capability(capability(places, text(payload))),
+            Said::Offered => Event::Offered,
+            Said::Reference(places) => reference(places, text(payload)),
+            Said::Ack(id) => Event::Ack(id),
+            Said::Nak => Event::Nak,
+            Said::Ready => Event::Ready,
+            Said::Shallow(id) => Event::Shallow(id),
+            Said::Unshallow(id) => Event::Unshallow(id),
+            Said::WantedRef(id) => wanted(id, text(payload)),
+            Said::Pack => Event::Pack(&payload[1..]),
+            Said::Progress => Event::Progress(&payload[1..]),
+            Said::Ended => Event::Ended,
+        }
+    }
+
+    /// What the hold has after a packet's four digits.
+    fn payload(&self) -> &[u8]
+        ensures { result.now ≡ drop 4 (held_of (reader_of self.now)) }
+    {
+        let held = self.reader.hold().as_slice();
+        &held[4.min(held.len())..]
+    }
+}
+
+/// The capability whose parts lie there.
+fn capability<'a>(places: &CapabilityPlaces, line: &'a [u8]) -> Capability<'a>
+    requires { LiesIn places.now line.now }
+    ensures { capability_value result ≡ capability (take places.now.key_length line.now) (value_at places.now line.now) }
+{
+    let value = if places.has_value {
+        Some(&line[places.key_length + 1..])
+    } else {
+        None
+    };
+    Capability {
+        key: &line[..places.key_length],
+        value,
+    }
+}
+
+/// The reference whose parts lie there.
+fn reference<'a>(places: &'a ReferencePlaces, line: &'a [u8]) -> Event<'a>
+    requires { FitsIn places.now (length line.now) }
+    ensures { values_of result ≡ reference (reference_at places.now line.now) ∷ [] }
+{
+    let reference = places.reference(line);
+    Event::Reference {
+        id: &places.id,
+        name: reference.name,
+        target: reference.target,
+        peeled: places.peeled.as_ref(),
+    }
+}
+
+/// The wanted reference that points to this object: its name is all after the object's name and a space.
+fn wanted<'a>(id: &'a Oid, line: &'a [u8]) -> Event<'a>
+    requires { digits_of id.now.format < length line.now }
+    ensures { values_of result ≡ wanted_ref (wanted_at id.now line.now) ∷ [] }
+{
+    Event::WantedRef {
+        id,
+        name: &line[id.format().digits() + 1..],
+    }
+}

@@ -1,0 +1,191 @@
+//! What a packet says where something is due, and what refuses it.
+
+ghost use Rattle.std.specs.Prelude.{◌≡◌, Err, MatchResult};
+ghost use Rattle.git_names.specs.declared.object_format.Format.{Format};
+ghost use Rattle.git_pkt.specs.Packets.{flush, delim, resp_end, payload as payload_of, seen};
+ghost use Rattle.git_client.specs.Events.{IsLineFault, Refuses, band_says};
+ghost use Rattle.git_client.specs.Turns.{IsBandTurn, IsLineTurn, IsTurn, TakesLines, place_due, turn_after_flush};
+ghost use Rattle.git_client.specs.declared.events.Ending.{Ending};
+
+use crate::events::Ending;
+use crate::judge_lines::{judge_acknowledgment, judge_boundary, judge_capability, judge_header, judge_reference, judge_version, judge_wanted};
+use crate::phase::{Due, Phase, Said, Turn};
+use crate::sections::Open;
+use git_msg::{Caps, is_error};
+use git_names::Format;
+use git_pkt::{Band, Kind, Packet, split_band, text};
+
+/// What the packet says where this is due, and `caps` was noted before it, or why it is refused.
+pub(crate) fn judge(
+    format: Format,
+    ending: Ending,
+    due: Due,
+    caps: Caps,
+    packet: Packet<'_>,
+) -> Result<Turn, Kind>
+    ensures turn { MatchResult result (IsTurn format ending due caps (seen packet.entry))
+        (Refuses format ending (place_due caps format due) (seen packet.entry)) }
+{
+    match packet {
+        Packet::Payload(payload) => judge_payload(format, due, caps, payload),
+        Packet::Flush => judge_flush(format, ending, due, caps),
+        Packet::Delim => judge_delimiter(due, caps),
+        Packet::RespEnd => judge_response_end(due, caps),
+    }
+}
+
+fn judge_payload(format: Format, due: Due, caps: Caps, payload: &[u8]) -> Result<Turn, Kind>
+    ensures turn { (ending : Ending) → MatchResult result (IsTurn format ending due caps (payload_of payload.now))
+        (Refuses format ending (place_due caps format due) (payload_of payload.now)) }
+{
+    match due {
+        Due::Packfile => judge_band(caps, payload),
+        Due::ResponseEnd => Err(Kind::UnexpectedPacket),
+        _ => {
+            let line = text(payload);
+            if is_error(line) {
+                return Err(Kind::RemoteError);
+            }
+            judge_line(format, due, caps, line)
+        }
+    }
+}
+
+/// A text line that is no error packet.
+fn judge_line(format: Format, due: Due, caps: Caps, line: &[u8]) -> Result<Turn, Kind>
+    requires { TakesLines due }
+    ensures turn { MatchResult result (IsLineTurn format due caps line.now) (IsLineFault (place_due caps format due) format line.now) }
+{
+    match due {
+        Due::Version => {
+            judge_version(line)?;
+            Ok(heard(Said::Nothing, caps, Due::Capabilities))
+        }
+        Due::Capabilities => {
+            let (places, after) = judge_capability(caps, line)?;
+            Ok(heard(Said::Capability(places), after, due))
+        }
+        Due::References => {
+            let said = judge_reference(format, line)?;
+            Ok(heard(said, caps, due))
+        }
+        Due::Header(open) => {
+            let next = judge_header(open, line)?;
+            Ok(heard(Said::Nothing, caps, next))
+        }
+        Due::Acknowledgments(told) => {
+            let (said, after) = judge_acknowledgment(format, told, line)?;
+            Ok(heard(said, caps, Due::Acknowledgments(after)))
+        }
+        Due::ShallowInfo(_) => {
+            let said = judge_boundary(format, line)?;
+            Ok(heard(said, caps, due))
+        }
+        Due::WantedRefs(_) => {
+            let said = judge_wanted(format, line)?;
+            Ok(heard(said, caps, due))
+        }
+        Due::Packfile => Err(Kind::UnexpectedPacket),
+        Due::ResponseEnd => Err(Kind::UnexpectedPacket),
+    }
+}
+
+fn heard(said: Said, caps: Caps, next: Due) -> Turn
+    ensures { result ≡ record { said = said; caps = caps; next = Phase.Hearing next } }
+{
+    Turn {
+        said,
+        caps,
+        next: Phase::Hearing(next),
+    }
+}
+
+/// A packet of the packfile section: its first byte says what the others are. Where there are none it says nothing.
+fn judge_band(caps: Caps, payload: &[u8]) -> Result<Turn, Kind>
+    ensures turn { MatchResult result (IsBandTurn caps payload.now) (λ kind. band_says payload.now ≡ Err kind) }
+{
+    let (band, bytes) = split_band(payload)?;
+    let said = match band {
+        Band::Fatal => return Err(Kind::RemoteFatal),
+        _ if bytes.is_empty() => Said::Nothing,
+        Band::Pack => Said::Pack,
+        Band::Progress => Said::Progress,
+    };
+    Ok(heard(said, caps, Due::Packfile))
+}
+
+fn judge_flush(format: Format, ending: Ending, due: Due, caps: Caps) -> Result<Turn, Kind>
+    ensures turn { MatchResult result (IsTurn format ending due caps flush) (Refuses format ending (place_due caps format due) flush) }
+{
+    match due {
+        Due::Version => Err(Kind::NotVersion2),
+        Due::Capabilities => {
+            if !caps.speaks(format) {
+                return Err(Kind::WrongFormat);
+            }
+            Ok(whole(Said::Offered, caps))
+        }
+        Due::References => Ok(after_flush(ending, caps)),
+        Due::Header(_) => Err(Kind::UnexpectedPacket),
+        Due::Acknowledgments(told) => {
+            if told.ready {
+                return Err(Kind::UnexpectedPacket);
+            }
+            Ok(after_flush(ending, caps))
+        }
+        Due::ShallowInfo(_) => Err(Kind::UnexpectedPacket),
+        Due::WantedRefs(_) => Err(Kind::UnexpectedPacket),
+        Due::Packfile => Ok(after_flush(ending, caps)),
+        Due::ResponseEnd => Err(Kind::UnexpectedPacket),
+    }
+}
+
+fn judge_delimiter(due: Due, caps: Caps) -> Result<Turn, Kind>
+    ensures turn { (format : Format) (ending : Ending) → MatchResult result (IsTurn format ending due caps delim)
+        (Refuses format ending (place_due caps format due) delim) }
+{
+    match due {
+        Due::Version => Err(Kind::NotVersion2),
+        Due::Acknowledgments(told) => {
+            if !told.ready {
+                return Err(Kind::UnexpectedPacket);
+            }
+            Ok(heard(Said::Nothing, caps, Due::Header(Open::AFTER_ACKNOWLEDGMENTS)))
+        }
+        Due::ShallowInfo(open) => Ok(heard(Said::Nothing, caps, Due::Header(open))),
+        Due::WantedRefs(open) => Ok(heard(Said::Nothing, caps, Due::Header(open))),
+        _ => Err(Kind::UnexpectedPacket),
+    }
+}
+
+fn judge_response_end(due: Due, caps: Caps) -> Result<Turn, Kind>
+    ensures turn { (format : Format) (ending : Ending) → MatchResult result (IsTurn format ending due caps resp_end)
+        (Refuses format ending (place_due caps format due) resp_end) }
+{
+    match due {
+        Due::Version => Err(Kind::NotVersion2),
+        Due::ResponseEnd => Ok(whole(Said::Ended, caps)),
+        _ => Err(Kind::UnexpectedPacket),
+    }
+}
+
+/// The flush of a response ends it, or a response-end packet is due.
+fn after_flush(ending: Ending, caps: Caps) -> Turn
+    ensures { result ≡ turn_after_flush ending caps }
+{
+    match ending {
+        Ending::FlushOnly => whole(Said::Ended, caps),
+        Ending::ResponseEnd => heard(Said::Nothing, caps, Due::ResponseEnd),
+    }
+}
+
+/// A message is whole, and the next request can be asked.
+fn whole(said: Said, caps: Caps) -> Turn
+    ensures { result ≡ record { said = said; caps = caps; next = Phase.Ready } }
+{
+    Turn {
+        said,
+        caps,
+        next: Phase::Ready,
+    }
+}

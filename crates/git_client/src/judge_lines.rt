@@ -1,0 +1,114 @@
+//! What the text lines of a conversation say, each where it is due, and what refuses them. Error packets are judged
+//! before.
+
+ghost use Rattle.std.specs.Prelude.{◌≡◌, ◌≢◌, Some, true, codes, MatchResult};
+ghost use Rattle.git_names.specs.declared.object_format.Format.{Format};
+ghost use Rattle.git_msg.specs.Capability.{IsNoCapability};
+ghost use Rattle.git_client.specs.Events.{IsLineFault};
+ghost use Rattle.git_client.specs.Places.{references, acknowledgments, header, shallow_info, wanted_refs};
+ghost use Rattle.git_client.specs.Sections.{may_begin, section_named, told_with};
+ghost use Rattle.git_client.specs.Turns.{FindsCapability, Says, due_after_header};
+
+use crate::phase::{CapabilityPlaces, Due, Said};
+use crate::sections::{Open, Section, Told, read_header};
+use git_msg::{Boundary, Caps, locate_reference, read_ack, read_boundary, read_capability, read_wanted};
+use git_names::Format;
+use git_pkt::Kind;
+
+/// The line that begins an advertisement.
+pub(crate) fn judge_version(line: &[u8]) -> Result<(), Kind>
+    ensures { MatchResult result (λ _. line.now ≡ codes "version 2") (λ kind. (line.now ≢ codes "version 2") × (kind ≡ Kind.NotVersion2)) }
+{
+    if line != b"version 2".as_slice() {
+        return Err(Kind::NotVersion2);
+    }
+    Ok(())
+}
+
+/// A capability line, with what is noted after it.
+pub(crate) fn judge_capability(caps: Caps, line: &[u8]) -> Result<(CapabilityPlaces, Caps), Kind>
+    ensures { MatchResult result (λ found. FindsCapability caps line.now found.0 found.1)
+        (λ kind. IsNoCapability line.now × (kind ≡ Kind.BadCapability)) }
+{
+    let capability = read_capability(line)?;
+    let places = CapabilityPlaces {
+        key_length: capability.key.len(),
+        has_value: capability.value.is_some(),
+    };
+    Ok((places, caps.with(&capability)))
+}
+
+/// A line of the response to `ls-refs`.
+pub(crate) fn judge_reference(format: Format, line: &[u8]) -> Result<Said, Kind>
+    ensures { MatchResult result (Says references format line.now) (IsLineFault references format line.now) }
+{
+    let places = locate_reference(format, line)?;
+    Ok(Said::Reference(places))
+}
+
+/// The header of a section, with what is due after it.
+pub(crate) fn judge_header(open: Open, line: &[u8]) -> Result<Due, Kind>
+    ensures { (format : Format) → MatchResult result
+        (λ due. (may_begin open (section_named line.now) ≡ true) × (due ≡ due_after_header open (section_named line.now)))
+        (IsLineFault (header open) format line.now) }
+{
+    let Some(section) = read_header(line) else {
+        return Err(Kind::UnexpectedSection);
+    };
+    if !open.allows(section) {
+        return Err(Kind::UnexpectedSection);
+    }
+    let next = open.after(section);
+    Ok(match section {
+        Section::Acknowledgments => Due::Acknowledgments(Told::NOTHING),
+        Section::ShallowInfo => Due::ShallowInfo(next),
+        Section::WantedRefs => Due::WantedRefs(next),
+        Section::Packfile => Due::Packfile,
+    })
+}
+
+/// A line of the acknowledgments, with what they said so far. `NAK` comes alone, `ready` comes last.
+pub(crate) fn judge_acknowledgment(
+    format: Format,
+    told: Told,
+    line: &[u8],
+) -> Result<(Said, Told), Kind>
+    ensures { MatchResult result (λ turn. Says (acknowledgments told) format line.now turn.0 × (turn.1 ≡ told_with told line.now))
+        (IsLineFault (acknowledgments told) format line.now) }
+{
+    if line == b"NAK".as_slice() {
+        if told.any {
+            return Err(Kind::BadLine);
+        }
+        return Ok((Said::Nak, Told { any: true, nak: true, ready: false }));
+    }
+    if line == b"ready".as_slice() {
+        if told.ready {
+            return Err(Kind::BadLine);
+        }
+        return Ok((Said::Ready, Told { any: true, nak: told.nak, ready: true }));
+    }
+    if told.nak || told.ready {
+        return Err(Kind::BadLine);
+    }
+    let id = read_ack(format, line)?;
+    Ok((Said::Ack(id), Told { any: true, nak: false, ready: false }))
+}
+
+/// A line of the section `shallow-info`.
+pub(crate) fn judge_boundary(format: Format, line: &[u8]) -> Result<Said, Kind>
+    ensures { MatchResult result (Says shallow_info format line.now) (IsLineFault shallow_info format line.now) }
+{
+    match read_boundary(format, line)? {
+        Boundary::Shallow(id) => Ok(Said::Shallow(id)),
+        Boundary::Unshallow(id) => Ok(Said::Unshallow(id)),
+    }
+}
+
+/// A line of the section `wanted-refs`.
+pub(crate) fn judge_wanted(format: Format, line: &[u8]) -> Result<Said, Kind>
+    ensures { MatchResult result (Says wanted_refs format line.now) (IsLineFault wanted_refs format line.now) }
+{
+    let wanted = read_wanted(format, line)?;
+    Ok(Said::WantedRef(wanted.id))
+}

@@ -1,0 +1,103 @@
+//! The sections of a response to `fetch`, gitprotocol-v2(5).
+
+ghost use Rattle.std.specs.Prelude.{◌≡◌, []};
+ghost use Rattle.git_client.specs.Sections.{allows, next_open, open_after, section_named};
+
+/// A section of a response to `fetch`.
+#[derive(Clone, Copy, Debug, PartialEq, Eq)]
+pub(crate) enum Section {
+    Acknowledgments,
+    ShallowInfo,
+    WantedRefs,
+    Packfile,
+}
+
+/// Which sections may begin, beside the packfile, which always may.
+#[derive(Clone, Copy, Debug, PartialEq, Eq)]
+pub(crate) struct Open {
+    pub(crate) acknowledgments: bool,
+    pub(crate) shallow_info: bool,
+    pub(crate) wanted_refs: bool,
+}
+
+/// What the acknowledgments said so far.
+#[derive(Clone, Copy, Debug, PartialEq, Eq)]
+pub(crate) struct Told {
+    /// Some line came.
+    pub(crate) any: bool,
+    /// The line `NAK` came.
+    pub(crate) nak: bool,
+    /// The line `ready` came.
+    pub(crate) ready: bool,
+}
+
+impl Told {
+    /// Nothing was said yet.
+    pub(crate) const NOTHING: Told = Told {
+        any: false,
+        nak: false,
+        ready: false,
+    };
+}
+
+impl Open {
+    /// After the acknowledgments each other section may come.
+    pub(crate) const AFTER_ACKNOWLEDGMENTS: Open = Open {
+        acknowledgments: false,
+        shallow_info: true,
+        wanted_refs: true,
+    };
+
+    /// At the head of a response: the acknowledgments answer a request without `done` alone.
+    pub(crate) fn at_head(done: bool) -> Open
+        ensures { result ≡ open_after done [] }
+    {
+        Open {
+            acknowledgments: !done,
+            shallow_info: true,
+            wanted_refs: true,
+        }
+    }
+
+    /// Whether the section may begin.
+    pub(crate) fn allows(&self, section: Section) -> bool
+        ensures { result ≡ allows self.now section }
+    {
+        match section {
+            Section::Acknowledgments => self.acknowledgments,
+            Section::ShallowInfo => self.shallow_info,
+            Section::WantedRefs => self.wanted_refs,
+            Section::Packfile => true,
+        }
+    }
+
+    /// Which sections may begin after this one: the acknowledgments stand first, and each section once.
+    pub(crate) fn after(&self, section: Section) -> Open
+        ensures { result ≡ next_open self.now section }
+    {
+        Open {
+            acknowledgments: false,
+            shallow_info: self.shallow_info & !matches!(section, Section::ShallowInfo),
+            wanted_refs: self.wanted_refs & !matches!(section, Section::WantedRefs),
+        }
+    }
+}
+
+/// The section whose header the text is.
+pub(crate) fn read_header(text: &[u8]) -> Option<Section>
+    ensures { result ≡ section_named text.now }
+{
+    if text == b"acknowledgments".as_slice() {
+        return Some(Section::Acknowledgments);
+    }
+    if text == b"shallow-info".as_slice() {
+        return Some(Section::ShallowInfo);
+    }
+    if text == b"wanted-refs".as_slice() {
+        return Some(Section::WantedRefs);
+    }
+    if text == b"packfile".as_slice() {
+        return Some(Section::Packfile);
+    }
+    None
+}
