@@ -19,7 +19,7 @@ use Rattle.git_client.specs.Client.{Hears, HearsOn, StandsIn, Goes, Behind, Refu
 use Rattle.git_client.specs.Client.{format_of, ending_of, caps_of, wants_input, fault_of}
 use Rattle.git_client.specs.declared.phase.Phase.{Phase}
 use Rattle.git_client.specs.declared.phase.Phase.TheVariants.{Opening, Advertisement, Ready, Failed}
-use Rattle.git_client.specs.declared.conversation.Client.{Client}
+use Rattle.git_client.specs.declared.client.Client.{Client}
 use Rattle.git_client.proofs.Sequences.{nearest_push, give_all_push, turns_are_flushes}
 
 -- a phase without a fault

@@ -8,7 +8,7 @@ use Rattle.git_pkt.proofs.Streams.{one_split}
 use Rattle.git_client.specs.Events.{EventValue}
 use Rattle.git_client.specs.Client.{Hears, phase_of, reader_of, wants_input}
 use Rattle.git_client.specs.declared.events.Ending.{Ending}
-use Rattle.git_client.specs.declared.conversation.Client.{Client}
+use Rattle.git_client.specs.declared.client.Client.{Client}
 use Rattle.git_client.proofs.Carries.{goes_in, takes_no_fault}
 
 -- the reader of a client that waits for input holds what stands after the last whole packet

@@ -13,7 +13,7 @@ use Rattle.git_client.specs.Client.{Hears, StandsIn, is_ready, fault_of, can_ask
 use Rattle.git_client.specs.declared.phase.Phase.{Phase}
 use Rattle.git_client.specs.declared.phase.Phase.TheVariants.{Opening, Advertisement, Ready, Failed as FailedPhase}
 use Rattle.git_client.specs.declared.events.Ending.{Ending}
-use Rattle.git_client.specs.declared.conversation.Client.{Client}
+use Rattle.git_client.specs.declared.client.Client.{Client}
 use Rattle.git_client.proofs.Carries.{goes_in, turn_is, none_while_due}
 
 all_clean : (format : Format) (bytes : List ℕ) (clean given : List Given) (rest : List ℕ) (events : List EventValue) → Splits 0 bytes given rest

@@ -14,7 +14,7 @@ use Rattle.git_client.specs.Client.{Hears, StandsIn, RefusedPacket, RefusedBytes
 use Rattle.git_client.specs.declared.phase.Phase.{Phase}
 use Rattle.git_client.specs.declared.phase.Phase.TheVariants.{Opening, Advertisement, Ready, Failed}
 use Rattle.git_client.specs.declared.events.Ending.{Ending}
-use Rattle.git_client.specs.declared.conversation.Client.{Client}
+use Rattle.git_client.specs.declared.client.Client.{Client}
 
 module _ (format : Format) (bytes : List ℕ) (clean given : List Given) (rest : List ℕ) (events : List EventValue) (splits : Splits 0 bytes given rest)
     (gives : GiveAll format [] clean events) (fault : Fault) where

@@ -19,7 +19,7 @@ use Rattle.git_client.specs.Client.{Hears, StandsIn, RefusedPacket, HoldsCapabil
 use Rattle.git_client.specs.declared.phase.Phase.{Phase}
 use Rattle.git_client.specs.declared.phase.Phase.TheVariants.{Failed}
 use Rattle.git_client.specs.declared.events.Ending.{Ending}
-use Rattle.git_client.specs.declared.conversation.Client.{Client}
+use Rattle.git_client.specs.declared.client.Client.{Client}
 
 -- the bytes after the four digits
 pub held_payload : (held line : List ℕ) → Spells (payload line) held → take (length held - 4) (drop 4 held) ≡ line

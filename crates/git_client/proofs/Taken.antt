@@ -16,10 +16,10 @@ use Rattle.git_client.specs.declared.phase.Phase.{Phase}
 use Rattle.git_client.specs.declared.phase.Phase.TheVariants.{Opening, Advertisement, Ready, Failed}
 use Rattle.git_client.specs.declared.phase.Turn.{Turn}
 use Rattle.git_client.specs.declared.phase.Turn.TheVariants.{Version, Capability, Offered}
-use Rattle.git_client.specs.declared.conversation.Client.{Client}
-use Rattle.git_client.specs.declared.conversation.Outcome.{Outcome}
-use Rattle.git_client.specs.declared.conversation.Outcome.TheVariants.{More as Nothing, Capability as CapabilityLine}
-use Rattle.git_client.specs.declared.conversation.Outcome.TheVariants.{Offered as OfferedNow, Failed as FailedNow}
+use Rattle.git_client.specs.declared.client.Client.{Client}
+use Rattle.git_client.specs.declared.client.Outcome.{Outcome}
+use Rattle.git_client.specs.declared.client.Outcome.TheVariants.{More as Nothing, Capability as CapabilityLine}
+use Rattle.git_client.specs.declared.client.Outcome.TheVariants.{Offered as OfferedNow, Failed as FailedNow}
 use Rattle.git_client.proofs.Carries.{hears_packet, hears_refused, hears_failed}
 use Rattle.git_client.proofs.Judged.{says_version, says_line, says_offered, says_refused, refused_by}
 

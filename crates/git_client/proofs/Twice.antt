@@ -4,9 +4,9 @@ use Rattle.std.proofs.lemmas.Grind.{common_steps}
 use Rattle.git_pkt.proofs.Pieces.{take_joined}
 use Rattle.git_client.specs.Events.{EventValue}
 use Rattle.git_client.specs.Client.{HearsOn, Leaves}
-use Rattle.git_client.specs.declared.conversation.Client.{Client}
-use Rattle.git_client.specs.declared.conversation.Outcome.{Outcome}
-use Rattle.git_client.specs.declared.conversation.Outcome.TheVariants.{More, Capability, Offered, Failed}
+use Rattle.git_client.specs.declared.client.Client.{Client}
+use Rattle.git_client.specs.declared.client.Outcome.{Outcome}
+use Rattle.git_client.specs.declared.client.Outcome.TheVariants.{More, Capability, Offered, Failed}
 use Rattle.git_client.proofs.Carries.{hears_twice}
 
 pub hears_then : (a b c : Client) (piece : List ℕ) (used step : ℕ) (now : List EventValue) → used ≤ length piece → HearsOn a (take used piece) [] b

@@ -20,7 +20,7 @@ use Rattle.git_msg.specs.WrittenRequest.{lines_written, written_of}
 use Rattle.git_msg.specs.declared.offers.Caps.{Caps}
 use Rattle.git_msg.specs.declared.requests.Request.{Request}
 use Rattle.git_client.specs.Parts.{Terms, Part, opening, advertisement, listing, sections, closing, nearest, advertisement_of, message_of, is_end_due, part_of}
-use Rattle.git_client.specs.Sections.{is_header_due, section_of, lines_of, open_after, told_by}
+use Rattle.git_client.specs.Sections.{is_header_due, section_of, lines_of, allowed_after, told_by}
 use Rattle.git_client.specs.Events.{EventValue}
 use Rattle.git_client.specs.Conversation.{GiveAll, RefusesAt, HasDue}
 use Rattle.git_client.specs.Turns.{takes_packets, fault_in, is_ready, has_left_in, is_asking, left_in, question_in, values_of, events_at, Fits, after_acknowledgments}
@@ -89,11 +89,11 @@ abbrev pub IsDueIn : Part → List Pkt → Due → Type 0
 IsDueIn opening message Version = Unit {0}
 IsDueIn advertisement message Capabilities = Unit {0}
 IsDueIn listing message References = Unit {0}
-IsDueIn (sections done) message (Header open) = (is_header_due message ≡ true) × (open ≡ open_after done message)
+IsDueIn (sections done) message (Header allowed) = (is_header_due message ≡ true) × (allowed ≡ allowed_after done message)
 IsDueIn (sections done) message (Acknowledgments told) =
-    IsInside AcknowledgmentsSection message × (told ≡ told_by (lines_of message)) × (open_after done message ≡ after_acknowledgments)
-IsDueIn (sections done) message (ShallowInfo open) = IsInside ShallowInfoSection message × (open ≡ open_after done message)
-IsDueIn (sections done) message (WantedRefs open) = IsInside WantedRefsSection message × (open ≡ open_after done message)
+    IsInside AcknowledgmentsSection message × (told ≡ told_by (lines_of message)) × (allowed_after done message ≡ after_acknowledgments)
+IsDueIn (sections done) message (ShallowInfo allowed) = IsInside ShallowInfoSection message × (allowed ≡ allowed_after done message)
+IsDueIn (sections done) message (WantedRefs allowed) = IsInside WantedRefsSection message × (allowed ≡ allowed_after done message)
 IsDueIn (sections done) message Packfile = IsInside PackfileSection message
 IsDueIn closing message ResponseEnd = Unit {0}
 IsDueIn part message due = ⊥
@@ -216,6 +216,44 @@ StandsIn (FailedPhase fault) t asked clean given rest end question reader =
     ⊎ (RefusedBytes t asked clean given rest end fault ⊎ EndedEarly t asked clean given rest end fault)
 StandsIn phase t asked clean given rest end question reader = Goes t asked clean given rest question phase reader
 
+-- the events of an answer
+abbrev pub events_of : HeardGot → List EventValue
+events_of More = []
+events_of (EventGot event) = values_of event
+events_of (Failed fault) = []
+
+-- the bytes of an answer of `pull`
+abbrev pub given_by : Sent → List ℕ
+given_by (Packet bytes) = bytes.now
+given_by sent = []
+
+-- the phase after a packet that was judged
+abbrev pub phase_judged : ℕ → Result Turn Kind → Phase
+phase_judged offset (Ok turn) = turn.next
+phase_judged offset (Err kind) = FailedPhase (record { kind = kind; offset = offset })
+
+-- what is noted after it
+abbrev pub caps_judged : Caps → Result Turn Kind → Caps
+caps_judged caps (Ok turn) = turn.caps
+caps_judged caps (Err kind) = caps
+
+abbrev pub outcome_said : Said → Outcome
+outcome_said Nothing = NothingYet
+outcome_said said = EventNow
+
+abbrev pub outcome_judged : ℕ → Result Turn Kind → Outcome
+outcome_judged offset (Ok turn) = outcome_said turn.said
+outcome_judged offset (Err kind) = FailedNow (record { kind = kind; offset = offset })
+
+abbrev pub said_judged : Said → Result Turn Kind → Said
+said_judged said (Ok turn) = turn.said
+said_judged said (Err kind) = said
+
+-- the server is heard on, or can be asked, after a packet that was judged well
+abbrev pub HearsNext : Result Turn Kind → Type 0
+HearsNext (Ok turn) = (is_asking turn.next ≡ false) × (fault_in turn.next ≡ None)
+HearsNext (Err kind) = Unit {0}
+
 module _ {A : Type 0} where
   -- a client on these terms stands after this history
   pub record Converses (t : Terms) (h : History) (client : Client A) : Type 0 where
@@ -278,12 +316,6 @@ module _ {A : Type 0} where
     pub owes : left_to_say new ≡ flush ∷ []
     pub no_more : has_left new ≡ true
 
-  -- the events of an answer
-  abbrev pub events_of : HeardGot → List EventValue
-  events_of More = []
-  events_of (EventGot event) = values_of event
-  events_of (Failed fault) = []
-
   -- the state that an event leaves the client in
   abbrev pub LeavesAfter : Event → Client A → Type 0
   LeavesAfter Offered new = can_ask new ≡ true
@@ -317,11 +349,6 @@ module _ {A : Type 0} where
     pub news : IsNews old piece heard
     pub stays : Repeats old heard new
     pub waits : Waits old heard new
-
-  -- the bytes of an answer of `pull`
-  abbrev pub given_by : Sent → List ℕ
-  given_by (Packet bytes) = bytes.now
-  given_by sent = []
 
   -- one packet of those that were owed was given; the client hears after the last of a question, and has left after the flush
   pub record GivesOne (old new : Client A) (bytes : List ℕ) : Type 0 where
@@ -386,33 +413,6 @@ module _ {A : Type 0} where
       (events ≡ events_at (said_last new) (drop 4 (held_of (reader_of new)))) × (said_last new ≢ Nothing)
       × Fits (said_last new) (drop 4 (held_of (reader_of new)))
   Comes (FailedNow fault) events new = events ≡ []
-
-  -- the phase after a packet that was judged
-  abbrev pub phase_judged : ℕ → Result Turn Kind → Phase
-  phase_judged offset (Ok turn) = turn.next
-  phase_judged offset (Err kind) = FailedPhase (record { kind = kind; offset = offset })
-
-  -- what is noted after it
-  abbrev pub caps_judged : Caps → Result Turn Kind → Caps
-  caps_judged caps (Ok turn) = turn.caps
-  caps_judged caps (Err kind) = caps
-
-  abbrev pub outcome_said : Said → Outcome
-  outcome_said Nothing = NothingYet
-  outcome_said said = EventNow
-
-  abbrev pub outcome_judged : ℕ → Result Turn Kind → Outcome
-  outcome_judged offset (Ok turn) = outcome_said turn.said
-  outcome_judged offset (Err kind) = FailedNow (record { kind = kind; offset = offset })
-
-  abbrev pub said_judged : Said → Result Turn Kind → Said
-  said_judged said (Ok turn) = turn.said
-  said_judged said (Err kind) = said
-
-  -- the server is heard on, or can be asked, after a packet that was judged well
-  abbrev pub HearsNext : Result Turn Kind → Type 0
-  HearsNext (Ok turn) = (is_asking turn.next ≡ false) × (fault_in turn.next ≡ None)
-  HearsNext (Err kind) = Unit {0}
 
   -- a packet that was judged is settled; the reader is left alone
   pub record Settles (old : Client A) (judged : Result Turn Kind) (offset : ℕ) (outcome : Outcome) (new : Client A) : Type 0 where

@@ -38,7 +38,7 @@ abbrev pub SaysLine : Place → Format → List ℕ → List EventValue → Type
 SaysLine version format text [] = text ≡ codes "version 2"
 SaysLine (capabilities spoken) format text (capability key value ∷ []) = IsCapability text key value
 SaysLine references format text (reference ref ∷ []) = IsReferenceLine format text ref
-SaysLine (header open) format text [] = may_begin open (section_named text) ≡ true
+SaysLine (header allowed) format text [] = may_begin allowed (section_named text) ≡ true
 SaysLine (acknowledgments told) format text (nak ∷ []) = (text ≡ codes "NAK") × (told.any ≡ false)
 SaysLine (acknowledgments told) format text (ready ∷ []) = (text ≡ codes "ready") × (told.ready ≡ false)
 SaysLine (acknowledgments told) format text (ack id ∷ []) = IsAckLine format text id × ((told.nak || told.ready) ≡ false)
@@ -63,7 +63,7 @@ abbrev pub IsLineFault : Place → Format → List ℕ → Kind → Type 0
 IsLineFault version format text kind = (text ≢ codes "version 2") × (kind ≡ NotVersion2)
 IsLineFault (capabilities spoken) format text kind = IsNoCapability text × (kind ≡ BadCapability)
 IsLineFault references format text kind = IsReferenceFault format text kind
-IsLineFault (header open) format text kind = (may_begin open (section_named text) ≡ false) × (kind ≡ UnexpectedSection)
+IsLineFault (header allowed) format text kind = (may_begin allowed (section_named text) ≡ false) × (kind ≡ UnexpectedSection)
 IsLineFault (acknowledgments told) format text kind =
     (IsNotDue told text × (kind ≡ BadLine)) ⊎ (IsBadAck format told text × (kind ≡ BadObjectName))
 IsLineFault shallow_info format text kind = IsBoundaryFault format text kind

@@ -6,10 +6,10 @@ use Rattle.git_msg.specs.Advertisement.{noted_of, is_spoken}
 use Rattle.git_msg.specs.Asked.{Asked}
 use Rattle.git_client.specs.declared.sections.Section.{Section}
 use Rattle.git_client.specs.declared.sections.Section.TheVariants.{Acknowledgments, ShallowInfo, WantedRefs, Packfile}
-use Rattle.git_client.specs.declared.sections.Open.{Open}
+use Rattle.git_client.specs.declared.sections.Allowed.{Allowed}
 use Rattle.git_client.specs.declared.sections.Told.{Told}
 use Rattle.git_client.specs.Parts.{Terms, Part, opening, advertisement, listing, sections, closing, part_of, message_of}
-use Rattle.git_client.specs.Sections.{is_header_due, section_of, lines_of, open_after, told_by}
+use Rattle.git_client.specs.Sections.{is_header_due, section_of, lines_of, allowed_after, told_by}
 
 -- the places: the line that begins an advertisement, its other lines, which so far say that the format is spoken or not,
 -- references, the header of a section, the lines of each section, and a response end
@@ -17,7 +17,7 @@ pub data Place : Type 0 where
   version : Place
   capabilities : (spoken : Bool) → Place
   references : Place
-  header : Open → Place
+  header : Allowed → Place
   acknowledgments : Told → Place
   shallow_info : Place
   wanted_refs : Place
@@ -39,7 +39,7 @@ place_of format (Some opening) message = Some version
 place_of format (Some advertisement) message = Some (capabilities (is_spoken (noted_of message) format))
 place_of format (Some listing) message = Some references
 place_of format (Some (sections done)) message =
-    if is_header_due message then Some (header (open_after done message)) else place_in (section_of message) (lines_of message)
+    if is_header_due message then Some (header (allowed_after done message)) else place_in (section_of message) (lines_of message)
 place_of format (Some closing) message = Some response_end
 
 -- the place after these packets of a conversation

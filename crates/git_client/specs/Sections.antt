@@ -5,7 +5,7 @@ use Rattle.std.specs.Str.{bytes_eq}
 use Rattle.git_pkt.specs.Packets.{Pkt, delim, payload, text_of}
 use Rattle.git_client.specs.declared.sections.Section.{Section}
 use Rattle.git_client.specs.declared.sections.Section.TheVariants.{Acknowledgments, ShallowInfo, WantedRefs, Packfile}
-use Rattle.git_client.specs.declared.sections.Open.{Open}
+use Rattle.git_client.specs.declared.sections.Allowed.{Allowed}
 use Rattle.git_client.specs.declared.sections.Told.{Told}
 
 -- the text of a section's header
@@ -60,31 +60,31 @@ is_empty [] = true
 is_empty (p ∷ packets) = false
 
 -- which sections may begin after these packets: the acknowledgments first, to a request without `done`, and the others once
-abbrev pub open_after : Bool → List Pkt → Open
-open_after done message = record {
+abbrev pub allowed_after : Bool → List Pkt → Allowed
+allowed_after done message = record {
   acknowledgments = not done && is_empty message;
   shallow_info = not (has_begun ShallowInfo message);
   wanted_refs = not (has_begun WantedRefs message);
 }
 
 -- the section may begin; a packfile always may
-abbrev pub allows : Open → Section → Bool
-allows open Acknowledgments = open.acknowledgments
-allows open ShallowInfo = open.shallow_info
-allows open WantedRefs = open.wanted_refs
-allows open Packfile = true
+abbrev pub allows : Allowed → Section → Bool
+allows allowed Acknowledgments = allowed.acknowledgments
+allows allowed ShallowInfo = allowed.shallow_info
+allows allowed WantedRefs = allowed.wanted_refs
+allows allowed Packfile = true
 
 -- a text is the header of a section that may begin
-abbrev pub may_begin : Open → Option Section → Bool
-may_begin open None = false
-may_begin open (Some section) = allows open section
+abbrev pub may_begin : Allowed → Option Section → Bool
+may_begin allowed None = false
+may_begin allowed (Some section) = allows allowed section
 
 -- which sections may begin after this one
-abbrev pub next_open : Open → Section → Open
-next_open open Acknowledgments = record { acknowledgments = false; shallow_info = open.shallow_info; wanted_refs = open.wanted_refs }
-next_open open ShallowInfo = record { acknowledgments = false; shallow_info = false; wanted_refs = open.wanted_refs }
-next_open open WantedRefs = record { acknowledgments = false; shallow_info = open.shallow_info; wanted_refs = false }
-next_open open Packfile = record { acknowledgments = false; shallow_info = open.shallow_info; wanted_refs = open.wanted_refs }
+abbrev pub next_allowed : Allowed → Section → Allowed
+next_allowed allowed Acknowledgments = record { acknowledgments = false; shallow_info = allowed.shallow_info; wanted_refs = allowed.wanted_refs }
+next_allowed allowed ShallowInfo = record { acknowledgments = false; shallow_info = false; wanted_refs = allowed.wanted_refs }
+next_allowed allowed WantedRefs = record { acknowledgments = false; shallow_info = allowed.shallow_info; wanted_refs = false }
+next_allowed allowed Packfile = record { acknowledgments = false; shallow_info = allowed.shallow_info; wanted_refs = allowed.wanted_refs }
 
 -- what lines of the acknowledgments said
 abbrev pub told_by : List Pkt → Told

@@ -18,7 +18,7 @@ use Rattle.git_msg.specs.WrittenRequest.{left_to_write}
 use Rattle.git_msg.specs.declared.requests.Request.{Request}
 use Rattle.git_msg.specs.declared.capabilities.Capability.{Capability}
 use Rattle.git_msg.specs.declared.offers.Caps.{Caps}
-use Rattle.git_client.specs.Sections.{section_named, next_open, told_with, open_after}
+use Rattle.git_client.specs.Sections.{section_named, next_allowed, told_with, allowed_after}
 use Rattle.git_client.specs.Places.{Place, version, capabilities, references, header, acknowledgments, shallow_info, wanted_refs, packfile, response_end}
 use Rattle.git_client.specs.Events.{EventValue, capability, offered, reference, ack, nak, ready, shallow, unshallow, wanted_ref, pack, progress, ended}
 use Rattle.git_client.specs.Events.{SaysLine, Gives, band_says}
@@ -29,7 +29,7 @@ use Rattle.git_client.specs.declared.events.Event.TheVariants.{Capability as Cap
 use Rattle.git_client.specs.declared.events.Event.TheVariants.{Shallow as ShallowEvent, Unshallow as UnshallowEvent, WantedRef as WantedRefEvent, Pack as PackEvent, Progress as ProgressEvent, Ended as EndedEvent}
 use Rattle.git_client.specs.declared.sections.Section.{Section}
 use Rattle.git_client.specs.declared.sections.Section.TheVariants.{Acknowledgments as AcknowledgmentsSection, ShallowInfo as ShallowInfoSection, WantedRefs as WantedRefsSection, Packfile as PackfileSection}
-use Rattle.git_client.specs.declared.sections.Open.{Open}
+use Rattle.git_client.specs.declared.sections.Allowed.{Allowed}
 use Rattle.git_client.specs.declared.sections.Told.{Told}
 use Rattle.git_client.specs.declared.phase.Phase.{Phase}
 use Rattle.git_client.specs.declared.phase.Phase.TheVariants.{Hearing, Ready as ReadyPhase, Asking, Leaving, Left, Failed}
@@ -45,10 +45,10 @@ abbrev pub place_due : Caps → Format → Due → Place
 place_due caps format Version = version
 place_due caps format Capabilities = capabilities (is_spoken caps format)
 place_due caps format References = references
-place_due caps format (Header open) = header open
+place_due caps format (Header allowed) = header allowed
 place_due caps format (Acknowledgments told) = acknowledgments told
-place_due caps format (ShallowInfo open) = shallow_info
-place_due caps format (WantedRefs open) = wanted_refs
+place_due caps format (ShallowInfo allowed) = shallow_info
+place_due caps format (WantedRefs allowed) = wanted_refs
 place_due caps format Packfile = packfile
 place_due caps format ResponseEnd = response_end
 
@@ -119,32 +119,32 @@ pub record FindsCapability (caps : Caps) (text : List ℕ) (places : CapabilityP
   pub notes : (packets : List Pkt) (line : List ℕ) → text_of line ≡ text → caps ≡ noted_of packets → after ≡ noted_of (payload line ∷ packets)
 
 -- what is due after the header of a section
-abbrev pub due_in : Open → Section → Due
-due_in open AcknowledgmentsSection = Acknowledgments (record { any = false; nak = false; ready = false })
-due_in open ShallowInfoSection = ShallowInfo (next_open open ShallowInfoSection)
-due_in open WantedRefsSection = WantedRefs (next_open open WantedRefsSection)
-due_in open PackfileSection = Packfile
+abbrev pub due_in : Allowed → Section → Due
+due_in allowed AcknowledgmentsSection = Acknowledgments (record { any = false; nak = false; ready = false })
+due_in allowed ShallowInfoSection = ShallowInfo (next_allowed allowed ShallowInfoSection)
+due_in allowed WantedRefsSection = WantedRefs (next_allowed allowed WantedRefsSection)
+due_in allowed PackfileSection = Packfile
 
-abbrev pub due_after_header : Open → Option Section → Due
-due_after_header open None = Header open
-due_after_header open (Some section) = due_in open section
+abbrev pub due_after_header : Allowed → Option Section → Due
+due_after_header allowed None = Header allowed
+due_after_header allowed (Some section) = due_in allowed section
 
 -- what is due after a text line
 abbrev pub due_after_line : Due → List ℕ → Due
 due_after_line Version text = Capabilities
-due_after_line (Header open) text = due_after_header open (section_named text)
+due_after_line (Header allowed) text = due_after_header allowed (section_named text)
 due_after_line (Acknowledgments told) text = Acknowledgments (told_with told text)
 due_after_line due text = due
 
 -- after the acknowledgments each other section may come
-abbrev pub after_acknowledgments : Open
+abbrev pub after_acknowledgments : Allowed
 after_acknowledgments = record { acknowledgments = false; shallow_info = true; wanted_refs = true }
 
 -- what is due after a delimiter
 abbrev pub due_after_delimiter : Due → Due
 due_after_delimiter (Acknowledgments told) = Header after_acknowledgments
-due_after_delimiter (ShallowInfo open) = Header open
-due_after_delimiter (WantedRefs open) = Header open
+due_after_delimiter (ShallowInfo allowed) = Header allowed
+due_after_delimiter (WantedRefs allowed) = Header allowed
 due_after_delimiter due = due
 
 -- where a conversation stands after the flush of a response
@@ -227,7 +227,7 @@ question_in (Some request) = Some (asked_of request)
 -- what is due first of a response
 abbrev pub first_due : Asked → Due
 first_due (ls_refs q) = References
-first_due (fetch q) = Header (open_after q.done [])
+first_due (fetch q) = Header (allowed_after q.done [])
 
 -- the capability that a borrowed one shows
 abbrev pub capability_value : Capability → EventValue

@@ -11,14 +11,14 @@ ghost use Rattle.git_client.specs.Turns.{first_due, is_asking};
 use crate::client::Client;
 use crate::events::Sent;
 use crate::phase::{Due, Phase};
-use crate::sections::Open;
+use crate::sections::Allowed;
 use git_msg::{Request, RequestWriter};
 use git_pkt::{Fault, Kind, Packet, put};
 use std::alloc::Allocator;
 
 impl<A: Allocator + Copy> Client<A> {
     ghost use Rattle.git_client.specs.Client.{Asks, RefusesToAsk, Leaves, Pulls, Puts, ask_checks, can_ask, fault_of, left_to_say, caps_of, format_of, phase_of, reader_of};
-    ghost use Rattle.git_client.specs.contracts.asking.Client.{the_row};
+    ghost use Rattle.git_client.specs.contracts.client.Client.{the_row};
 
     /// Asks: from now on the packets of the request are to be pulled, and then its response is due. Refused in this order, at
     /// the client's position, with the request handed back and the client as it was: `WrongFormat` for a request of another
@@ -52,7 +52,7 @@ impl<A: Allocator + Copy> Client<A> {
     /// What is to be done next: a packet is to be sent, bytes of the server are needed, a request can be asked, or nothing is
     /// left to do. Each packet is given once.
     pub fn pull(&mut self) -> Sent<'_>
-        ensures* after { sem 𝓛 (Rests the_row self.entry (λ new. Pulls self.old result new)) }
+        ensures* after { sem 𝓛 (Rests (the_row A.row A.Allocator) self.entry (λ new. Pulls self.old result new)) }
     {
         match self.phase {
             Phase::Hearing(_) => Sent::NeedInput,
@@ -128,6 +128,6 @@ fn response_due<A: Allocator + Copy>(request: &Request<A>) -> Due
 {
     match request {
         Request::LsRefs(_) => Due::References,
-        Request::Fetch(fetch) => Due::Header(Open::at_head(fetch.done())),
+        Request::Fetch(fetch) => Due::Header(Allowed::at_head(fetch.done())),
     }
 }

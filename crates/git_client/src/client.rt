@@ -1,12 +1,13 @@
 //! The client: it asks, reads what a server says in pieces of any size, and hands out events.
 
-ghost use Rattle.std.specs.Prelude.{◌≡◌, ◌≢◌, ◌+◌, ◌-◌, ◌≤◌, ◌<◌, ◌↔◌, IsTrue, ℕ, suc, List, [], Option, Some, None, true, false, length, take, drop, MatchOption};
+ghost use Rattle.std.specs.Prelude.{◌≡◌, ◌≢◌, ◌+◌, ◌-◌, ◌≤◌, ◌<◌, ◌↔◌, IsTrue, ℕ, suc, List, [], ◌∷◌, None, true, false, length, take, drop, MatchOption};
+ghost use Rattle.std.specs.Option.{ForSome};
 ghost use Rattle.std.specs.Borrow.{sem};
+ghost use Rattle.git_msg.specs.HeldRequest.{format_of as request_format};
 ghost use Rattle.std.specs.Io.BufRead.{Rests};
 ghost use Rattle.git_names.specs.declared.object_format.Format.{Format};
 ghost use Rattle.git_pkt.specs.Splits.{Given, Splits};
 ghost use Rattle.git_pkt.specs.PacketReader.{fault_of as reader_fault_of, held_of, is_open};
-ghost use Rattle.git_msg.specs.HeldRequest.{format_of as request_format};
 ghost use Rattle.git_client.specs.Parts.{Terms, terms_of};
 ghost use Rattle.git_client.specs.Turns.{takes_packets, fault_in, is_asking, left_in, Fits, LiesIn, events_at, value_at, values_of, capability_value, wanted_at};
 ghost use Rattle.git_client.specs.Events.{turns_of, capability, reference, wanted_ref};
@@ -59,7 +60,7 @@ pub struct Client<A: Allocator + Copy> {
     ghost sound: { fault_in phase ≡ None → reader_fault_of reader ≡ None },
     ghost shut: { fault_in phase ≡ None → takes_packets phase ≡ false → is_open reader ≡ false },
     ghost owes: { is_asking phase ≡ true → left_in phase request ≢ [] },
-    ghost formats: { (q : Request A) → request ≡ Some q → request_format q ≡ format },
+    ghost formats: { ForSome request (λ q. request_format q ≡ format) },
 }
 
 impl<A: Allocator + Copy> Client<A> {
@@ -141,7 +142,7 @@ impl<A: Allocator + Copy> Client<A> {
     /// Reads on. It returns after one event, or with the whole piece used, or at the first fault. A client that does not
     /// wait for input uses nothing. Call it again with the bytes that it did not use.
     pub fn feed<'a>(&'a mut self, piece: &'a [u8]) -> Heard<'a>
-        ensures* after { sem 𝓛 (Rests the_row self.entry (λ new. Feeds self.old piece.now result new)) }
+        ensures* after { sem 𝓛 (Rests (the_row A.row A.Allocator) self.entry (λ new. Feeds self.old piece.now result new)) }
         ensures used { result.used ≤ length piece.now }
     {
         if let Phase::Failed(fault) = self.phase {

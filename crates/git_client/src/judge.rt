@@ -10,7 +10,7 @@ ghost use Rattle.git_client.specs.declared.events.Ending.{Ending};
 use crate::events::Ending;
 use crate::judge_lines::{judge_acknowledgment, judge_boundary, judge_capability, judge_header, judge_reference, judge_version, judge_wanted};
 use crate::phase::{Due, Phase, Said, Turn};
-use crate::sections::Open;
+use crate::sections::Allowed;
 use git_msg::{Caps, is_error};
 use git_names::Format;
 use git_pkt::{Band, Kind, Packet, split_band, text};
@@ -69,8 +69,8 @@ fn judge_line(format: Format, due: Due, caps: Caps, line: &[u8]) -> Result<Turn,
             let said = judge_reference(format, line)?;
             Ok(heard(said, caps, due))
         }
-        Due::Header(open) => {
-            let next = judge_header(open, line)?;
+        Due::Header(allowed) => {
+            let next = judge_header(allowed, line)?;
             Ok(heard(Said::Nothing, caps, next))
         }
         Due::Acknowledgments(told) => {
@@ -150,10 +150,10 @@ fn judge_delimiter(due: Due, caps: Caps) -> Result<Turn, Kind>
             if !told.ready {
                 return Err(Kind::UnexpectedPacket);
             }
-            Ok(heard(Said::Nothing, caps, Due::Header(Open::AFTER_ACKNOWLEDGMENTS)))
+            Ok(heard(Said::Nothing, caps, Due::Header(Allowed::AFTER_ACKNOWLEDGMENTS)))
         }
-        Due::ShallowInfo(open) => Ok(heard(Said::Nothing, caps, Due::Header(open))),
-        Due::WantedRefs(open) => Ok(heard(Said::Nothing, caps, Due::Header(open))),
+        Due::ShallowInfo(allowed) => Ok(heard(Said::Nothing, caps, Due::Header(allowed))),
+        Due::WantedRefs(allowed) => Ok(heard(Said::Nothing, caps, Due::Header(allowed))),
         _ => Err(Kind::UnexpectedPacket),
     }
 }

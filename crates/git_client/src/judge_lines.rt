@@ -10,7 +10,7 @@ ghost use Rattle.git_client.specs.Sections.{may_begin, section_named, told_with}
 ghost use Rattle.git_client.specs.Turns.{FindsCapability, Says, due_after_header};
 
 use crate::phase::{CapabilityPlaces, Due, Said};
-use crate::sections::{Open, Section, Told, read_header};
+use crate::sections::{Allowed, Section, Told, read_header};
 use git_msg::{Boundary, Caps, locate_reference, read_ack, read_boundary, read_capability, read_wanted};
 use git_names::Format;
 use git_pkt::Kind;
@@ -47,18 +47,18 @@ pub(crate) fn judge_reference(format: Format, line: &[u8]) -> Result<Said, Kind>
 }
 
 /// The header of a section, with what is due after it.
-pub(crate) fn judge_header(open: Open, line: &[u8]) -> Result<Due, Kind>
+pub(crate) fn judge_header(allowed: Allowed, line: &[u8]) -> Result<Due, Kind>
     ensures { (format : Format) → MatchResult result
-        (λ due. (may_begin open (section_named line.now) ≡ true) × (due ≡ due_after_header open (section_named line.now)))
-        (IsLineFault (header open) format line.now) }
+        (λ due. (may_begin allowed (section_named line.now) ≡ true) × (due ≡ due_after_header allowed (section_named line.now)))
+        (IsLineFault (header allowed) format line.now) }
 {
     let Some(section) = read_header(line) else {
         return Err(Kind::UnexpectedSection);
     };
-    if !open.allows(section) {
+    if !allowed.allows(section) {
         return Err(Kind::UnexpectedSection);
     }
-    let next = open.after(section);
+    let next = allowed.after(section);
     Ok(match section {
         Section::Acknowledgments => Due::Acknowledgments(Told::NOTHING),
         Section::ShallowInfo => Due::ShallowInfo(next),
@@ -80,7 +80,7 @@ pub(crate) fn judge_acknowledgment(
         if told.any {
             return Err(Kind::BadLine);
         }
-        return Ok((Said::Nak, Told { any: true, nak: true, ready: false }));
+        return Ok((Said::Nak, Told { any: true, nak: true, ready: told.ready }));
     }
     if line == b"ready".as_slice() {
         if told.ready {
@@ -109,6 +109,8 @@ pub(crate) fn judge_boundary(format: Format, line: &[u8]) -> Result<Said, Kind>
 pub(crate) fn judge_wanted(format: Format, line: &[u8]) -> Result<Said, Kind>
     ensures { MatchResult result (Says wanted_refs format line.now) (IsLineFault wanted_refs format line.now) }
 {
-    let wanted = read_wanted(format, line)?;
-    Ok(Said::WantedRef(wanted.id))
+    match read_wanted(format, line) {
+        Ok(wanted) => Ok(Said::WantedRef(wanted.id)),
+        Err(kind) => Err(kind),
+    }
 }

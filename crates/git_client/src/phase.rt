@@ -1,6 +1,6 @@
 //! Where a conversation stands, and what a packet says there.
 
-use crate::sections::{Open, Told};
+use crate::sections::{Allowed, Told};
 use git_msg::{Caps, ReferencePlaces, RequestWriter};
 use git_names::Oid;
 use git_pkt::Fault;
@@ -32,11 +32,11 @@ pub(crate) enum Due {
     /// References, or the flush.
     References,
     /// The header of a section of a response to `fetch`.
-    Header(Open),
+    Header(Allowed),
     Acknowledgments(Told),
     /// Lines of the section, or the delimiter, after which these sections may begin.
-    ShallowInfo(Open),
-    WantedRefs(Open),
+    ShallowInfo(Allowed),
+    WantedRefs(Allowed),
     Packfile,
     /// The response-end packet after a response's flush.
     ResponseEnd,

@@ -1,7 +1,7 @@
 //! The sections of a response to `fetch`, gitprotocol-v2(5).
 
 ghost use Rattle.std.specs.Prelude.{◌≡◌, []};
-ghost use Rattle.git_client.specs.Sections.{allows, next_open, open_after, section_named};
+ghost use Rattle.git_client.specs.Sections.{allows, next_allowed, allowed_after, section_named};
 
 /// A section of a response to `fetch`.
 #[derive(Clone, Copy, Debug, PartialEq, Eq)]
@@ -14,7 +14,7 @@ pub(crate) enum Section {
 
 /// Which sections may begin, beside the packfile, which always may.
 #[derive(Clone, Copy, Debug, PartialEq, Eq)]
-pub(crate) struct Open {
+pub(crate) struct Allowed {
     pub(crate) acknowledgments: bool,
     pub(crate) shallow_info: bool,
     pub(crate) wanted_refs: bool,
@@ -40,19 +40,19 @@ impl Told {
     };
 }
 
-impl Open {
+impl Allowed {
     /// After the acknowledgments each other section may come.
-    pub(crate) const AFTER_ACKNOWLEDGMENTS: Open = Open {
+    pub(crate) const AFTER_ACKNOWLEDGMENTS: Allowed = Allowed {
         acknowledgments: false,
         shallow_info: true,
         wanted_refs: true,
     };
 
     /// At the head of a response: the acknowledgments answer a request without `done` alone.
-    pub(crate) fn at_head(done: bool) -> Open
-        ensures { result ≡ open_after done [] }
+    pub(crate) fn at_head(done: bool) -> Allowed
+        ensures { result ≡ allowed_after done [] }
     {
-        Open {
+        Allowed {
             acknowledgments: !done,
             shallow_info: true,
             wanted_refs: true,
@@ -72,10 +72,10 @@ impl Open {
     }
 
     /// Which sections may begin after this one: the acknowledgments stand first, and each section once.
-    pub(crate) fn after(&self, section: Section) -> Open
-        ensures { result ≡ next_open self.now section }
+    pub(crate) fn after(&self, section: Section) -> Allowed
+        ensures { result ≡ next_allowed self.now section }
     {
-        Open {
+        Allowed {
             acknowledgments: false,
             shallow_info: self.shallow_info & !matches!(section, Section::ShallowInfo),
             wanted_refs: self.wanted_refs & !matches!(section, Section::WantedRefs),

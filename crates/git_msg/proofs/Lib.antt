@@ -25,3 +25,5 @@ pub mod DigitValues
 pub mod PacketFaults
 pub mod WholeRequests
 pub mod ResponseLines
+pub mod ResponseFaults
+pub mod OfferedArguments
