@@ -29,7 +29,7 @@ module _ (t : Terms) (asked : List Asked) (clean given : List Given) (rest : Lis
   ready_in Ready e h = h
   ready_in phase e h = absurd (cc)
 
-all_clean : (t : Terms) (asked : List Asked) (bytes : List ℕ) (clean given : List Given) (rest : List ℕ) (events : List EventValue)
+abbrev pub all_clean : (t : Terms) (asked : List Asked) (bytes : List ℕ) (clean given : List Given) (rest : List ℕ) (events : List EventValue)
     → Splits 0 bytes given rest → GiveAll t asked [] clean events → given ≡ clean → Sounds t asked bytes clean events
 all_clean t asked bytes clean given rest events splits gives cut = record {
   given = given;
