@@ -1,7 +1,6 @@
 -- What a client has heard and said, by its history.
-use Rattle.std.proofs.Common.{◌≡◌, ℕ, ◌+◌, true, List, [], ◌∷◌, ◌++◌, length, Option, None, inl, inr, refl, sym, ap, ◌∙◌, subst, append-nil, zero-add}
+use Rattle.std.proofs.Common.{◌≡◌, ℕ, true, List, [], ◌∷◌, ◌++◌, length, Option, None, inl, inr, refl, sym, ap, ◌∙◌, subst, append-nil, zero-add}
 use Rattle.git_pkt.specs.Splits.{Given, Splits}
-use Rattle.git_pkt.specs.PacketReader.{fault_of as reader_fault_of}
 use Rattle.git_pkt.specs.declared.reader.PacketReader.{PacketReader}
 use Rattle.git_pkt.proofs.KnownRest.{sound_rest}
 use Rattle.git_msg.specs.Asked.{Asked}
@@ -12,7 +11,7 @@ use Rattle.git_client.specs.Turns.{is_ready, fault_in, question_in}
 use Rattle.git_client.specs.Client.{History, Converses, StandsIn, Goes, AreWhole, fault_of, can_ask, bytes_used, phase_of, reader_of, caps_of, request_of}
 use Rattle.git_client.specs.Client.{left_to_say, said_of, spelled}
 use Rattle.git_client.specs.declared.phase.Phase.{Phase}
-use Rattle.git_client.specs.declared.phase.Phase.TheVariants.{Hearing, Ready, Asking, Leaving, Left, Failed}
+use Rattle.git_client.specs.declared.phase.Phase.TheVariants.{Ready, Failed}
 use Rattle.git_client.specs.declared.client.Client.{Client}
 use Rattle.git_client.proofs.Sequences.{gives_more}
 
@@ -55,7 +54,7 @@ module _ {A : Type 0} (t : Terms) (h : History) (client : Client A) (c : Convers
   has_events = (
     c.clean,
     sounds_in t h.asked h.used c.clean c.given c.rest h.events c.reads.splits c.gives (question_in (request_of client)) (reader_of client)
-    (phase_of client) c.stands,
+        (phase_of client) c.stands,
   )
 
   all_gives : c.given ≡ c.clean → GiveAll t h.asked [] c.given h.events

@@ -12,7 +12,7 @@ use Rattle.git_client.specs.Conversation.{GiveAll, HasDue, FirstMalformed}
 use Rattle.git_client.specs.Turns.{fault_in, question_in}
 use Rattle.git_client.specs.Client.{History, Converses, StandsIn, RefusedPacket, RefusedBytes, EndedEarly, fault_of, phase_of, reader_of, request_of}
 use Rattle.git_client.specs.declared.phase.Phase.{Phase}
-use Rattle.git_client.specs.declared.phase.Phase.TheVariants.{Hearing, Ready, Asking, Leaving, Left, Failed}
+use Rattle.git_client.specs.declared.phase.Phase.TheVariants.{Failed}
 use Rattle.git_client.specs.declared.client.Client.{Client}
 
 module _ (t : Terms) (asked : List Asked) (bytes : List ℕ) (clean given : List Given) (rest : List ℕ) (events : List EventValue)

@@ -1,63 +1,23 @@
 -- The pack bytes that are handed out are the pack of the bytes, as far as whole packets have it.
-use Rattle.std.proofs.Common.{◌≡◌, ℕ, Bool, true, false, List, [], ◌∷◌, ◌++◌, Option, Some, Result, Ok, Err, refl, sym, ap, ◌∙◌, subst, append_assoc, cond}
+use Rattle.std.proofs.Common.{◌≡◌, ℕ, List, [], ◌∷◌, ◌++◌, Option, Some, Ok, refl, sym, ap, ◌∙◌}
 use Rattle.std.proofs.lemmas.List.{append-nil}
 use Rattle.git_names.specs.declared.object_format.Format.{Format}
 use Rattle.git_pkt.specs.Packets.{Pkt, flush, delim, resp_end, payload, text_of}
 use Rattle.git_pkt.specs.Splits.{Given}
-use Rattle.git_pkt.specs.declared.fault.Kind.{Kind}
 use Rattle.git_pkt.proofs.Streams.{one_split}
 use Rattle.git_msg.specs.Asked.{Asked}
 use Rattle.git_client.specs.declared.events.Ending.{Ending}
 use Rattle.git_client.specs.declared.events.Ending.TheVariants.{FlushOnly, ResponseEnd}
 use Rattle.git_client.specs.Parts.{Terms, nearest}
-use Rattle.git_client.specs.Places.{Place, version, capabilities, references, header, acknowledgments, shallow_info, wanted_refs, packfile, response_end}
+use Rattle.git_client.specs.Places.{Place, capabilities, references, acknowledgments, shallow_info, wanted_refs, packfile, response_end}
 use Rattle.git_client.specs.Places.{place_after}
-use Rattle.git_client.specs.Events.{EventValue, capability, offered, reference, ack, nak, ready, shallow, unshallow, wanted_ref, pack, progress, ended}
-use Rattle.git_client.specs.Events.{GivesLine, Gives, ended_by, flush_says, delimiter_says, response_end_says, pack_bytes}
-use Rattle.git_client.specs.Conversation.{GiveAll, IsStop, Sounds, HasEvents, IsConversation}
-use Rattle.git_client.specs.Packs.{pack_in, pack_of, open_pack_in, open_part, HasPack}
-use Rattle.git_client.proofs.PlaceLines.{line_is, band_is}
-use Rattle.git_client.proofs.Sequences.{said_by, said_if, said_unless}
+use Rattle.git_client.specs.Events.{EventValue, pack}
+use Rattle.git_client.specs.Events.{Gives, ended_by, flush_says, delimiter_says, response_end_says, pack_bytes}
+use Rattle.git_client.specs.Conversation.{GiveAll, Sounds, HasEvents, IsConversation}
+use Rattle.git_client.specs.Packs.{pack_in, pack_of, open_part, HasPack}
+use Rattle.git_client.proofs.PlacePackets.{comes_after, packet_adds}
 use Rattle.git_client.proofs.Determined.{same_sounds}
 use Rattle.git_client.proofs.EventsHeard.{all_clean}
-
--- events that have nothing of the pack
-nothing_packed : (one events : List EventValue) → events ≡ one → pack_bytes one ≡ [] → pack_bytes events ≡ []
-nothing_packed one events e none = ap pack_bytes e ∙ none
-
-ended_packs : (ending : Ending) → pack_bytes (ended_by ending) ≡ []
-ended_packs FlushOnly = refl
-ended_packs ResponseEnd = refl
-
-flush_packs : (ending : Ending) (place : Place) (events : List EventValue) → flush_says ending place ≡ Ok events
-    → pack_bytes events ≡ pack_in (Some place) flush
-flush_packs ending (capabilities spoken) events says = nothing_packed _ events (said_if spoken _ _ events says) refl
-flush_packs ending references events says = nothing_packed _ events (said_by _ _ events refl says) (ended_packs ending)
-flush_packs ending (acknowledgments told) events says = nothing_packed _ events (said_unless told.ready _ _ events says) (ended_packs ending)
-flush_packs ending packfile events says = nothing_packed _ events (said_by _ _ events refl says) (ended_packs ending)
-flush_packs ending _ events says = absurd (cc)
-
-delimiter_packs : (place : Place) (events : List EventValue) → delimiter_says place ≡ Ok events
-    → pack_bytes events ≡ pack_in (Some place) delim
-delimiter_packs (acknowledgments told) events says = nothing_packed _ events (said_if told.ready _ _ events says) refl
-delimiter_packs shallow_info events says = nothing_packed _ events (said_by _ _ events refl says) refl
-delimiter_packs wanted_refs events says = nothing_packed _ events (said_by _ _ events refl says) refl
-delimiter_packs _ events says = absurd (cc)
-
-response_end_packs : (place : Place) (events : List EventValue) → response_end_says place ≡ Ok events
-    → pack_bytes events ≡ pack_in (Some place) resp_end
-response_end_packs response_end events says = nothing_packed _ events (said_by _ _ events refl says) refl
-response_end_packs _ events says = absurd (cc)
-
--- what a packet gives of the pack is what it has on the first band
-packs_in : (format : Format) (ending : Ending) (place : Place) (p : Pkt) (events : List EventValue) → Gives format ending place p events
-    → pack_bytes events ≡ pack_in (Some place) p
-packs_in format ending packfile (payload bytes) events gives = (band_is bytes events gives).1
-packs_in format ending response_end (payload bytes) events gives = absurd gives
-packs_in format ending place (payload bytes) events gives = (line_is place format (text_of bytes) events gives.says).bytes
-packs_in format ending place flush events gives = flush_packs ending place events gives
-packs_in format ending place delim events gives = delimiter_packs place events gives
-packs_in format ending place resp_end events gives = response_end_packs place events gives
 
 pack_bytes-append : (events later : List EventValue) → pack_bytes (events ++ later) ≡ pack_bytes events ++ pack_bytes later
 pack_bytes-append [] later = refl
@@ -70,7 +30,8 @@ pub packs_all : (t : Terms) (asked : List Asked) (before : List Pkt) (gs : List 
 packs_all t asked before [] events e = ap pack_bytes e
 packs_all t asked before (g ∷ gs) events (now, later, e, at, rest) =
     let here : pack_bytes now ≡ pack_in (place_after t asked before) g.packet =
-    packs_in t.format t.ending at.place g.packet now at.gives ∙ ap (λ (o : Option Place). pack_in o g.packet) (sym at.is_place) in
+    (packet_adds t.format t.ending at.place before g.packet now (comes_after t asked before at.place at.is_place) at.gives).bytes
+    ∙ ap (λ (o : Option Place). pack_in o g.packet) (sym at.is_place) in
     ap pack_bytes e
     ∙ pack_bytes-append now later
     ∙ ap (λ (l : List ℕ). l ++ pack_bytes later) here
