@@ -1,3 +1,5 @@
+pub mod PlaceLines
+pub mod PlacePackets
 pub mod Sequences
 pub mod Carries
 pub mod Judged
@@ -9,4 +11,5 @@ pub mod Determined
 pub mod Writing
 pub mod Faults
 pub mod OneFault
+pub mod Packs
 pub mod EventsHeard
