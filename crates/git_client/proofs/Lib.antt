@@ -1,5 +1,7 @@
 pub mod Sequences
 pub mod Carries
+pub mod PartSteps
+pub mod SectionSteps
 pub mod Judged
 pub mod Taken
 pub mod Held
