@@ -2,6 +2,8 @@ pub mod PlaceLines
 pub mod PlacePackets
 pub mod Sequences
 pub mod Carries
+pub mod PartSteps
+pub mod SectionSteps
 pub mod Judged
 pub mod Taken
 pub mod Held
