@@ -1,4 +1,5 @@
 pub mod Sequences
+pub mod Dues
 pub mod Carries
 pub mod Judged
 pub mod Taken
