@@ -1,3 +1,4 @@
+pub mod PlaceLines
 pub mod Sequences
 pub mod Dues
 pub mod Carries
@@ -10,4 +11,5 @@ pub mod Determined
 pub mod Writing
 pub mod Faults
 pub mod OneFault
+pub mod Packs
 pub mod EventsHeard
