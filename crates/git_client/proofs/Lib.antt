@@ -1,4 +1,6 @@
+pub mod PlaceLines
 pub mod Sequences
+pub mod Dues
 pub mod Carries
 pub mod Judged
 pub mod Taken
@@ -9,4 +11,5 @@ pub mod Determined
 pub mod Writing
 pub mod Faults
 pub mod OneFault
+pub mod Packs
 pub mod EventsHeard
