@@ -3,6 +3,7 @@ pub mod Sequences
 pub mod Dues
 pub mod Carries
 pub mod Judged
+pub mod Questions
 pub mod Taken
 pub mod Held
 pub mod Closed
