@@ -1,5 +1,5 @@
 -- What a question, and each packet of it that is said, does to all that came and went.
-use Rattle.std.proofs.Common.{arith, ◌≡◌, ◌≢◌, ℕ, suc, ◌+◌, ◌-◌, Bool, true, false, List, [], ◌∷◌, ◌++◌, length, Option, Some, None}
+use Rattle.std.proofs.Common.{arith, ◌≡◌, ◌≢◌, ℕ, Bool, true, false, List, [], ◌∷◌, ◌++◌, length, Option, Some, None}
 use Rattle.std.proofs.Common.{refl, sym, ap, ◌∙◌, subst, append_assoc, length-append, cond, slice_get}
 use Rattle.std.specs.Bool.{OnTrue, OnFalse}
 use Rattle.std.proofs.lemmas.Grind.{flat_map-append}
@@ -18,9 +18,9 @@ use Rattle.git_msg.specs.WrittenRequest.{lines_written, written_of, left_to_writ
 use Rattle.git_msg.specs.declared.offers.Caps.{Caps}
 use Rattle.git_msg.specs.declared.requests.Request.{Request}
 use Rattle.git_msg.specs.declared.writer.RequestWriter.{RequestWriter}
-use Rattle.git_client.specs.Parts.{Terms, Part, listing, sections, closing, nearest, message_of, is_end_due, answer_to, part_after, part_of}
+use Rattle.git_client.specs.Parts.{Terms, listing, sections, closing, nearest, answer_to, part_after, part_of}
 use Rattle.git_client.specs.Sections.{is_header_due, allowed_after}
-use Rattle.git_client.specs.Turns.{takes_packets, fault_in, is_ready, has_left_in, left_in, question_in, first_due}
+use Rattle.git_client.specs.Turns.{fault_in, is_ready, has_left_in, left_in, question_in, first_due}
 use Rattle.git_client.specs.Client.{History, Converses, AsksOn, SaysOn, GivesOne, Puts, StandsIn, Goes, Behind, AreWhole, IsAsked, IsDue}
 use Rattle.git_client.specs.Client.{questions_of, said_of, spelled, format_of, ending_of, caps_of, phase_of, reader_of, request_of, has_left, left_to_say}
 use Rattle.git_client.specs.declared.phase.Phase.{Phase}
