@@ -1,6 +1,7 @@
 pub mod PlaceLines
 pub mod Sequences
 pub mod Dues
+pub mod Refusals
 pub mod Carries
 pub mod Judged
 pub mod Taken
