@@ -1,4 +1,5 @@
 pub mod PlaceLines
+pub mod PlacePackets
 pub mod Sequences
 pub mod Dues
 pub mod Refusals

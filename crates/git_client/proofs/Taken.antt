@@ -28,7 +28,7 @@ use Rattle.git_client.specs.declared.client.Client.{Client}
 use Rattle.git_client.specs.declared.client.Outcome.{Outcome}
 use Rattle.git_client.specs.declared.client.Outcome.TheVariants.{Failed as FailedNow}
 use Rattle.git_client.proofs.PlaceLines.{line_is, band_is}
-use Rattle.git_client.proofs.Sequences.{one_if, said_by, said_if, said_unless}
+use Rattle.git_client.proofs.PlacePackets.{one_if, said_by, said_if, said_unless}
 use Rattle.git_client.proofs.Refusals.{TellsFault, is_own, why_refused}
 use Rattle.git_client.proofs.Carries.{goes_on, HearsPacket, HearsBytes, hears_packet, hears_refused, hears_failed}
 
