@@ -4,6 +4,8 @@ pub mod Sequences
 pub mod Dues
 pub mod Refusals
 pub mod Carries
+pub mod PartSteps
+pub mod SectionSteps
 pub mod Judged
 pub mod Taken
 pub mod Held
