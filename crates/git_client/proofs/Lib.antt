@@ -7,6 +7,7 @@ pub mod Carries
 pub mod PartSteps
 pub mod SectionSteps
 pub mod Judged
+pub mod Questions
 pub mod Taken
 pub mod Held
 pub mod Closed
