@@ -86,16 +86,15 @@ nothing_left : (reader : PacketReader) (bytes : List ℕ) (given : List Given) (
 nothing_left reader bytes given rest sound shut reads = none_between reader rest (sound_rest reader 0 bytes given rest sound reads).0 shut
 
 module _ {A : Type 0} where
-  -- the client has read these packets of these bytes, and has nothing to say after it either
+  -- the client has read these packets of these bytes
   pub record HearsBytes (old new : Client A) (due : Due) (u : List ℕ) (more : List Given) : Type 0 where
     pub hearing : phase_of old ≡ Hearing due
-    pub quiet : is_quiet (phase_of new) ≡ true
     pub reads : ReadsOn (reader_of old) u more (reader_of new)
     pub format : format_of new ≡ format_of old
     pub ending : ending_of new ≡ ending_of old
 
   -- where the conversation stands after it
-  pub record StandsAfter (t : Terms) (h : History) (old new : Client A) (now : List EventValue) (given : List Given) (rest : List ℕ) (end : ℕ) : Type 0 where
+  pub record Continues (t : Terms) (h : History) (old new : Client A) (now : List EventValue) (given : List Given) (rest : List ℕ) (end : ℕ) : Type 0 where
     pub clean : List Given
     pub gives : GiveAll t h.asked [] clean (h.events ++ now)
     pub notes : caps_of new ≡ noted_of (advertisement_of (nearest clean []))
@@ -104,11 +103,12 @@ module _ {A : Type 0} where
 
   -- it goes on by these bytes, whatever they are
   hears_bytes : (old new : Client A) (due : Due) (u : List ℕ) (more : List Given) (now : List EventValue) → HearsBytes old new due u more
+      → is_quiet (phase_of new) ≡ true
       → ((t : Terms) (h : History) (c : Converses t h old) (rest : List ℕ)
       → Goes t h.asked c.clean c.given c.rest None (Hearing due) (reader_of old)
       → Reads (reader_of new) 0 (h.used ++ u) (c.given ++ more) rest
-      → StandsAfter t h old new now (c.given ++ more) rest (length (h.used ++ u))) → HearsOn old u now new
-  hears_bytes old new due u more now b after t h c =
+      → Continues t h old new now (c.given ++ more) rest (length (h.used ++ u))) → HearsOn old u now new
+  hears_bytes old new due u more now b quiet after t h c =
       let goes : StandsIn (Hearing due) t h.asked c.clean c.given c.rest (length h.used) (question_in (request_of old)) (reader_of old) =
       subst (λ (phase : Phase). StandsIn phase t h.asked c.clean c.given c.rest (length h.used) (question_in (request_of old)) (reader_of old))
       b.hearing c.stands in
@@ -125,10 +125,10 @@ module _ {A : Type 0} where
         gives = a.gives;
         notes = a.notes;
         stands = a.stands;
-        left = c.left ∙ not_left (phase_of old) was ∙ sym (not_left (phase_of new) b.quiet);
+        left = c.left ∙ not_left (phase_of old) was ∙ sym (not_left (phase_of new) quiet);
         spoken =
             ap (λ (l : List Pkt). h.given ++ spelled l)
-                (owes_nothing (phase_of new) (request_of new) b.quiet ∙ sym (owes_nothing (phase_of old) (request_of old) was))
+                (owes_nothing (phase_of new) (request_of new) quiet ∙ sym (owes_nothing (phase_of old) (request_of old) was))
             ∙ c.spoken ∙ ap (λ (l : List Pkt). spelled (l ++ farewell h.left)) (sym a.same_questions);
       }
 
@@ -144,7 +144,8 @@ module _ {A : Type 0} where
       → IsTurn (format_of old) (ending_of old) due (caps_of old) g.packet turn → goes_on turn.next ≡ true → phase_of new ≡ turn.next
       → caps_of new ≡ turn.caps → HearsOn old u (events_at turn.said (body_of g.packet)) new
   hears_packet old new due u g turn b judged goes_after now caps =
-      hears_bytes old new due u (g ∷ []) (events_at turn.said (body_of g.packet)) b.bytes (λ t h c rest goes reads.
+      hears_bytes old new due u (g ∷ []) (events_at turn.said (body_of g.packet)) b.bytes
+      (ap is_quiet now ∙ goes_quietly turn.next goes_after) (λ t h c rest goes reads.
       let of_terms : IsTurn t.format t.ending due (caps_of old) g.packet turn =
       subst (λ (ending : Ending). IsTurn t.format ending due (caps_of old) g.packet turn) c.ending_is
       (subst (λ (format : Format). IsTurn format (ending_of old) due (caps_of old) g.packet turn) c.format_is judged) in
@@ -168,7 +169,7 @@ module _ {A : Type 0} where
   -- what refuses nothing adds nothing
   fails : (t : Terms) (h : History) (old new : Client A) (c : Converses t h old) (f : Fault) (given : List Given) (rest : List ℕ) (end : ℕ)
       → phase_of new ≡ Failed f → caps_of new ≡ caps_of old
-      → StandsIn (Failed f) t h.asked c.clean given rest end (question_in (request_of new)) (reader_of new) → StandsAfter t h old new [] given rest end
+      → StandsIn (Failed f) t h.asked c.clean given rest end (question_in (request_of new)) (reader_of new) → Continues t h old new [] given rest end
   fails t h old new c f given rest end failed caps stands = record {
     clean = c.clean;
     gives = subst (GiveAll t h.asked [] c.clean) (sym (append-nil h.events)) c.gives;
@@ -182,7 +183,7 @@ module _ {A : Type 0} where
       → Refuses (format_of old) (ending_of old) (place_due (caps_of old) (format_of old) due) g.packet kind
       → phase_of new ≡ Failed (record { kind = kind; offset = g.offset }) → caps_of new ≡ caps_of old → HearsOn old u [] new
   hears_refused old new due u g kind b judged failed caps =
-      hears_bytes old new due u (g ∷ []) [] b.bytes (λ t h c rest goes reads.
+      hears_bytes old new due u (g ∷ []) [] b.bytes (ap is_quiet failed) (λ t h c rest goes reads.
       let of_terms : Refuses t.format t.ending (place_due (caps_of old) t.format due) g.packet kind =
       subst (λ (ending : Ending). Refuses t.format ending (place_due (caps_of old) t.format due) g.packet kind) c.ending_is
       (subst (λ (format : Format). Refuses format (ending_of old) (place_due (caps_of old) format due) g.packet kind) c.format_is judged) in
@@ -199,7 +200,7 @@ module _ {A : Type 0} where
   pub hears_failed : (old new : Client A) (due : Due) (u : List ℕ) (f : Fault) → HearsBytes old new due u []
       → reader_fault_of (reader_of new) ≡ Some f → phase_of new ≡ Failed f → caps_of new ≡ caps_of old → HearsOn old u [] new
   hears_failed old new due u f b told failed caps =
-      hears_bytes old new due u [] [] b (λ t h c rest goes reads.
+      hears_bytes old new due u [] [] b (ap is_quiet failed) (λ t h c rest goes reads.
       let end : ℕ = length (h.used ++ u) in
       let start : 0 + end ≡ end = omega arith in
       let stops : StandsAt (Some f) (0 + end - length rest) (0 + end) rest (reader_of new) =

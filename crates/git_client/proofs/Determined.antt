@@ -1,5 +1,5 @@
 -- The events and the faults of packets are determined by the packets and by what was asked.
-use Rattle.std.proofs.Common.{◌≡◌, inl, inr, ℕ, List, [], ◌∷◌, ◌++◌, Option, Some, Result, Ok, Err, ap, sym, ◌∙◌, refl, subst}
+use Rattle.std.proofs.Common.{◌≡◌, inl, inr, ℕ, List, [], ◌∷◌, ◌++◌, Some, Result, Ok, Err, ap, sym, ◌∙◌, refl, subst}
 use Rattle.git_names.specs.declared.object_format.Format.{Format}
 use Rattle.git_pkt.specs.Packets.{Pkt, flush, delim, resp_end, payload, text_of}
 use Rattle.git_pkt.specs.Splits.{Given}
@@ -125,7 +125,7 @@ same_cut t asked before (g ∷ gs) (h ∷ hs) more tail events later e a b s z =
       events_are = a.2 ∙ ap (λ (l : List EventValue). l ++ a.1) now ∙ ap (λ (l : List EventValue). b.0 ++ l) then.events_are ∙ sym b.2;
     }
 
-same_sounds : (t : Terms) (asked : List Asked) (bytes : List ℕ) (clean others : List Given) (events later : List EventValue) (a : Sounds t asked bytes clean events)
+pub same_sounds : (t : Terms) (asked : List Asked) (bytes : List ℕ) (clean others : List Given) (events later : List EventValue) (a : Sounds t asked bytes clean events)
     (b : Sounds t asked bytes others later) → SameCut clean others a.more b.more events later
 same_sounds t asked bytes clean others events later a b =
     let same = one_split 0 bytes a.given b.given a.rest b.rest a.splits.spelled b.splits.spelled a.splits.ends b.splits.ends in

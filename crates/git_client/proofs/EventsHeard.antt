@@ -1,20 +1,98 @@
--- What a client has heard, by the bytes that it used.
-use Rattle.std.proofs.Common.{◌≡◌, ℕ, ◌+◌, ◌-◌, true, List, [], ◌∷◌, ◌++◌, length, Option, None, inl, inr, refl, sym, ◌∙◌, subst, append-nil, zero-add}
+-- What a client has heard and said, by its history.
+use Rattle.std.proofs.Common.{◌≡◌, ℕ, true, List, [], ◌∷◌, ◌++◌, length, Option, None, inl, inr, refl, sym, ap, ◌∙◌, subst, append-nil, zero-add}
 use Rattle.git_pkt.specs.Splits.{Given, Splits}
+use Rattle.git_pkt.specs.declared.reader.PacketReader.{PacketReader}
+use Rattle.git_pkt.proofs.KnownRest.{sound_rest}
 use Rattle.git_msg.specs.Asked.{Asked}
-use Rattle.git_client.specs.Parts.{Terms}
+use Rattle.git_client.specs.Parts.{Terms, nearest}
 use Rattle.git_client.specs.Events.{EventValue}
 use Rattle.git_client.specs.Conversation.{GiveAll, Sounds, HasEvents, GoesWell, IsConversation}
+use Rattle.git_client.specs.Turns.{is_ready, fault_in, question_in}
+use Rattle.git_client.specs.Client.{History, Converses, StandsIn, Goes, AreWhole, fault_of, can_ask, bytes_used, phase_of, reader_of, caps_of, request_of}
+use Rattle.git_client.specs.Client.{left_to_say, said_of, spelled}
+use Rattle.git_client.specs.declared.phase.Phase.{Phase}
+use Rattle.git_client.specs.declared.phase.Phase.TheVariants.{Ready, Failed}
+use Rattle.git_client.specs.declared.client.Client.{Client}
 use Rattle.git_client.proofs.Sequences.{gives_more}
+
+module _ (t : Terms) (asked : List Asked) (clean given : List Given) (rest : List ℕ) (end : ℕ) (question : Option Asked) (reader : PacketReader) where
+  -- a phase without a fault
+  pub goes_in : (phase : Phase) → fault_in phase ≡ None → StandsIn phase t asked clean given rest end question reader
+      → Goes t asked clean given rest question phase reader
+  goes_in (Failed fault) e h = absurd (cc)
+  goes_in phase e h = h
+
+  -- where a client can ask, all before was whole, and nothing stands after it
+  ready_in : (phase : Phase) → is_ready phase ≡ true → StandsIn phase t asked clean given rest end question reader
+      → Goes t asked clean given rest question Ready reader
+  ready_in Ready e h = h
+  ready_in phase e h = absurd (cc)
+
+abbrev pub all_clean : (t : Terms) (asked : List Asked) (bytes : List ℕ) (clean given : List Given) (rest : List ℕ) (events : List EventValue)
+    → Splits 0 bytes given rest → GiveAll t asked [] clean events → given ≡ clean → Sounds t asked bytes clean events
+all_clean t asked bytes clean given rest events splits gives cut = record {
+  given = given;
+  rest = rest;
+  more = [];
+  splits = splits;
+  cut = cut ∙ sym (append-nil clean);
+  gives = gives;
+  stops = tt;
+}
+
+module _ (t : Terms) (asked : List Asked) (bytes : List ℕ) (clean given : List Given) (rest : List ℕ) (events : List EventValue)
+    (splits : Splits 0 bytes given rest) (gives : GiveAll t asked [] clean events) (question : Option Asked) (reader : PacketReader) where
+  sounds_in : (phase : Phase) → StandsIn phase t asked clean given rest (length bytes) question reader → Sounds t asked bytes clean events
+  sounds_in (Failed fault) (inl p) =
+      record { given = given; rest = rest; more = p.bad ∷ []; splits = splits; cut = p.cut; gives = gives; stops = (fault.kind, p.refused) }
+  sounds_in (Failed fault) (inr (inl p)) = all_clean t asked bytes clean given rest events splits gives p.cut
+  sounds_in (Failed fault) (inr (inr p)) = all_clean t asked bytes clean given rest events splits gives p.cut
+  sounds_in phase h = all_clean t asked bytes clean given rest events splits gives h.cut
+
+module _ {A : Type 0} (t : Terms) (h : History) (client : Client A) (c : Converses t h client) where
+  pub has_events : HasEvents t h.asked h.used h.events
+  has_events = (
+    c.clean,
+    sounds_in t h.asked h.used c.clean c.given c.rest h.events c.reads.splits c.gives (question_in (request_of client)) (reader_of client)
+        (phase_of client) c.stands,
+  )
+
+  all_gives : c.given ≡ c.clean → GiveAll t h.asked [] c.given h.events
+  all_gives cut = subst (λ (gs : List Given). GiveAll t h.asked [] gs h.events) (sym cut) c.gives
+
+  pub goes_well : fault_of client ≡ None → GoesWell t h.asked h.used h.events
+  goes_well none =
+      let goes =
+      goes_in t h.asked c.clean c.given c.rest (length h.used) (question_in (request_of client)) (reader_of client) (phase_of client) none c.stands in
+      record {
+        given = c.given;
+        rest = c.rest;
+        splits = c.reads.splits;
+        sound = all_gives goes.cut;
+        still_open = (sound_rest (reader_of client) 0 h.used c.given c.rest goes.sound c.reads).1;
+      }
+
+  pub is_whole : can_ask client ≡ true → IsConversation t h.asked h.used h.events
+  is_whole ready =
+      let goes =
+      ready_in t h.asked c.clean c.given c.rest (length h.used) (question_in (request_of client)) (reader_of client) (phase_of client) ready c.stands in
+      let whole : AreWhole t h.asked (nearest c.given []) =
+      subst (λ (gs : List Given). AreWhole t h.asked (nearest gs [])) (sym goes.cut) goes.behind in
+      record {
+        given = c.given;
+        splits = subst (λ (rest : List ℕ). Splits 0 h.used c.given rest) (goes.shut refl) c.reads.splits;
+        gives = all_gives goes.cut;
+        all_flushes = whole.all_flushes;
+        no_end_due = whole.no_end_due;
+      }
+
+  pub position_is : bytes_used client ≡ length h.used
+  position_is = c.reads.position ∙ zero-add (length h.used)
+
+  pub all_is_said : left_to_say client ≡ [] → h.given ≡ spelled (said_of t.format (caps_of client) h.asked h.left)
+  all_is_said nothing = sym (append-nil h.given) ∙ ap (λ l. h.given ++ spelled l) (sym nothing) ∙ c.spoken
 
 pub later_questions : (t : Terms) (asked more : List Asked) (bytes : List ℕ) (events : List EventValue) → IsConversation t asked bytes events
     → HasEvents t (asked ++ more) bytes events
-later_questions t asked more bytes events h = (h.given, record {
-  given = h.given;
-  rest = [];
-  more = [];
-  splits = h.splits;
-  cut = sym (append-nil h.given);
-  gives = gives_more t asked more [] h.given events h.gives;
-  stops = tt;
-})
+later_questions t asked more bytes events h =
+    (h.given, all_clean t (asked ++ more) bytes h.given h.given [] events h.splits (gives_more t asked more [] h.given events h.gives) refl)

@@ -1,7 +1,11 @@
 pub mod PlaceLines
+pub mod PlacePackets
 pub mod Sequences
 pub mod Dues
+pub mod Refusals
 pub mod Carries
+pub mod PartSteps
+pub mod SectionSteps
 pub mod Judged
 pub mod Questions
 pub mod Taken

@@ -15,10 +15,10 @@ use Rattle.git_client.specs.declared.sections.Allowed.{Allowed}
 use Rattle.git_client.specs.Parts.{Terms, Part, closing, nearest, is_zero, advertisement_of, message_of, is_end_due, answer_to, part_after, part_of}
 use Rattle.git_client.specs.Places.{Place, version, capabilities, references, header, acknowledgments, shallow_info, wanted_refs, packfile, response_end}
 use Rattle.git_client.specs.Places.{place_in, place_of, place_after}
-use Rattle.git_client.specs.Events.{EventValue, capability, offered, reference, ack, nak, ready, shallow, unshallow, wanted_ref, pack, progress, ended}
+use Rattle.git_client.specs.Events.{EventValue, offered, ended}
 use Rattle.git_client.specs.Events.{Gives, GivesLine, ended_by, flush_says, delimiter_says, response_end_says, turns_of}
-use Rattle.git_client.specs.Conversation.{GivesAt, RefusesAt, GiveAll, IsStop, HasDue}
-use Rattle.git_client.proofs.PlaceLines.{line_is, band_is}
+use Rattle.git_client.specs.Conversation.{GivesAt, RefusesAt, GiveAll, HasDue}
+use Rattle.git_client.proofs.PlacePackets.{nothing_due, comes_after, one_if, packet_adds}
 
 pub nearest_push : (gs : List Given) (g : Given) (before : List Pkt) → nearest (gs ++ g ∷ []) before ≡ g.packet ∷ nearest gs before
 nearest_push [] g before = refl
@@ -56,7 +56,8 @@ part_chosen : (due : Bool) (part more : Option Part) → (part ≡ None) ⊎ (mo
 part_chosen true part more h = inr refl
 part_chosen false part more h = h
 
-part_same : (t : Terms) (asked more : List Asked) (before : List Pkt) → (part_of t asked before ≡ None) ⊎ (part_of t (asked ++ more) before ≡ part_of t asked before)
+part_same : (t : Terms) (asked more : List Asked) (before : List Pkt)
+    → (part_of t asked before ≡ None) ⊎ (part_of t (asked ++ more) before ≡ part_of t asked before)
 part_same t asked more [] = inr refl
 part_same t asked more (p ∷ before) =
     part_chosen (is_end_due t.ending (p ∷ before)) (part_after asked (flushes (p ∷ before))) (part_after (asked ++ more) (flushes (p ∷ before)))
@@ -97,159 +98,11 @@ refuses_more t asked more before p kind h =
 pub due_more : (t : Terms) (asked more : List Asked) (before : List Pkt) → HasDue t asked before → HasDue t (asked ++ more) before
 due_more t asked more before (place, is) = (place, place_more t asked more before place is)
 
--- how many flushes stand before a place, and whether a response end is due there
-abbrev pub ComesAfter : Place → ℕ → Bool → Type 0
-ComesAfter version n due = (n ≡ 0) × (due ≡ false)
-ComesAfter (capabilities spoken) n due = (n ≡ 0) × (due ≡ false)
-ComesAfter response_end n due = due ≡ true
-ComesAfter place n due = ((k : ℕ) × (n ≡ suc k)) × (due ≡ false)
-
-moved : (found place : Place) (n : ℕ) (due : Bool) → Some found ≡ Some place → ComesAfter found n due → ComesAfter place n due
-moved found place n due e h = let same : found ≡ place = cc in subst (λ (q : Place). ComesAfter q n due) same h
-
-in_section : (section : Option Section) (lines : List Pkt) (place : Place) (k : ℕ) → place_in section lines ≡ Some place → ComesAfter place (suc k) false
-in_section None lines place k h = absurd (cc)
-in_section (Some Acknowledgments) lines place k h = moved _ place (suc k) false h ((k, refl), refl)
-in_section (Some ShallowInfo) lines place k h = moved _ place (suc k) false h ((k, refl), refl)
-in_section (Some WantedRefs) lines place k h = moved _ place (suc k) false h ((k, refl), refl)
-in_section (Some Packfile) lines place k h = moved _ place (suc k) false h ((k, refl), refl)
-
-in_sections : (at_header : Bool) (allowed : Allowed) (section : Option Section) (lines : List Pkt) (place : Place) (k : ℕ)
-    → cond at_header (Some (header allowed)) (place_in section lines) ≡ Some place → ComesAfter place (suc k) false
-in_sections true allowed section lines place k h = moved _ place (suc k) false h ((k, refl), refl)
-in_sections false allowed section lines place k h = in_section section lines place k h
-
-in_answer : (format : Format) (question : Option Asked) (message : List Pkt) (place : Place) (k : ℕ)
-    → place_of format (answer_to question) message ≡ Some place → ComesAfter place (suc k) false
-in_answer format None message place k h = absurd (cc)
-in_answer format (Some (ls_refs q)) message place k h = moved _ place (suc k) false h ((k, refl), refl)
-in_answer format (Some (fetch q)) message place k h = in_sections _ _ _ _ place k h
-
-in_part : (format : Format) (asked : List Asked) (due : Bool) (n : ℕ) (message : List Pkt) (place : Place)
-    → place_of format (cond due (Some closing) (part_after asked n)) message ≡ Some place → ComesAfter place n due
-in_part format asked true n message place h = moved _ place n true h refl
-in_part format asked false zero message place h = moved _ place zero false h (refl, refl)
-in_part format asked false (suc k) message place h = in_answer format (slice_get asked k) message place k h
-
-nothing_due : (ending : Ending) → is_end_due ending [] ≡ false
-nothing_due FlushOnly = refl
-nothing_due ResponseEnd = refl
-
-pub comes_after : (t : Terms) (asked : List Asked) (before : List Pkt) (place : Place) → place_after t asked before ≡ Some place
-    → ComesAfter place (flushes before) (is_end_due t.ending before)
-comes_after t asked [] place h = moved version place 0 (is_end_due t.ending []) h (refl, nothing_due t.ending)
-comes_after t asked (p ∷ before) place h =
-    in_part t.format asked (is_end_due t.ending (p ∷ before)) (flushes (p ∷ before)) (message_of (p ∷ before)) place h
-
 turns-append : (events later : List EventValue) → turns_of (events ++ later) ≡ turns_of events + turns_of later
 turns-append [] later = omega arith
 turns-append (offered ∷ events) later = omega (arith, turns-append events later)
 turns-append (ended ∷ events) later = omega (arith, turns-append events later)
 turns-append (event ∷ events) later = turns-append events later
-
-abbrev pub one_if : Bool → ℕ
-one_if b = cond b 1 0
-
--- what a packet adds: a turn, or a response end that is due
-abbrev AddsTurn : Ending → List Pkt → Pkt → List EventValue → Type 0
-AddsTurn ending before p now =
-    turns_of now + one_if (is_end_due ending (p ∷ before)) + flushes before ≡ flushes (p ∷ before) + one_if (is_end_due ending before)
-
-said_by : (says : Result (List EventValue) Kind) (one now : List EventValue) → says ≡ Ok one → says ≡ Ok now → now ≡ one
-said_by says one now e h = cc
-
-said_if : (allowed : Bool) (kind : Kind) (one now : List EventValue) → cond allowed (Ok one) (Err kind) ≡ Ok now → now ≡ one
-said_if true kind one now e = said_by (Ok one) one now refl e
-said_if false kind one now e = absurd (cc)
-
-said_unless : (refused : Bool) (kind : Kind) (one now : List EventValue) → cond refused (Err kind) (Ok one) ≡ Ok now → now ≡ one
-said_unless true kind one now e = absurd (cc)
-said_unless false kind one now e = said_by (Ok one) one now refl e
-
--- a packet that is no flush and no response end
-no_flush : (ending : Ending) (before : List Pkt) (p : Pkt) (now : List EventValue) → turns_of now ≡ 0 → flushes (p ∷ before) ≡ flushes before
-    → is_end_due ending (p ∷ before) ≡ false → is_end_due ending before ≡ false → AddsTurn ending before p now
-no_flush ending before p now turns same after due =
-    omega (arith, turns, same, ap one_if after, ap one_if due)
-
-after_payload : (ending : Ending) (line : List ℕ) (before : List Pkt) → is_end_due ending (payload line ∷ before) ≡ false
-after_payload FlushOnly line before = refl
-after_payload ResponseEnd line before = refl
-
-after_delimiter : (ending : Ending) (before : List Pkt) → is_end_due ending (delim ∷ before) ≡ false
-after_delimiter FlushOnly before = refl
-after_delimiter ResponseEnd before = refl
-
-after_response_end : (ending : Ending) (before : List Pkt) → is_end_due ending (resp_end ∷ before) ≡ false
-after_response_end FlushOnly before = refl
-after_response_end ResponseEnd before = refl
-
--- the flush of the advertisement
-offered_turn : (ending : Ending) (before : List Pkt) (now : List EventValue) → now ≡ offered ∷ [] → flushes before ≡ 0
-    → is_end_due ending before ≡ false → AddsTurn ending before flush now
-offered_turn FlushOnly before now e none due = omega (arith, ap turns_of e, ap one_if due)
-offered_turn ResponseEnd before now e none due =
-    omega (arith, ap turns_of e, ap (λ (n : ℕ). one_if (not (is_zero n))) none, ap one_if due)
-
--- the flush of a response
-response_turn : (ending : Ending) (before : List Pkt) (now : List EventValue) (k : ℕ) → now ≡ ended_by ending → flushes before ≡ suc k
-    → is_end_due ending before ≡ false → AddsTurn ending before flush now
-response_turn FlushOnly before now k e some due = omega (arith, ap turns_of e, ap one_if due)
-response_turn ResponseEnd before now k e some due =
-    omega (arith, ap turns_of e, ap (λ (n : ℕ). one_if (not (is_zero n))) some, ap one_if due)
-
-flush_turn : (ending : Ending) (place : Place) (before : List Pkt) (now : List EventValue)
-    → ComesAfter place (flushes before) (is_end_due ending before) → flush_says ending place ≡ Ok now → AddsTurn ending before flush now
-flush_turn ending (capabilities spoken) before now (none, due) says = offered_turn ending before now (said_if spoken _ _ now says) none due
-flush_turn ending references before now ((k, some), due) says = response_turn ending before now k (said_by _ _ now refl says) some due
-flush_turn ending (acknowledgments told) before now ((k, some), due) says =
-    response_turn ending before now k (said_unless told.ready _ _ now says) some due
-flush_turn ending packfile before now ((k, some), due) says = response_turn ending before now k (said_by _ _ now refl says) some due
-flush_turn ending _ before now after says = absurd (cc)
-
-delimiter_turn : (ending : Ending) (place : Place) (before : List Pkt) (now : List EventValue)
-    → ComesAfter place (flushes before) (is_end_due ending before) → delimiter_says place ≡ Ok now → AddsTurn ending before delim now
-delimiter_turn ending (acknowledgments told) before now (some, due) says =
-    no_flush ending before delim now (ap turns_of (said_if told.ready _ _ now says)) refl (after_delimiter ending before) due
-delimiter_turn ending shallow_info before now (some, due) says =
-    no_flush ending before delim now (ap turns_of (said_by _ _ now refl says)) refl (after_delimiter ending before) due
-delimiter_turn ending wanted_refs before now (some, due) says =
-    no_flush ending before delim now (ap turns_of (said_by _ _ now refl says)) refl (after_delimiter ending before) due
-delimiter_turn ending _ before now after says = absurd (cc)
-
-response_end_turn : (ending : Ending) (place : Place) (before : List Pkt) (now : List EventValue)
-    → ComesAfter place (flushes before) (is_end_due ending before) → response_end_says place ≡ Ok now → AddsTurn ending before resp_end now
-response_end_turn ending response_end before now due says =
-    omega (
-      arith,
-      ap turns_of (said_by _ _ now refl says),
-      ap one_if due,
-      ap one_if (after_response_end ending before),
-    )
-response_end_turn ending _ before now after says = absurd (cc)
-
-line_turn : (ending : Ending) (place : Place) (format : Format) (before : List Pkt) (line : List ℕ) (now : List EventValue) → is_end_due ending before ≡ false
-    → GivesLine place format (text_of line) now → AddsTurn ending before (payload line) now
-line_turn ending place format before line now due gives =
-    no_flush ending before (payload line) now (line_is place format (text_of line) now gives.says).turns refl (after_payload ending line before) due
-
-payload_turn : (ending : Ending) (place : Place) (format : Format) (before : List Pkt) (line : List ℕ) (now : List EventValue)
-    → ComesAfter place (flushes before) (is_end_due ending before) → Gives format ending place (payload line) now
-    → AddsTurn ending before (payload line) now
-payload_turn ending packfile format before line now (some, due) gives =
-    no_flush ending before (payload line) now (band_is line now gives).0 refl (after_payload ending line before) due
-payload_turn ending response_end format before line now due gives = absurd gives
-payload_turn ending version format before line now (none, due) gives = line_turn ending version format before line now due gives
-payload_turn ending (capabilities spoken) format before line now (none, due) gives =
-    line_turn ending (capabilities spoken) format before line now due gives
-payload_turn ending place format before line now (some, due) gives = line_turn ending place format before line now due gives
-
-one_turn : (ending : Ending) (place : Place) (format : Format) (before : List Pkt) (p : Pkt) (now : List EventValue)
-    → ComesAfter place (flushes before) (is_end_due ending before) → Gives format ending place p now → AddsTurn ending before p now
-one_turn ending place format before (payload line) now after gives = payload_turn ending place format before line now after gives
-one_turn ending place format before flush now after gives = flush_turn ending place before now after gives
-one_turn ending place format before delim now after gives = delimiter_turn ending place before now after gives
-one_turn ending place format before resp_end now after gives = response_end_turn ending place before now after gives
 
 -- packets add a turn for each flush but that of a response after which an end is due
 turns_after : (t : Terms) (asked : List Asked) (before : List Pkt) (gs : List Given) (events : List EventValue) → GiveAll t asked before gs events
@@ -261,7 +114,7 @@ turns_after t asked before (g ∷ gs) events (now, later, e, at, rest) =
       arith,
       ap turns_of e,
       turns-append now later,
-      one_turn t.ending at.place t.format before g.packet now (comes_after t asked before at.place at.is_place) at.gives,
+      (packet_adds t.format t.ending at.place before g.packet now (comes_after t asked before at.place at.is_place) at.gives).turn,
       turns_after t asked (g.packet ∷ before) gs later rest,
     )
 
