@@ -1,10 +1,13 @@
 pub mod PlaceLines
 pub mod PlacePackets
 pub mod Sequences
+pub mod Dues
+pub mod Refusals
 pub mod Carries
 pub mod PartSteps
 pub mod SectionSteps
 pub mod Judged
+pub mod Questions
 pub mod Taken
 pub mod Held
 pub mod Closed

@@ -67,14 +67,14 @@ pub record Adds (ending : Ending) (before : List Pkt) (p : Pkt) (now : List Even
   pub turn : turns_of now + one_if (is_end_due ending (p ∷ before)) + flushes before ≡ flushes (p ∷ before) + one_if (is_end_due ending before)
   pub bytes : pack_bytes now ≡ packed
 
-said_by : (says : Result (List EventValue) Kind) (one now : List EventValue) → says ≡ Ok one → says ≡ Ok now → now ≡ one
+pub said_by : (says : Result (List EventValue) Kind) (one now : List EventValue) → says ≡ Ok one → says ≡ Ok now → now ≡ one
 said_by says one now e h = cc
 
-said_if : (allowed : Bool) (kind : Kind) (one now : List EventValue) → cond allowed (Ok one) (Err kind) ≡ Ok now → now ≡ one
+pub said_if : (allowed : Bool) (kind : Kind) (one now : List EventValue) → cond allowed (Ok one) (Err kind) ≡ Ok now → now ≡ one
 said_if true kind one now e = said_by (Ok one) one now refl e
 said_if false kind one now e = absurd (cc)
 
-said_unless : (refused : Bool) (kind : Kind) (one now : List EventValue) → cond refused (Err kind) (Ok one) ≡ Ok now → now ≡ one
+pub said_unless : (refused : Bool) (kind : Kind) (one now : List EventValue) → cond refused (Err kind) (Ok one) ≡ Ok now → now ≡ one
 said_unless true kind one now e = absurd (cc)
 said_unless false kind one now e = said_by (Ok one) one now refl e
 
