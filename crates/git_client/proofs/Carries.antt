@@ -1,9 +1,9 @@
 -- A step of a client that hears carries what it stands for.
 use Rattle.std.proofs.Common.{arith, ◌≡◌, ◌≢◌, ◌⊎◌, inl, inr, Bool, Option, Some, ◌+◌, ◌-◌, ℕ, List, [], ◌∷◌, ◌++◌}
-use Rattle.std.proofs.Common.{suc, ◌≤◌, ◌↔◌, cond, length-append, length, true, false, None, ap, sym, ◌∙◌, refl, subst, append_assoc}
+use Rattle.std.proofs.Common.{length, true, false, None, ap, sym, ◌∙◌, refl, subst, append_assoc}
 use Rattle.std.proofs.lemmas.List.{append-nil}
 use Rattle.git_names.specs.declared.object_format.Format.{Format}
-use Rattle.git_pkt.specs.Packets.{Pkt, Spells, body_of, flushes}
+use Rattle.git_pkt.specs.Packets.{Pkt, payload, Spells, body_of}
 use Rattle.git_pkt.specs.Splits.{Given}
 use Rattle.git_pkt.specs.Faults.{StopsBy}
 use Rattle.git_pkt.specs.PacketReader.{Reads, ReadsOn, StandsAt, is_open, held_of, fault_of as reader_fault_of}
@@ -15,21 +15,21 @@ use Rattle.git_msg.specs.Advertisement.{noted_of}
 use Rattle.git_msg.specs.Asked.{Asked}
 use Rattle.git_msg.specs.declared.offers.Caps.{Caps}
 use Rattle.git_msg.specs.declared.requests.Request.{Request}
-use Rattle.git_client.specs.Parts.{Terms, nearest, advertisement_of, is_end_due}
-use Rattle.git_client.specs.Events.{EventValue, Refuses, turns_of}
+use Rattle.git_client.specs.Parts.{Terms, nearest, advertisement_of}
+use Rattle.git_client.specs.Events.{EventValue, Refuses}
 use Rattle.git_client.specs.Conversation.{GiveAll, RefusesAt, HasDue}
-use Rattle.git_client.specs.Turns.{takes_packets, fault_in, is_ready, has_left_in, is_asking, left_in, question_in, events_at, place_due, IsTurn}
+use Rattle.git_client.specs.Turns.{takes_packets, fault_in, has_left_in, is_asking, left_in, question_in, events_at, place_due, NotesAfter, IsTurn}
 use Rattle.git_client.specs.Client.{History, Converses, HearsOn, StandsIn, Goes, Behind, IsDue, RefusedPacket, RefusedBytes, EndedEarly, said_of, spelled}
 use Rattle.git_client.specs.Client.{questions_of, farewell, format_of, ending_of, caps_of, phase_of, reader_of, request_of, has_left, left_to_say}
 use Rattle.git_client.specs.declared.events.Ending.{Ending}
 use Rattle.git_client.specs.declared.phase.Phase.{Phase}
 use Rattle.git_client.specs.declared.phase.Phase.TheVariants.{Hearing, Ready, Asking, Leaving, Left, Failed}
 use Rattle.git_client.specs.declared.phase.Due.{Due}
-use Rattle.git_client.specs.declared.phase.Due.TheVariants.{ResponseEnd}
+use Rattle.git_client.specs.declared.phase.Due.TheVariants.{Capabilities}
 use Rattle.git_client.specs.declared.phase.Turn.{Turn}
 use Rattle.git_client.specs.declared.client.Client.{Client}
-use Rattle.git_client.proofs.Sequences.{nearest_push, give_all_push, turns_are_messages}
-use Rattle.git_client.proofs.Dues.{same_questions, end_is_due}
+use Rattle.git_client.proofs.Sequences.{nearest_push, give_all_push}
+use Rattle.git_client.proofs.PartSteps.{stands, no_flush}
 use Rattle.git_client.proofs.Judged.{place_is, judged_well, judged_badly}
 
 -- the server is heard, or can be asked
@@ -84,6 +84,18 @@ owes_nothing (Failed fault) request e = refl
 nothing_left : (reader : PacketReader) (bytes : List ℕ) (given : List Given) (rest : List ℕ) → reader_fault_of reader ≡ None → is_open reader ≡ false
     → Reads reader 0 bytes given rest → rest ≡ []
 nothing_left reader bytes given rest sound shut reads = none_between reader rest (sound_rest reader 0 bytes given rest sound reads).0 shut
+
+none_of : (asked : List Asked) → length asked ≡ 0 → asked ≡ []
+none_of [] e = refl
+none_of (q ∷ asked) e = absurd (omega arith)
+
+-- what is noted changes only before anything was asked
+same_questions : (t : Terms) (asked : List Asked) (before : List Pkt) (due : Due) (caps after : Caps) (p : Pkt) → IsDue t asked before due
+    → NotesAfter due caps p after → questions_of t.format after asked ≡ questions_of t.format caps asked
+same_questions t asked before Capabilities caps after (payload line) d notes =
+    let none = none_of asked (omega (arith, d.counts, no_flush t asked before _ (stands t asked before Capabilities d).is_part refl)) in
+    ap (questions_of t.format after) none ∙ sym (ap (questions_of t.format caps) none)
+same_questions t asked before due caps after p d notes = ap (λ (a : Caps). questions_of t.format a asked) notes
 
 module _ {A : Type 0} where
   -- the client has read these packets of these bytes
@@ -218,39 +230,3 @@ module _ {A : Type 0} where
       subst (λ (es : List EventValue). Converses t (record h { used = h.used ++ (u ++ v); events = es }) c) (append_assoc h.events now later)
       (subst (λ (bs : List ℕ). Converses t (record h { used = bs; events = (h.events ++ now) ++ later }) c) (append_assoc h.used u v)
       (second t (record h { used = h.used ++ u; events = h.events ++ now }) (first t h r)))
-
-turns_before : (t : Terms) (asked : List Asked) (clean : List Given) (events : List EventValue) (n : ℕ) → is_end_due t.ending (nearest clean []) ≡ false
-    → GiveAll t asked [] clean events → flushes (nearest clean []) ≡ n → turns_of events ≡ n
-turns_before t asked clean events n none g count =
-    let turns = turns_are_messages t asked clean events g in
-    let last = ap {B = ℕ} (λ (b : Bool). cond b 1 0) none in
-    omega (arith, turns, last, count)
-
--- no more turns than questions have come while something is due
-pub turns_while_due : (t : Terms) (asked : List Asked) (clean : List Given) (events : List EventValue) (due : Due) → GiveAll t asked [] clean events
-    → IsDue t asked (nearest clean []) due → turns_of events ≤ length asked
-turns_while_due t asked clean events ResponseEnd g d =
-    let turns = turns_are_messages t asked clean events g in
-    let last = ap {B = ℕ} (λ (b : Bool). cond b 1 0) (end_is_due t asked (nearest clean []) d) in
-    omega (arith, turns, last, d.counts)
-turns_while_due t asked clean events _ g d =
-    let turns = turns_are_messages t asked clean events g in
-    omega (arith, turns, d.counts)
-
--- a client can ask exactly where it has not left, and came to one turn more than it asked
-pub turn_is : (phase : Phase) (t : Terms) (asked : List Asked) (clean given : List Given) (rest : List ℕ) (end : ℕ) (question : Option Asked)
-    (reader : PacketReader) (events : List EventValue) → StandsIn phase t asked clean given rest end question reader → GiveAll t asked [] clean events
-    → (is_ready phase ≡ true) ↔ ((fault_in phase ≡ None) × (has_left_in phase ≡ false) × (turns_of events ≡ suc (length asked)))
-turn_is (Hearing due) t asked clean given rest end question reader events h g =
-    let few = turns_while_due t asked clean events due g h.behind in
-    (λ e. absurd (cc), λ (none, stays, more). absurd (omega (arith, few, more)))
-turn_is Ready t asked clean given rest end question reader events h g =
-    (λ e. (refl, refl, turns_before t asked clean events _ h.behind.no_end_due g h.behind.all_flushes), λ _. refl)
-turn_is (Asking writer) t asked clean given rest end question reader events h g =
-    let whole = h.behind.whole in
-    let few = turns_before t asked clean events _ whole.no_end_due g whole.all_flushes in
-    let long = ap length h.behind.asked_is ∙ length-append h.behind.earlier (h.behind.last ∷ []) in
-    (λ e. absurd (cc), λ (none, stays, more). absurd (omega (arith, few, more, long)))
-turn_is Leaving t asked clean given rest end question reader events h g = (λ e. absurd (cc), λ (none, stays, more). absurd (cc))
-turn_is Left t asked clean given rest end question reader events h g = (λ e. absurd (cc), λ (none, stays, more). absurd (cc))
-turn_is (Failed fault) t asked clean given rest end question reader events h g = (λ e. absurd (cc), λ (none, stays, more). absurd (cc))

@@ -3,7 +3,7 @@ use Rattle.git_pkt.specs.PacketReader.{held_of}
 use Rattle.git_pkt.specs.declared.fault.Fault.{Fault}
 use Rattle.git_client.specs.Events.{EventValue, pack, progress, turns_of}
 use Rattle.git_client.specs.Turns.{takes_packets, fault_in, events_at, values_of, Fits}
-use Rattle.git_client.specs.Client.{Comes, Feeds, HearsOn, Tells, LeavesStep, LeavesAfter, StandsAfter, phase_of, reader_of, said_last, can_ask, wants_input}
+use Rattle.git_client.specs.Client.{Feeds, HearsOn, Takes, LeavesAfter, StandsAfter, phase_of, reader_of, said_last, can_ask, wants_input}
 use Rattle.git_client.specs.declared.events.Event.{Event}
 use Rattle.git_client.specs.declared.events.Event.TheVariants.{Offered, Ended, Pack, Progress}
 use Rattle.git_client.specs.declared.events.HeardGot.TheVariants.{Event as EventGot}
@@ -49,33 +49,31 @@ module _ {A : Type 0} where
   event_leaves (Progress bytes) new comes = subst (λ (n : ℕ). ComesTo n new) (no_turns bytes.now).1 comes
   event_leaves event new comes = comes
 
-  feeds_event : (old new : Client A) (piece : List ℕ) (used : ℕ) (event : Event) → wants_input old ≡ true
-      → HearsOn old (take used piece) (values_of event) new → Tells (EventGot event) used piece old new
-      → Feeds old piece (record { used = used; got = EventGot event }) new
-  feeds_event old new piece used event wants hears tells = record {
-    hears = hears;
-    tells = tells;
-    news = λ f none is. absurd (cc);
-    stays = λ f is. absurd (has_no_fault (phase_of old) wants f is);
-    waits = λ idle. let never = sym wants ∙ idle in absurd (cc);
-  }
+  -- an event of bytes taken
+  feeds_event : (old new : Client A) (piece : List ℕ) (used : ℕ) (outcome : Outcome) (event : Event) → wants_input old ≡ true
+      → outcome ≡ EventNow → Takes old piece (record { used = used; outcome = outcome }) new
+      → values_of event ≡ events_at (said_last new) (drop 4 (held_of (reader_of new))) → Feeds old piece (record { used = used; got = EventGot event }) new
+  feeds_event old new piece used EventNow event wants is takes shows =
+      let body = drop 4 (held_of (reader_of new)) in
+      let comes : ComesTo (turns_of (values_of event)) new =
+      subst (λ (es : List EventValue). ComesTo (turns_of es) new) (sym shows) (said_comes (said_last new) body new takes.leaves.2) in
+      record {
+        hears = subst (λ (es : List EventValue). HearsOn old (take used piece) es new) (takes.comes.0 ∙ sym shows) takes.hears;
+        tells = (
+          takes.leaves.0,
+          takes.leaves.1,
+          (λ none. gives_some (said_last new) body takes.comes.1 takes.comes.2 (sym shows ∙ none)),
+          event_leaves event new comes,
+        );
+        news = λ f none is. absurd (cc);
+        stays = λ f is. absurd (has_no_fault (phase_of old) wants f is);
+        waits = λ idle. let never = sym wants ∙ idle in absurd (cc);
+      }
+  feeds_event old new piece used outcome event wants is takes shows = absurd (cc)
 
 pub returns-in-Event : goal.returns-in-Event
 returns-in-Event g c =
-    let takes = c.advance-step.ensures.takes in
-    let new = c.advance-step.new.self in
-    let used = c.advance-step.result.used in
-    let piece = c.args.piece.now in
-    let body = drop 4 (held_of (reader_of new)) in
-    let comes : Comes EventNow takes.events new = subst (λ (o : Outcome). Comes o takes.events new) c.in-Event.is takes.comes in
-    let left : LeavesStep EventNow used piece new = subst (λ (o : Outcome). LeavesStep o used piece new) c.in-Event.is takes.leaves in
-    let event : values_of c.event.result ≡ events_at (said_last new) body = c.event.ensures in
-    let hears : HearsOn c.args.self.now (take used piece) (values_of c.event.result) new =
-    subst (λ (es : List EventValue). HearsOn c.args.self.now (take used piece) es new) (comes.0 ∙ sym event) takes.hears in
-    let leaves : LeavesAfter c.event.result new =
-    event_leaves c.event.result new
-    (subst (λ (es : List EventValue). ComesTo (turns_of es) new) (sym event) (said_comes (said_last new) body new left.2)) in
     let feeds =
-    feeds_event c.args.self.now new piece used c.event.result (sym c.wants_input.ensures.value ∙ c.if-not-wants_input.false) hears
-    (left.0, left.1, (λ none. gives_some (said_last new) body comes.1 comes.2 (sym event ∙ none)), leaves) in
+    feeds_event c.args.self.now c.advance-step.new.self c.args.piece.now c.advance-step.result.used c.advance-step.result.outcome c.event.result
+    (sym c.wants_input.ensures.value ∙ c.if-not-wants_input.false) c.in-Event.is c.advance-step.ensures.takes c.event.ensures in
     ((refl, (λ _. tt), feeds), record { after = tt; used = c.advance-step.ensures.used })
