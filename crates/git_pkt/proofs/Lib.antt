@@ -14,3 +14,4 @@ pub mod Rests
 pub mod Texts
 pub mod Completions
 pub mod Cuttings
+pub mod Bands

@@ -1,11 +1,14 @@
 //! What follows from the definitions alone: each law is the contract of a function without parameters.
 
 ghost use Rattle.std.specs.Prelude.{◌≡◌, ◌≢◌, ◌⊎◌, ◌≤◌, ◌∷◌, ◌++◌, ℕ, List, [], Some, None, false, length, take, true};
+ghost use Rattle.git_pkt.specs.Bands.{IsNoBand, byte_of};
 ghost use Rattle.git_pkt.specs.Packets.{Pkt, Spells, body_of, spelling_of, text_of, longest_payload};
 ghost use Rattle.git_pkt.specs.Splits.{Given, NoneBegins, Splits};
 ghost use Rattle.git_pkt.specs.Faults.{IsOpen, RestFault, ShowsAtEnd};
 ghost use Rattle.git_pkt.specs.PacketReader.{Holds, HoldsAll, Reads, fault_of, is_open, open_length, position_of, rest_of};
+ghost use Rattle.git_pkt.specs.declared.band.Band.{Band};
 ghost use Rattle.git_pkt.specs.declared.fault.Fault.{Fault};
+ghost use Rattle.git_pkt.specs.declared.fault.Kind.{Kind};
 ghost use Rattle.git_pkt.specs.declared.fault.Kind.TheVariants.{StreamTooLong, Truncated};
 ghost use Rattle.git_pkt.specs.declared.reader.PacketReader.{PacketReader};
 
@@ -106,4 +109,16 @@ pub fn text_lacks_one_line_end()
     ensures taken_off { (text : List ℕ) → text_of (text ++ 10 ∷ []) ≡ text }
     ensures else_kept { (text : List ℕ) (byte : ℕ) → byte ≢ 10 → text_of (text ++ byte ∷ []) ≡ text ++ byte ∷ [] }
     ensures nothing { text_of [] ≡ [] }
+{}
+
+/// A payload has one band and one part after it at most.
+pub fn one_band()
+    ensures { (bytes part more : List ℕ) (band other : Band) → bytes ≡ byte_of band ∷ part → bytes ≡ byte_of other ∷ more
+        → (band ≡ other) × (part ≡ more) }
+{}
+
+/// A payload has a band or is refused, never both, and it is refused by one name at most.
+pub fn band_or_fault()
+    ensures never_both { (bytes part : List ℕ) (band : Band) (kind : Kind) → bytes ≡ byte_of band ∷ part → IsNoBand bytes kind → ⊥ }
+    ensures one_name { (bytes : List ℕ) (kind other : Kind) → IsNoBand bytes kind → IsNoBand bytes other → kind ≡ other }
 {}

@@ -12,7 +12,7 @@ mod packet;
 mod reader;
 mod told;
 
-pub use band::{Band, put_band};
+pub use band::{Band, put_band, split_band};
 pub use engine::{flush, receive, send};
 pub use escape::{escape_into, is_plain};
 pub use fault::{Fault, Kind, RunFault};
