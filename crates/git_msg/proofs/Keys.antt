@@ -144,3 +144,6 @@ pub value_or_empty : (text key : List ℕ) (value : Option (Bor (List ℕ))) (em
     → empty.now ≡ [] → IsCapability text key (option_copied value) → (unwrap_or value empty).now ≡ value_of text
 value_or_empty text key None empty e h = e ∙ sym (value_none text key h)
 value_or_empty text key (Some v) empty e h = sym (value_is text key v.now h)
+
+pub capability_or_none : (text key : List ℕ) (value : Option (List ℕ)) → IsCapability text key value → IsNoCapability text → ⊥
+capability_or_none text key value h none = none key value h

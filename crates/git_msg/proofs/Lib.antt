@@ -25,3 +25,4 @@ pub mod DigitValues
 pub mod PacketFaults
 pub mod WholeRequests
 pub mod ResponseLines
+pub mod ResponseFaults

@@ -30,8 +30,11 @@ no_digit c h same =
     let at : IsHexDigit 32 = subst IsHexDigit same h in
     omega arith
 
+pub digits_lack_space : (format : Format) (text : List ℕ) (id : ObjectName) → IsObjectName format text id → Lacks text 32
+digits_lack_space format text id h k within = no_digit (slice_index text k) (digits-object_name format text id h k within)
+
 digits_are_unspaced : (format : Format) (text : List ℕ) (id : ObjectName) → IsObjectName format text id → All (λ c. (c == 32) ≡ false) text
-digits_are_unspaced format text id h = lacking_is_unspaced text (λ k within. no_digit (slice_index text k) (digits-object_name format text id h k within))
+digits_are_unspaced format text id h = lacking_is_unspaced text (digits_lack_space format text id h)
 
 both_true : (a b : Bool) → (a && b) ≡ true → (a ≡ true) × (b ≡ true)
 both_true true b h = (refl, h)

@@ -32,7 +32,7 @@ apart : (c : ℕ) → c ≡ 115 → c ≡ 117 → ⊥
 apart c h k = omega arith
 
 -- one text does not begin with both words
-not_both : (text s t : List ℕ) → text ≡ codes "shallow " ++ s → text ≡ codes "unshallow " ++ t → ⊥
+pub not_both : (text s t : List ℕ) → text ≡ codes "shallow " ++ s → text ≡ codes "unshallow " ++ t → ⊥
 not_both text s t h k = apart (slice_index text 0) (ap (λ (xs : List ℕ). slice_index xs 0) h) (ap (λ (xs : List ℕ). slice_index xs 0) k)
 
 pub one_boundary : (format : Format) (text : List ℕ) (a b : Boundary) → IsBoundaryLine format text a → IsBoundaryLine format text b → a ≡ b

@@ -1,17 +1,19 @@
 -- The parts of a text between bytes of one value.
 use Rattle.std.proofs.Common.{arith, ◌≡◌, ℕ, ◌+◌, ◌-◌, ◌<◌, ◌≤◌, ◌==◌, Bool, true, false, Option, Some, None, List, [], ◌∷◌, ◌++◌, refl, ap, sym, ◌∙◌}
-use Rattle.std.proofs.Common.{length, take, drop, get_or, add-one, drop-cons}
+use Rattle.std.proofs.Common.{length, take, drop, get_or, add-one, drop-cons, length-append, suc}
 use Rattle.std.specs.Prelude.{All, position, nat_lt, if◌then◌else◌}
 use Rattle.std.specs.List.{position_or_len}
 use Rattle.std.proofs.lemmas.Grind.{common_steps}
 use Rattle.std.proofs.lemmas.Bool.Decides.{nat_tests}
+use Rattle.std.proofs.Math.Seq.{get_or-append_seam}
 use Rattle.std.proofs.lemmas.List.{take-append-drop}
 use Rattle.std.proofs.lemmas.List.Elements.{All-from_get_or}
 use Rattle.std.proofs.lemmas.List.Sums.{fails_before_first}
 use Rattle.std.proofs.lemmas.List.Quantifiers.{position-Some}
 use Rattle.std.proofs.lemmas.List.Splits.{slice_split_at, slice_split_none}
 use Rattle.git_pkt.proofs.Pieces.{left_of}
-use Rattle.git_msg.specs.Texts.{parts_of}
+use Rattle.git_names.specs.RefName.{Lacks}
+use Rattle.git_msg.specs.Texts.{parts_of, IsPartedAt}
 
 -- how many bytes are left, and one more, if something is left
 abbrev pub bytes_left : Option (List ℕ) → ℕ
@@ -51,3 +53,51 @@ pub one_part : (byte : ℕ) (text : List ℕ) → position (λ c. c == byte) tex
 one_part byte text e =
     slice_split_none (λ c. c == byte) text
     (All-from_get_or (λ c. (c == byte) ≡ false) text 0 (λ k within. position_in (λ c. c == byte) text e k within))
+
+other_byte : (c byte : ℕ) → (c == byte) ≡ false → c ≡ byte → ⊥
+other_byte c byte e same = grind (arith, nat_tests)
+
+same_byte : (c byte : ℕ) → (c == byte) ≡ true → c ≡ byte
+same_byte c byte e = grind (arith, nat_tests)
+
+-- the text at the first such byte
+pub parted_at : (byte : ℕ) (text : List ℕ) (at : ℕ) → position (λ c. c == byte) text ≡ Some at
+    → IsPartedAt byte text (take at text) (take (length text - (at + 1)) (drop (at + 1) text))
+parted_at byte text at e =
+    let p = position-Some (λ c. c == byte) text at 0 e in
+    record {
+      spelled = sym (take-append-drop at text) ∙ ap (λ (xs : List ℕ). take at text ++ xs) (drop_cons text at p.0)
+          ∙ ap (λ (c : ℕ). take at text ++ c ∷ drop (at + 1) text) (same_byte (get_or text at 0) byte p.1)
+          ∙ ap (λ (xs : List ℕ). take at text ++ byte ∷ xs) (sym (left_of text (at + 1) (omega (arith, p.0))));
+      first = λ k within same.
+          other_byte (get_or text k 0) byte (p.2 k (front_within text at k within)) (sym (front_byte text at k within) ∙ same);
+    }
+
+pub no_such_byte : (byte : ℕ) (text : List ℕ) → position (λ c. c == byte) text ≡ None → Lacks text byte
+no_such_byte byte text e k within same = other_byte (get_or text k 0) byte (position_in (λ c. c == byte) text e k within) same
+
+-- the byte that parts a text stands in it
+pub parted_has_byte : (byte : ℕ) (text before after : List ℕ) → IsPartedAt byte text before after → Lacks text byte → ⊥
+parted_has_byte byte text before after h lacks =
+    let long = ap length h.spelled ∙ length-append before (byte ∷ after) in
+    lacks (length before) (omega (arith, long)) (ap (λ (xs : List ℕ). get_or xs (length before) 0) h.spelled ∙ get_or-append_seam before byte after 0)
+
+-- what stands before the first such byte is no part of what stands before another
+lacks_rest : (c byte : ℕ) (text : List ℕ) → Lacks (c ∷ text) byte → Lacks text byte
+lacks_rest c byte text h k within = h (suc k) (omega arith)
+
+same_parting : (byte : ℕ) (before other after rest : List ℕ) → Lacks before byte → Lacks other byte → before ++ byte ∷ after ≡ other ++ byte ∷ rest
+    → (before ≡ other) × (after ≡ rest)
+same_parting byte [] [] after rest h k e = (refl, cc)
+same_parting byte [] (d ∷ other) after rest h k e = absurd (k 0 (omega arith) cc)
+same_parting byte (c ∷ before) [] after rest h k e = absurd (h 0 (omega arith) cc)
+same_parting byte (c ∷ before) (d ∷ other) after rest h k e =
+    let tails : before ++ byte ∷ after ≡ other ++ byte ∷ rest = cc in
+    let same = same_parting byte before other after rest (lacks_rest c byte before h) (lacks_rest d byte other k) tails in
+    let heads : c ≡ d = cc in
+    (ap (λ (x : ℕ). x ∷ before) heads ∙ ap (λ (xs : List ℕ). d ∷ xs) same.0, same.1)
+
+-- a text has one first such byte
+pub one_parting : (byte : ℕ) (text before other after rest : List ℕ) → IsPartedAt byte text before after → IsPartedAt byte text other rest
+    → (before ≡ other) × (after ≡ rest)
+one_parting byte text before other after rest h k = same_parting byte before other after rest h.first k.first (sym h.spelled ∙ k.spelled)

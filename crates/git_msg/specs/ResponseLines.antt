@@ -1,12 +1,14 @@
 -- The lines of fetch's response sections, by gitprotocol-v2(5).
-use Rattle.std.specs.Prelude.{◌≡◌, ℕ, List, ◌∷◌, ◌++◌, codes}
-use Rattle.git_names.specs.ObjectName.{ObjectName, IsObjectName, hex_of}
-use Rattle.git_names.specs.RefName.{IsRefName}
+use Rattle.std.specs.Prelude.{◌≡◌, ◌⊎◌, ℕ, List, ◌∷◌, ◌++◌, codes}
+use Rattle.git_names.specs.ObjectName.{ObjectName, IsObjectName, IsNoObjectName, hex_of}
+use Rattle.git_names.specs.RefName.{IsRefName, Lacks}
 use Rattle.git_names.specs.declared.object_format.Format.{Format}
+use Rattle.git_pkt.specs.declared.fault.Kind.{Kind}
+use Rattle.git_pkt.specs.declared.fault.Kind.TheVariants.{BadLine, BadObjectName, BadRefName}
 use Rattle.git_msg.specs.declared.response_lines.Boundary.{Boundary}
 use Rattle.git_msg.specs.declared.response_lines.Boundary.TheVariants.{Shallow, Unshallow}
 use Rattle.git_msg.specs.declared.response_lines.WantedRef.{WantedRef}
-use Rattle.git_msg.specs.Texts.{Follows}
+use Rattle.git_msg.specs.Texts.{BeginsOtherThan, Follows, IsPartedAt}
 
 -- a reference that was asked for by its name, wherever that lies, and the object that it points to
 pub record Wanted : Type 0 where
@@ -29,14 +31,31 @@ object_of (Unshallow id) = id
 abbrev pub IsNamed : List ℕ → Format → List ℕ → ObjectName → Type 0
 IsNamed word format text id = Follows word (λ name. IsObjectName format name id) text
 
+-- by which name a text is refused that has to be the word and then an object's name: first for what it begins with
+abbrev pub IsNamedFault : List ℕ → Format → List ℕ → Kind → Type 0
+IsNamedFault word format text BadLine = BeginsOtherThan word text
+IsNamedFault word format text BadObjectName = Follows word (IsNoObjectName format) text
+IsNamedFault word format text _ = ⊥
+
 -- the text says that the object is common to both ends
 abbrev pub IsAckLine : Format → List ℕ → ObjectName → Type 0
 IsAckLine format text id = IsNamed (codes "ACK ") format text id
+
+-- by which name it is refused
+abbrev pub IsAckFault : Format → List ℕ → Kind → Type 0
+IsAckFault format text kind = IsNamedFault (codes "ACK ") format text kind
 
 -- the text is this line of the shallow boundary
 abbrev pub IsBoundaryLine : Format → List ℕ → Boundary → Type 0
 IsBoundaryLine format text (Shallow id) = IsNamed (codes "shallow ") format text id
 IsBoundaryLine format text (Unshallow id) = IsNamed (codes "unshallow ") format text id
+
+-- by which name it is refused: it has to begin with one of the two words
+abbrev pub IsBoundaryFault : Format → List ℕ → Kind → Type 0
+IsBoundaryFault format text BadLine =
+    IsNamedFault (codes "shallow ") format text BadLine × IsNamedFault (codes "unshallow ") format text BadLine
+IsBoundaryFault format text kind =
+    IsNamedFault (codes "shallow ") format text kind ⊎ IsNamedFault (codes "unshallow ") format text kind
 
 -- the text is this wanted reference: an object name, a space, and all after the first space, which is a reference name
 pub record IsWantedLine (format : Format) (text : List ℕ) (wanted : Wanted) : Type 0 where
@@ -44,6 +63,14 @@ pub record IsWantedLine (format : Format) (text : List ℕ) (wanted : Wanted) : 
   pub spelled : text ≡ id ++ 32 ∷ wanted.name
   pub id_is : IsObjectName format id wanted.id
   pub name_is : IsRefName wanted.name
+
+-- by which name it is refused: for want of a space, and then from left to right
+abbrev pub IsWantedFault : Format → List ℕ → Kind → Type 0
+IsWantedFault format text BadLine = Lacks text 32
+IsWantedFault format text BadObjectName = (id : List ℕ) × (name : List ℕ) × IsPartedAt 32 text id name × IsNoObjectName format id
+IsWantedFault format text BadRefName =
+    (id : List ℕ) × (name : List ℕ) × IsPartedAt 32 text id name × ((named : ObjectName) × IsObjectName format id named) × (¬ IsRefName name)
+IsWantedFault format text _ = ⊥
 
 -- the lines as they are written
 abbrev pub ack_text : ObjectName → List ℕ

@@ -1,6 +1,7 @@
 -- Words of a text, and at its beginning.
 use Rattle.std.specs.Prelude.{◌≡◌, ◌≢◌, ℕ, ◌==◌, List, [], ◌∷◌, ◌++◌, Option, Some, None, codes}
 use Rattle.std.specs.List.{slice_split}
+use Rattle.git_names.specs.RefName.{Lacks}
 
 -- the parts of a text between bytes of this value
 abbrev pub parts_of : ℕ → List ℕ → List (List ℕ)
@@ -10,6 +11,11 @@ parts_of byte text = slice_split (λ c. c == byte) text
 abbrev pub parts_left : ℕ → Option (List ℕ) → List (List ℕ)
 parts_left byte None = []
 parts_left byte (Some text) = parts_of byte text
+
+-- the first such byte of the text stands between these two
+pub record IsPartedAt (byte : ℕ) (text before after : List ℕ) : Type 0 where
+  pub spelled : text ≡ before ++ byte ∷ after
+  pub first : Lacks before byte
 
 -- the last of a list
 abbrev pub last_of : {X : Type 0} → List X → Option X

@@ -14,13 +14,14 @@ ghost use Rattle.git_msg.specs.declared.requests.Request.{Request};
 ghost use Rattle.git_msg.specs.declared.response_lines.Boundary.{Boundary};
 ghost use Rattle.git_msg.specs.Arguments.{Arg, IsArgumentFault, IsNameIn, ReadsAs, written_text};
 ghost use Rattle.git_msg.specs.Asked.{Asked, AreOffered, HasValues, arguments_in, asked_by, command_asked, written_bytes};
-ghost use Rattle.git_msg.specs.Capability.{IsCapability};
+ghost use Rattle.git_msg.specs.Capability.{IsCapability, IsNoCapability};
 ghost use Rattle.git_msg.specs.Checks.{Passes, Refuses};
 ghost use Rattle.git_msg.specs.HeldRequest.{IsEmpty, AddsAll, add_checks, asked_of, kept_of};
 ghost use Rattle.git_msg.specs.Lines.{Line, IsFormatMeant, IsLine, HasFault, end_checks};
 ghost use Rattle.git_msg.specs.References.{Ref, IsReferenceFault, IsReferenceLine, IsWritable, reference_text};
 ghost use Rattle.git_msg.specs.Requests.{Asks, FirstFault};
-ghost use Rattle.git_msg.specs.ResponseLines.{Wanted, IsAckLine, IsBoundaryLine, IsWantedLine, ack_text, boundary_text, object_of, wanted_text};
+ghost use Rattle.git_msg.specs.ResponseLines.{Wanted, IsAckFault, IsAckLine, IsBoundaryFault, IsBoundaryLine, IsWantedFault, IsWantedLine};
+ghost use Rattle.git_msg.specs.ResponseLines.{ack_text, boundary_text, object_of, wanted_text};
 ghost use Rattle.git_msg.specs.WrittenRequest.{lines_written};
 
 use crate::limits::Limits;
@@ -32,6 +33,11 @@ use std::alloc::Allocator;
 pub fn one_capability()
     ensures { (text key other : List ℕ) (value other_value : Option (List ℕ)) → IsCapability text key value
         → IsCapability text other other_value → (key ≡ other) × (value ≡ other_value) }
+{}
+
+/// A text is a capability or none, never both.
+pub fn capability_or_none()
+    ensures { (text key : List ℕ) (value : Option (List ℕ)) → IsCapability text key value → IsNoCapability text → ⊥ }
 {}
 
 /// A reference line is one reference at most.
@@ -74,6 +80,30 @@ pub fn one_boundary()
 /// A text is one wanted reference at most.
 pub fn one_wanted()
     ensures { (format : Format) (text : List ℕ) (a b : Wanted) → IsWantedLine format text a → IsWantedLine format text b → a ≡ b }
+{}
+
+/// A text acknowledges an object or is refused, never both, and it is refused by one name at most.
+pub fn ack_or_fault()
+    ensures never_both { (format : Format) (text : List ℕ) (id : ObjectName) (kind : Kind)
+        → IsAckLine format text id → IsAckFault format text kind → ⊥ }
+    ensures one_name { (format : Format) (text : List ℕ) (kind other : Kind)
+        → IsAckFault format text kind → IsAckFault format text other → kind ≡ other }
+{}
+
+/// A text is a line of the shallow boundary or is refused, never both, and it is refused by one name at most.
+pub fn boundary_or_fault()
+    ensures never_both { (format : Format) (text : List ℕ) (line : Boundary) (kind : Kind)
+        → IsBoundaryLine format text line → IsBoundaryFault format text kind → ⊥ }
+    ensures one_name { (format : Format) (text : List ℕ) (kind other : Kind)
+        → IsBoundaryFault format text kind → IsBoundaryFault format text other → kind ≡ other }
+{}
+
+/// A text is a wanted reference or is refused, never both, and it is refused by one name at most.
+pub fn wanted_or_fault()
+    ensures never_both { (format : Format) (text : List ℕ) (wanted : Wanted) (kind : Kind)
+        → IsWantedLine format text wanted → IsWantedFault format text kind → ⊥ }
+    ensures one_name { (format : Format) (text : List ℕ) (kind other : Kind)
+        → IsWantedFault format text kind → IsWantedFault format text other → kind ≡ other }
 {}
 
 /// The line that is written of a reference is that reference, where its object name has the format.

@@ -33,7 +33,9 @@ pub use crate::reader::{RequestReader, Taken};
 pub use crate::reference_lines::read_reference;
 pub use crate::references::{Reference, put_reference};
 pub use crate::requests::Request;
-pub use crate::response_lines::{Boundary, WantedRef, put_ack, put_boundary, put_wanted};
+pub use crate::response_lines::{
+    Boundary, WantedRef, put_ack, put_boundary, put_wanted, read_ack, read_boundary, read_wanted,
+};
 pub use crate::texts::{after, error_message, is_error, split_at_first};
 pub use crate::writer::RequestWriter;
 pub use crate::writing::put_line;

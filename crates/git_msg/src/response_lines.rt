@@ -1,15 +1,17 @@
 //! The lines of fetch's response sections: gitprotocol-v2(5).
 
-ghost use Rattle.std.specs.Prelude.{◌≡◌, ◌<◌, length};
+ghost use Rattle.std.specs.Prelude.{◌≡◌, ◌<◌, MatchResult, length};
 ghost use Rattle.git_names.specs.RefName.{IsRefName};
 ghost use Rattle.git_pkt.specs.Packets.{longest_payload, spelling_of};
-ghost use Rattle.git_msg.specs.ResponseLines.{IsAckLine, IsBoundaryLine, IsWantedLine, ack_text, boundary_text, object_of, shown_wanted, wanted_text};
+ghost use Rattle.git_msg.specs.ResponseLines.{IsAckFault, IsAckLine, IsBoundaryFault, IsBoundaryLine, IsNamed, IsNamedFault, IsWantedFault, IsWantedLine};
+ghost use Rattle.git_msg.specs.ResponseLines.{ack_text, boundary_text, object_of, shown_wanted, wanted_text};
 ghost use Rattle.git_msg.specs.WrittenRequest.{text_line};
 
 use crate::references::{Reference, put_reference};
+use crate::texts::{after, split_at_first};
 use crate::writing::put_name_line;
-use git_names::Oid;
-use git_pkt::Hold;
+use git_names::{Format, Oid, RefName};
+use git_pkt::{Hold, Kind};
 
 /// A line of a shallow boundary, gitprotocol-v2(5).
 #[derive(Clone, Copy, Debug, PartialEq, Eq)]
@@ -69,4 +71,48 @@ pub fn put_wanted(hold: &mut Hold, wanted: WantedRef<'_>)
         peeled: None,
     };
     put_reference(hold, reference);
+}
+
+/// Reads the text of a line that says of an object that both ends have it. A text that does not begin with `ACK ` is
+/// `BadLine`, and else one without an object name after that is `BadObjectName`.
+pub fn read_ack(format: Format, text: &[u8]) -> Result<Oid, Kind>
+    ensures { MatchResult result (IsAckLine format text.now) (IsAckFault format text.now) }
+{
+    read_named(format, b"ACK ", text)
+}
+
+/// Reads the text of a line of the shallow boundary. A text that begins neither with `shallow ` nor with `unshallow ` is
+/// `BadLine`, and else one without an object name after that is `BadObjectName`.
+pub fn read_boundary(format: Format, text: &[u8]) -> Result<Boundary, Kind>
+    ensures { MatchResult result (IsBoundaryLine format text.now) (IsBoundaryFault format text.now) }
+{
+    match read_named(format, b"shallow ", text) {
+        Ok(id) => Ok(Boundary::Shallow(id)),
+        Err(Kind::BadLine) => Ok(Boundary::Unshallow(read_named(format, b"unshallow ", text)?)),
+        Err(kind) => Err(kind),
+    }
+}
+
+/// Reads the text of a line of the wanted references: an object name, a space, and all after it, a reference name. A text
+/// without a space is `BadLine`; then from left to right `BadObjectName` and `BadRefName`.
+pub fn read_wanted(format: Format, text: &[u8]) -> Result<WantedRef<'_>, Kind>
+    ensures { MatchResult result (λ wanted. IsWantedLine format text.now (shown_wanted wanted)) (IsWantedFault format text.now) }
+{
+    let (id, Some(name)) = split_at_first(text, b' ') else {
+        return Err(Kind::BadLine);
+    };
+    let id = Oid::read(format, id)?;
+    RefName::read(name)?;
+    Ok(WantedRef { id, name })
+}
+
+/// Reads a text that has to be the word and then an object name.
+fn read_named(format: Format, word: &[u8], text: &[u8]) -> Result<Oid, Kind>
+    ensures { MatchResult result (IsNamed word.now format text.now) (IsNamedFault word.now format text.now) }
+{
+    let Some(name) = after(text, word) else {
+        return Err(Kind::BadLine);
+    };
+    let id = Oid::read(format, name)?;
+    Ok(id)
 }
