@@ -235,7 +235,7 @@ place_bound q i (Some argument) h same =
       h.in_range,
     )
 
-all_at : {X : Type 0} (P : X → Type 0) (xs : List X) (i : ℕ) (x : X) → All P xs → slice_get xs i ≡ Some x → P x
+pub all_at : {X : Type 0} (P : X → Type 0) (xs : List X) (i : ℕ) (x : X) → All P xs → slice_get xs i ≡ Some x → P x
 all_at P xs i x h at = subst P (get_or_from_slice_get xs i x x at) (h i x (slice_get_within xs i x at))
 
 pub line_fits : (q : Kept Asked) (i : ℕ) (result : Option Argument) → IsWithin q → option_map shown result ≡ slice_get (arguments_in q.asked) i

@@ -26,3 +26,4 @@ pub mod PacketFaults
 pub mod WholeRequests
 pub mod ResponseLines
 pub mod ResponseFaults
+pub mod OfferedArguments

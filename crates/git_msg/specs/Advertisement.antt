@@ -6,6 +6,8 @@ use Rattle.git_names.specs.declared.object_format.Format.{Format}
 use Rattle.git_names.specs.declared.object_format.Format.TheVariants.{Sha1, Sha256}
 use Rattle.git_pkt.specs.Packets.{Pkt, payload, text_of}
 use Rattle.git_msg.specs.Texts.{spaced_words}
+use Rattle.git_msg.specs.declared.arguments.Command.{Command}
+use Rattle.git_msg.specs.declared.arguments.Command.TheVariants.{LsRefs, Fetch}
 use Rattle.git_msg.specs.declared.offers.Caps.{Caps}
 use Rattle.git_msg.specs.declared.offers.Offer.{Offer}
 
@@ -53,6 +55,11 @@ noted_of packets = record {
 abbrev pub is_spoken : Caps → Format → Bool
 is_spoken caps Sha1 = caps.sha1 || not caps.object_format
 is_spoken caps Sha256 = caps.sha256
+
+-- requests of this command are taken
+abbrev pub offers_command : Caps → Command → Bool
+offers_command caps LsRefs = caps.ls_refs
+offers_command caps Fetch = caps.fetch
 
 -- what is offered to a side that speaks this format
 abbrev pub noted_offer : Caps → Format → Offer

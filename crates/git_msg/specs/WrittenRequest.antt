@@ -52,6 +52,10 @@ lines_from Delimiter agent object_format format asked = argument_part asked
 lines_from (Argument i) agent object_format format asked = argument_lines (drop i (arguments_in asked))
 lines_from Done agent object_format format asked = []
 
+-- the packets that a writer has left, of a request for this
+abbrev pub lines_left : RequestWriter → Format → Asked → List Pkt
+lines_left w format asked = lines_from w.next w.agent w.object_format format asked
+
 module _ {A : Type 0} where
   -- the packets of the request
   abbrev pub written_of : Request A → Caps → List Pkt
@@ -62,7 +66,7 @@ module _ {A : Type 0} where
 
   -- the packets that are not written yet
   abbrev pub left_to_write : RequestWriter → Request A → List Pkt
-  left_to_write w request = left_at w.next w request
+  left_to_write w request = lines_left w (format_of request) (asked_of request)
 
 -- the hold is the first packet that was left, and the others are left
 pub record PutsFirst (before after : List Pkt) (held : List ℕ) : Type 0 where

@@ -238,8 +238,8 @@ fn read_fetch_value<'a>(format: Format, text: &'a [u8]) -> Result<Argument<'a>, 
     Err(Kind::UnknownArgument)
 }
 
-// Whether the feature that the argument needs was offered.
-fn is_offered(offer: &Offer, argument: &Argument<'_>) -> bool
+/// Whether the feature that the argument needs was offered.
+pub(crate) fn is_offered(offer: &Offer, argument: &Argument<'_>) -> bool
     ensures { result ≡ offers offer.now (shown argument.now) }
 {
     match argument {

@@ -6,9 +6,10 @@ ghost use Rattle.std.specs.List.{list_any};
 ghost use Rattle.std.specs.Str.{bytes_eq};
 ghost use Rattle.git_pkt.specs.Packets.{Pkt, payload, text_of};
 ghost use Rattle.git_msg.specs.Capability.{IsCapability};
-ghost use Rattle.git_msg.specs.Advertisement.{noted_of, noted_offer, noted_with, is_spoken};
+ghost use Rattle.git_msg.specs.Advertisement.{noted_of, noted_offer, noted_with, is_spoken, offers_command};
 ghost use Rattle.git_msg.specs.Texts.{spaced_words};
 
+use crate::arguments::Command;
 use crate::capabilities::Capability;
 use crate::texts::is_word;
 use git_names::Format;
@@ -105,6 +106,16 @@ impl Caps {
         match format {
             Format::Sha1 => self.sha1 | !self.object_format,
             Format::Sha256 => self.sha256,
+        }
+    }
+
+    /// Whether requests of this command are taken.
+    pub fn offers(&self, command: Command) -> bool
+        ensures { result ≡ offers_command self.now command }
+    {
+        match command {
+            Command::LsRefs => self.ls_refs,
+            Command::Fetch => self.fetch,
         }
     }
 

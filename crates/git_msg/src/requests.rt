@@ -6,11 +6,12 @@ ghost use Rattle.git_names.specs.RefName.{IsRefName};
 ghost use Rattle.git_pkt.specs.Packets.{longest_payload};
 ghost use Rattle.git_msg.specs.Arguments.{most_text, shown, written_text};
 
-use crate::arguments::{Argument, Command, put_together};
+use crate::arguments::{Argument, Command, is_offered, put_together};
 use crate::fetch::Fetch;
 use crate::limits::Limits;
 use crate::ls_refs::LsRefs;
 use crate::numbers::decimal_length;
+use crate::offers::Offer;
 use git_names::{Format, Oid};
 use git_pkt::Kind;
 use std::alloc::Allocator;
@@ -26,7 +27,7 @@ pub enum Request<A: Allocator + Copy> {
 
 impl<A: Allocator + Copy> Request<A> {
     ghost use Rattle.git_msg.specs.Arguments.{IsValue, IsValueFault};
-    ghost use Rattle.git_msg.specs.Asked.{arguments_in, symrefs_of, peel_of, ref_prefixes_of, wants_of, haves_of, done_of, thin_pack_of, no_progress_of, include_tag_of, ofs_delta_of, written_bytes, HasValues};
+    ghost use Rattle.git_msg.specs.Asked.{AreOffered, arguments_in, symrefs_of, peel_of, ref_prefixes_of, wants_of, haves_of, done_of, thin_pack_of, no_progress_of, include_tag_of, ofs_delta_of, written_bytes, HasValues};
     ghost use Rattle.git_msg.specs.Asked.{shallows_of, deepen_of, deepen_relative_of, deepen_since_of, deepen_nots_of, want_refs_of};
     ghost use Rattle.git_msg.specs.Checks.{Passes, Refuses};
     ghost use Rattle.git_msg.specs.Lines.{end_checks};
@@ -76,6 +77,21 @@ impl<A: Allocator + Copy> Request<A> {
                 Ok(())
             }
         }
+    }
+
+    /// Judges whether the features are offered that the arguments need: `NotAdvertised` where one is not.
+    pub fn check_features(&self, offer: &Offer) -> Result<(), Kind>
+        ensures { MatchResult result (λ _. AreOffered offer.now (asked_of self.now))
+            (λ kind. (¬ AreOffered offer.now (asked_of self.now)) × (kind ≡ Kind.NotAdvertised)) }
+    {
+        let mut i = 0;
+        'arguments: while let Some(argument) = self.argument(i) {
+            if !is_offered(offer, &argument) {
+                return Err(Kind::NotAdvertised);
+            }
+            i += 1;
+        }
+        Ok(())
     }
 
     /// The request's command.

@@ -1,10 +1,10 @@
 //! Requests, written packet by packet.
-ghost use Rattle.std.specs.Prelude.{◌≡◌, [], Bool, MatchOption};
+ghost use Rattle.std.specs.Prelude.{◌≡◌, ◌↔◌, [], Bool, IsTrue, MatchOption};
 ghost use Rattle.std.specs.Bool.{OnTrue, OnFalse};
 ghost use Rattle.git_names.specs.declared.object_format.Format.{Format};
 ghost use Rattle.git_msg.specs.Asked.{Asked};
 ghost use Rattle.git_msg.specs.HeldRequest.{asked_of};
-ghost use Rattle.git_msg.specs.WrittenRequest.{agent_line, argument_part, format_line, lines_from, left_at, left_to_write, where_set, written_of, PutsFirst};
+ghost use Rattle.git_msg.specs.WrittenRequest.{agent_line, argument_part, format_line, left_at, left_to_write, lines_from, lines_left, where_set, written_of, PutsFirst};
 
 use crate::capabilities::AGENT_LINE;
 use crate::offers::Caps;
@@ -59,6 +59,13 @@ impl RequestWriter {
             }
             None => false,
         }
+    }
+
+    /// Whether all packets were given.
+    pub fn is_done(&self) -> bool
+        ensures { (format : Format) (asked : Asked) → IsTrue result ↔ (lines_left self.now format asked ≡ []) }
+    {
+        matches!(self.next, Next::Done)
     }
 
     fn put_next<A: Allocator + Copy>(&self, request: &Request<A>, hold: &mut Hold) -> Option<Next>
