@@ -1,21 +1,27 @@
 -- The words of reference lines, one by one.
-use Rattle.std.proofs.Common.{◌≡◌, ℕ, ◌==◌, Bool, true, false, Option, Some, None, option_to_list, List, [], ◌∷◌, ◌++◌, refl, ap, sym, ◌∙◌, subst}
+use Rattle.std.proofs.Common.{arith, ◌≡◌, ℕ, ◌+◌, ◌-◌, ◌≤◌, ◌==◌, Bool, true, false, Option, Some, None, option_to_list, List, [], ◌∷◌, ◌++◌, refl, ap, sym, ◌∙◌, subst}
 use Rattle.std.proofs.Common.{append_assoc, length, take, drop, codes, inl, inr}
 use Rattle.std.specs.Prelude.{if◌then◌else◌}
-use Rattle.std.specs.List.{cons_option, onto_first}
+use Rattle.std.specs.List.{onto_first}
 use Rattle.std.specs.Str.{bytes_eq}
-use Rattle.std.proofs.lemmas.List.{append-nil, take-append-drop}
+use Rattle.std.specs.Option.{option_map}
+use Rattle.std.proofs.Math.Seq.{drop-append-add, drop-append_seam, take-append_seam}
+use Rattle.std.proofs.lemmas.List.{append-nil, length-append, take-append-drop}
 use Rattle.std.proofs.lemmas.Slice.Eq.{bytes_eq-Decides}
+use Rattle.git_names.specs.ObjectFormat.{digits_of}
 use Rattle.git_names.specs.ObjectName.{ObjectName, IsObjectName, IsNoObjectName}
+use Rattle.git_names.specs.RefName.{IsRefName}
 use Rattle.git_names.specs.declared.object_format.Format.{Format}
 use Rattle.git_pkt.specs.declared.fault.Kind.{Kind}
 use Rattle.git_pkt.specs.declared.fault.Kind.TheVariants.{BadObjectName}
-use Rattle.git_msg.specs.declared.reference_lines.Attribute.{Attribute}
-use Rattle.git_msg.specs.declared.reference_lines.Attribute.TheVariants.{Other}
+use Rattle.git_msg.specs.declared.reference_lines.Found.{Found}
+use Rattle.git_msg.specs.declared.reference_places.Part.{Part}
+use Rattle.git_msg.specs.declared.reference_places.ReferencePlaces.{ReferencePlaces}
 use Rattle.git_msg.specs.Checks.{Passes, Refuses}
-use Rattle.git_msg.specs.Texts.{BeginsOtherThan, parts_left, spaced_words, last_of}
-use Rattle.git_msg.specs.References.{value_behind, values_of, IsAttribute, IsAttributeFault, IsReferenceFault, attribute_checks, reference_checks}
-use Rattle.git_msg.specs.ReferenceParts.{target_in, peeled_in, IsFound, LastValues, ReadSoFar}
+use Rattle.git_msg.specs.Texts.{BeginsOtherThan, IsCutAt, IsLeftOf, IsPartedAt, parts_left, spaced_words, last_of}
+use Rattle.git_msg.specs.References.{value_behind, values_of, part_of, reference_at, FitsIn, IsAttribute, IsAttributeFault, IsMaybeObjectName}
+use Rattle.git_msg.specs.References.{IsReferenceFault, IsReferenceLine, PartFits, attribute_checks, reference_checks}
+use Rattle.git_msg.specs.ReferenceParts.{AreLocated, BeginsWithName, IsFound, IsPeeledWith, ReadSoFar, target_with}
 use Rattle.git_msg.proofs.LineLists.{filter_map_snoc}
 
 -- a text that does not begin with the word has nothing after it
@@ -27,13 +33,23 @@ nothing_behind word text h = go (bytes_eq (take (length word) text) word) refl w
       let same : take (length word) text ≡ word = (bytes_eq-Decides (take (length word) text) word).0 e in
       absurd (h (drop (length word) text) (sym (take-append-drop (length word) text) ∙ ap (λ (xs : List ℕ). xs ++ drop (length word) text) same))
 
+-- what stands after a word
+value_spelled : (word text value : List ℕ) → value_behind word text ≡ Some value → text ≡ word ++ value
+value_spelled word text value = go (bytes_eq (take (length word) text) word) refl where
+  go : (b : Bool) → bytes_eq (take (length word) text) word ≡ b → (if b then Some (drop (length word) text) else None) ≡ Some value → text ≡ word ++ value
+  go false e h = cc
+  go true e h =
+      let same : take (length word) text ≡ word = (bytes_eq-Decides (take (length word) text) word).0 e in
+      let rest : drop (length word) text ≡ value = cc in
+      sym (take-append-drop (length word) text) ∙ ap (λ (xs : List ℕ). xs ++ drop (length word) text) same ∙ ap (λ (xs : List ℕ). word ++ xs) rest
+
 -- no attribute that is known
-pub other_found : (format : Format) (word : List ℕ) → BeginsOtherThan (codes "symref-target:") word → BeginsOtherThan (codes "peeled:") word
-    → IsFound format word Other
-other_found format word no_target no_peeled = record {
+pub other_found : (format : Format) (word : List ℕ) (end : ℕ) (found : Found) → BeginsOtherThan (codes "symref-target:") word
+    → BeginsOtherThan (codes "peeled:") word → IsFound format word end found found
+other_found format word end found no_target no_peeled = record {
   is_attribute = record { target = λ value e. absurd (no_target value e); peeled = λ value e. absurd (no_peeled value e) };
-  target = nothing_behind (codes "symref-target:") word no_target;
-  peeled = nothing_behind (codes "peeled:") word no_peeled;
+  target = ap (λ (o : Option (List ℕ)). target_with o end found.target) (sym (nothing_behind (codes "symref-target:") word no_target));
+  peeled = subst (λ (o : Option (List ℕ)). IsPeeledWith format o found.peeled found.peeled) (sym (nothing_behind (codes "peeled:") word no_peeled)) refl;
 }
 
 last_snoc : {X : Type 0} (xs : List X) (x : X) → last_of (xs ++ x ∷ []) ≡ Some x
@@ -66,60 +82,102 @@ values_more key words word value e =
     ap last_of (filter_map_snoc (value_behind key) words word ∙ ap (λ (o : Option (List ℕ)). values_of key words ++ option_to_list o) e)
     ∙ last_more (values_of key words) value
 
--- one more word was read
-step : (format : Format) (whole : List (List ℕ)) (text : List ℕ) (next target peeled : Option (List ℕ)) (word : List ℕ) (found : Attribute)
-    → ReadSoFar format whole (Some text) target peeled → spaced_words text ≡ word ∷ parts_left 32 next → IsFound format word found
-    → ReadSoFar format whole next (later (target_in found) target) (later (peeled_in found) peeled)
-step format whole text next target peeled word found h words is = record {
-  before = h.before ++ word ∷ [];
-  whole_is = h.whole_is ∙ ap (λ (ws : List (List ℕ)). h.before ++ ws) words ∙ sym (append_assoc h.before (word ∷ []) (parts_left 32 next));
-  values = record {
-    passes = passes_snoc format h.before word h.values.passes is.is_attribute;
-    target_is = ap (λ (t : Option (List ℕ)). later (target_in found) t) h.values.target_is
-        ∙ sym (values_more (codes "symref-target:") h.before word (target_in found) is.target);
-    peeled_is = ap (λ (t : Option (List ℕ)). later (peeled_in found) t) h.values.peeled_is
-        ∙ sym (values_more (codes "peeled:") h.before word (peeled_in found) is.peeled);
-  };
-}
-
-pub step_target : (format : Format) (whole : List (List ℕ)) (text : List ℕ) (next target peeled : Option (List ℕ)) (word : List ℕ) (found : Attribute)
-    (name : List ℕ) → target_in found ≡ Some name → peeled_in found ≡ None → ReadSoFar format whole (Some text) target peeled
-    → spaced_words text ≡ word ∷ parts_left 32 next → IsFound format word found → ReadSoFar format whole next (Some name) peeled
+-- the object name that holds, where one more may have come
+maybe_later : (format : Format) (value last : Option (List ℕ)) (old new : Option ObjectName) → IsPeeledWith format value old new
+    → IsMaybeObjectName format last old → IsMaybeObjectName format (later value last) new
 unfolding later
-step_target format whole text next target peeled word found name e f h words is =
-    subst (λ (o : Option (List ℕ)). ReadSoFar format whole next (later o target) peeled) e
-    (subst (λ (o : Option (List ℕ)). ReadSoFar format whole next (later (target_in found) target) (later o peeled)) f
-    (step format whole text next target peeled word found h words is))
+maybe_later format None last old new h k = subst (λ (o : Option ObjectName). IsMaybeObjectName format last o) (sym h) k
+maybe_later format (Some value) last old new h k = h
 
-pub step_peeled : (format : Format) (whole : List (List ℕ)) (text : List ℕ) (next target peeled : Option (List ℕ)) (word : List ℕ) (found : Attribute)
-    (value : List ℕ) → target_in found ≡ None → peeled_in found ≡ Some value → ReadSoFar format whole (Some text) target peeled
-    → spaced_words text ≡ word ∷ parts_left 32 next → IsFound format word found → ReadSoFar format whole next target (Some value)
+-- what ends a word that stands after some bytes of the text
+part_at_end : (text front rest word more value : List ℕ) (end : ℕ) → text ≡ front ++ rest → rest ≡ word ++ more
+    → end ≡ length text - length rest + length word → (key : List ℕ) → word ≡ key ++ value
+    → value ≡ take (length value) (drop (end - length value) text)
+part_at_end text front rest word more value end h k at key spelled =
+    let place : end - length value ≡ length front + length key =
+    omega (arith, ap length h ∙ length-append front rest, ap length spelled ∙ length-append key value) in
+    let there : drop (end - length value) text ≡ value ++ more =
+    ap (λ (n : ℕ). drop n text) place ∙ ap (λ (xs : List ℕ). drop (length front + length key) xs) h ∙ drop-append-add front rest (length key)
+    ∙ ap (λ (xs : List ℕ). drop (length key) xs) (k ∙ ap (λ (xs : List ℕ). xs ++ more) spelled ∙ append_assoc key value more)
+    ∙ drop-append_seam key (value ++ more) in
+    sym (ap (λ (xs : List ℕ). take (length value) xs) there ∙ take-append_seam value more)
+
+-- what is left after a word, and the word before it
+word_first : (rest word : List ℕ) (next : Option (List ℕ)) → IsCutAt 32 rest word next → (more : List ℕ) × (rest ≡ word ++ more)
+word_first rest word None h = ([], sym h.0 ∙ sym (append-nil word))
+word_first rest word (Some after) h = (32 ∷ after, h.spelled)
+
+pub left_after : (text rest word : List ℕ) (next : Option (List ℕ)) → IsLeftOf text (Some rest) → IsCutAt 32 rest word next → IsLeftOf text next
+left_after text rest word None h cut = tt
+left_after text rest word (Some after) h cut = (
+  h.0 ++ (word ++ 32 ∷ []),
+  h.1 ∙ ap (λ (xs : List ℕ). h.0 ++ xs) (cut.spelled ∙ sym (append_assoc word (32 ∷ []) after)) ∙ sym (append_assoc h.0 (word ++ 32 ∷ []) after),
+)
+
+-- a word ends within the text
+pub word_within : (text rest word : List ℕ) (next : Option (List ℕ)) → IsLeftOf text (Some rest) → IsCutAt 32 rest word next
+    → (length rest ≤ length text) × (length word ≤ length rest)
+word_within text rest word next h cut =
+    let first = word_first rest word next cut in
+    (omega (arith, ap length h.1 ∙ length-append h.0 rest), omega (arith, ap length first.1 ∙ length-append word first.0))
+
+-- the target that holds, where a word may have one more, which ends with it
+target_later : (text front rest word more : List ℕ) (value : Option (List ℕ)) (end : ℕ) (target : Option Part) → text ≡ front ++ rest → rest ≡ word ++ more
+    → end ≡ length text - length rest + length word → value_behind (codes "symref-target:") word ≡ value
+    → later value (option_map (part_of text) target) ≡ option_map (part_of text) (target_with value end target)
 unfolding later
-step_peeled format whole text next target peeled word found value e f h words is =
-    subst (λ (o : Option (List ℕ)). ReadSoFar format whole next (later o target) (Some value)) e
-    (subst (λ (o : Option (List ℕ)). ReadSoFar format whole next (later (target_in found) target) (later o peeled)) f
-    (step format whole text next target peeled word found h words is))
+target_later text front rest word more None end target h k at e = refl
+target_later text front rest word more (Some value) end target h k at e =
+    ap Some (part_at_end text front rest word more value end h k at (codes "symref-target:") (value_spelled (codes "symref-target:") word value e))
 
-pub step_other : (format : Format) (whole : List (List ℕ)) (text : List ℕ) (next target peeled : Option (List ℕ)) (word : List ℕ) (found : Attribute)
-    → target_in found ≡ None → peeled_in found ≡ None → ReadSoFar format whole (Some text) target peeled → spaced_words text ≡ word ∷ parts_left 32 next
-    → IsFound format word found → ReadSoFar format whole next target peeled
-unfolding later
-step_other format whole text next target peeled word found e f h words is =
-    subst (λ (o : Option (List ℕ)). ReadSoFar format whole next (later o target) peeled) e
-    (subst (λ (o : Option (List ℕ)). ReadSoFar format whole next (later (target_in found) target) (later o peeled)) f
-    (step format whole text next target peeled word found h words is))
+target_fits : (word : List ℕ) (value : Option (List ℕ)) (end count : ℕ) (target : Option Part) → length word ≤ end → end ≤ count
+    → value_behind (codes "symref-target:") word ≡ value → PartFits count target → PartFits count (target_with value end target)
+target_fits word None end count target h k e fits = fits
+target_fits word (Some value) end count target h k e fits =
+    let spelled = value_spelled (codes "symref-target:") word value e in
+    omega (arith, ap length spelled ∙ length-append (codes "symref-target:") value)
 
-pub no_more_words : (format : Format) (whole : List (List ℕ)) (target peeled : Option (List ℕ)) → ReadSoFar format whole None target peeled
-    → LastValues format whole target peeled
-no_more_words format whole target peeled h =
-    subst (λ (ws : List (List ℕ)). LastValues format ws target peeled) (sym (h.whole_is ∙ append-nil h.before)) h.values
+module _ (format : Format) (text : List ℕ) (whole : List (List ℕ)) (rest word : List ℕ) (next : Option (List ℕ)) (old : Found)
+    (h : ReadSoFar format text whole (Some rest) old.target old.peeled) (words : spaced_words rest ≡ word ∷ parts_left 32 next) where
+  -- one more word was read
+  pub one_more_word : (end : ℕ) (new : Found) → IsCutAt 32 rest word next → end ≡ length text - length rest + length word
+      → IsFound format word end old new → ReadSoFar format text whole next new.target new.peeled
+  one_more_word end new cut at is =
+      let first = word_first rest word next cut in
+      let within = word_within text rest word next h.left_is cut in
+      let key = codes "symref-target:" in
+      let target_is : option_map (part_of text) new.target ≡ last_of (values_of key (h.before ++ word ∷ [])) =
+      ap (option_map (part_of text)) is.target
+      ∙ sym (target_later text h.left_is.0 rest word first.0 (value_behind key word) end old.target h.left_is.1 first.1 at refl)
+      ∙ ap (λ (o : Option (List ℕ)). later (value_behind key word) o) h.located.attributes.target_is
+      ∙ sym (values_more key h.before word (value_behind key word) refl) in
+      record {
+        before = h.before ++ word ∷ [];
+        whole_is = h.whole_is ∙ ap (λ (ws : List (List ℕ)). h.before ++ ws) words ∙ sym (append_assoc h.before (word ∷ []) (parts_left 32 next));
+        left_is = left_after text rest word next h.left_is cut;
+        located = record {
+          attributes = record {
+            passes = passes_snoc format h.before word h.located.attributes.passes is.is_attribute;
+            target_is = target_is;
+            peeled_is = subst (λ (o : Option (List ℕ)). IsMaybeObjectName format o new.peeled)
+                (sym (values_more (codes "peeled:") h.before word (value_behind (codes "peeled:") word) refl))
+                (maybe_later format (value_behind (codes "peeled:") word) (last_of (values_of (codes "peeled:") h.before)) old.peeled new.peeled is.peeled
+                h.located.attributes.peeled_is);
+          };
+          fits = subst (λ (t : Option Part). PartFits (length text) t) (sym is.target)
+              (target_fits word (value_behind key word) end (length text) old.target (omega arith) (omega arith) refl h.located.fits);
+        };
+      }
 
-pub word_refused : (format : Format) (whole : List (List ℕ)) (text : List ℕ) (next target peeled : Option (List ℕ)) (word : List ℕ) (kind : Kind)
-    → ReadSoFar format whole (Some text) target peeled → spaced_words text ≡ word ∷ parts_left 32 next → IsAttributeFault format word kind
-    → Refuses (attribute_checks format whole) kind
-word_refused format whole text next target peeled word kind h words fault =
-    subst (λ (ws : List (List ℕ)). Refuses (attribute_checks format ws) kind) (sym (h.whole_is ∙ ap (λ (ws : List (List ℕ)). h.before ++ ws) words))
-    (refuses_at format h.before word (parts_left 32 next) kind h.values.passes fault)
+  pub word_refused : (kind : Kind) → IsAttributeFault format word kind → Refuses (attribute_checks format whole) kind
+  word_refused kind fault =
+      subst (λ (ws : List (List ℕ)). Refuses (attribute_checks format ws) kind) (sym (h.whole_is ∙ ap (λ (ws : List (List ℕ)). h.before ++ ws) words))
+      (refuses_at format h.before word (parts_left 32 next) kind h.located.attributes.passes fault)
+
+pub no_more_words : (format : Format) (text : List ℕ) (whole : List (List ℕ)) (target : Option Part) (peeled : Option ObjectName)
+    → ReadSoFar format text whole None target peeled → AreLocated format text whole target peeled
+no_more_words format text whole target peeled h =
+    subst (λ (ws : List (List ℕ)). AreLocated format text ws target peeled) (sym (h.whole_is ∙ append-nil h.before)) h.located
 
 -- a text has a word
 onto_some : (x : ℕ) (ws : List (List ℕ)) → (w : List ℕ) × (rest : List (List ℕ)) × (onto_first x ws ≡ w ∷ rest)
@@ -141,45 +199,36 @@ id_refused format text id rest words h =
     let all : spaced_words text ≡ id ∷ s.0 ∷ s.1 = words ∙ ap (λ (ws : List (List ℕ)). id ∷ ws) s.2 in
     subst (λ (ws : List (List ℕ)). Refuses (reference_checks format ws) BadObjectName) (sym all) (inl (h, refl))
 
-value_spelled : (word text value : List ℕ) → value_behind word text ≡ Some value → text ≡ word ++ value
-value_spelled word text value = go (bytes_eq (take (length word) text) word) refl where
-  go : (b : Bool) → bytes_eq (take (length word) text) word ≡ b → (if b then Some (drop (length word) text) else None) ≡ Some value → text ≡ word ++ value
-  go false e h = cc
-  go true e h =
-      let same : take (length word) text ≡ word = (bytes_eq-Decides (take (length word) text) word).0 e in
-      let rest : drop (length word) text ≡ value = cc in
-      sym (take-append-drop (length word) text) ∙ ap (λ (xs : List ℕ). xs ++ drop (length word) text) same ∙ ap (λ (xs : List ℕ). word ++ xs) rest
+-- the parts of a line at their places
+pub located : (format : Format) (text spelled rest name : List ℕ) (left : Option (List ℕ)) (places : ReferencePlaces)
+    → spaced_words text ≡ spelled ∷ spaced_words rest → IsPartedAt 32 text spelled rest → IsObjectName format spelled places.id
+    → BeginsWithName rest name left → places.name_length ≡ length name → AreLocated format text (parts_left 32 left) places.target places.peeled
+    → IsReferenceLine format text (reference_at places text) × FitsIn places (length text)
+located format text spelled rest name left places words parted named begins long found =
+    let first = word_first rest name left begins.cut in
+    let digits : length spelled ≡ digits_of places.id.format = named.count ∙ ap digits_of (sym named.of_format) in
+    let after_id : drop (digits_of places.id.format + 1) text ≡ rest =
+    ap (λ (n : ℕ). drop (n + 1) text) (sym digits) ∙ ap (λ (xs : List ℕ). drop (length spelled + 1) xs) parted.spelled
+    ∙ drop-append-add spelled (32 ∷ rest) 1 in
+    let name_is : take places.name_length (drop (digits_of places.id.format + 1) text) ≡ name =
+    ap (λ (xs : List ℕ). take places.name_length xs) (after_id ∙ first.1) ∙ ap (λ (n : ℕ). take n (name ++ first.0)) long
+    ∙ take-append_seam name first.0 in (
+      record {
+        id = spelled;
+        attributes = parts_left 32 left;
+        words = words ∙ ap (λ (ws : List (List ℕ)). spelled ∷ ws) (begins.words ∙ ap (λ (n : List ℕ). n ∷ parts_left 32 left) (sym name_is));
+        id_is = named;
+        name_is = subst IsRefName (sym name_is) begins.is_name;
+        attributes_are = found.attributes;
+      },
+      record {
+        name = omega (arith, ap length parted.spelled ∙ length-append spelled (32 ∷ rest), ap length first.1 ∙ length-append name first.0);
+        target = found.fits;
+      },
+    )
 
-AllMeet : (List ℕ → Type 0) → List (List ℕ) → Type 0
-AllMeet P [] = Unit {0}
-AllMeet P (v ∷ vs) = P v × AllMeet P vs
-
-last_meets : (P : List ℕ → Type 0) (vs : List (List ℕ)) (x : List ℕ) → AllMeet P vs → last_of vs ≡ Some x → P x
-unfolding AllMeet
-last_meets P [] x h e = cc
-last_meets P (v ∷ []) x h e = let same : v ≡ x = cc in subst P same h.0
-last_meets P (v ∷ w ∷ vs) x h e = last_meets P (w ∷ vs) x h.1 e
-
-module _ (format : Format) (key : List ℕ) (P : List ℕ → Type 0)
-    (demands : (word value : List ℕ) → IsAttribute format word → word ≡ key ++ value → P value) where
-  one_more : (w : List ℕ) (o : Option (List ℕ)) (vs : List (List ℕ)) → value_behind key w ≡ o → IsAttribute format w → AllMeet P vs
-      → AllMeet P (cons_option o vs)
-  unfolding AllMeet
-  one_more w None vs e is h = h
-  one_more w (Some v) vs e is h = (demands w v is (value_spelled key w v e), h)
-
-  all_meet : (words : List (List ℕ)) → Passes (attribute_checks format words) → AllMeet P (values_of key words)
-  unfolding AllMeet
-  all_meet [] h = tt
-  all_meet (w ∷ ws) h = one_more w (value_behind key w) (values_of key ws) refl h.0 (all_meet ws h.1)
-
-  -- the last value of a key is what an attribute of this key has to be
-  pub last_value : (words : List (List ℕ)) (x : List ℕ) → Passes (attribute_checks format words) → last_of (values_of key words) ≡ Some x → P x
-  last_value words x h e = last_meets P (values_of key words) x (all_meet words h) e
-
--- the last peeled text is an object name
-pub peeled_named : (format : Format) (words : List (List ℕ)) (target peeled : Option (List ℕ)) → LastValues format words target peeled → (x : List ℕ)
-    → peeled ≡ Some x → (id : ObjectName) × IsObjectName format x id
-peeled_named format words target peeled h x e =
-    last_value format (codes "peeled:") (λ value. (id : ObjectName) × IsObjectName format value id) (λ word value is spelled. is.peeled value spelled) words x
-    h.passes (sym h.peeled_is ∙ e)
+-- what is left after the object's name and the reference's
+pub left_after_names : (text spelled rest name : List ℕ) (left : Option (List ℕ)) → IsPartedAt 32 text spelled rest → BeginsWithName rest name left
+    → IsLeftOf text left
+left_after_names text spelled rest name left parted begins =
+    left_after text rest name left (spelled ++ 32 ∷ [], parted.spelled ∙ sym (append_assoc spelled (32 ∷ []) rest)) begins.cut

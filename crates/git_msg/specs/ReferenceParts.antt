@@ -1,16 +1,18 @@
 -- What the parts of the reader of reference lines find.
-use Rattle.std.specs.Prelude.{◌≡◌, ℕ, Option, Some, None, List, ◌∷◌, ◌++◌, codes}
+use Rattle.std.specs.Prelude.{◌≡◌, ℕ, ◌-◌, Option, Some, None, List, ◌∷◌, ◌++◌, length, codes}
+use Rattle.std.specs.Option.{option_map}
+use Rattle.git_names.specs.ObjectName.{ObjectName}
 use Rattle.git_names.specs.declared.object_format.Format.{Format}
 use Rattle.git_names.specs.RefName.{IsRefName}
-use Rattle.git_msg.specs.declared.reference_lines.Attribute.{Attribute}
-use Rattle.git_msg.specs.declared.reference_lines.Attribute.TheVariants.{Target, Peeled, Other}
-use Rattle.git_msg.specs.Texts.{parts_left, spaced_words, last_of}
-use Rattle.git_msg.specs.Checks.{Passes}
-use Rattle.git_msg.specs.References.{value_behind, values_of, IsAttribute, attribute_checks}
+use Rattle.git_msg.specs.declared.reference_lines.Found.{Found}
+use Rattle.git_msg.specs.declared.reference_places.Part.{Part}
+use Rattle.git_msg.specs.Texts.{IsCutAt, IsLeftOf, parts_left, spaced_words}
+use Rattle.git_msg.specs.References.{AreAttributes, IsAttribute, IsMaybeObjectName, PartFits, part_of, value_behind}
 
--- the first word of the text is this reference name, and these are the others
-pub record BeginsWithName (text name : List ℕ) (others : List (List ℕ)) : Type 0 where
-  pub words : spaced_words text ≡ name ∷ others
+-- the first word of the text is this reference name, and this is left
+pub record BeginsWithName (text name : List ℕ) (left : Option (List ℕ)) : Type 0 where
+  pub words : spaced_words text ≡ name ∷ parts_left 32 left
+  pub cut : IsCutAt 32 text name left
   pub is_name : IsRefName name
 
 -- the first word of the text is no reference name
@@ -20,31 +22,30 @@ pub record BeginsWithNoName (text : List ℕ) : Type 0 where
   pub words : spaced_words text ≡ word ∷ others
   pub no_name : ¬ IsRefName word
 
--- the values that an attribute is found to have
-abbrev pub target_in : Attribute → Option (List ℕ)
-target_in (Target name) = Some name.now
-target_in (Peeled text) = None
-target_in Other = None
+-- the place of a target, where one more attribute has this target or none and ends there
+abbrev pub target_with : Option (List ℕ) → ℕ → Option Part → Option Part
+target_with None end target = target
+target_with (Some name) end target = Some (record { start = end - length name; length = length name })
 
-abbrev pub peeled_in : Attribute → Option (List ℕ)
-peeled_in (Target name) = None
-peeled_in (Peeled text) = Some text.now
-peeled_in Other = None
+-- the peeled object, where one more attribute has this text of one or none
+abbrev pub IsPeeledWith : Format → Option (List ℕ) → Option ObjectName → Option ObjectName → Type 0
+IsPeeledWith format None old new = new ≡ old
+IsPeeledWith format (Some text) old new = IsMaybeObjectName format (Some text) new
 
--- what an attribute is found to be
-pub record IsFound (format : Format) (word : List ℕ) (found : Attribute) : Type 0 where
+-- the attribute passes, and this is found with it
+pub record IsFound (format : Format) (word : List ℕ) (end : ℕ) (old new : Found) : Type 0 where
   pub is_attribute : IsAttribute format word
-  pub target : value_behind (codes "symref-target:") word ≡ target_in found
-  pub peeled : value_behind (codes "peeled:") word ≡ peeled_in found
+  pub target : new.target ≡ target_with (value_behind (codes "symref-target:") word) end old.target
+  pub peeled : IsPeeledWith format (value_behind (codes "peeled:") word) old.peeled new.peeled
 
--- the attributes pass, and these are the last values of each kind
-pub record LastValues (format : Format) (words : List (List ℕ)) (target peeled : Option (List ℕ)) : Type 0 where
-  pub passes : Passes (attribute_checks format words)
-  pub target_is : target ≡ last_of (values_of (codes "symref-target:") words)
-  pub peeled_is : peeled ≡ last_of (values_of (codes "peeled:") words)
+-- the attributes pass, and these are their last values, of a target by its place in the text
+pub record AreLocated (format : Format) (text : List ℕ) (words : List (List ℕ)) (target : Option Part) (peeled : Option ObjectName) : Type 0 where
+  pub attributes : AreAttributes format words (option_map (part_of text) target) peeled
+  pub fits : PartFits (length text) target
 
 -- some of the words were read, and these are left
-pub record ReadSoFar (format : Format) (whole : List (List ℕ)) (left target peeled : Option (List ℕ)) : Type 0 where
+pub record ReadSoFar (format : Format) (text : List ℕ) (whole : List (List ℕ)) (left : Option (List ℕ)) (target : Option Part) (peeled : Option ObjectName) : Type 0 where
   pub before : List (List ℕ)
   pub whole_is : whole ≡ before ++ parts_left 32 left
-  pub values : LastValues format before target peeled
+  pub left_is : IsLeftOf text left
+  pub located : AreLocated format text before target peeled

@@ -1,14 +1,16 @@
 -- Reference lines, as answers to ls-refs have them.
-use Rattle.std.specs.Prelude.{◌≡◌, ℕ, ◌+◌, Option, Some, None, List, [], ◌∷◌, ◌++◌, length, take, drop, codes, if◌then◌else◌}
+use Rattle.std.specs.Prelude.{◌≡◌, ℕ, ◌+◌, ◌≤◌, IfSome, Option, Some, None, List, [], ◌∷◌, ◌++◌, length, take, drop, codes, if◌then◌else◌}
 use Rattle.std.specs.List.{filter_map}
 use Rattle.std.specs.Str.{bytes_eq}
-use Rattle.std.specs.Option.{option_copied}
+use Rattle.std.specs.Option.{option_copied, option_map}
 use Rattle.git_names.specs.ObjectFormat.{digits_of}
 use Rattle.git_names.specs.ObjectName.{ObjectName, IsObjectName, IsNoObjectName, hex_of}
 use Rattle.git_names.specs.RefName.{IsRefName}
 use Rattle.git_names.specs.declared.object_format.Format.{Format}
 use Rattle.git_pkt.specs.declared.fault.Kind.{Kind}
 use Rattle.git_pkt.specs.declared.fault.Kind.TheVariants.{BadLine, BadObjectName, BadRefName}
+use Rattle.git_msg.specs.declared.reference_places.Part.{Part}
+use Rattle.git_msg.specs.declared.reference_places.ReferencePlaces.{ReferencePlaces}
 use Rattle.git_msg.specs.declared.references.Reference.{Reference}
 use Rattle.git_msg.specs.Texts.{Follows, last_of, spaced_words}
 use Rattle.git_msg.specs.Checks.{Check, check, Refuses, Passes}
@@ -26,6 +28,28 @@ reference_of id name target peeled = record { id = id; name = name; target = tar
 -- the reference that a borrowed one shows
 abbrev pub shown_reference : Reference → Ref
 shown_reference r = record { id = r.id; name = r.name.now; target = option_copied r.target; peeled = r.peeled }
+
+-- the part of the text that has this place
+abbrev pub part_of : List ℕ → Part → List ℕ
+part_of text part = take part.length (drop part.start text)
+
+-- the reference of which the text has the parts at these places
+abbrev pub reference_at : ReferencePlaces → List ℕ → Ref
+reference_at places text = record {
+  id = places.id;
+  name = take places.name_length (drop (digits_of places.id.format + 1) text);
+  target = option_map (part_of text) places.target;
+  peeled = places.peeled;
+}
+
+-- the place is one of a text of so many bytes
+abbrev pub PartFits : ℕ → Option Part → Type 0
+PartFits count part = IfSome part (λ p. p.start + p.length ≤ count)
+
+-- the places are those of a text of so many bytes
+pub record FitsIn (places : ReferencePlaces) (count : ℕ) : Type 0 where
+  pub name : digits_of places.id.format + 1 + places.name_length ≤ count
+  pub target : PartFits count places.target
 
 -- what stands after the word, where the text begins with it
 abbrev pub value_behind : List ℕ → List ℕ → Option (List ℕ)

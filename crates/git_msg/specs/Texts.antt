@@ -17,6 +17,16 @@ pub record IsPartedAt (byte : ℕ) (text before after : List ℕ) : Type 0 where
   pub spelled : text ≡ before ++ byte ∷ after
   pub first : Lacks before byte
 
+-- the text is cut at its first such byte, where it has one
+abbrev pub IsCutAt : ℕ → List ℕ → List ℕ → Option (List ℕ) → Type 0
+IsCutAt byte text before None = (before ≡ text) × Lacks text byte
+IsCutAt byte text before (Some after) = IsPartedAt byte text before after
+
+-- what is left of a text, if something is left, is its end
+abbrev pub IsLeftOf : List ℕ → Option (List ℕ) → Type 0
+IsLeftOf text None = Unit {0}
+IsLeftOf text (Some rest) = (front : List ℕ) × (text ≡ front ++ rest)
+
 -- the last of a list
 abbrev pub last_of : {X : Type 0} → List X → Option X
 last_of [] = None

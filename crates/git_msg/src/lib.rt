@@ -15,6 +15,7 @@ mod offers;
 mod parts;
 mod reader;
 mod reference_lines;
+mod reference_places;
 mod references;
 mod requests;
 mod response_lines;
@@ -30,7 +31,8 @@ pub use crate::ls_refs::LsRefs;
 pub use crate::numbers::read_number;
 pub use crate::offers::{Caps, Offer};
 pub use crate::reader::{RequestReader, Taken};
-pub use crate::reference_lines::read_reference;
+pub use crate::reference_lines::{locate_reference, read_reference};
+pub use crate::reference_places::ReferencePlaces;
 pub use crate::references::{Reference, put_reference};
 pub use crate::requests::Request;
 pub use crate::response_lines::{

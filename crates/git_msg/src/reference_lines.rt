@@ -1,30 +1,21 @@
 //! Reference lines, read.
-ghost use Rattle.std.specs.Prelude.{◌≡◌, MatchResult};
-ghost use Rattle.std.specs.Option.{ForSome, option_copied};
-ghost use Rattle.git_names.specs.ObjectName.{ObjectName, IsObjectName};
+ghost use Rattle.std.specs.Prelude.{◌≡◌, ◌≤◌, MatchResult, length};
+ghost use Rattle.std.specs.Option.{option_copied};
 ghost use Rattle.git_msg.specs.Checks.{Refuses};
-ghost use Rattle.git_msg.specs.References.{IsAttributeFault, IsMaybeObjectName, IsReferenceFault, IsReferenceLine, attribute_checks, shown_reference};
-ghost use Rattle.git_msg.specs.Texts.{parts_left};
-ghost use Rattle.git_msg.specs.ReferenceParts.{BeginsWithName, BeginsWithNoName, IsFound, LastValues};
+ghost use Rattle.git_msg.specs.References.{FitsIn, IsAttributeFault, IsReferenceFault, IsReferenceLine, attribute_checks, reference_at, shown_reference};
+ghost use Rattle.git_msg.specs.Texts.{IsLeftOf, parts_left};
+ghost use Rattle.git_msg.specs.ReferenceParts.{AreLocated, BeginsWithName, BeginsWithNoName, IsFound};
 
+use crate::reference_places::{Part, ReferencePlaces};
 use crate::references::Reference;
 use crate::texts::{after, split_at_first};
 use git_names::{Format, NameFault, Oid, RefName};
 use git_pkt::Kind;
 
 #[derive(Clone, Copy, Debug)]
-struct Found<'a> {
-    target: Option<&'a [u8]>,
-    // A text that was read as an object name, and is read once more at the end: the check has no rule yet for a result
-    // that has both a lent text and an object name.
-    peeled: Option<&'a [u8]>,
-}
-
-#[derive(Clone, Copy, Debug)]
-enum Attribute<'a> {
-    Target(&'a [u8]),
-    Peeled(&'a [u8]),
-    Other,
+struct Found {
+    target: Option<Part>,
+    peeled: Option<Oid>,
 }
 
 /// Reads the text of a reference line: an object name, a space and a reference name, then attributes, each after one
@@ -34,25 +25,34 @@ pub fn read_reference(format: Format, text: &[u8]) -> Result<Reference<'_>, Kind
     ensures line { MatchResult result (λ reference. IsReferenceLine format text.now (shown_reference reference))
         (IsReferenceFault format text.now) }
 {
+    let places = locate_reference(format, text)?;
+    Ok(places.reference(text))
+}
+
+/// Reads the text of a reference line as [`read_reference`] does, and says where its parts lie.
+pub fn locate_reference(format: Format, text: &[u8]) -> Result<ReferencePlaces, Kind>
+    ensures line { MatchResult result
+        (λ places. IsReferenceLine format text.now (reference_at places text.now) × FitsIn places (length text.now))
+        (IsReferenceFault format text.now) }
+{
     let (id, Some(rest)) = split_at_first(text, b' ') else {
         return Err(Kind::BadLine);
     };
     let id = Oid::read(format, id)?;
-    let (name, rest) = split_name(rest)?;
-    let found = read_attributes(format, rest)?;
-    let peeled = read_peeled(format, found.peeled);
-    Ok(Reference {
+    let (name, words) = split_name(rest)?;
+    let found = read_attributes(format, text, words)?;
+    Ok(ReferencePlaces {
         id,
-        name,
+        name_length: name.len(),
         target: found.target,
-        peeled,
+        peeled: found.peeled,
     })
 }
 
 /// The reference name that the text begins with, and what stands after the space that ends it, where there is one. Most
 /// texts are the name alone: as a name has no space, they need no search for one.
 fn split_name(text: &[u8]) -> Result<(&[u8], Option<&[u8]>), NameFault>
-    ensures parts { MatchResult result (λ parts. BeginsWithName text.now parts.0.now (parts_left 32 (option_copied parts.1)))
+    ensures parts { MatchResult result (λ parts. BeginsWithName text.now parts.0.now (option_copied parts.1))
         (λ fault. (fault ≡ NameFault.BadRefName) × BeginsWithNoName text.now) }
 {
     if let Ok(_) = RefName::read(text) {
@@ -63,49 +63,51 @@ fn split_name(text: &[u8]) -> Result<(&[u8], Option<&[u8]>), NameFault>
     Ok((name, rest))
 }
 
-/// The last values of the attributes of a line.
-fn read_attributes<'a>(format: Format, words: Option<&'a [u8]>) -> Result<Found<'a>, Kind>
+/// The last values of the attributes of a line, which are the end of its text.
+fn read_attributes(format: Format, text: &[u8], words: Option<&[u8]>) -> Result<Found, Kind>
+    requires { IsLeftOf text.now (option_copied words) }
     ensures values { MatchResult result
-        (λ found. LastValues format (parts_left 32 (option_copied words.entry)) (option_copied found.target) (option_copied found.peeled))
+        (λ found. AreLocated format text.now (parts_left 32 (option_copied words.entry)) found.target found.peeled)
         (Refuses (attribute_checks format (parts_left 32 (option_copied words.entry)))) }
 {
-    let mut target = None;
-    let mut peeled = None;
-    let mut rest = words;
-    'words: while let Some(text) = rest {
-        let (word, next) = split_at_first(text, b' ');
-        match read_attribute(format, word) {
-            Ok(Attribute::Target(name)) => target = Some(name),
-            Ok(Attribute::Peeled(text)) => peeled = Some(text),
-            Ok(Attribute::Other) => {}
+    let mut found = Found {
+        target: None,
+        peeled: None,
+    };
+    let mut left = words;
+    'words: while let Some(rest) = left {
+        let (word, next) = split_at_first(rest, b' ');
+        let end = text.len() - rest.len() + word.len();
+        match read_attribute(format, word, end, found) {
+            Ok(more) => found = more,
             Err(kind) => return Err(kind),
         }
-        rest = next;
+        left = next;
     }
-    Ok(Found { target, peeled })
+    Ok(found)
 }
 
-fn read_attribute<'a>(format: Format, word: &'a [u8]) -> Result<Attribute<'a>, Kind>
-    ensures attribute { MatchResult result (IsFound format word.now) (IsAttributeFault format word.now) }
+/// What was found, with what one more attribute says, which ends at this place of the line.
+fn read_attribute(format: Format, word: &[u8], end: usize, found: Found) -> Result<Found, Kind>
+    requires { length word.now ≤ end }
+    ensures attribute { MatchResult result (λ new. IsFound format word.now end found new) (IsAttributeFault format word.now) }
 {
+    let Found { target, peeled } = found;
     if let Some(name) = after(word, b"symref-target:") {
         RefName::read(name)?;
-        return Ok(Attribute::Target(name));
+        let length = name.len();
+        let start = end - length;
+        return Ok(Found {
+            target: Some(Part { start, length }),
+            peeled,
+        });
     }
-    if let Some(text) = after(word, b"peeled:") {
-        Oid::read(format, text)?;
-        return Ok(Attribute::Peeled(text));
+    if let Some(name) = after(word, b"peeled:") {
+        let id = Oid::read(format, name)?;
+        return Ok(Found {
+            target,
+            peeled: Some(id),
+        });
     }
-    Ok(Attribute::Other)
-}
-
-/// The object name that a text was found to be.
-fn read_peeled(format: Format, text: Option<&[u8]>) -> Option<Oid>
-    requires { ForSome (option_copied text) (λ text. (id : ObjectName) × IsObjectName format text id) }
-    ensures name { IsMaybeObjectName format (option_copied text.entry) result }
-{
-    match text {
-        Some(text) => Oid::read(format, text).ok(),
-        None => None,
-    }
+    Ok(found)
 }

@@ -2,8 +2,7 @@
 ghost use Rattle.std.specs.Prelude.{◌≡◌, ◌<◌, ◌↔◌, ◌∷◌, ◌++◌, ◌==◌, IsTrue, MatchOption, length, position};
 ghost use Rattle.std.specs.Option.{option_copied};
 ghost use Rattle.std.specs.Str.{bytes_eq};
-ghost use Rattle.git_names.specs.RefName.{Lacks};
-ghost use Rattle.git_msg.specs.Texts.{BeginsOtherThan, IsErrorOf, IsErrorText, IsPartedAt, parts_left, parts_of};
+ghost use Rattle.git_msg.specs.Texts.{BeginsOtherThan, IsCutAt, IsErrorOf, IsErrorText, parts_left, parts_of};
 
 use bstr::ByteSlice;
 
@@ -32,7 +31,7 @@ pub(crate) fn find_byte(text: &[u8], byte: u8) -> Option<usize>
 /// The text up to the first such byte, and what stands after that byte, where there is one.
 pub fn split_at_first(text: &[u8], byte: u8) -> (&[u8], Option<&[u8]>)
     ensures parts { parts_of byte text.now ≡ result.0.now ∷ parts_left byte (option_copied result.1) }
-    ensures cut { MatchOption result.1 ((result.0.now ≡ text.now) × Lacks text.now byte) (λ rest. IsPartedAt byte text.now result.0.now rest.now) }
+    ensures cut { IsCutAt byte text.now result.0.now (option_copied result.1) }
     ensures shorter { MatchOption result.1 (Unit {0}) (λ rest. length rest.now < length text.now) }
 {
     match find_byte(text, byte) {

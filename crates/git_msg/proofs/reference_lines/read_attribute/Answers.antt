@@ -3,4 +3,4 @@ use Rattle.git_msg.proofs.ReferenceWords.{other_found}
 use Rattle.git_msg.proofs.reference_lines.read_attribute.Goals as goal
 
 pub returns : goal.returns
-returns c = record { attribute = other_found c.args.format c.args.word.now (search rules) (search rules) }
+returns c = record { attribute = other_found c.args.format c.args.word.now c.args.end c.args.found (search rules) (search rules) }

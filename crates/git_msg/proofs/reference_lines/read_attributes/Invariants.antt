@@ -5,7 +5,7 @@ use Rattle.git_msg.proofs.TextParts.{bytes_left}
 use Rattle.git_msg.proofs.reference_lines.read_attributes.Given as goal
 
 abbrev pub invariant-words : goal.invariant-words
-invariant-words l = ReadSoFar l.format (parts_left 32 (option_copied l.fn.words)) (option_copied l.rest) (option_copied l.target) (option_copied l.peeled)
+invariant-words l = ReadSoFar l.format l.text (parts_left 32 (option_copied l.fn.words)) (option_copied l.left) l.found.target l.found.peeled
 
 abbrev pub decreases-words : goal.decreases-words
-decreases-words l = bytes_left (option_copied l.rest)
+decreases-words l = bytes_left (option_copied l.left)

@@ -1,0 +1,52 @@
+//! Where the parts of a reference line lie in its text.
+ghost use Rattle.std.specs.Prelude.{◌≡◌, ◌+◌, ◌≤◌, length};
+ghost use Rattle.git_msg.specs.References.{FitsIn, part_of, reference_at, shown_reference};
+
+use crate::references::Reference;
+use git_names::Oid;
+
+/// A part of a text.
+#[derive(Clone, Copy, Debug)]
+pub(crate) struct Part {
+    pub(crate) start: usize,
+    pub(crate) length: usize,
+}
+
+impl Part {
+    fn of<'a>(&self, text: &'a [u8]) -> &'a [u8]
+        requires { self.now.start + self.now.length ≤ length text.now }
+        ensures { result.now ≡ part_of text.now self.now }
+    {
+        &text[self.start..self.start + self.length]
+    }
+}
+
+/// What a reference line says of objects, and where the names lie in its text: a reference that lends nothing.
+#[derive(Clone, Copy, Debug)]
+pub struct ReferencePlaces {
+    pub(crate) id: Oid,
+    // The name begins after the object name's digits and one space.
+    pub(crate) name_length: usize,
+    pub(crate) target: Option<Part>,
+    pub(crate) peeled: Option<Oid>,
+}
+
+impl ReferencePlaces {
+    /// The reference of the line that has these places, whose text is lent again.
+    pub fn reference<'a>(&self, text: &'a [u8]) -> Reference<'a>
+        requires { FitsIn self.now (length text.now) }
+        ensures { shown_reference result ≡ reference_at self.now text.now }
+    {
+        let start = self.id.format().digits() + 1;
+        let target = match self.target {
+            Some(part) => Some(part.of(text)),
+            None => None,
+        };
+        Reference {
+            id: self.id,
+            name: &text[start..start + self.name_length],
+            target,
+            peeled: self.peeled,
+        }
+    }
+}
