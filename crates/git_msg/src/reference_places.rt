@@ -24,11 +24,13 @@ impl Part {
 /// What a reference line says of objects, and where the names lie in its text: a reference that lends nothing.
 #[derive(Clone, Copy, Debug)]
 pub struct ReferencePlaces {
-    pub(crate) id: Oid,
+    /// The object that the reference points to.
+    pub id: Oid,
     // The name begins after the object name's digits and one space.
     pub(crate) name_length: usize,
     pub(crate) target: Option<Part>,
-    pub(crate) peeled: Option<Oid>,
+    /// For an annotated tag, where it is told, the object that it stands for.
+    pub peeled: Option<Oid>,
 }
 
 impl ReferencePlaces {
