@@ -35,7 +35,7 @@ nothing_behind word text h = go (bytes_eq (take (length word) text) word) refl w
       absurd (h (drop (length word) text) (sym (take-append-drop (length word) text) ∙ ap (λ (xs : List ℕ). xs ++ drop (length word) text) same))
 
 -- what stands after a word
-value_spelled : (word text value : List ℕ) → value_behind word text ≡ Some value → text ≡ word ++ value
+pub value_spelled : (word text value : List ℕ) → value_behind word text ≡ Some value → text ≡ word ++ value
 value_spelled word text value = go (bytes_eq (take (length word) text) word) refl where
   go : (b : Bool) → bytes_eq (take (length word) text) word ≡ b → (if b then Some (drop (length word) text) else None) ≡ Some value → text ≡ word ++ value
   go false e h = cc
