@@ -106,8 +106,8 @@ pub record SameCut (clean others more tail : List Given) (events later : List Ev
   pub more_is : more ≡ tail
   pub events_are : events ≡ later
 
-pub same_cut : (t : Terms) (asked : List Asked) (before : List Pkt) (clean others more tail : List Given) (events later : List EventValue) → clean ++ more ≡ others ++ tail
-    → GiveAll t asked before clean events → GiveAll t asked before others later → IsStop t asked (nearest clean before) more
+pub same_cut : (t : Terms) (asked : List Asked) (before : List Pkt) (clean others more tail : List Given) (events later : List EventValue)
+    → clean ++ more ≡ others ++ tail → GiveAll t asked before clean events → GiveAll t asked before others later → IsStop t asked (nearest clean before) more
     → IsStop t asked (nearest others before) tail → SameCut clean others more tail events later
 same_cut t asked before [] [] more tail events later e a b s z = record { clean_is = refl; more_is = e; events_are = a ∙ sym b }
 same_cut t asked before [] (h ∷ hs) more tail events later e a b s z = absurd (stopped t asked before h (hs ++ tail) more b.0 e s b.3)
@@ -125,17 +125,18 @@ same_cut t asked before (g ∷ gs) (h ∷ hs) more tail events later e a b s z =
       events_are = a.2 ∙ ap (λ (l : List EventValue). l ++ a.1) now ∙ ap (λ (l : List EventValue). b.0 ++ l) then.events_are ∙ sym b.2;
     }
 
-pub same_sounds : (t : Terms) (asked : List Asked) (bytes : List ℕ) (clean others : List Given) (events later : List EventValue) (a : Sounds t asked bytes clean events)
-    (b : Sounds t asked bytes others later) → SameCut clean others a.more b.more events later
+pub same_sounds : (t : Terms) (asked : List Asked) (bytes : List ℕ) (clean others : List Given) (events later : List EventValue)
+    (a : Sounds t asked bytes clean events) (b : Sounds t asked bytes others later) → SameCut clean others a.more b.more events later
 same_sounds t asked bytes clean others events later a b =
     let same = one_split 0 bytes a.given b.given a.rest b.rest a.splits.spelled b.splits.spelled a.splits.ends b.splits.ends in
     same_cut t asked [] clean others a.more b.more events later (sym a.cut ∙ same.packets ∙ b.cut) a.gives b.gives a.stops b.stops
 
-pub one_event_list : (t : Terms) (asked : List Asked) (bytes : List ℕ) (events others : List EventValue) → HasEvents t asked bytes events → HasEvents t asked bytes others
-    → events ≡ others
+pub one_event_list : (t : Terms) (asked : List Asked) (bytes : List ℕ) (events others : List EventValue) → HasEvents t asked bytes events
+    → HasEvents t asked bytes others → events ≡ others
 one_event_list t asked bytes events others h k = (same_sounds t asked bytes h.0 k.0 events others h.1 k.1).events_are
 
-pub one_note : (t : Terms) (asked : List Asked) (bytes : List ℕ) (caps others : Caps) → HasNoted t asked bytes caps → HasNoted t asked bytes others → caps ≡ others
+pub one_note : (t : Terms) (asked : List Asked) (bytes : List ℕ) (caps others : Caps) → HasNoted t asked bytes caps
+    → HasNoted t asked bytes others → caps ≡ others
 one_note t asked bytes caps others h k =
     h.3 ∙ ap (λ (l : List Given). noted_of (advertisement_of (nearest l []))) (same_sounds t asked bytes h.0 k.0 h.1 k.1 h.2 k.2).clean_is ∙ sym k.3
 

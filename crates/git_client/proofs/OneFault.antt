@@ -77,8 +77,8 @@ module _ (t : Terms) (asked : List Asked) (bytes : List ℕ) (f g : Fault) where
       omega (arith, by.2, k.at, ap length same)
 
 -- a fault that the bytes show is the only one
-pub one_shown : (t : Terms) (asked : List Asked) (bytes : List ℕ) (f g : Fault) → FirstMalformed t asked bytes f → FirstMalformed t asked bytes g → f.kind ≢ Truncated
-    → f.kind ≢ StreamTooLong → f ≡ g
+pub one_shown : (t : Terms) (asked : List Asked) (bytes : List ℕ) (f g : Fault) → FirstMalformed t asked bytes f
+    → FirstMalformed t asked bytes g → f.kind ≢ Truncated → f.kind ≢ StreamTooLong → f ≡ g
 one_shown t asked bytes f g (inl h) (inl k) a b = packets t asked bytes f g h k
 one_shown t asked bytes f g (inl h) (inr (inl k)) a b = absurd (packet_or_none t asked bytes f g k.given k.rest k.events k.splits k.sound f h)
 one_shown t asked bytes f g (inl h) (inr (inr k)) a b = absurd (packet_or_none t asked bytes f g k.given k.rest k.events k.splits k.sound f h)
@@ -88,7 +88,8 @@ one_shown t asked bytes f g (inr (inl h)) (inr (inr k)) a b = absurd (rest_not_c
 one_shown t asked bytes f g (inr (inr h)) k a b = absurd (a h.kind)
 
 -- two faults of one name are one
-pub one_by_name : (t : Terms) (asked : List Asked) (bytes : List ℕ) (f g : Fault) → FirstMalformed t asked bytes f → FirstMalformed t asked bytes g → f.kind ≡ g.kind → f ≡ g
+pub one_by_name : (t : Terms) (asked : List Asked) (bytes : List ℕ) (f g : Fault) → FirstMalformed t asked bytes f
+    → FirstMalformed t asked bytes g → f.kind ≡ g.kind → f ≡ g
 one_by_name t asked bytes f g (inl h) (inl k) name = packets t asked bytes f g h k
 one_by_name t asked bytes f g (inl h) (inr (inl k)) name = absurd (packet_or_none t asked bytes f g k.given k.rest k.events k.splits k.sound f h)
 one_by_name t asked bytes f g (inl h) (inr (inr k)) name = absurd (packet_or_none t asked bytes f g k.given k.rest k.events k.splits k.sound f h)

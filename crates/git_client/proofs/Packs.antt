@@ -1,18 +1,15 @@
 -- The pack bytes that are handed out are the pack of the bytes, as far as whole packets have it.
-use Rattle.std.proofs.Common.{◌≡◌, ℕ, List, [], ◌∷◌, ◌++◌, Option, Some, Ok, refl, sym, ap, ◌∙◌}
+use Rattle.std.proofs.Common.{◌≡◌, ℕ, List, [], ◌∷◌, ◌++◌, Option, Some, refl, sym, ap, ◌∙◌}
 use Rattle.std.proofs.lemmas.List.{append-nil}
-use Rattle.git_names.specs.declared.object_format.Format.{Format}
-use Rattle.git_pkt.specs.Packets.{Pkt, flush, delim, resp_end, payload, text_of}
+use Rattle.git_pkt.specs.Packets.{Pkt}
 use Rattle.git_pkt.specs.Splits.{Given}
 use Rattle.git_pkt.proofs.Streams.{one_split}
 use Rattle.git_msg.specs.Asked.{Asked}
-use Rattle.git_client.specs.declared.events.Ending.{Ending}
-use Rattle.git_client.specs.declared.events.Ending.TheVariants.{FlushOnly, ResponseEnd}
 use Rattle.git_client.specs.Parts.{Terms, nearest}
-use Rattle.git_client.specs.Places.{Place, capabilities, references, acknowledgments, shallow_info, wanted_refs, packfile, response_end}
+use Rattle.git_client.specs.Places.{Place, packfile}
 use Rattle.git_client.specs.Places.{place_after}
 use Rattle.git_client.specs.Events.{EventValue, pack}
-use Rattle.git_client.specs.Events.{Gives, ended_by, flush_says, delimiter_says, response_end_says, pack_bytes}
+use Rattle.git_client.specs.Events.{pack_bytes}
 use Rattle.git_client.specs.Conversation.{GiveAll, Sounds, HasEvents, IsConversation}
 use Rattle.git_client.specs.Packs.{pack_in, pack_of, open_part, HasPack}
 use Rattle.git_client.proofs.PlacePackets.{comes_after, packet_adds}

@@ -1,5 +1,6 @@
 -- What a text line at a place gives, told from the place.
-use Rattle.std.proofs.Common.{arith, ◌≡◌, ◌⊎◌, inl, inr, ℕ, Bool, true, false, ◌||◌, List, [], ◌∷◌, Option, Ok, Err, refl, ap, sym, ◌∙◌, codes, cond, map, ◌==◌, slice_index, ◌++◌}
+use Rattle.std.proofs.Common.{arith, ◌≡◌, ◌⊎◌, inl, inr, ℕ, Bool, true, false, ◌||◌, List, [], ◌∷◌, ◌++◌}
+use Rattle.std.proofs.Common.{Option, Ok, Err, refl, ap, sym, ◌∙◌, codes, cond, map, ◌==◌, slice_index}
 use Rattle.git_names.specs.ObjectName.{ObjectName}
 use Rattle.git_names.specs.declared.object_format.Format.{Format}
 use Rattle.git_pkt.specs.declared.fault.Kind.{Kind}
@@ -33,19 +34,19 @@ IsAcknowledging format told text events =
     ⊎ ((id : ObjectName) × IsAckLine format text id × ((told.nak || told.ready) ≡ false) × (events ≡ ack id ∷ [])))
 
 -- what is read of a text line at the place, and the events of that
-abbrev pub Reads : Place → Format → List ℕ → List EventValue → Type 0
-Reads version format text events = (text ≡ codes "version 2") × (events ≡ [])
-Reads (capabilities spoken) format text events =
+abbrev pub ReadsLine : Place → Format → List ℕ → List EventValue → Type 0
+ReadsLine version format text events = (text ≡ codes "version 2") × (events ≡ [])
+ReadsLine (capabilities spoken) format text events =
     (key : List ℕ) × (value : Option (List ℕ)) × IsCapability text key value × (events ≡ capability key value ∷ [])
-Reads references format text events = (ref : Ref) × IsReferenceLine format text ref × (events ≡ reference ref ∷ [])
-Reads (header allowed) format text events = (may_begin allowed (section_named text) ≡ true) × (events ≡ [])
-Reads (acknowledgments told) format text events = IsAcknowledging format told text events
-Reads shallow_info format text events = (line : Boundary) × IsBoundaryLine format text line × (events ≡ boundary_event line ∷ [])
-Reads wanted_refs format text events = (wanted : Wanted) × IsWantedLine format text wanted × (events ≡ wanted_ref wanted ∷ [])
-Reads _ format text events = ⊥
+ReadsLine references format text events = (ref : Ref) × IsReferenceLine format text ref × (events ≡ reference ref ∷ [])
+ReadsLine (header allowed) format text events = (may_begin allowed (section_named text) ≡ true) × (events ≡ [])
+ReadsLine (acknowledgments told) format text events = IsAcknowledging format told text events
+ReadsLine shallow_info format text events = (line : Boundary) × IsBoundaryLine format text line × (events ≡ boundary_event line ∷ [])
+ReadsLine wanted_refs format text events = (wanted : Wanted) × IsWantedLine format text wanted × (events ≡ wanted_ref wanted ∷ [])
+ReadsLine _ format text events = ⊥
 
 pub line_read : (place : Place) (format : Format) (text : List ℕ) (events : List EventValue) → SaysLine place format text events
-    → Reads place format text events
+    → ReadsLine place format text events
 line_read version format text [] says = (says, refl)
 line_read (capabilities spoken) format text (capability key value ∷ []) says = (key, value, says, refl)
 line_read references format text (reference ref ∷ []) says = (ref, says, refl)
@@ -84,8 +85,8 @@ one_acknowledging format told text events others (inr (inr h)) (inr (inr k)) =
     h.3 ∙ ap (λ (id : ObjectName). ack id ∷ []) (one_ack format text h.0 k.0 h.1 k.1) ∙ sym k.3
 
 -- one text is read in one way
-one_reading : (place : Place) (format : Format) (text : List ℕ) (events others : List EventValue) → Reads place format text events
-    → Reads place format text others → events ≡ others
+one_reading : (place : Place) (format : Format) (text : List ℕ) (events others : List EventValue) → ReadsLine place format text events
+    → ReadsLine place format text others → events ≡ others
 one_reading version format text events others h k = h.1 ∙ sym k.1
 one_reading (capabilities spoken) format text events others h k =
     let same = one_capability text h.0 k.0 h.1 k.1 h.2 k.2 in
@@ -121,7 +122,7 @@ named_or_not format told text events (inl h) bad = nak_or_ack text bad.no_name.v
 named_or_not format told text events (inr (inl h)) bad = ready_or_ack text bad.no_name.value h.0 bad.no_name.spelled
 named_or_not format told text events (inr (inr h)) bad = ack_or_fault format text h.0 BadObjectName h.1 bad.no_name
 
-read_or_refused : (place : Place) (format : Format) (text : List ℕ) (events : List EventValue) (kind : Kind) → Reads place format text events
+read_or_refused : (place : Place) (format : Format) (text : List ℕ) (events : List EventValue) (kind : Kind) → ReadsLine place format text events
     → IsLineFault place format text kind → ⊥
 read_or_refused version format text events kind h bad = bad.0 h.0
 read_or_refused (capabilities spoken) format text events kind h bad = bad.0 h.0 h.1 h.2
@@ -170,7 +171,7 @@ of_boundary : (line : Boundary) (events : List EventValue) → events ≡ bounda
 of_boundary (Shallow id) events e = of_line (shallow id ∷ []) events e refl refl
 of_boundary (Unshallow id) events e = of_line (unshallow id ∷ []) events e refl refl
 
-of_read : (place : Place) (format : Format) (text : List ℕ) (events : List EventValue) → Reads place format text events → IsOfLine events
+of_read : (place : Place) (format : Format) (text : List ℕ) (events : List EventValue) → ReadsLine place format text events → IsOfLine events
 of_read version format text events (is, e) = of_line [] events e refl refl
 of_read (capabilities spoken) format text events (key, value, is, e) = of_line (capability key value ∷ []) events e refl refl
 of_read references format text events (ref, is, e) = of_line (reference ref ∷ []) events e refl refl

@@ -1,22 +1,16 @@
 -- One packet more, after those before it, and questions that come later.
-use Rattle.std.proofs.Common.{arith, ◌≡◌, ◌⊎◌, inl, inr, ℕ, zero, suc, ◌+◌, Bool, true, false, not, List, [], ◌∷◌, ◌++◌}
-use Rattle.std.proofs.Common.{Option, Some, None, Result, Ok, Err, refl, sym, ap, ◌∙◌, subst, append_assoc, cond, slice_get}
+use Rattle.std.proofs.Common.{arith, ◌≡◌, ◌⊎◌, inl, inr, ℕ, zero, suc, ◌+◌, Bool, true, false, List, [], ◌∷◌, ◌++◌}
+use Rattle.std.proofs.Common.{Option, Some, None, refl, sym, ap, ◌∙◌, append_assoc, cond, slice_get}
 use Rattle.std.proofs.lemmas.List.{append-nil}
-use Rattle.git_names.specs.declared.object_format.Format.{Format}
-use Rattle.git_pkt.specs.Packets.{Pkt, flush, delim, resp_end, payload, flushes, text_of}
+use Rattle.git_pkt.specs.Packets.{Pkt, flushes}
 use Rattle.git_pkt.specs.Splits.{Given}
 use Rattle.git_pkt.specs.declared.fault.Kind.{Kind}
-use Rattle.git_msg.specs.Asked.{Asked, ls_refs, fetch}
-use Rattle.git_client.specs.declared.events.Ending.{Ending}
-use Rattle.git_client.specs.declared.events.Ending.TheVariants.{FlushOnly, ResponseEnd}
-use Rattle.git_client.specs.declared.sections.Section.{Section}
-use Rattle.git_client.specs.declared.sections.Section.TheVariants.{Acknowledgments, ShallowInfo, WantedRefs, Packfile}
-use Rattle.git_client.specs.declared.sections.Allowed.{Allowed}
+use Rattle.git_msg.specs.Asked.{Asked}
 use Rattle.git_client.specs.Parts.{Terms, Part, closing, nearest, is_zero, advertisement_of, message_of, is_end_due, answer_to, part_after, part_of}
-use Rattle.git_client.specs.Places.{Place, version, capabilities, references, header, acknowledgments, shallow_info, wanted_refs, packfile, response_end}
-use Rattle.git_client.specs.Places.{place_in, place_of, place_after}
+use Rattle.git_client.specs.Places.{Place}
+use Rattle.git_client.specs.Places.{place_of, place_after}
 use Rattle.git_client.specs.Events.{EventValue, offered, ended}
-use Rattle.git_client.specs.Events.{Gives, GivesLine, ended_by, flush_says, delimiter_says, response_end_says, turns_of}
+use Rattle.git_client.specs.Events.{turns_of}
 use Rattle.git_client.specs.Conversation.{GivesAt, RefusesAt, GiveAll, HasDue}
 use Rattle.git_client.proofs.PlacePackets.{nothing_due, comes_after, one_if, packet_adds}
 
