@@ -1,5 +1,6 @@
 -- What the judge of packets answers says what the packet gives, or why it is refused, after whatever came before.
-use Rattle.std.proofs.Common.{arith, ◌≡◌, ◌≢◌, ℕ, suc, ◌+◌, Bool, true, false, not, List, [], ◌∷◌, length, Option, Some, None, Ok, ap, cond, codes, refl, sym, ◌∙◌, subst}
+use Rattle.std.proofs.Common.{arith, ◌≡◌, ℕ, suc, Bool, true, false, not, List, [], ◌∷◌, length, Option, Some, None, Result, Ok, Err, MatchResult, ap}
+use Rattle.std.proofs.Common.{cond, codes, refl, sym, ◌∙◌, subst}
 use Rattle.git_names.specs.declared.object_format.Format.{Format}
 use Rattle.git_pkt.specs.Packets.{Pkt, flush, delim, resp_end, payload, text_of, body_of, flushes}
 use Rattle.git_pkt.specs.declared.fault.Kind.{Kind}
@@ -7,30 +8,33 @@ use Rattle.git_msg.specs.Advertisement.{noted_of, is_spoken}
 use Rattle.git_msg.specs.Asked.{Asked}
 use Rattle.git_msg.specs.declared.offers.Caps.{Caps}
 use Rattle.git_client.specs.Parts.{Terms, terms_of, Part, sections, closing, advertisement_of, message_of, is_end_due, is_zero, part_after}
-use Rattle.git_client.specs.Places.{Place, version, capabilities, header, acknowledgments, place_in, place_of, place_after}
-use Rattle.git_client.specs.Events.{EventValue, Gives, Refuses, SaysLine, GivesLine}
+use Rattle.git_client.specs.Places.{version, capabilities, header, acknowledgments, place_in, place_of, place_after}
+use Rattle.git_client.specs.Events.{EventValue, Gives, Refuses, SaysLine}
 use Rattle.git_client.specs.Conversation.{GivesAt, RefusesAt}
-use Rattle.git_client.specs.Sections.{section_of, section_named, lines_of, may_begin, is_header_due, told_by, told_with}
+use Rattle.git_client.specs.Sections.{section_named, lines_of, may_begin, told_by, told_with}
 use Rattle.git_client.specs.Turns.{NotesAfter, IsTurn, events_at, place_due, due_after_line, due_after_delimiter, phase_after, phase_after_response}
-use Rattle.git_client.specs.Client.{IsDue, IsDueIn, IsInside, AreWhole, Behind, awaits_end}
+use Rattle.git_client.specs.Turns.{is_asking, fault_in}
+use Rattle.git_client.specs.Client.{IsDue, IsDueIn, IsInside, AreWhole, Behind, HearsNext, awaits_end}
 use Rattle.git_client.specs.declared.sections.Section.{Section}
 use Rattle.git_client.specs.declared.sections.Allowed.{Allowed}
 use Rattle.git_client.specs.declared.sections.Told.{Told}
 use Rattle.git_client.specs.declared.events.Ending.{Ending}
 use Rattle.git_client.specs.declared.events.Ending.TheVariants.{FlushOnly, ResponseEnd as WithResponseEnd}
-use Rattle.git_client.specs.declared.phase.Phase.{Phase}
 use Rattle.git_client.specs.declared.phase.Due.{Due}
-use Rattle.git_client.specs.declared.phase.Due.TheVariants.{Version, Capabilities, References, Header, Acknowledgments, ShallowInfo, WantedRefs, Packfile, ResponseEnd}
+use Rattle.git_client.specs.declared.phase.Due.TheVariants.{Version, Capabilities, References, Header, Acknowledgments, ShallowInfo, WantedRefs}
+use Rattle.git_client.specs.declared.phase.Due.TheVariants.{Packfile, ResponseEnd}
 use Rattle.git_client.specs.declared.phase.Turn.{Turn}
-use Rattle.git_client.proofs.PartSteps.{advertisement_more, is_early, next_part, part_due, awaits_where, goes_on, no_flush, Stands, stands, no_end, GoesInto, due_more}
+use Rattle.git_client.proofs.PartSteps.{is_early, next_part, part_due, awaits_where, goes_on, no_flush, Stands, stands, no_end, GoesInto, due_after}
+use Rattle.git_client.proofs.Sequences.{advertisement_more}
 use Rattle.git_client.proofs.SectionSteps.{inside_more, allowed_stays, header_due}
 
 place_inside : (format : Format) (done : Bool) (message : List Pkt) (section : Section) → IsInside section message
     → place_of format (Some (sections done)) message ≡ place_in (Some section) (lines_of message)
 place_inside format done message section inside = rw (inside.inside, inside.begun) refl
 
-place_where : (format : Format) (done : Bool) (message : List Pkt) (due : Due) (caps : Caps) → (is_early (part_due done due) ≡ true → caps ≡ noted_of message)
-    → IsDueIn (part_due done due) message due → place_of format (Some (part_due done due)) message ≡ Some (place_due caps format due)
+place_where : (format : Format) (done : Bool) (message : List Pkt) (due : Due) (caps : Caps)
+    → (is_early (part_due done due) ≡ true → caps ≡ noted_of message) → IsDueIn (part_due done due) message due
+    → place_of format (Some (part_due done due)) message ≡ Some (place_due caps format due)
 place_where format done message Version caps notes is = refl
 place_where format done message Capabilities caps notes is = ap (λ (c : Caps). Some (capabilities (is_spoken c format))) (sym (notes refl))
 place_where format done message References caps notes is = refl
@@ -83,8 +87,10 @@ delimiter_due : (format : Format) (ending : Ending) (caps : Caps) (done : Bool) 
     → IsDueIn (next_part (part_due done due)) (delim ∷ message) (due_after_delimiter due)
 delimiter_due format ending caps done message (Acknowledgments told) events (inside, told_is, allowed_is) gives =
     (refl, sym (allowed_stays done delim message inside.inside ∙ allowed_is))
-delimiter_due format ending caps done message (ShallowInfo allowed) events (inside, is) gives = (refl, is ∙ sym (allowed_stays done delim message inside.inside))
-delimiter_due format ending caps done message (WantedRefs allowed) events (inside, is) gives = (refl, is ∙ sym (allowed_stays done delim message inside.inside))
+delimiter_due format ending caps done message (ShallowInfo allowed) events (inside, is) gives =
+    (refl, is ∙ sym (allowed_stays done delim message inside.inside))
+delimiter_due format ending caps done message (WantedRefs allowed) events (inside, is) gives =
+    (refl, is ∙ sym (allowed_stays done delim message inside.inside))
 delimiter_due format ending caps done message due events is gives = absurd (cc)
 
 -- a packet inside a message comes where no response end is due
@@ -96,7 +102,6 @@ not_last format ending caps ResponseEnd flush events goes gives = absurd goes
 not_last format ending caps ResponseEnd resp_end events goes gives = absurd goes
 not_last format ending caps due p events goes gives = refl
 
--- the flush of a response
 response_over : (format : Format) (ending : Ending) (asked : List Asked) (before : List Pkt) → flushes before ≡ length asked → is_zero (flushes before) ≡ false
     → Behind (terms_of format ending) asked (flush ∷ before) None (phase_after_response ending)
 response_over format FlushOnly asked before counts some = record { all_flushes = ap suc counts; no_end_due = refl; no_message = refl }
@@ -108,7 +113,13 @@ response_over format WithResponseEnd asked before counts some = record {
   is_due = tt;
 }
 
--- the flush of the advertisement
+-- the flush of a response ends it, or its response end is due
+response_flush : (t : Terms) (asked : List Asked) (before : List Pkt) (due : Due) → IsDue t asked before due → (s : Stands t asked before due)
+    → awaits_end due ≡ 0 → is_early (part_due s.done due) ≡ false → Behind t asked (flush ∷ before) None (phase_after_response t.ending)
+response_flush t asked before due is s none late =
+    let goes = goes_on t asked before (part_due s.done due) s.is_part (sym (awaits_where s.done due) ∙ none) in
+    response_over t.format t.ending asked before (omega (arith, is.counts)) (goes.early ∙ late)
+
 no_end_yet : (ending : Ending) (before : List Pkt) → flushes before ≡ 0 → is_end_due ending (flush ∷ before) ≡ false
 no_end_yet FlushOnly before none = refl
 no_end_yet WithResponseEnd before none = ap (λ (n : ℕ). not (is_zero n)) none
@@ -116,23 +127,15 @@ no_end_yet WithResponseEnd before none = ap (λ (n : ℕ). not (is_zero n)) none
 flush_due : (t : Terms) (asked : List Asked) (before : List Pkt) (due : Due) (caps : Caps) (events : List EventValue) → IsDue t asked before due
     → (s : Stands t asked before due) → Gives t.format t.ending (place_due caps t.format due) flush events
     → Behind t asked (flush ∷ before) None (phase_after t.ending due flush)
-flush_due t asked before due caps events is s gives = go due is s gives where
-  over : (due : Due) → IsDue t asked before due → (s : Stands t asked before due) → awaits_end due ≡ 0 → is_early (part_due s.done due) ≡ false
-      → Behind t asked (flush ∷ before) None (phase_after_response t.ending)
-  over due is s none late =
-      let goes = goes_on t asked before (part_due s.done due) s.is_part (sym (awaits_where s.done due) ∙ none) in
-      response_over t.format t.ending asked before (omega (arith, is.counts)) (goes.early ∙ late)
-  go : (due : Due) → IsDue t asked before due → (s : Stands t asked before due) → Gives t.format t.ending (place_due caps t.format due) flush events
-      → Behind t asked (flush ∷ before) None (phase_after t.ending due flush)
-  go Capabilities is s gives = record {
-    all_flushes = omega (arith, is.counts);
-    no_end_due = no_end_yet t.ending before (no_flush t asked before _ s.is_part refl);
-    no_message = refl;
-  }
-  go References is s gives = over References is s refl refl
-  go (Acknowledgments told) is s gives = over (Acknowledgments told) is s refl refl
-  go Packfile is s gives = over Packfile is s refl refl
-  go due is s gives = absurd (cc)
+flush_due t asked before Capabilities caps events is s gives = record {
+  all_flushes = omega (arith, is.counts);
+  no_end_due = no_end_yet t.ending before (no_flush t asked before _ s.is_part refl);
+  no_message = refl;
+}
+flush_due t asked before References caps events is s gives = response_flush t asked before References is s refl refl
+flush_due t asked before (Acknowledgments told) caps events is s gives = response_flush t asked before (Acknowledgments told) is s refl refl
+flush_due t asked before Packfile caps events is s gives = response_flush t asked before Packfile is s refl refl
+flush_due t asked before due caps events is s gives = absurd (cc)
 
 end_due : (t : Terms) (asked : List Asked) (before : List Pkt) (due : Due) (caps : Caps) (events : List EventValue) → IsDue t asked before due
     → Gives t.format t.ending (place_due caps t.format due) resp_end events → AreWhole t asked (resp_end ∷ before)
@@ -140,15 +143,14 @@ end_due t asked before ResponseEnd caps events is gives =
     record { all_flushes = omega (arith, is.counts); no_end_due = no_end t.ending resp_end before (λ e. cc); no_message = refl }
 end_due t asked before due caps events is gives = absurd (cc)
 
--- what stands behind the packet
-behind_after : (t : Terms) (asked : List Asked) (before : List Pkt) (due : Due) (caps : Caps) (p : Pkt) (events : List EventValue) → IsDue t asked before due
-    → (s : Stands t asked before due) → Gives t.format t.ending (place_due caps t.format due) p events
+behind_after : (t : Terms) (asked : List Asked) (before : List Pkt) (due : Due) (caps : Caps) (p : Pkt) (events : List EventValue)
+    → IsDue t asked before due → (s : Stands t asked before due) → Gives t.format t.ending (place_due caps t.format due) p events
     → Behind t asked (p ∷ before) None (phase_after t.ending due p)
 behind_after t asked before due caps (payload line) events is s gives =
-    due_more t asked before due _ (payload line) tt (not_last t.format t.ending caps due (payload line) events tt gives) is s
+    due_after t asked before due _ (payload line) tt (not_last t.format t.ending caps due (payload line) events tt gives) is s
     (line_due t.format t.ending caps s.done (message_of before) due line events s.is_due gives)
 behind_after t asked before due caps delim events is s gives =
-    due_more t asked before due _ delim tt (not_last t.format t.ending caps due delim events tt gives) is s
+    due_after t asked before due _ delim tt (not_last t.format t.ending caps due delim events tt gives) is s
     (delimiter_due t.format t.ending caps s.done (message_of before) due events s.is_due gives)
 behind_after t asked before due caps flush events is s gives = flush_due t asked before due caps events is s gives
 behind_after t asked before due caps resp_end events is s gives = end_due t asked before due caps events is gives
@@ -200,3 +202,17 @@ pub judged_badly : (t : Terms) (asked : List Asked) (before : List Pkt) (due : D
     → caps ≡ noted_of (advertisement_of before) → Refuses t.format t.ending (place_due caps t.format due) p kind → RefusesAt t asked before p kind
 judged_badly t asked before due caps p kind is notes refuses =
     record { place = place_due caps t.format due; is_place = place_is t asked before due caps is notes; refuses = refuses }
+
+hears_after : (ending : Ending) (due : Due) (p : Pkt) → (is_asking (phase_after ending due p) ≡ false) × (fault_in (phase_after ending due p) ≡ None)
+hears_after ending due (payload bytes) = (refl, refl)
+hears_after ending due delim = (refl, refl)
+hears_after ending Capabilities flush = (refl, refl)
+hears_after FlushOnly due flush = (refl, refl)
+hears_after WithResponseEnd due flush = (refl, refl)
+hears_after ending due resp_end = (refl, refl)
+
+-- after a packet in which no fault was found the server is heard on, or can be asked
+pub hears_next : (format : Format) (ending : Ending) (due : Due) (caps : Caps) (p : Pkt) (judged : Result Turn Kind)
+    → MatchResult judged (IsTurn format ending due caps p) (Refuses format ending (place_due caps format due) p) → HearsNext judged
+hears_next format ending due caps p (Ok turn) is = rw is.next (hears_after ending due p)
+hears_next format ending due caps p (Err kind) is = tt

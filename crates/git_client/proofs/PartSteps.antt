@@ -1,18 +1,17 @@
 -- The part of a conversation that a packet belongs to, and that of the packet after it.
-use Rattle.std.proofs.Common.{arith, ◌≡◌, ℕ, suc, zero, Bool, true, List, [], ◌∷◌, Option, Some, None, ◌≢◌, ◌+◌, false, length, ap, cond, refl, sym, ◌∙◌, subst}
+use Rattle.std.proofs.Common.{arith, ◌≡◌, ℕ, suc, zero, Bool, true, List, [], ◌∷◌, Option, Some, None, ◌≢◌, false, ap, cond, refl, sym, ◌∙◌, subst}
 use Rattle.std.specs.Prelude.{slice_get}
-use Rattle.git_pkt.specs.Packets.{Pkt, flush, delim, resp_end, payload, flushes}
+use Rattle.git_pkt.specs.Packets.{Pkt, flush, resp_end, flushes}
 use Rattle.git_msg.specs.Asked.{Asked, ls_refs, fetch}
-use Rattle.git_client.specs.Parts.{Terms, Part, opening, advertisement, listing, sections, closing, answer_to, part_after, part_of, is_end_due, is_zero, message_of, advertisement_of}
+use Rattle.git_client.specs.Parts.{Terms, Part, opening, advertisement, listing, sections, closing, answer_to, part_after, part_of, is_end_due}
+use Rattle.git_client.specs.Parts.{is_zero, message_of}
 use Rattle.git_client.specs.Client.{IsDue, IsDueIn, awaits_end}
 use Rattle.git_client.specs.declared.events.Ending.{Ending}
 use Rattle.git_client.specs.declared.events.Ending.TheVariants.{FlushOnly, ResponseEnd as WithResponseEnd}
 use Rattle.git_client.specs.declared.phase.Due.{Due}
-use Rattle.git_client.specs.declared.phase.Due.TheVariants.{Version, Capabilities, References, Header, Acknowledgments, ShallowInfo, WantedRefs, Packfile, ResponseEnd}
-
--- the advertisement goes on until its flush
-pub advertisement_more : (p : Pkt) (before : List Pkt) → flushes before ≡ 0 → advertisement_of (p ∷ before) ≡ p ∷ advertisement_of before
-advertisement_more p before none = ap (λ (n : ℕ). cond (is_zero n) (p ∷ advertisement_of before) (advertisement_of before)) none
+use Rattle.git_client.specs.declared.phase.Due.TheVariants.{Version, Capabilities, References, Header, Acknowledgments, ShallowInfo, WantedRefs}
+use Rattle.git_client.specs.declared.phase.Due.TheVariants.{Packfile, ResponseEnd}
+use Rattle.git_client.proofs.Sequences.{advertisement_more}
 
 -- the part before the first flush
 abbrev pub is_early : Part → Bool
@@ -98,7 +97,8 @@ zero_is zero is = refl
 zero_is (suc n) is = absurd (cc)
 
 -- no flush came before an early part
-pub no_flush : (t : Terms) (asked : List Asked) (before : List Pkt) (part : Part) → part_of t asked before ≡ Some part → is_early part ≡ true → flushes before ≡ 0
+pub no_flush : (t : Terms) (asked : List Asked) (before : List Pkt) (part : Part) → part_of t asked before ≡ Some part → is_early part ≡ true
+    → flushes before ≡ 0
 no_flush t asked before part is early = zero_is (flushes before) ((goes_on t asked before part is (early_ends part early)).early ∙ early)
 
 -- where the packets stand, by what is due after them
@@ -125,12 +125,12 @@ GoesInto resp_end = ⊥
 GoesInto p = Unit {0}
 
 -- after it, this is due
-pub due_more : (t : Terms) (asked : List Asked) (before : List Pkt) (due next : Due) (p : Pkt) → GoesInto p → awaits_end due ≡ 0
+pub due_after : (t : Terms) (asked : List Asked) (before : List Pkt) (due next : Due) (p : Pkt) → GoesInto p → awaits_end due ≡ 0
     → IsDue t asked before due → (s : Stands t asked before due) → IsDueIn (next_part (part_due s.done due)) (p ∷ message_of before) next
     → IsDue t asked (p ∷ before) next
-due_more t asked before due next flush goes none is s next_is = absurd goes
-due_more t asked before due next resp_end goes none is s next_is = absurd goes
-due_more t asked before due next p goes none is s next_is =
+due_after t asked before due next flush goes none is s next_is = absurd goes
+due_after t asked before due next resp_end goes none is s next_is = absurd goes
+due_after t asked before due next p goes none is s next_is =
     let part = part_due s.done due in
     let open_part : ends part ≡ 0 = sym (awaits_where s.done due) ∙ none in
     record {

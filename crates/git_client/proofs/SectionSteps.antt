@@ -1,11 +1,12 @@
 -- One packet more of a message of sections.
-use Rattle.std.proofs.Common.{◌≡◌, ℕ, Bool, true, false, List, [], ◌∷◌, Option, Some, None, ap, cond, not, ◌&&◌, refl, sym, ◌∙◌}
+use Rattle.std.proofs.Common.{◌≡◌, ℕ, Bool, true, false, List, [], ◌∷◌, Option, Some, None, ap, cond, refl, sym, ◌∙◌}
 use Rattle.std.specs.Str.{bytes_eq}
 use Rattle.std.proofs.Math.Bool.{and-false}
 use Rattle.std.proofs.lemmas.Slice.Eq.{bytes_eq-Decides}
 use Rattle.git_pkt.specs.Packets.{Pkt, payload, text_of}
 use Rattle.git_client.specs.Parts.{sections}
-use Rattle.git_client.specs.Sections.{header_of, section_named, section_of, is_header_due, is_empty, lines_of, allowed_after, allows, next_allowed, may_begin, told_by}
+use Rattle.git_client.specs.Sections.{header_of, section_named, section_of, is_header_due, lines_of, allowed_after, allows, next_allowed, may_begin}
+use Rattle.git_client.specs.Sections.{told_by}
 use Rattle.git_client.specs.Turns.{due_after_header, after_acknowledgments}
 use Rattle.git_client.specs.Client.{IsDueIn, IsInside}
 use Rattle.git_client.specs.declared.sections.Section.{Section}
@@ -36,7 +37,8 @@ inside_more section message line h = record {
 }
 
 -- no packet inside a section changes which sections may begin
-pub allowed_stays : (done : Bool) (p : Pkt) (message : List Pkt) → is_header_due message ≡ false → allowed_after done (p ∷ message) ≡ allowed_after done message
+pub allowed_stays : (done : Bool) (p : Pkt) (message : List Pkt) → is_header_due message ≡ false
+    → allowed_after done (p ∷ message) ≡ allowed_after done message
 allowed_stays done p [] inside = absurd (cc)
 allowed_stays done p (q ∷ message) inside = rw inside refl
 
@@ -62,9 +64,11 @@ header_more done message line None named due may = absurd (cc)
 header_more done message line (Some section) named due may = go section named may where
   inside : (section : Section) → section_named (text_of line) ≡ Some section → IsInside section (payload line ∷ message)
   inside section named = record { inside = refl; begun = ap (λ (b : Bool). cond b (section_named (text_of line)) (section_of message)) due ∙ named }
+
   more : (section : Section) → section_named (text_of line) ≡ Some section
       → next_allowed (allowed_after done message) section ≡ allowed_after done (payload line ∷ message)
   more section named = allowed_more done message line section due (header_named (text_of line) section named)
+
   go : (section : Section) → section_named (text_of line) ≡ Some section → allows (allowed_after done message) section ≡ true
       → IsDueIn (sections done) (payload line ∷ message) (due_after_header (allowed_after done message) (Some section))
   go Acknowledgments named may = (
