@@ -1,14 +1,15 @@
 -- A step of a client that hears carries what it stands for.
 use Rattle.std.proofs.Common.{arith, ◌≡◌, ◌≢◌, ◌⊎◌, inl, inr, Bool, Option, Some, ◌+◌, ◌-◌, ℕ, List, [], ◌∷◌, ◌++◌}
-use Rattle.std.proofs.Common.{length, true, false, None, ap, sym, ◌∙◌, refl, subst, append_assoc}
+use Rattle.std.proofs.Common.{length, zero-add, true, false, None, ap, sym, ◌∙◌, refl, subst, append_assoc}
 use Rattle.std.proofs.lemmas.List.{append-nil}
 use Rattle.git_names.specs.declared.object_format.Format.{Format}
 use Rattle.git_pkt.specs.Packets.{Pkt, payload, Spells, body_of}
 use Rattle.git_pkt.specs.Splits.{Given}
 use Rattle.git_pkt.specs.Faults.{StopsBy}
-use Rattle.git_pkt.specs.PacketReader.{Reads, ReadsOn, StandsAt, is_open, held_of, fault_of as reader_fault_of}
+use Rattle.git_pkt.specs.PacketReader.{Reads, ReadsOn, StandsAt, position_of, is_open, held_of, fault_of as reader_fault_of}
 use Rattle.git_pkt.specs.declared.fault.Fault.{Fault}
 use Rattle.git_pkt.specs.declared.fault.Kind.{Kind}
+use Rattle.git_pkt.specs.declared.fault.Kind.TheVariants.{Truncated}
 use Rattle.git_pkt.specs.declared.reader.PacketReader.{PacketReader}
 use Rattle.git_pkt.proofs.KnownRest.{sound_rest, none_between}
 use Rattle.git_msg.specs.Advertisement.{noted_of}
@@ -221,6 +222,20 @@ module _ {A : Type 0} where
         cut = append-nil c.given ∙ goes.cut;
         due = (place_due (caps_of old) t.format due, place_is t h.asked (nearest c.clean []) due (caps_of old) goes.behind c.notes);
         by = subst (λ (n : ℕ). StopsBy (n - length rest) rest n f.kind f.offset) start stops.1;
+      }))))
+
+  -- the input ended after a whole packet
+  pub hears_end : (old new : Client A) (due : Due) (f : Fault) → HearsBytes old new due [] [] → reader_fault_of (reader_of new) ≡ None
+      → is_open (reader_of new) ≡ false → f.kind ≡ Truncated → f.offset ≡ position_of (reader_of new) → phase_of new ≡ Failed f
+      → caps_of new ≡ caps_of old → HearsOn old [] [] new
+  hears_end old new due f b sound shut kind at failed caps =
+      hears_bytes old new due [] [] [] b (ap is_quiet failed) (λ t h c rest goes reads.
+      fails t h old new c f (c.given ++ []) rest (length (h.used ++ [])) failed caps (inr (inr (record {
+        cut = append-nil c.given ∙ goes.cut;
+        nothing = nothing_left (reader_of new) (h.used ++ []) (c.given ++ []) rest sound shut reads;
+        due = (place_due (caps_of old) t.format due, place_is t h.asked (nearest c.clean []) due (caps_of old) goes.behind c.notes);
+        kind = kind;
+        at = at ∙ reads.position ∙ zero-add (length (h.used ++ []));
       }))))
 
   -- two steps in a row

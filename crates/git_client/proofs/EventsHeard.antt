@@ -6,7 +6,7 @@ use Rattle.git_pkt.proofs.KnownRest.{sound_rest}
 use Rattle.git_msg.specs.Asked.{Asked}
 use Rattle.git_client.specs.Parts.{Terms, nearest}
 use Rattle.git_client.specs.Events.{EventValue}
-use Rattle.git_client.specs.Conversation.{GiveAll, Sounds, HasEvents, GoesWell, IsConversation}
+use Rattle.git_client.specs.Conversation.{GiveAll, Sounds, HasEvents, HasNoted, GoesWell, IsConversation}
 use Rattle.git_client.specs.Turns.{is_ready, fault_in, question_in}
 use Rattle.git_client.specs.Client.{History, Converses, StandsIn, Goes, AreWhole, fault_of, can_ask, bytes_used, phase_of, reader_of, caps_of, request_of}
 use Rattle.git_client.specs.Client.{left_to_say, said_of, spelled}
@@ -50,12 +50,16 @@ module _ (t : Terms) (asked : List Asked) (bytes : List ℕ) (clean given : List
   sounds_in phase h = all_clean t asked bytes clean given rest events splits gives h.cut
 
 module _ {A : Type 0} (t : Terms) (h : History) (client : Client A) (c : Converses t h client) where
+  sounds : Sounds t h.asked h.used c.clean h.events
+  sounds =
+      sounds_in t h.asked h.used c.clean c.given c.rest h.events c.reads.splits c.gives (question_in (request_of client)) (reader_of client)
+      (phase_of client) c.stands
+
   pub has_events : HasEvents t h.asked h.used h.events
-  has_events = (
-    c.clean,
-    sounds_in t h.asked h.used c.clean c.given c.rest h.events c.reads.splits c.gives (question_in (request_of client)) (reader_of client)
-        (phase_of client) c.stands,
-  )
+  has_events = (c.clean, sounds)
+
+  pub has_noted : HasNoted t h.asked h.used (caps_of client)
+  has_noted = (c.clean, h.events, sounds, c.notes)
 
   all_gives : c.given ≡ c.clean → GiveAll t h.asked [] c.given h.events
   all_gives cut = subst (λ (gs : List Given). GiveAll t h.asked [] gs h.events) (sym cut) c.gives
