@@ -76,7 +76,7 @@ said_more : (format : Format) (caps : Caps) (asked : List Asked) (question : Ask
 said_more format caps asked question given h =
     let write : Asked → List Pkt = lines_written caps.agent caps.object_format format in
     ap (λ (l : List ℕ). l ++ spelled (write question))
-        (sym (append-nil given) ∙ h ∙ ap spelled (append-nil (questions_of format caps asked)))
+    (sym (append-nil given) ∙ h ∙ ap spelled (append-nil (questions_of format caps asked)))
     ∙ sym (flat_map-append spelling_of (questions_of format caps asked) (write question))
     ∙ ap spelled (flat_map_more write [] asked question ∙ sym (append-nil (questions_of format caps (asked ++ question ∷ []))))
 
@@ -97,11 +97,11 @@ lent_by r hold false e shut = (
   record {
     fault = refl;
     reads = λ start bytes given rest h. record {
-        position = h.position;
-        within = h.within;
-        splits = h.splits;
-        state = stands_lent (reader_fault_of r) _ _ rest r (with_hold_by r hold false e) e e h.state;
-      };
+      position = h.position;
+      within = h.within;
+      splits = h.splits;
+      state = stands_lent (reader_fault_of r) _ _ rest r (with_hold_by r hold false e) e e h.state;
+    };
   },
   refl,
 )
