@@ -152,7 +152,8 @@ module _ {A : Type 0} where
   stands_asking t h old new request writer c b =
       let asked = h.asked ++ asked_of request ∷ [] in
       let goes : Goes t h.asked c.clean c.given c.rest (question_in (request_of old)) Ready (reader_of old) =
-      subst (λ (phase : Phase). StandsIn phase t h.asked c.clean c.given c.rest (length h.used) (question_in (request_of old)) (reader_of old)) b.was c.stands in
+      subst (λ (phase : Phase). StandsIn phase t h.asked c.clean c.given c.rest (length h.used) (question_in (request_of old)) (reader_of old))
+      b.was c.stands in
       let behind : IsAsked t asked (nearest c.clean []) (Some (asked_of request)) =
       record { earlier = h.asked; last = asked_of request; asked_is = refl; question_is = refl; whole = goes.behind } in
       let stands : Goes t asked c.clean c.given c.rest (Some (asked_of request)) (Asking writer) (reader_of old) =
@@ -213,7 +214,8 @@ module _ {A : Type 0} where
   says_next old new request writer next bytes b sound stays left behind t h c =
       let later = left_to_say new in
       let stood : StandsIn (Asking writer) t h.asked c.clean c.given c.rest (length h.used) (question_in (request_of old)) (reader_of old) =
-      subst (λ (phase : Phase). StandsIn phase t h.asked c.clean c.given c.rest (length h.used) (question_in (request_of old)) (reader_of old)) b.was c.stands in
+      subst (λ (phase : Phase). StandsIn phase t h.asked c.clean c.given c.rest (length h.used) (question_in (request_of old)) (reader_of old))
+      b.was c.stands in
       let goes : Goes t h.asked c.clean c.given c.rest (Some (asked_of request)) (Asking writer) (reader_of old) =
       subst (λ (kept : Option (Request A)). Goes t h.asked c.clean c.given c.rest (question_in kept) (Asking writer) (reader_of old)) b.kept stood in
       record {
