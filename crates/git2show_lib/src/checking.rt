@@ -8,6 +8,7 @@ ghost use Rattle.git2show_lib.specs.CheckedStreams.{FailsInCheck, IsShownInCheck
 use git_client::{Client, Ending, HeardGot, write_event};
 use git_names::Format;
 use git_pkt::{Fault, Got, Kind, Packet, PacketReader, Told, flush, receive};
+use std::alloc::Global;
 use std::io::{Read, Write};
 use thiserror::Error;
 
@@ -67,7 +68,7 @@ pub fn check<Q: Read, A: Read, W: Write>(
         (has_ended responses.new)) (A.remaining (inner_of responses.old)) (A.remaining (inner_of responses.new))
         (W.contents (inner_of out.old)) (W.contents (inner_of out.new)) result }
 {
-    let mut client = Client::new(format, ending);
+    let mut client: Client<Global> = Client::new(format, ending);
     let heard = hear_advertisement(&mut client, responses, other_piece, out, turns);
     // What was heard is sent before anything is told of it, a fault too.
     flush(out).map_err(|_| CheckFault::WriteFault)?;
@@ -87,7 +88,7 @@ pub fn check<Q: Read, A: Read, W: Write>(
 }
 
 /// The first byte that nobody asked for.
-fn left_over(client: &Client) -> CheckFault
+fn left_over(client: &Client<Global>) -> CheckFault
     ensures { result ≡ CheckFault.Responses (record { kind = Kind.UnexpectedPacket; offset = bytes_used client.now }) }
 {
     CheckFault::Responses(Fault {
@@ -98,7 +99,7 @@ fn left_over(client: &Client) -> CheckFault
 
 /// Reads the advertisement and writes its events. Answers what is left of the last piece.
 fn hear_advertisement<A: Read, W: Write>(
-    client: &mut Client,
+    client: &mut Client<Global>,
     responses: &mut Told<A>,
     piece: &mut [u8],
     out: &mut Told<W>,
@@ -140,7 +141,7 @@ fn hear_advertisement<A: Read, W: Write>(
 
 /// Hears what a piece says, up to the advertisement's end, and writes the events. Answers how many bytes were used.
 fn hear_piece<W: Write>(
-    client: &mut Client,
+    client: &mut Client<Global>,
     piece: &[u8],
     out: &mut Told<W>,
 ) -> Result<usize, CheckFault>
