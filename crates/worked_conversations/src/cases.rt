@@ -1,13 +1,12 @@
 //! Cases, as a text has them: a name, what is run and how it is set up, and the lines of what comes and is given.
 
 use crate::asking::Asking;
-use crate::clients;
 use crate::ends::End;
-use crate::runs;
 use crate::script::{Given, Recording, Script};
 use crate::sessions::{Reads, Setup};
 use crate::tables::Table;
 use crate::trouble::Trouble;
+use crate::{clients, runs};
 use git_client::Ending;
 use git_msg::Command;
 use git_names::Format;

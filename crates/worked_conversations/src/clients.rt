@@ -101,6 +101,8 @@ struct Talk<'a> {
     client: Client<Global>,
     questions: &'a [Question],
     leaves: bool,
+    // Whether the case has the packets that are sent.
+    shows_sent: bool,
     notes: Notes,
 }
 
@@ -112,6 +114,7 @@ impl<'a> Talk<'a> {
             client: Client::new(setup.format, setup.ending),
             questions: &[],
             leaves: false,
+            shows_sent: !script.asked.is_empty(),
             notes: Notes::new(alloc),
         };
         talk.hear(setup.heard)?;
@@ -138,7 +141,11 @@ impl<'a> Talk<'a> {
         for _ in 0..MANY {
             self.check_waiting()?;
             match self.client.pull() {
-                Sent::Packet(packet) => append_sent(self.alloc, &mut self.notes.lines, packet)?,
+                Sent::Packet(packet) => {
+                    if self.shows_sent {
+                        append_sent(self.alloc, &mut self.notes.lines, packet)?;
+                    }
+                }
                 Sent::CanAsk => {
                     if !self.ask()? {
                         return Ok(());
@@ -245,7 +252,11 @@ impl<'a> Talk<'a> {
         let (can_ask, fault, ending) = match self.client.pull() {
             Sent::CanAsk => (true, None, String::from_str(self.alloc, "can ask\n")?),
             Sent::Finished => (false, None, String::from_str(self.alloc, "left\n")?),
-            Sent::Failed(fault) => (false, Some(fault), format!(in self.alloc; "refused {fault}\n")?),
+            Sent::Failed(fault) => (
+                false,
+                Some(fault),
+                format!(in self.alloc; "refused {fault}\n")?,
+            ),
             _ => return Err(Trouble::Breaks("a client wants to send or to read")),
         };
         if used != 0 || told != fault {
