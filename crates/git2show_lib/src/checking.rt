@@ -2,6 +2,7 @@
 
 ghost use Rattle.std.specs.Prelude.{◌≡◌, ◌+◌, ◌-◌, ◌≤◌, ◌<◌, ◌||◌, true, false, None, length, take, drop, IsTrue, OnOk, IfOk, IfErr};
 ghost use Rattle.git_pkt.specs.Told.{inner_of, reads_of, has_failed, has_ended, IsNew};
+ghost use Rattle.git_client.specs.Parts.{terms_of};
 ghost use Rattle.git_client.specs.Client.{bytes_used, fault_of, can_ask, wants_input};
 ghost use Rattle.git2show_lib.specs.CheckedStreams.{FailsInCheck, IsShownInCheck, IsShownInHearing, IsShownInPiece, IsShownInRequests, Checks, EndsCheck, Judges, judgement_of, IsFirst, Transcribes, TranscribesUntil, Transcribed, TranscribedUntil};
 
@@ -64,7 +65,7 @@ pub fn check<Q: Read, A: Read, W: Write>(
     ensures ok { OnOk result (IsTrue (has_ended responses.new)) }
     ensures fault { IfErr result (IsShownInCheck requests.new responses.new (has_failed out.new) turns) }
     ensures told { FailsInCheck result (has_failed requests.new || has_failed responses.new) (has_failed out.new) }
-    ensures checked { EndsCheck (Checks format result (Judges (has_ended requests.new) (has_failed requests.new) (Q.remaining (inner_of requests.old)) (Q.remaining (inner_of requests.new)))
+    ensures checked { EndsCheck (Checks (terms_of format ending) result (Judges (has_ended requests.new) (has_failed requests.new) (Q.remaining (inner_of requests.old)) (Q.remaining (inner_of requests.new)))
         (has_ended responses.new)) (A.remaining (inner_of responses.old)) (A.remaining (inner_of responses.new))
         (W.contents (inner_of out.old)) (W.contents (inner_of out.new)) result }
 {

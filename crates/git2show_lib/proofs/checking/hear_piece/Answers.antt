@@ -1,7 +1,7 @@
 use Rattle.std.proofs.Common.{rules, arith, ◌≡◌, sym, subst}
 use Rattle.git_pkt.specs.Told.{inner_of, AppendsFront}
-use Rattle.git_client.specs.Transcript.{line_of}
-use Rattle.git_client.specs.Client.{value_of}
+use Rattle.git_client.specs.Transcript.{lines_of}
+use Rattle.git_client.specs.Turns.{values_of}
 use Rattle.git2show_lib.specs.CheckedStreams.{TranscribesUntil}
 use Rattle.git2show_lib.specs.declared.checking.CheckFault.{CheckFault}
 use Rattle.git2show_lib.specs.declared.checking.CheckFault.TheVariants.{WriteFault}
@@ -26,7 +26,7 @@ pub returns-in_err-map_err-in-Event-clause-stopped :
 returns-in_err-map_err-in-Event-clause-stopped g c =
     let named : c.in_err-map_err-in-Event.field-0.0 ≡ WriteFault = search rules in
     let front : AppendsFront (g.W.Write.contents (inner_of c.loop-used.out)) (g.W.Write.contents (inner_of c.write_event.new.out))
-    (line_of (value_of c.in-Event.event) 0 0) =
+    (lines_of (values_of c.in-Event.event) 0 0) =
     search rules in
     until_fault c.from_residual.result _ (λ (fault : CheckFault). TranscribesUntil fault c.args.client.now c.args.piece.now
     (g.W.Write.contents (inner_of c.args.out.now)) (g.W.Write.contents (inner_of c.write_event.new.out)) c.feed-heard.follows.lender-at-none)
