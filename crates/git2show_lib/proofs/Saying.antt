@@ -3,7 +3,7 @@ use Rattle.std.proofs.Common.{arith, ◌≡◌, ℕ, ◌+◌, ◌*◌, Option, S
 use Rattle.git_names.proofs.ObjectNames.{one_object_name}
 use Rattle.git_msg.proofs.ReferenceFaults.{reference_or_fault}
 use Rattle.git_msg.proofs.ReferenceLaws.{one_reference}
-use Rattle.git_msg.proofs.ReferenceWords.{last_value}
+use Rattle.git_msg.proofs.LastValues.{last_value}
 use Rattle.git_msg.specs.Numbers.{IsNumber}
 use Rattle.git2show_lib.specs.Drafts.{IsFit}
 use Rattle.git_names.specs.declared.object_format.Format.{Format}

@@ -1,186 +1,247 @@
--- A step of the client carries what it stands for.
-use Rattle.std.proofs.Common.{arith, ◌≡◌, inl, inr, Option, Some, ◌+◌, ◌-◌, ℕ, List, [], ◌∷◌, ◌++◌}
-use Rattle.std.proofs.Common.{length, true, false, None, ap, sym, ◌∙◌, refl, subst, append_assoc}
+-- A step of a client that hears carries what it stands for.
+use Rattle.std.proofs.Common.{arith, ◌≡◌, inl, inr, Bool, Option, Some, ◌+◌, ◌-◌, ℕ, List, [], ◌∷◌, ◌++◌}
+use Rattle.std.proofs.Common.{length, zero-add, true, false, None, ap, sym, ◌∙◌, refl, subst, append_assoc}
 use Rattle.std.proofs.lemmas.List.{append-nil}
 use Rattle.git_names.specs.declared.object_format.Format.{Format}
-use Rattle.git_pkt.specs.Packets.{Pkt, Spells, flushes}
+use Rattle.git_pkt.specs.Packets.{Pkt, payload, Spells, body_of}
 use Rattle.git_pkt.specs.Splits.{Given}
 use Rattle.git_pkt.specs.Faults.{StopsBy}
-use Rattle.git_pkt.specs.PacketReader.{Reads, ReadsOn, StandsAt, is_open, held_of, fault_of as reader_fault_of}
+use Rattle.git_pkt.specs.PacketReader.{Reads, ReadsOn, StandsAt, position_of, is_open, held_of, fault_of as reader_fault_of}
 use Rattle.git_pkt.specs.declared.fault.Fault.{Fault}
+use Rattle.git_pkt.specs.declared.fault.Kind.{Kind}
+use Rattle.git_pkt.specs.declared.fault.Kind.TheVariants.{Truncated}
 use Rattle.git_pkt.specs.declared.reader.PacketReader.{PacketReader}
 use Rattle.git_pkt.proofs.KnownRest.{sound_rest, none_between}
 use Rattle.git_msg.specs.Advertisement.{noted_of}
-use Rattle.git_client.specs.Parts.{nearest, advertisement_of}
-use Rattle.git_client.specs.Events.{EventValue, turns_of}
-use Rattle.git_client.specs.Conversation.{GivesAt, GiveAll, RefusesAt}
-use Rattle.git_client.specs.Turns.{takes_packets}
-use Rattle.git_client.specs.Client.{Hears, HearsOn, StandsIn, Goes, Behind, RefusedPacket, RefusedBytes, fault_in, is_ready, phase_of, reader_of}
-use Rattle.git_client.specs.Client.{format_of, ending_of, caps_of, wants_input, fault_of}
+use Rattle.git_msg.specs.Asked.{Asked}
+use Rattle.git_msg.specs.declared.offers.Caps.{Caps}
+use Rattle.git_msg.specs.declared.requests.Request.{Request}
+use Rattle.git_client.specs.Parts.{Terms, nearest, advertisement_of}
+use Rattle.git_client.specs.Events.{EventValue, Refuses}
+use Rattle.git_client.specs.Conversation.{GiveAll}
+use Rattle.git_client.specs.Turns.{has_left_in, left_in, question_in, events_at, place_due, NotesAfter, IsTurn}
+use Rattle.git_client.specs.Client.{History, Converses, HearsOn, StandsIn, Goes, Behind, IsDue, spelled}
+use Rattle.git_client.specs.Client.{questions_of, farewell, format_of, ending_of, caps_of, phase_of, reader_of, request_of}
+use Rattle.git_client.specs.declared.events.Ending.{Ending}
 use Rattle.git_client.specs.declared.phase.Phase.{Phase}
-use Rattle.git_client.specs.declared.phase.Phase.TheVariants.{Opening, Advertisement, Ready, Failed}
+use Rattle.git_client.specs.declared.phase.Phase.TheVariants.{Hearing, Ready, Asking, Leaving, Left, Failed}
+use Rattle.git_client.specs.declared.phase.Due.{Due}
+use Rattle.git_client.specs.declared.phase.Due.TheVariants.{Capabilities}
+use Rattle.git_client.specs.declared.phase.Turn.{Turn}
 use Rattle.git_client.specs.declared.client.Client.{Client}
-use Rattle.git_client.proofs.Sequences.{nearest_push, give_all_push, turns_are_flushes}
+use Rattle.git_client.proofs.Sequences.{nearest_push, give_all_push}
+use Rattle.git_client.proofs.PartSteps.{stands, no_flush}
+use Rattle.git_client.proofs.Judged.{place_is, judged_well, judged_badly}
 
--- a phase without a fault
-pub goes_in : (phase : Phase) (format : Format) (clean given : List Given) (rest : List ℕ) (end : ℕ) (reader : PacketReader) → fault_in phase ≡ None
-    → StandsIn phase format clean given rest end reader → Goes phase clean given rest reader
-goes_in Opening format clean given rest end reader e h = h
-goes_in Advertisement format clean given rest end reader e h = h
-goes_in Ready format clean given rest end reader e h = h
-goes_in (Failed fault) format clean given rest end reader e h = absurd (cc)
+-- the server is heard, or can be asked
+abbrev pub goes_on : Phase → Bool
+goes_on (Hearing due) = true
+goes_on Ready = true
+goes_on phase = false
 
-pub stands_in : (phase : Phase) (format : Format) (clean given : List Given) (rest : List ℕ) (end : ℕ) (reader : PacketReader) → fault_in phase ≡ None
-    → Goes phase clean given rest reader → StandsIn phase format clean given rest end reader
-stands_in Opening format clean given rest end reader e h = h
-stands_in Advertisement format clean given rest end reader e h = h
-stands_in Ready format clean given rest end reader e h = h
-stands_in (Failed fault) format clean given rest end reader e h = absurd (cc)
+-- how a phase in which the conversation goes on stands, whatever the request was
+pub stands_on : (phase : Phase) (t : Terms) (asked : List Asked) (clean given : List Given) (rest : List ℕ) (end : ℕ) (question : Option Asked)
+    (reader : PacketReader) → goes_on phase ≡ true → Goes t asked clean given rest None phase reader
+    → StandsIn phase t asked clean given rest end question reader
+stands_on (Hearing due) t asked clean given rest end question reader e h =
+    record { cut = h.cut; sound = h.sound; behind = h.behind; shut = h.shut }
+stands_on Ready t asked clean given rest end question reader e h =
+    record { cut = h.cut; sound = h.sound; behind = h.behind; shut = h.shut }
+stands_on (Asking writer) t asked clean given rest end question reader e h = absurd (cc)
+stands_on Leaving t asked clean given rest end question reader e h = absurd (cc)
+stands_on Left t asked clean given rest end question reader e h = absurd (cc)
+stands_on (Failed fault) t asked clean given rest end question reader e h = absurd (cc)
 
-pub takes_no_fault : (phase : Phase) → takes_packets phase ≡ true → fault_in phase ≡ None
-takes_no_fault Opening e = refl
-takes_no_fault Advertisement e = refl
-takes_no_fault Ready e = refl
-takes_no_fault (Failed fault) e = absurd (cc)
+-- a phase in which the client says nothing, and has not left
+abbrev pub is_quiet : Phase → Bool
+is_quiet (Failed fault) = true
+is_quiet phase = goes_on phase
+
+pub goes_quietly : (phase : Phase) → goes_on phase ≡ true → is_quiet phase ≡ true
+goes_quietly (Hearing due) e = refl
+goes_quietly Ready e = refl
+goes_quietly (Asking writer) e = absurd (cc)
+goes_quietly Leaving e = absurd (cc)
+goes_quietly Left e = absurd (cc)
+goes_quietly (Failed fault) e = refl
+
+not_left : (phase : Phase) → is_quiet phase ≡ true → has_left_in phase ≡ false
+not_left (Hearing due) e = refl
+not_left Ready e = refl
+not_left (Asking writer) e = absurd (cc)
+not_left Leaving e = absurd (cc)
+not_left Left e = absurd (cc)
+not_left (Failed fault) e = refl
+
+owes_nothing : {A : Type 0} (phase : Phase) (request : Option (Request A)) → is_quiet phase ≡ true → left_in phase request ≡ []
+owes_nothing (Hearing due) request e = refl
+owes_nothing Ready request e = refl
+owes_nothing (Asking writer) request e = absurd (cc)
+owes_nothing Leaving request e = absurd (cc)
+owes_nothing Left request e = refl
+owes_nothing (Failed fault) request e = refl
 
 -- after a packet nothing is left
 nothing_left : (reader : PacketReader) (bytes : List ℕ) (given : List Given) (rest : List ℕ) → reader_fault_of reader ≡ None → is_open reader ≡ false
     → Reads reader 0 bytes given rest → rest ≡ []
 nothing_left reader bytes given rest sound shut reads = none_between reader rest (sound_rest reader 0 bytes given rest sound reads).0 shut
 
--- what a packet without a fault says, of whatever was before it
-pub record Adds (old new : Client) (p : Pkt) (now : List EventValue) (before : List Pkt) : Type 0 where
-  pub gives : GivesAt (format_of old) before p now
-  pub notes : caps_of new ≡ noted_of (advertisement_of (p ∷ before))
-  pub behind : Behind (phase_of new) (p ∷ before)
+none_of : (asked : List Asked) → length asked ≡ 0 → asked ≡ []
+none_of [] e = refl
+none_of (q ∷ asked) e = absurd (omega arith)
 
--- a packet without a fault
-pub hears_packet : (old new : Client) (u : List ℕ) (g : Given) (now : List EventValue) → wants_input old ≡ true → fault_of new ≡ None
-    → ReadsOn (reader_of old) u (g ∷ []) (reader_of new) → reader_fault_of (reader_of new) ≡ None → is_open (reader_of new) ≡ false
-    → format_of new ≡ format_of old → ending_of new ≡ ending_of old
-    → ((before : List Pkt) → Behind (phase_of old) before → caps_of old ≡ noted_of (advertisement_of before) → Adds old new g.packet now before)
-    → HearsOn old u now new
-hears_packet old new u g now wants none reads sound shut same_format same_ending adds format ending bytes events h =
-    let goes = goes_in (phase_of old) format h.clean h.given h.rest (length bytes) (reader_of old) (takes_no_fault (phase_of old) wants) h.stands in
-    let on = reads 0 bytes h.given h.rest h.reads in
-    let added = adds (nearest h.clean []) goes.behind h.notes in
-    let gives : GivesAt format (nearest h.clean []) g.packet now =
-    subst (λ (f : Format). GivesAt f (nearest h.clean []) g.packet now) h.format_is added.gives in
-    let push = nearest_push h.clean g [] in
-    let nothing = nothing_left (reader_of new) (bytes ++ u) (h.given ++ g ∷ []) on.0 sound shut on.1 in
-    record {
-      given = h.given ++ g ∷ [];
-      rest = on.0;
-      clean = h.clean ++ g ∷ [];
-      format_is = same_format ∙ h.format_is;
-      ending_is = same_ending ∙ h.ending_is;
-      reads = on.1;
-      gives = give_all_push format [] h.clean g events now h.gives gives;
-      notes = added.notes ∙ ap (λ (l : List Pkt). noted_of (advertisement_of l)) (sym push);
-      stands = stands_in (phase_of new) format _ _ _ _ _ none (record {
+-- what is noted changes only before anything was asked
+same_questions : (t : Terms) (asked : List Asked) (before : List Pkt) (due : Due) (caps after : Caps) (p : Pkt) → IsDue t asked before due
+    → NotesAfter due caps p after → questions_of t.format after asked ≡ questions_of t.format caps asked
+same_questions t asked before Capabilities caps after (payload line) d notes =
+    let none = none_of asked (omega (arith, d.counts, no_flush t asked before _ (stands t asked before Capabilities d).is_part refl)) in
+    ap (questions_of t.format after) none ∙ sym (ap (questions_of t.format caps) none)
+same_questions t asked before due caps after p d notes = ap (λ (a : Caps). questions_of t.format a asked) notes
+
+module _ {A : Type 0} where
+  -- the client has read these packets of these bytes
+  pub record HearsBytes (old new : Client A) (due : Due) (u : List ℕ) (more : List Given) : Type 0 where
+    pub hearing : phase_of old ≡ Hearing due
+    pub reads : ReadsOn (reader_of old) u more (reader_of new)
+    pub format : format_of new ≡ format_of old
+    pub ending : ending_of new ≡ ending_of old
+
+  -- where the conversation stands after it
+  pub record Continues (t : Terms) (h : History) (old new : Client A) (now : List EventValue) (given : List Given) (rest : List ℕ) (end : ℕ) : Type 0 where
+    pub clean : List Given
+    pub gives : GiveAll t h.asked [] clean (h.events ++ now)
+    pub notes : caps_of new ≡ noted_of (advertisement_of (nearest clean []))
+    pub stands : StandsIn (phase_of new) t h.asked clean given rest end (question_in (request_of new)) (reader_of new)
+    pub same_questions : questions_of t.format (caps_of new) h.asked ≡ questions_of t.format (caps_of old) h.asked
+
+  -- it goes on by these bytes, whatever they are
+  hears_bytes : (old new : Client A) (due : Due) (u : List ℕ) (more : List Given) (now : List EventValue) → HearsBytes old new due u more
+      → is_quiet (phase_of new) ≡ true
+      → ((t : Terms) (h : History) (c : Converses t h old) (rest : List ℕ)
+      → Goes t h.asked c.clean c.given c.rest None (Hearing due) (reader_of old)
+      → Reads (reader_of new) 0 (h.used ++ u) (c.given ++ more) rest
+      → Continues t h old new now (c.given ++ more) rest (length (h.used ++ u))) → HearsOn old u now new
+  hears_bytes old new due u more now b quiet after t h c =
+      let goes : StandsIn (Hearing due) t h.asked c.clean c.given c.rest (length h.used) (question_in (request_of old)) (reader_of old) =
+      subst (λ (phase : Phase). StandsIn phase t h.asked c.clean c.given c.rest (length h.used) (question_in (request_of old)) (reader_of old))
+      b.hearing c.stands in
+      let on = b.reads 0 h.used c.given c.rest c.reads in
+      let a = after t h c on.0 (record { cut = goes.cut; sound = goes.sound; behind = goes.behind; shut = goes.shut }) on.1 in
+      let was : is_quiet (phase_of old) ≡ true = ap is_quiet b.hearing in
+      record {
+        given = c.given ++ more;
+        rest = on.0;
+        clean = a.clean;
+        format_is = b.format ∙ c.format_is;
+        ending_is = b.ending ∙ c.ending_is;
+        reads = on.1;
+        gives = a.gives;
+        notes = a.notes;
+        stands = a.stands;
+        left = c.left ∙ not_left (phase_of old) was ∙ sym (not_left (phase_of new) quiet);
+        spoken =
+            ap (λ (l : List Pkt). h.given ++ spelled l)
+            (owes_nothing (phase_of new) (request_of new) quiet ∙ sym (owes_nothing (phase_of old) (request_of old) was))
+            ∙ c.spoken ∙ ap (λ (l : List Pkt). spelled (l ++ farewell h.left)) (sym a.same_questions);
+      }
+
+  -- one packet, which lies in the hold
+  pub record HearsPacket (old new : Client A) (due : Due) (u : List ℕ) (g : Given) : Type 0 where
+    pub bytes : HearsBytes old new due u (g ∷ [])
+    pub sound : reader_fault_of (reader_of new) ≡ None
+    pub shut : is_open (reader_of new) ≡ false
+    pub held : Spells g.packet (held_of (reader_of new))
+
+  -- a packet without a fault
+  pub hears_packet : (old new : Client A) (due : Due) (u : List ℕ) (g : Given) (turn : Turn) → HearsPacket old new due u g
+      → IsTurn (format_of old) (ending_of old) due (caps_of old) g.packet turn → goes_on turn.next ≡ true → phase_of new ≡ turn.next
+      → caps_of new ≡ turn.caps → HearsOn old u (events_at turn.said (body_of g.packet)) new
+  hears_packet old new due u g turn b judged goes_after now caps =
+      hears_bytes old new due u (g ∷ []) (events_at turn.said (body_of g.packet)) b.bytes
+      (ap is_quiet now ∙ goes_quietly turn.next goes_after) (λ t h c rest goes reads.
+      let of_terms : IsTurn t.format t.ending due (caps_of old) g.packet turn =
+      subst (λ (ending : Ending). IsTurn t.format ending due (caps_of old) g.packet turn) c.ending_is
+      (subst (λ (format : Format). IsTurn format (ending_of old) due (caps_of old) g.packet turn) c.format_is judged) in
+      let says = judged_well t h.asked (nearest c.clean []) due (caps_of old) g.packet turn goes.behind c.notes of_terms in
+      let push = nearest_push c.clean g [] in
+      let next : Goes t h.asked (c.clean ++ g ∷ []) (c.given ++ g ∷ []) rest None turn.next (reader_of new) = record {
         cut = ap (λ (l : List Given). l ++ g ∷ []) goes.cut;
-        sound = sound;
-        behind = subst (λ (l : List Pkt). Behind (phase_of new) l) (sym push) added.behind;
-        shut = λ _. nothing;
-      });
-    }
+        sound = b.sound;
+        behind = subst (λ (l : List Pkt). Behind t h.asked l None turn.next) (sym push) says.2;
+        shut = λ _. nothing_left (reader_of new) (h.used ++ u) (c.given ++ g ∷ []) rest b.sound b.shut reads;
+      } in
+      record {
+        clean = c.clean ++ g ∷ [];
+        gives = give_all_push t h.asked [] c.clean g h.events (events_at turn.said (body_of g.packet)) c.gives says.0;
+        notes = caps ∙ says.1 ∙ ap (λ (l : List Pkt). noted_of (advertisement_of l)) (sym push);
+        stands = subst (λ (phase : Phase). StandsIn phase t h.asked (c.clean ++ g ∷ []) (c.given ++ g ∷ []) rest (length (h.used ++ u)) (question_in (request_of new)) (reader_of new))
+            (sym now) (stands_on turn.next t h.asked _ _ _ _ _ _ goes_after next);
+        same_questions = ap (λ (a : Caps). questions_of t.format a h.asked) caps ∙ same_questions t h.asked (nearest c.clean []) due (caps_of old) turn.caps g.packet goes.behind of_terms.notes;
+      })
 
--- a packet that is refused
-pub hears_refused : (old new : Client) (u : List ℕ) (g : Given) (f : Fault) → wants_input old ≡ true → phase_of new ≡ Failed f
-    → ReadsOn (reader_of old) u (g ∷ []) (reader_of new) → reader_fault_of (reader_of new) ≡ None → is_open (reader_of new) ≡ false
-    → Spells g.packet (held_of (reader_of new)) → f.offset ≡ g.offset → format_of new ≡ format_of old → ending_of new ≡ ending_of old
-    → caps_of new ≡ caps_of old
-    → ((before : List Pkt) → Behind (phase_of old) before → caps_of old ≡ noted_of (advertisement_of before) → RefusesAt
-    (format_of old) before g.packet f.kind) → HearsOn old u [] new
-hears_refused old new u g f wants failed reads sound shut spells at same_format same_ending same_caps refuses format ending bytes events h =
-    let goes = goes_in (phase_of old) format h.clean h.given h.rest (length bytes) (reader_of old) (takes_no_fault (phase_of old) wants) h.stands in
-    let on = reads 0 bytes h.given h.rest h.reads in
-    let refused : RefusesAt format (nearest h.clean []) g.packet f.kind =
-    subst (λ (o : Format). RefusesAt o (nearest h.clean []) g.packet f.kind) h.format_is (refuses (nearest h.clean []) goes.behind h.notes) in
-    let packet : RefusedPacket format h.clean (h.given ++ g ∷ []) on.0 f (reader_of new) = record {
-      bad = g;
-      nothing = nothing_left (reader_of new) (bytes ++ u) (h.given ++ g ∷ []) on.0 sound shut on.1;
-      cut = ap (λ (l : List Given). l ++ g ∷ []) goes.cut;
-      refused = refused;
-      at = at;
-      held = spells;
-    } in
-    record {
-      given = h.given ++ g ∷ [];
-      rest = on.0;
-      clean = h.clean;
-      format_is = same_format ∙ h.format_is;
-      ending_is = same_ending ∙ h.ending_is;
-      reads = on.1;
-      gives = subst (λ (l : List EventValue). GiveAll format [] h.clean l) (sym (append-nil events)) h.gives;
-      notes = same_caps ∙ h.notes;
-      stands = subst (λ (phase : Phase). StandsIn phase format h.clean (h.given ++ g ∷ []) on.0 (length (bytes ++ u)) (reader_of new)) (sym failed)
-          (inl packet);
-    }
+  -- what refuses nothing adds nothing
+  fails : (t : Terms) (h : History) (old new : Client A) (c : Converses t h old) (f : Fault) (given : List Given) (rest : List ℕ) (end : ℕ)
+      → phase_of new ≡ Failed f → caps_of new ≡ caps_of old
+      → StandsIn (Failed f) t h.asked c.clean given rest end (question_in (request_of new)) (reader_of new) → Continues t h old new [] given rest end
+  fails t h old new c f given rest end failed caps stands = record {
+    clean = c.clean;
+    gives = subst (GiveAll t h.asked [] c.clean) (sym (append-nil h.events)) c.gives;
+    notes = caps ∙ c.notes;
+    stands = subst (λ (phase : Phase). StandsIn phase t h.asked c.clean given rest end (question_in (request_of new)) (reader_of new)) (sym failed) stands;
+    same_questions = ap (λ (a : Caps). questions_of t.format a h.asked) caps;
+  }
 
-due_in : (phase : Phase) (before : List Pkt) → takes_packets phase ≡ true → Behind phase before → flushes before ≡ 0
-due_in Opening before e h = ap flushes h
-due_in Advertisement before e h = h.1
-due_in Ready before e h = absurd (cc)
-due_in (Failed fault) before e h = absurd (cc)
+  -- a packet that is refused
+  pub hears_refused : (old new : Client A) (due : Due) (u : List ℕ) (g : Given) (kind : Kind) → HearsPacket old new due u g
+      → Refuses (format_of old) (ending_of old) (place_due (caps_of old) (format_of old) due) g.packet kind
+      → phase_of new ≡ Failed (record { kind = kind; offset = g.offset }) → caps_of new ≡ caps_of old → HearsOn old u [] new
+  hears_refused old new due u g kind b judged failed caps =
+      hears_bytes old new due u (g ∷ []) [] b.bytes (ap is_quiet failed) (λ t h c rest goes reads.
+      let of_terms : Refuses t.format t.ending (place_due (caps_of old) t.format due) g.packet kind =
+      subst (λ (ending : Ending). Refuses t.format ending (place_due (caps_of old) t.format due) g.packet kind) c.ending_is
+      (subst (λ (format : Format). Refuses format (ending_of old) (place_due (caps_of old) format due) g.packet kind) c.format_is judged) in
+      fails t h old new c (record { kind = kind; offset = g.offset }) (c.given ++ g ∷ []) rest (length (h.used ++ u)) failed caps (inl (record {
+        bad = g;
+        cut = ap (λ (l : List Given). l ++ g ∷ []) goes.cut;
+        nothing = nothing_left (reader_of new) (h.used ++ u) (c.given ++ g ∷ []) rest b.sound b.shut reads;
+        refused = judged_badly t h.asked (nearest c.clean []) due (caps_of old) g.packet kind goes.behind c.notes of_terms;
+        at = refl;
+        held = b.held;
+      })))
 
--- bytes that the reader refuses
-pub hears_failed : (old new : Client) (u : List ℕ) (f : Fault) → wants_input old ≡ true → phase_of new ≡ Failed f
-    → ReadsOn (reader_of old) u [] (reader_of new) → reader_fault_of (reader_of new) ≡ Some f → format_of new ≡ format_of old
-    → ending_of new ≡ ending_of old → caps_of new ≡ caps_of old → HearsOn old u [] new
-hears_failed old new u f wants failed reads told same_format same_ending same_caps format ending bytes events h =
-    let goes = goes_in (phase_of old) format h.clean h.given h.rest (length bytes) (reader_of old) (takes_no_fault (phase_of old) wants) h.stands in
-    let on = reads 0 bytes h.given h.rest h.reads in
-    let start : 0 + length (bytes ++ u) ≡ length (bytes ++ u) = omega arith in
-    let stops : StandsAt (Some f) (0 + length (bytes ++ u) - length on.0) (0 + length (bytes ++ u)) on.0 (reader_of new) =
-    subst (λ (o : Option Fault). StandsAt o (0 + length (bytes ++ u) - length on.0) (0 + length (bytes ++ u)) on.0 (reader_of new)) told on.1.state in
-    let refused : RefusedBytes h.clean (h.given ++ []) on.0 (length (bytes ++ u)) f = record {
-      cut = append-nil h.given ∙ goes.cut;
-      due = due_in (phase_of old) (nearest h.clean []) wants goes.behind;
-      by = subst (λ (n : ℕ). StopsBy (n - length on.0) on.0 n f.kind f.offset) start stops.1;
-    } in
-    record {
-      given = h.given ++ [];
-      rest = on.0;
-      clean = h.clean;
-      format_is = same_format ∙ h.format_is;
-      ending_is = same_ending ∙ h.ending_is;
-      reads = on.1;
-      gives = subst (λ (l : List EventValue). GiveAll format [] h.clean l) (sym (append-nil events)) h.gives;
-      notes = same_caps ∙ h.notes;
-      stands = subst (λ (phase : Phase). StandsIn phase format h.clean (h.given ++ []) on.0 (length (bytes ++ u)) (reader_of new)) (sym failed)
-          (inr (inl refused));
-    }
+  -- bytes that the reader refuses
+  pub hears_failed : (old new : Client A) (due : Due) (u : List ℕ) (f : Fault) → HearsBytes old new due u []
+      → reader_fault_of (reader_of new) ≡ Some f → phase_of new ≡ Failed f → caps_of new ≡ caps_of old → HearsOn old u [] new
+  hears_failed old new due u f b told failed caps =
+      hears_bytes old new due u [] [] b (ap is_quiet failed) (λ t h c rest goes reads.
+      let end : ℕ = length (h.used ++ u) in
+      let start : 0 + end ≡ end = omega arith in
+      let stops : StandsAt (Some f) (0 + end - length rest) (0 + end) rest (reader_of new) =
+      subst (λ (o : Option Fault). StandsAt o (0 + end - length rest) (0 + end) rest (reader_of new)) told reads.state in
+      fails t h old new c f (c.given ++ []) rest end failed caps (inr (inl (record {
+        cut = append-nil c.given ∙ goes.cut;
+        due = (place_due (caps_of old) t.format due, place_is t h.asked (nearest c.clean []) due (caps_of old) goes.behind c.notes);
+        by = subst (λ (n : ℕ). StopsBy (n - length rest) rest n f.kind f.offset) start stops.1;
+      }))))
 
--- a client can ask exactly where it has come to one turn more than it asked
-pub turn_is : (phase : Phase) (format : Format) (clean given : List Given) (rest : List ℕ) (end : ℕ) (reader : PacketReader) (events : List EventValue)
-    → StandsIn phase format clean given rest end reader → GiveAll format [] clean events
-    → (is_ready phase ≡ true → (fault_in phase ≡ None) × (turns_of events ≡ 1)) × ((fault_in phase ≡ None) × (turns_of events ≡ 1) → is_ready phase ≡ true)
-turn_is Opening format clean given rest end reader events h g =
-    let turns = turns_are_flushes format [] clean events g in
-    (λ e. absurd (cc), λ (none, one). absurd (omega (arith, turns, one, ap flushes h.behind)))
-turn_is Advertisement format clean given rest end reader events h g =
-    let turns = turns_are_flushes format [] clean events g in
-    (λ e. absurd (cc), λ (none, one). absurd (omega (arith, turns, one, h.behind.1)))
-turn_is Ready format clean given rest end reader events h g =
-    let turns = turns_are_flushes format [] clean events g in
-    (λ e. (refl, omega (arith, turns, h.behind)), λ _. refl)
-turn_is (Failed fault) format clean given rest end reader events h g = (λ e. absurd (cc), λ (none, one). absurd (cc))
+  -- the input ended after a whole packet
+  pub hears_end : (old new : Client A) (due : Due) (f : Fault) → HearsBytes old new due [] [] → reader_fault_of (reader_of new) ≡ None
+      → is_open (reader_of new) ≡ false → f.kind ≡ Truncated → f.offset ≡ position_of (reader_of new) → phase_of new ≡ Failed f
+      → caps_of new ≡ caps_of old → HearsOn old [] [] new
+  hears_end old new due f b sound shut kind at failed caps =
+      hears_bytes old new due [] [] [] b (ap is_quiet failed) (λ t h c rest goes reads.
+      fails t h old new c f (c.given ++ []) rest (length (h.used ++ [])) failed caps (inr (inr (record {
+        cut = append-nil c.given ∙ goes.cut;
+        nothing = nothing_left (reader_of new) (h.used ++ []) (c.given ++ []) rest sound shut reads;
+        due = (place_due (caps_of old) t.format due, place_is t h.asked (nearest c.clean []) due (caps_of old) goes.behind c.notes);
+        kind = kind;
+        at = at ∙ reads.position ∙ zero-add (length (h.used ++ []));
+      }))))
 
--- no turn has come while the advertisement is due
-pub none_while_due : (phase : Phase) (format : Format) (clean given : List Given) (rest : List ℕ) (end : ℕ) (reader : PacketReader)
-    (events : List EventValue) → takes_packets phase ≡ true → StandsIn phase format clean given rest end reader → GiveAll format [] clean events
-    → turns_of events ≡ 0
-none_while_due Opening format clean given rest end reader events due h g =
-    let turns = turns_are_flushes format [] clean events g in omega (arith, turns, ap flushes h.behind)
-none_while_due Advertisement format clean given rest end reader events due h g =
-    let turns = turns_are_flushes format [] clean events g in omega (arith, turns, h.behind.1)
-none_while_due Ready format clean given rest end reader events due h g = absurd (cc)
-none_while_due (Failed fault) format clean given rest end reader events due h g = absurd (cc)
-
--- two steps in a row
-pub hears_twice : (a b c : Client) (u v : List ℕ) (now later : List EventValue) → HearsOn a u now b → HearsOn b v later c → HearsOn a (u ++ v) (now ++ later) c
-hears_twice a b c u v now later h k format ending bytes events r =
-    subst (λ (es : List EventValue). Hears format ending c (bytes ++ (u ++ v)) es) (append_assoc events now later)
-    (subst (λ (bs : List ℕ). Hears format ending c bs ((events ++ now) ++ later)) (append_assoc bytes u v)
-    (k format ending (bytes ++ u) (events ++ now) (h format ending bytes events r)))
+  -- two steps in a row
+  pub hears_twice : (a b c : Client A) (u v : List ℕ) (now later : List EventValue) → HearsOn a u now b → HearsOn b v later c
+      → HearsOn a (u ++ v) (now ++ later) c
+  hears_twice a b c u v now later first second t h r =
+      subst (λ (es : List EventValue). Converses t (record h { used = h.used ++ (u ++ v); events = es }) c) (append_assoc h.events now later)
+      (subst (λ (bs : List ℕ). Converses t (record h { used = bs; events = (h.events ++ now) ++ later }) c) (append_assoc h.used u v)
+      (second t (record h { used = h.used ++ u; events = h.events ++ now }) (first t h r)))

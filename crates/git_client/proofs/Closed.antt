@@ -1,36 +1,70 @@
 -- Where the input ended.
-use Rattle.std.proofs.Common.{arith, ◌≡◌, ℕ, ◌+◌, List, length, true, false, ap, subst}
-use Rattle.git_names.specs.declared.object_format.Format.{Format}
+use Rattle.std.proofs.Common.{arith, ◌≡◌, ◌⊎◌, inl, inr, ℕ, ◌+◌, List, [], length, true, false, Some, None, ap, refl, sym, subst}
 use Rattle.git_pkt.specs.Splits.{Given, Splits}
-use Rattle.git_pkt.specs.PacketReader.{Holds, is_open, open_length, position_of}
+use Rattle.git_pkt.specs.PacketReader.{ReadsOn, Holds, is_open, open_length, position_of, fault_of as reader_fault_of}
+use Rattle.git_pkt.specs.declared.fault.Fault.{Fault}
+use Rattle.git_pkt.specs.declared.fault.Kind.TheVariants.{Truncated}
+use Rattle.git_pkt.specs.declared.reader.PacketReader.{PacketReader}
 use Rattle.git_pkt.proofs.KnownRest.{sound_rest, none_between, rest_length}
 use Rattle.git_pkt.proofs.Streams.{one_split}
-use Rattle.git_client.specs.Events.{EventValue}
-use Rattle.git_client.specs.Client.{Hears, phase_of, reader_of, wants_input}
-use Rattle.git_client.specs.declared.events.Ending.{Ending}
+use Rattle.git_client.specs.Parts.{Terms}
+use Rattle.git_client.specs.Turns.{takes_packets, fault_in}
+use Rattle.git_client.specs.Client.{History, Converses, HearsOn, phase_of, reader_of, format_of, ending_of, caps_of, wants_input}
+use Rattle.git_client.specs.declared.phase.Phase.{Phase}
+use Rattle.git_client.specs.declared.phase.Phase.TheVariants.{Hearing, Failed}
+use Rattle.git_client.specs.declared.phase.Due.{Due}
 use Rattle.git_client.specs.declared.client.Client.{Client}
-use Rattle.git_client.proofs.Carries.{goes_in, takes_no_fault}
+use Rattle.git_client.proofs.Carries.{HearsBytes, hears_end, hears_failed}
 
--- the reader of a client that waits for input holds what stands after the last whole packet
-pub rest_held : (format : Format) (ending : Ending) (bytes : List ℕ) (events : List EventValue) (client : Client) (given : List Given) (rest : List ℕ)
-    → Hears format ending client bytes events → wants_input client ≡ true → Splits 0 bytes given rest → Holds (reader_of client) rest
-rest_held format ending bytes events client given rest h wants splits =
-    let goes = goes_in (phase_of client) format h.clean h.given h.rest (length bytes) (reader_of client) (takes_no_fault (phase_of client) wants) h.stands in
-    let same = one_split 0 bytes h.given given h.rest rest h.reads.splits.spelled splits.spelled h.reads.splits.ends splits.ends in
-    subst (λ (l : List ℕ). Holds (reader_of client) l) same.rest_is (sound_rest (reader_of client) 0 bytes h.given h.rest goes.sound h.reads).0
+pub hearing_in : (phase : Phase) → takes_packets phase ≡ true → (due : Due) × (phase ≡ Hearing due)
+hearing_in (Hearing due) takes = (due, refl)
+hearing_in phase takes = absurd (cc)
 
--- between two packets
-pub ends_between : (format : Format) (ending : Ending) (bytes : List ℕ) (events : List EventValue) (client : Client) (given : List Given) (rest : List ℕ)
-    (offset : ℕ) → Hears format ending client bytes events → wants_input client ≡ true → Splits 0 bytes given rest → is_open (reader_of client) ≡ false
-    → offset ≡ position_of (reader_of client) → offset + length rest ≡ length bytes
-ends_between format ending bytes events client given rest offset h wants splits shut at =
-    let nothing = ap length (none_between (reader_of client) rest (rest_held format ending bytes events client given rest h wants splits) shut) in
-    omega (arith, nothing, at, h.reads.position)
+pub is_sound : {A : Type 0} (client : Client A) → wants_input client ≡ true → reader_fault_of (reader_of client) ≡ None
+is_sound client wants = client.sound (ap fault_in (hearing_in (phase_of client) wants).1)
 
--- inside a packet
-pub ends_inside : (format : Format) (ending : Ending) (bytes : List ℕ) (events : List EventValue) (client : Client) (given : List Given) (rest : List ℕ)
-    (offset : ℕ) → Hears format ending client bytes events → wants_input client ≡ true → Splits 0 bytes given rest
-    → offset + open_length (reader_of client) ≡ position_of (reader_of client) → offset + length rest ≡ length bytes
-ends_inside format ending bytes events client given rest offset h wants splits at =
-    let same = rest_length (reader_of client) rest (rest_held format ending bytes events client given rest h wants splits) in
-    omega (arith, same, at, h.reads.position)
+-- a reader whose stream ended: it stood between two packets, or told a fault
+abbrev pub EndsBy : PacketReader → Fault → Type 0
+EndsBy reader f =
+    ((reader_fault_of reader ≡ None) × (is_open reader ≡ false) × (f.kind ≡ Truncated) × (f.offset ≡ position_of reader))
+    ⊎ (reader_fault_of reader ≡ Some f)
+
+-- all but the reader and the phase is left alone
+pub record Keeps {A : Type 0} (old new : Client A) (left : PacketReader) : Type 0 where
+  pub reader : reader_of new ≡ left
+  pub format : format_of new ≡ format_of old
+  pub ending : ending_of new ≡ ending_of old
+  pub caps : caps_of new ≡ caps_of old
+
+-- a client whose input ended where more was due
+pub closes : {A : Type 0} (old new : Client A) (reader : PacketReader) (f : Fault) → wants_input old ≡ true → ReadsOn (reader_of old) [] [] reader
+    → EndsBy reader f → Keeps old new reader → phase_of new ≡ Failed f → HearsOn old [] [] new
+closes old new reader f wants reads by keeps failed =
+    let (due, hearing) = hearing_in (phase_of old) wants in
+    let bytes : HearsBytes old new due [] [] = record {
+      hearing = hearing;
+      reads = subst (ReadsOn (reader_of old) [] []) (sym keeps.reader) reads;
+      format = keeps.format;
+      ending = keeps.ending;
+    } in
+    elim (subst (λ (r : PacketReader). EndsBy r f) (sym keeps.reader) by) [
+      | inl b ↦ hears_end old new due f bytes b.0 b.1 b.2 b.3 failed keeps.caps
+      | inr told ↦ hears_failed old new due [] f bytes told failed keeps.caps
+    ]
+
+module _ {A : Type 0} (t : Terms) (h : History) (client : Client A) (c : Converses t h client) (wants : wants_input client ≡ true)
+    (given : List Given) (rest : List ℕ) (splits : Splits 0 h.used given rest) where
+  -- the reader holds what stands after the last whole packet
+  rest_held : Holds (reader_of client) rest
+  rest_held =
+      let same = one_split 0 h.used c.given given c.rest rest c.reads.splits.spelled splits.spelled c.reads.splits.ends splits.ends in
+      subst (λ (l : List ℕ). Holds (reader_of client) l) same.rest_is (sound_rest (reader_of client) 0 h.used c.given c.rest (is_sound client wants) c.reads).0
+
+  -- between two packets
+  pub ends_between : (offset : ℕ) → is_open (reader_of client) ≡ false → offset ≡ position_of (reader_of client) → offset + length rest ≡ length h.used
+  ends_between offset shut at =
+      omega (arith, ap length (none_between (reader_of client) rest rest_held shut), at, c.reads.position)
+
+  -- inside a packet
+  pub ends_inside : (offset : ℕ) → offset + open_length (reader_of client) ≡ position_of (reader_of client) → offset + length rest ≡ length h.used
+  ends_inside offset at = omega (arith, rest_length (reader_of client) rest rest_held, at, c.reads.position)

@@ -1,140 +1,104 @@
--- The events and the faults of packets are determined by the packets.
-use Rattle.std.proofs.Common.{arith, ◌≡◌, ◌⊎◌, inl, inr, ℕ, List, [], ◌∷◌, ◌++◌, Bool, ap, sym, ◌∙◌, refl, subst, Option, get_or}
+-- The events and the faults of packets are determined by the packets and by what was asked.
+use Rattle.std.proofs.Common.{◌≡◌, inl, inr, ℕ, List, [], ◌∷◌, ◌++◌, Some, Result, Ok, Err, ap, sym, ◌∙◌, refl, subst}
 use Rattle.git_names.specs.declared.object_format.Format.{Format}
 use Rattle.git_pkt.specs.Packets.{Pkt, flush, delim, resp_end, payload, text_of}
 use Rattle.git_pkt.specs.Splits.{Given}
 use Rattle.git_pkt.specs.declared.fault.Kind.{Kind}
-use Rattle.git_pkt.specs.declared.fault.Kind.TheVariants.{RemoteError, NotVersion2, BadCapability, WrongFormat, UnexpectedPacket}
 use Rattle.git_pkt.proofs.Streams.{one_split}
-use Rattle.git_msg.specs.Capability.{IsNoCapability}
-use Rattle.git_msg.specs.Texts.{IsErrorText}
-use Rattle.git_msg.proofs.Keys.{one_capability}
 use Rattle.git_msg.specs.Advertisement.{noted_of}
+use Rattle.git_msg.specs.Asked.{Asked}
 use Rattle.git_msg.specs.declared.offers.Caps.{Caps}
-use Rattle.git_client.specs.Parts.{Part, opening, advertisement, IsPart, nearest, advertisement_of}
-use Rattle.git_client.specs.Events.{EventValue, capability, Gives, Refuses, RefusesOpening, RefusesLine, RefusesFlush, RefusesOther, IsVersion, speaks}
+use Rattle.git_client.specs.declared.events.Ending.{Ending}
+use Rattle.git_client.specs.Parts.{Terms, nearest, advertisement_of}
+use Rattle.git_client.specs.Places.{Place, packfile, response_end, place_after}
+use Rattle.git_client.specs.Events.{EventValue, GivesLine, RefusesLine, Gives, Refuses}
 use Rattle.git_client.specs.Conversation.{GivesAt, RefusesAt, GiveAll, IsStop, FirstFault, Sounds, HasEvents, HasNoted}
+use Rattle.git_client.proofs.PlaceLines.{one_line, line_or_fault, one_line_fault}
 
--- a packet has one part
-same_part : (before : List Pkt) (a b : Part) → IsPart before a → IsPart before b → a ≡ b
-same_part before opening opening h k = refl
-same_part before opening advertisement h k = absurd (k.0 h)
-same_part before advertisement opening h k = absurd (h.0 k)
-same_part before advertisement advertisement h k = refl
+-- what is computed says one thing
+one_said : (says : Result (List EventValue) Kind) (events others : List EventValue) → says ≡ Ok events → says ≡ Ok others → events ≡ others
+one_said says events others h k = cc
 
-gift_of_part : (part : Part) (format : Format) (before : List Pkt) (p : Pkt) (events others : List EventValue) → Gives part format before p events
-    → Gives part format before p others → events ≡ others
-gift_of_part opening format before p events others h k = h.1 ∙ sym k.1
-gift_of_part advertisement format before (payload line) events others h k =
-    let same = one_capability (text_of line) h.1.0 k.1.0 h.1.1 k.1.1 h.1.2 k.1.2 in
-    h.1.3
-    ∙ ap (λ (key : List ℕ). capability key h.1.1 ∷ []) same.0
-    ∙ ap (λ (value : Option (List ℕ)). capability k.1.0 value ∷ []) same.1
-    ∙ sym k.1.3
-gift_of_part advertisement format before flush events others h k = h.1 ∙ sym k.1
-gift_of_part advertisement format before delim events others h k = absurd h
-gift_of_part advertisement format before resp_end events others h k = absurd h
+one_error : (says : Result (List EventValue) Kind) (kind other : Kind) → says ≡ Err kind → says ≡ Err other → kind ≡ other
+one_error says kind other h k = cc
 
-pub one_gift : (format : Format) (before : List Pkt) (p : Pkt) (events others : List EventValue) → GivesAt format before p events
-    → GivesAt format before p others → events ≡ others
-one_gift format before p events others h k =
-    let same = same_part before k.part h.part k.is_part h.is_part in
-    gift_of_part h.part format before p events others h.gives (subst (λ (part : Part). Gives part format before p others) same k.gives)
+said_or_error : (says : Result (List EventValue) Kind) (events : List EventValue) (kind : Kind) → says ≡ Ok events → says ≡ Err kind → ⊥
+said_or_error says events kind h k = cc
 
-same_line : (line other : List ℕ) → payload line ≡ payload other → line ≡ other
-same_line line other e = cc
+-- a text line at a place gives one list of events or is refused by one name
+one_line_gift : (place : Place) (format : Format) (text : List ℕ) (events others : List EventValue) → GivesLine place format text events
+    → GivesLine place format text others → events ≡ others
+one_line_gift place format text events others h k = one_line place format text events others h.says k.says
 
--- the one refusal of each table
-opening_refused : (p : Pkt) (kind : Kind) → RefusesOpening p kind
-    → ((kind ≡ RemoteError) × ((line : List ℕ) × (p ≡ payload line) × IsErrorText (text_of line)))
-    ⊎ ((kind ≡ NotVersion2) × ((line : List ℕ) → p ≡ payload line → ¬ IsErrorText (text_of line)) × ¬ IsVersion p)
-opening_refused (payload line) RemoteError r = inl (refl, (line, refl, r))
-opening_refused (payload line) NotVersion2 r = inr (refl, (λ other e. subst (λ (l : List ℕ). ¬ IsErrorText (text_of l)) (same_line line other e) r.0), r.1)
-opening_refused (payload line) _ r = absurd r
-opening_refused flush NotVersion2 r = inr (refl, (λ line e. absurd (cc)), λ v. v)
-opening_refused flush _ r = absurd r
-opening_refused delim NotVersion2 r = inr (refl, (λ line e. absurd (cc)), λ v. v)
-opening_refused delim _ r = absurd r
-opening_refused resp_end NotVersion2 r = inr (refl, (λ line e. absurd (cc)), λ v. v)
-opening_refused resp_end _ r = absurd r
+one_line_refusal : (place : Place) (format : Format) (text : List ℕ) (kind other : Kind) → RefusesLine place format text kind
+    → RefusesLine place format text other → kind ≡ other
+one_line_refusal place format text kind other (inl h) (inl k) = h.1 ∙ sym k.1
+one_line_refusal place format text kind other (inl h) (inr k) = absurd (k.0 h.0)
+one_line_refusal place format text kind other (inr h) (inl k) = absurd (h.0 k.0)
+one_line_refusal place format text kind other (inr h) (inr k) = one_line_fault place format text kind other h.1 k.1
 
-line_refused : (text : List ℕ) (kind : Kind) → RefusesLine text kind
-    → ((kind ≡ RemoteError) × IsErrorText text) ⊎ ((kind ≡ BadCapability) × (¬ IsErrorText text) × IsNoCapability text)
-line_refused text RemoteError r = inl (refl, r)
-line_refused text BadCapability r = inr (refl, r.0, r.1)
-line_refused text _ r = absurd r
+line_excluded : (place : Place) (format : Format) (text : List ℕ) (events : List EventValue) (kind : Kind) → GivesLine place format text events
+    → RefusesLine place format text kind → ⊥
+line_excluded place format text events kind h (inl k) = h.no_error k.0
+line_excluded place format text events kind h (inr k) = line_or_fault place format text events kind h.says k.1
 
-flush_refused : (spoken : Bool) (kind : Kind) → RefusesFlush spoken kind → kind ≡ WrongFormat
-flush_refused spoken WrongFormat r = refl
-flush_refused spoken _ r = absurd r
+-- and so does every packet
+gift_in : (format : Format) (ending : Ending) (place : Place) (p : Pkt) (events others : List EventValue) → Gives format ending place p events
+    → Gives format ending place p others → events ≡ others
+gift_in format ending packfile (payload bytes) events others h k = one_said _ events others h k
+gift_in format ending response_end (payload bytes) events others h k = absurd h
+gift_in format ending place (payload bytes) events others h k = one_line_gift place format (text_of bytes) events others h k
+gift_in format ending place flush events others h k = one_said _ events others h k
+gift_in format ending place delim events others h k = one_said _ events others h k
+gift_in format ending place resp_end events others h k = one_said _ events others h k
 
-other_refused : (kind : Kind) → RefusesOther kind → kind ≡ UnexpectedPacket
-other_refused UnexpectedPacket r = refl
-other_refused _ r = absurd r
+refusal_in : (format : Format) (ending : Ending) (place : Place) (p : Pkt) (kind other : Kind) → Refuses format ending place p kind
+    → Refuses format ending place p other → kind ≡ other
+refusal_in format ending packfile (payload bytes) kind other h k = one_error _ kind other h k
+refusal_in format ending response_end (payload bytes) kind other h k = h ∙ sym k
+refusal_in format ending place (payload bytes) kind other h k = one_line_refusal place format (text_of bytes) kind other h k
+refusal_in format ending place flush kind other h k = one_error _ kind other h k
+refusal_in format ending place delim kind other h k = one_error _ kind other h k
+refusal_in format ending place resp_end kind other h k = one_error _ kind other h k
 
-same_line_kind : (text : List ℕ) (kind other : Kind) → RefusesLine text kind → RefusesLine text other → kind ≡ other
-same_line_kind text kind other r s =
-    elim (line_refused text kind r) [
-      | inl a ↦ elim (line_refused text other s) [ inl b ↦ a.0 ∙ sym b.0 | inr b ↦ absurd (b.1 a.1) ]
-      | inr a ↦ elim (line_refused text other s) [ inl b ↦ absurd (a.1 b.1) | inr b ↦ a.0 ∙ sym b.0 ]
-    ]
+excluded_in : (format : Format) (ending : Ending) (place : Place) (p : Pkt) (events : List EventValue) (kind : Kind)
+    → Gives format ending place p events → Refuses format ending place p kind → ⊥
+excluded_in format ending packfile (payload bytes) events kind h k = said_or_error _ events kind h k
+excluded_in format ending response_end (payload bytes) events kind h k = h
+excluded_in format ending place (payload bytes) events kind h k = line_excluded place format (text_of bytes) events kind h k
+excluded_in format ending place flush events kind h k = said_or_error _ events kind h k
+excluded_in format ending place delim events kind h k = said_or_error _ events kind h k
+excluded_in format ending place resp_end events kind h k = said_or_error _ events kind h k
 
-same_opening_kind : (p : Pkt) (kind other : Kind) → RefusesOpening p kind → RefusesOpening p other → kind ≡ other
-same_opening_kind p kind other r s =
-    elim (opening_refused p kind r) [
-      | inl a ↦ elim (opening_refused p other s) [ inl b ↦ a.0 ∙ sym b.0 | inr b ↦ absurd (b.1 a.1.0 a.1.1 a.1.2) ]
-      | inr a ↦ elim (opening_refused p other s) [ inl b ↦ absurd (a.1 b.1.0 b.1.1 b.1.2) | inr b ↦ a.0 ∙ sym b.0 ]
-    ]
+-- a packet has one place
+same_place : (t : Terms) (asked : List Asked) (before : List Pkt) (a b : Place) → place_after t asked before ≡ Some a
+    → place_after t asked before ≡ Some b → b ≡ a
+same_place t asked before a b h k = let both = sym h ∙ k in cc
 
-refusal_of_part : (part : Part) (format : Format) (before : List Pkt) (p : Pkt) (kind other : Kind) → Refuses part format before p kind
-    → Refuses part format before p other → kind ≡ other
-refusal_of_part opening format before p kind other h k = same_opening_kind p kind other h k
-refusal_of_part advertisement format before (payload line) kind other h k = same_line_kind (text_of line) kind other h k
-refusal_of_part advertisement format before flush kind other h k =
-    flush_refused (speaks format before) kind h ∙ sym (flush_refused (speaks format before) other k)
-refusal_of_part advertisement format before delim kind other h k = other_refused kind h ∙ sym (other_refused other k)
-refusal_of_part advertisement format before resp_end kind other h k = other_refused kind h ∙ sym (other_refused other k)
+pub one_gift : (t : Terms) (asked : List Asked) (before : List Pkt) (p : Pkt) (events others : List EventValue) → GivesAt t asked before p events
+    → GivesAt t asked before p others → events ≡ others
+one_gift t asked before p events others h k =
+    let same = same_place t asked before h.place k.place h.is_place k.is_place in
+    gift_in t.format t.ending h.place p events others h.gives (subst (λ (place : Place). Gives t.format t.ending place p others) same k.gives)
 
-pub one_refusal : (format : Format) (before : List Pkt) (p : Pkt) (kind other : Kind) → RefusesAt format before p kind → RefusesAt format before p other
-    → kind ≡ other
-one_refusal format before p kind other h k =
-    let same = same_part before k.part h.part k.is_part h.is_part in
-    refusal_of_part h.part format before p kind other h.refuses (subst (λ (part : Part). Refuses part format before p other) same k.refuses)
+pub one_refusal : (t : Terms) (asked : List Asked) (before : List Pkt) (p : Pkt) (kind other : Kind) → RefusesAt t asked before p kind
+    → RefusesAt t asked before p other → kind ≡ other
+one_refusal t asked before p kind other h k =
+    let same = same_place t asked before h.place k.place h.is_place k.is_place in
+    refusal_in t.format t.ending h.place p kind other h.refuses (subst (λ (place : Place). Refuses t.format t.ending place p other) same k.refuses)
 
-version_no_error : (p : Pkt) (line : List ℕ) → p ≡ payload line → IsErrorText (text_of line) → IsVersion p → ⊥
-version_no_error (payload other) line e error version =
-    let same : text_of other ≡ text_of line = ap text_of (same_line other line e) in
-    omega (arith, ap (λ (l : List ℕ). get_or l 0 0) (sym version ∙ same ∙ error.spelled))
-version_no_error flush line e error version = version
-version_no_error delim line e error version = version
-version_no_error resp_end line e error version = version
+pub excluded : (t : Terms) (asked : List Asked) (before : List Pkt) (p : Pkt) (events : List EventValue) (kind : Kind) → GivesAt t asked before p events
+    → RefusesAt t asked before p kind → ⊥
+excluded t asked before p events kind h k =
+    let same = same_place t asked before h.place k.place h.is_place k.is_place in
+    excluded_in t.format t.ending h.place p events kind h.gives (subst (λ (place : Place). Refuses t.format t.ending place p kind) same k.refuses)
 
-exclude_in_part : (part : Part) (format : Format) (before : List Pkt) (p : Pkt) (events : List EventValue) (kind : Kind) → Gives part format before p events
-    → Refuses part format before p kind → ⊥
-exclude_in_part opening format before p events kind g r =
-    elim (opening_refused p kind r) [
-      | inl a ↦ version_no_error p a.1.0 a.1.1 a.1.2 g.0
-      | inr a ↦ a.2 g.0
-    ]
-exclude_in_part advertisement format before (payload line) events kind g r =
-    elim (line_refused (text_of line) kind r) [ inl a ↦ g.0 a.1 | inr a ↦ a.2 g.1.0 g.1.1 g.1.2 ]
-exclude_in_part advertisement format before flush events WrongFormat g r = let spoken = g.0 in cc
-exclude_in_part advertisement format before flush events _ g r = r
-exclude_in_part advertisement format before delim events kind g r = g
-exclude_in_part advertisement format before resp_end events kind g r = g
-
-pub excluded : (format : Format) (before : List Pkt) (p : Pkt) (events : List EventValue) (kind : Kind) → GivesAt format before p events
-    → RefusesAt format before p kind → ⊥
-excluded format before p events kind g r =
-    let same = same_part before r.part g.part r.is_part g.is_part in
-    exclude_in_part g.part format before p events kind g.gives (subst (λ (part : Part). Refuses part format before p kind) same r.refuses)
-
-stopped : (format : Format) (before : List Pkt) (g : Given) (gs more : List Given) (now : List EventValue) → more ≡ g ∷ gs → IsStop format before more
-    → GivesAt format before g.packet now → ⊥
-stopped format before g gs [] now e s a = absurd (cc)
-stopped format before g gs (h ∷ hs) now e s a =
+stopped : (t : Terms) (asked : List Asked) (before : List Pkt) (g : Given) (gs more : List Given) (now : List EventValue) → more ≡ g ∷ gs
+    → IsStop t asked before more → GivesAt t asked before g.packet now → ⊥
+stopped t asked before g gs [] now e s a = absurd (cc)
+stopped t asked before g gs (h ∷ hs) now e s a =
     let same : h ≡ g = cc in
-    excluded format before h.packet now s.0 (subst (λ (x : Given). GivesAt format before x.packet now) (sym same) a) s.1
+    excluded t asked before h.packet now s.0 (subst (λ (x : Given). GivesAt t asked before x.packet now) (sym same) a) s.1
 
 -- two ways to cut packets before the first that is refused are one
 pub record SameCut (clean others more tail : List Given) (events later : List EventValue) : Type 0 where
@@ -142,50 +106,51 @@ pub record SameCut (clean others more tail : List Given) (events later : List Ev
   pub more_is : more ≡ tail
   pub events_are : events ≡ later
 
-pub same_cut : (format : Format) (before : List Pkt) (clean others more tail : List Given) (events later : List EventValue) → clean ++ more ≡ others ++ tail
-    → GiveAll format before clean events → GiveAll format before others later → IsStop format (nearest clean before) more
-    → IsStop format (nearest others before) tail → SameCut clean others more tail events later
-same_cut format before [] [] more tail events later e a b s t = record { clean_is = refl; more_is = e; events_are = a ∙ sym b }
-same_cut format before [] (h ∷ hs) more tail events later e a b s t = absurd (stopped format before h (hs ++ tail) more b.0 e s b.3)
-same_cut format before (g ∷ gs) [] more tail events later e a b s t = absurd (stopped format before g (gs ++ more) tail a.0 (sym e) t a.3)
-same_cut format before (g ∷ gs) (h ∷ hs) more tail events later e a b s t =
+pub same_cut : (t : Terms) (asked : List Asked) (before : List Pkt) (clean others more tail : List Given) (events later : List EventValue)
+    → clean ++ more ≡ others ++ tail → GiveAll t asked before clean events → GiveAll t asked before others later → IsStop t asked (nearest clean before) more
+    → IsStop t asked (nearest others before) tail → SameCut clean others more tail events later
+same_cut t asked before [] [] more tail events later e a b s z = record { clean_is = refl; more_is = e; events_are = a ∙ sym b }
+same_cut t asked before [] (h ∷ hs) more tail events later e a b s z = absurd (stopped t asked before h (hs ++ tail) more b.0 e s b.3)
+same_cut t asked before (g ∷ gs) [] more tail events later e a b s z = absurd (stopped t asked before g (gs ++ more) tail a.0 (sym e) z a.3)
+same_cut t asked before (g ∷ gs) (h ∷ hs) more tail events later e a b s z =
     let head : h ≡ g = cc in
     let rest : gs ++ more ≡ hs ++ tail = cc in
-    let now : a.0 ≡ b.0 = one_gift format before g.packet a.0 b.0 a.3 (subst (λ (x : Given). GivesAt format before x.packet b.0) head b.3) in
-    let moved : GiveAll format (g.packet ∷ before) hs b.1 = subst (λ (x : Given). GiveAll format (x.packet ∷ before) hs b.1) head b.4 in
-    let stop : IsStop format (nearest hs (g.packet ∷ before)) tail = subst (λ (x : Given). IsStop format (nearest hs (x.packet ∷ before)) tail) head t in
-    let then = same_cut format (g.packet ∷ before) gs hs more tail a.1 b.1 rest a.4 moved s stop in
+    let now : a.0 ≡ b.0 = one_gift t asked before g.packet a.0 b.0 a.3 (subst (λ (x : Given). GivesAt t asked before x.packet b.0) head b.3) in
+    let moved : GiveAll t asked (g.packet ∷ before) hs b.1 = subst (λ (x : Given). GiveAll t asked (x.packet ∷ before) hs b.1) head b.4 in
+    let stop : IsStop t asked (nearest hs (g.packet ∷ before)) tail = subst (λ (x : Given). IsStop t asked (nearest hs (x.packet ∷ before)) tail) head z in
+    let then = same_cut t asked (g.packet ∷ before) gs hs more tail a.1 b.1 rest a.4 moved s stop in
     record {
       clean_is = ap (λ (x : Given). x ∷ gs) (sym head) ∙ ap (λ (l : List Given). h ∷ l) then.clean_is;
       more_is = then.more_is;
       events_are = a.2 ∙ ap (λ (l : List EventValue). l ++ a.1) now ∙ ap (λ (l : List EventValue). b.0 ++ l) then.events_are ∙ sym b.2;
     }
 
-same_sounds : (format : Format) (bytes : List ℕ) (clean others : List Given) (events later : List EventValue) (a : Sounds format bytes clean events)
-    (b : Sounds format bytes others later) → SameCut clean others a.more b.more events later
-same_sounds format bytes clean others events later a b =
+pub same_sounds : (t : Terms) (asked : List Asked) (bytes : List ℕ) (clean others : List Given) (events later : List EventValue)
+    (a : Sounds t asked bytes clean events) (b : Sounds t asked bytes others later) → SameCut clean others a.more b.more events later
+same_sounds t asked bytes clean others events later a b =
     let same = one_split 0 bytes a.given b.given a.rest b.rest a.splits.spelled b.splits.spelled a.splits.ends b.splits.ends in
-    same_cut format [] clean others a.more b.more events later (sym a.cut ∙ same.packets ∙ b.cut) a.gives b.gives a.stops b.stops
+    same_cut t asked [] clean others a.more b.more events later (sym a.cut ∙ same.packets ∙ b.cut) a.gives b.gives a.stops b.stops
 
-pub one_event_list : (format : Format) (bytes : List ℕ) (events others : List EventValue) → HasEvents format bytes events → HasEvents format bytes others
-    → events ≡ others
-one_event_list format bytes events others h k = (same_sounds format bytes h.0 k.0 events others h.1 k.1).events_are
+pub one_event_list : (t : Terms) (asked : List Asked) (bytes : List ℕ) (events others : List EventValue) → HasEvents t asked bytes events
+    → HasEvents t asked bytes others → events ≡ others
+one_event_list t asked bytes events others h k = (same_sounds t asked bytes h.0 k.0 events others h.1 k.1).events_are
 
-pub one_note : (format : Format) (bytes : List ℕ) (caps others : Caps) → HasNoted format bytes caps → HasNoted format bytes others → caps ≡ others
-one_note format bytes caps others h k =
-    h.3 ∙ ap (λ (l : List Given). noted_of (advertisement_of (nearest l []))) (same_sounds format bytes h.0 k.0 h.1 k.1 h.2 k.2).clean_is ∙ sym k.3
+pub one_note : (t : Terms) (asked : List Asked) (bytes : List ℕ) (caps others : Caps) → HasNoted t asked bytes caps
+    → HasNoted t asked bytes others → caps ≡ others
+one_note t asked bytes caps others h k =
+    h.3 ∙ ap (λ (l : List Given). noted_of (advertisement_of (nearest l []))) (same_sounds t asked bytes h.0 k.0 h.1 k.1 h.2 k.2).clean_is ∙ sym k.3
 
-pub one_first_fault : (format : Format) (given : List Given) (kind other : Kind) (offset place : ℕ) → FirstFault format given kind offset
-    → FirstFault format given other place → (kind ≡ other) × (offset ≡ place)
-one_first_fault format given kind other offset place h k =
+pub one_first_fault : (t : Terms) (asked : List Asked) (given : List Given) (kind other : Kind) (offset place : ℕ) → FirstFault t asked given kind offset
+    → FirstFault t asked given other place → (kind ≡ other) × (offset ≡ place)
+one_first_fault t asked given kind other offset place h k =
     let same =
-    same_cut format [] h.clean k.clean (h.bad ∷ h.more) (k.bad ∷ k.more) h.events k.events (sym h.cut ∙ k.cut) h.sound k.sound (kind, h.refused)
+    same_cut t asked [] h.clean k.clean (h.bad ∷ h.more) (k.bad ∷ k.more) h.events k.events (sym h.cut ∙ k.cut) h.sound k.sound (kind, h.refused)
     (other, k.refused) in
     let more : h.bad ∷ h.more ≡ k.bad ∷ k.more = same.more_is in
     let bad : k.bad ≡ h.bad = cc in
     let before : k.clean ≡ h.clean = sym same.clean_is in
-    let moved : RefusesAt format (nearest h.clean []) k.bad.packet other =
-    subst (λ (l : List Given). RefusesAt format (nearest l []) k.bad.packet other) before k.refused in
-    let refused : RefusesAt format (nearest h.clean []) h.bad.packet other =
-    subst (λ (g : Given). RefusesAt format (nearest h.clean []) g.packet other) bad moved in
-    (one_refusal format (nearest h.clean []) h.bad.packet kind other h.refused refused, h.at ∙ ap (λ (g : Given). g.offset) (sym bad) ∙ sym k.at)
+    let moved : RefusesAt t asked (nearest h.clean []) k.bad.packet other =
+    subst (λ (l : List Given). RefusesAt t asked (nearest l []) k.bad.packet other) before k.refused in
+    let refused : RefusesAt t asked (nearest h.clean []) h.bad.packet other =
+    subst (λ (g : Given). RefusesAt t asked (nearest h.clean []) g.packet other) bad moved in
+    (one_refusal t asked (nearest h.clean []) h.bad.packet kind other h.refused refused, h.at ∙ ap (λ (g : Given). g.offset) (sym bad) ∙ sym k.at)

@@ -1,24 +1,36 @@
--- What a client has heard, by the bytes that it used.
-use Rattle.std.proofs.Common.{◌≡◌, ℕ, ◌+◌, ◌-◌, true, List, [], ◌∷◌, length, Option, None, inl, inr, refl, sym, ◌∙◌, subst, append-nil, zero-add}
-use Rattle.git_names.specs.declared.object_format.Format.{Format}
+-- What a client has heard and said, by its history.
+use Rattle.std.proofs.Common.{◌≡◌, ℕ, true, List, [], ◌∷◌, ◌++◌, length, Option, None, inl, inr, refl, sym, ap, ◌∙◌, subst, append-nil, zero-add}
 use Rattle.git_pkt.specs.Splits.{Given, Splits}
-use Rattle.git_pkt.specs.PacketReader.{StandsAt}
-use Rattle.git_pkt.specs.declared.fault.Fault.{Fault}
 use Rattle.git_pkt.specs.declared.reader.PacketReader.{PacketReader}
-use Rattle.git_client.specs.Events.{EventValue, turns_of}
-use Rattle.git_pkt.specs.Packets.{flushes}
-use Rattle.git_client.specs.Parts.{nearest}
-use Rattle.git_client.specs.Conversation.{GiveAll, Sounds, HasEvents, GoesWell, IsAdvertisement}
-use Rattle.git_client.specs.Client.{Hears, StandsIn, is_ready, fault_of, can_ask, wants_input, bytes_used, phase_of, reader_of}
+use Rattle.git_pkt.proofs.KnownRest.{sound_rest}
+use Rattle.git_msg.specs.Asked.{Asked}
+use Rattle.git_client.specs.Parts.{Terms, nearest}
+use Rattle.git_client.specs.Events.{EventValue}
+use Rattle.git_client.specs.Conversation.{GiveAll, Sounds, HasEvents, HasNoted, GoesWell, IsConversation}
+use Rattle.git_client.specs.Turns.{is_ready, fault_in, question_in}
+use Rattle.git_client.specs.Client.{History, Converses, StandsIn, Goes, AreWhole, fault_of, can_ask, bytes_used, phase_of, reader_of, caps_of, request_of}
+use Rattle.git_client.specs.Client.{left_to_say, said_of, spelled}
 use Rattle.git_client.specs.declared.phase.Phase.{Phase}
-use Rattle.git_client.specs.declared.phase.Phase.TheVariants.{Opening, Advertisement, Ready, Failed as FailedPhase}
-use Rattle.git_client.specs.declared.events.Ending.{Ending}
+use Rattle.git_client.specs.declared.phase.Phase.TheVariants.{Ready, Failed}
 use Rattle.git_client.specs.declared.client.Client.{Client}
-use Rattle.git_client.proofs.Carries.{goes_in, turn_is, none_while_due}
+use Rattle.git_client.proofs.Sequences.{gives_more}
 
-all_clean : (format : Format) (bytes : List ℕ) (clean given : List Given) (rest : List ℕ) (events : List EventValue) → Splits 0 bytes given rest
-    → GiveAll format [] clean events → given ≡ clean → Sounds format bytes clean events
-all_clean format bytes clean given rest events splits gives cut = record {
+module _ (t : Terms) (asked : List Asked) (clean given : List Given) (rest : List ℕ) (end : ℕ) (question : Option Asked) (reader : PacketReader) where
+  -- a phase without a fault
+  pub goes_in : (phase : Phase) → fault_in phase ≡ None → StandsIn phase t asked clean given rest end question reader
+      → Goes t asked clean given rest question phase reader
+  goes_in (Failed fault) e h = absurd (cc)
+  goes_in phase e h = h
+
+  -- where a client can ask, all before was whole, and nothing stands after it
+  ready_in : (phase : Phase) → is_ready phase ≡ true → StandsIn phase t asked clean given rest end question reader
+      → Goes t asked clean given rest question Ready reader
+  ready_in Ready e h = h
+  ready_in phase e h = absurd (cc)
+
+abbrev pub all_clean : (t : Terms) (asked : List Asked) (bytes : List ℕ) (clean given : List Given) (rest : List ℕ) (events : List EventValue)
+    → Splits 0 bytes given rest → GiveAll t asked [] clean events → given ≡ clean → Sounds t asked bytes clean events
+all_clean t asked bytes clean given rest events splits gives cut = record {
   given = given;
   rest = rest;
   more = [];
@@ -28,61 +40,63 @@ all_clean format bytes clean given rest events splits gives cut = record {
   stops = tt;
 }
 
-sounds_in : (phase : Phase) (format : Format) (bytes : List ℕ) (clean given : List Given) (rest : List ℕ) (events : List EventValue) (reader : PacketReader)
-    → Splits 0 bytes given rest → GiveAll format [] clean events
-    → StandsIn phase format clean given rest (length bytes) reader → Sounds format bytes clean events
-sounds_in Opening format bytes clean given rest events reader splits gives h = all_clean format bytes clean given rest events splits gives h.cut
-sounds_in Advertisement format bytes clean given rest events reader splits gives h = all_clean format bytes clean given rest events splits gives h.cut
-sounds_in Ready format bytes clean given rest events reader splits gives h = all_clean format bytes clean given rest events splits gives h.cut
-sounds_in (FailedPhase f) format bytes clean given rest events reader splits gives h = elim h [
-  | inl p ↦ record { given = given; rest = rest; more = p.bad ∷ []; splits = splits; cut = p.cut; gives = gives; stops = (f.kind, p.refused) }
-  | inr others ↦ elim others [
-    | inl p ↦ all_clean format bytes clean given rest events splits gives p.cut
-    | inr p ↦ all_clean format bytes clean given rest events splits gives p.cut
-  ]
-]
+module _ (t : Terms) (asked : List Asked) (bytes : List ℕ) (clean given : List Given) (rest : List ℕ) (events : List EventValue)
+    (splits : Splits 0 bytes given rest) (gives : GiveAll t asked [] clean events) (question : Option Asked) (reader : PacketReader) where
+  sounds_in : (phase : Phase) → StandsIn phase t asked clean given rest (length bytes) question reader → Sounds t asked bytes clean events
+  sounds_in (Failed fault) (inl p) =
+      record { given = given; rest = rest; more = p.bad ∷ []; splits = splits; cut = p.cut; gives = gives; stops = (fault.kind, p.refused) }
+  sounds_in (Failed fault) (inr (inl p)) = all_clean t asked bytes clean given rest events splits gives p.cut
+  sounds_in (Failed fault) (inr (inr p)) = all_clean t asked bytes clean given rest events splits gives p.cut
+  sounds_in phase h = all_clean t asked bytes clean given rest events splits gives h.cut
 
--- where a client can ask, its packets are clean, the last of them is the one flush, and nothing stands after it
-ready_in : (phase : Phase) (format : Format) (clean given : List Given) (rest : List ℕ) (end : ℕ) (reader : PacketReader) → is_ready phase ≡ true
-    → StandsIn phase format clean given rest end reader
-    → (given ≡ clean) × (flushes (nearest clean []) ≡ 1) × (rest ≡ [])
-ready_in Opening format clean given rest end reader ready h = absurd (cc)
-ready_in Advertisement format clean given rest end reader ready h = absurd (cc)
-ready_in Ready format clean given rest end reader ready h = (h.cut, h.behind, h.shut refl)
-ready_in (FailedPhase fault) format clean given rest end reader ready h = absurd (cc)
+module _ {A : Type 0} (t : Terms) (h : History) (client : Client A) (c : Converses t h client) where
+  sounds : Sounds t h.asked h.used c.clean h.events
+  sounds =
+      sounds_in t h.asked h.used c.clean c.given c.rest h.events c.reads.splits c.gives (question_in (request_of client)) (reader_of client)
+      (phase_of client) c.stands
 
-module _ (format : Format) (ending : Ending) (client : Client) (bytes : List ℕ) (events : List EventValue) (h : Hears format ending client bytes events) where
-  pub has_events : HasEvents format bytes events
-  has_events = (h.clean, sounds_in (phase_of client) format bytes h.clean h.given h.rest events (reader_of client) h.reads.splits h.gives h.stands)
+  pub has_events : HasEvents t h.asked h.used h.events
+  has_events = (c.clean, sounds)
 
-  pub goes_well : fault_of client ≡ None → GoesWell format bytes events
-  goes_well sound =
-      let goes = goes_in (phase_of client) format h.clean h.given h.rest (length bytes) (reader_of client) sound h.stands in
-      let state : StandsAt None (0 + length bytes - length h.rest) (0 + length bytes) h.rest (reader_of client) =
-      subst (λ (o : Option Fault). StandsAt o (0 + length bytes - length h.rest) (0 + length bytes) h.rest (reader_of client)) goes.sound h.reads.state in
+  pub has_noted : HasNoted t h.asked h.used (caps_of client)
+  has_noted = (c.clean, h.events, sounds, c.notes)
+
+  all_gives : c.given ≡ c.clean → GiveAll t h.asked [] c.given h.events
+  all_gives cut = subst (λ (gs : List Given). GiveAll t h.asked [] gs h.events) (sym cut) c.gives
+
+  pub goes_well : fault_of client ≡ None → GoesWell t h.asked h.used h.events
+  goes_well none =
+      let goes =
+      goes_in t h.asked c.clean c.given c.rest (length h.used) (question_in (request_of client)) (reader_of client) (phase_of client) none c.stands in
       record {
-        given = h.given;
-        rest = h.rest;
-        splits = h.reads.splits;
-        sound = subst (λ (gs : List Given). GiveAll format [] gs events) (sym goes.cut) h.gives;
-        still_open = state.1;
+        given = c.given;
+        rest = c.rest;
+        splits = c.reads.splits;
+        sound = all_gives goes.cut;
+        still_open = (sound_rest (reader_of client) 0 h.used c.given c.rest goes.sound c.reads).1;
       }
 
-  pub is_whole : can_ask client ≡ true → IsAdvertisement format bytes events
+  pub is_whole : can_ask client ≡ true → IsConversation t h.asked h.used h.events
   is_whole ready =
-      let (cut, one, none) = ready_in (phase_of client) format h.clean h.given h.rest (length bytes) (reader_of client) ready h.stands in
+      let goes =
+      ready_in t h.asked c.clean c.given c.rest (length h.used) (question_in (request_of client)) (reader_of client) (phase_of client) ready c.stands in
+      let whole : AreWhole t h.asked (nearest c.given []) =
+      subst (λ (gs : List Given). AreWhole t h.asked (nearest gs [])) (sym goes.cut) goes.behind in
       record {
-        given = h.given;
-        splits = subst (λ (rest : List ℕ). Splits 0 bytes h.given rest) none h.reads.splits;
-        gives = subst (λ (gs : List Given). GiveAll format [] gs events) (sym cut) h.gives;
-        one_flush = subst (λ (gs : List Given). flushes (nearest gs []) ≡ 1) (sym cut) one;
+        given = c.given;
+        splits = subst (λ (rest : List ℕ). Splits 0 h.used c.given rest) (goes.shut refl) c.reads.splits;
+        gives = all_gives goes.cut;
+        all_flushes = whole.all_flushes;
+        no_end_due = whole.no_end_due;
       }
 
-  pub goes_on_asking : can_ask client ≡ true → GoesWell format bytes events
-  goes_on_asking ready = goes_well ((turn_is (phase_of client) _ _ _ _ _ _ _ h.stands h.gives).0 ready).0
+  pub position_is : bytes_used client ≡ length h.used
+  position_is = c.reads.position ∙ zero-add (length h.used)
 
-  pub is_due : wants_input client ≡ true → turns_of events ≡ 0
-  is_due due = none_while_due (phase_of client) format h.clean h.given h.rest (length bytes) (reader_of client) events due h.stands h.gives
+  pub all_is_said : left_to_say client ≡ [] → h.given ≡ spelled (said_of t.format (caps_of client) h.asked h.left)
+  all_is_said nothing = sym (append-nil h.given) ∙ ap (λ l. h.given ++ spelled l) (sym nothing) ∙ c.spoken
 
-  pub position_is : bytes_used client ≡ length bytes
-  position_is = h.reads.position ∙ zero-add (length bytes)
+pub later_questions : (t : Terms) (asked more : List Asked) (bytes : List ℕ) (events : List EventValue) → IsConversation t asked bytes events
+    → HasEvents t (asked ++ more) bytes events
+later_questions t asked more bytes events h =
+    (h.given, all_clean t (asked ++ more) bytes h.given h.given [] events h.splits (gives_more t asked more [] h.given events h.gives) refl)

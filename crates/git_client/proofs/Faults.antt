@@ -1,24 +1,23 @@
 -- A client fails at the first fault of its bytes.
-use Rattle.std.proofs.Common.{arith, ◌≡◌, ℕ, List, [], length, Some, inl, inr, ap, sym, subst}
-use Rattle.git_names.specs.declared.object_format.Format.{Format}
+use Rattle.std.proofs.Common.{arith, ◌≡◌, ℕ, List, [], length, Option, Some, inl, inr, ap, sym, subst}
 use Rattle.git_pkt.specs.Splits.{Given, Splits}
 use Rattle.git_pkt.specs.Faults.{IsOpen}
 use Rattle.git_pkt.specs.declared.fault.Fault.{Fault}
 use Rattle.git_pkt.specs.declared.reader.PacketReader.{PacketReader}
 use Rattle.git_pkt.proofs.Gathered.{open_nothing}
-use Rattle.git_pkt.specs.Packets.{flushes}
-use Rattle.git_client.specs.Parts.{nearest}
+use Rattle.git_msg.specs.Asked.{Asked}
+use Rattle.git_client.specs.Parts.{Terms, nearest}
 use Rattle.git_client.specs.Events.{EventValue}
-use Rattle.git_client.specs.Conversation.{GiveAll, FirstMalformed}
-use Rattle.git_client.specs.Client.{Hears, StandsIn, RefusedPacket, RefusedBytes, EndedEarly, fault_in, fault_of, phase_of, reader_of}
+use Rattle.git_client.specs.Conversation.{GiveAll, HasDue, FirstMalformed}
+use Rattle.git_client.specs.Turns.{fault_in, question_in}
+use Rattle.git_client.specs.Client.{History, Converses, StandsIn, RefusedPacket, RefusedBytes, EndedEarly, fault_of, phase_of, reader_of, request_of}
 use Rattle.git_client.specs.declared.phase.Phase.{Phase}
-use Rattle.git_client.specs.declared.phase.Phase.TheVariants.{Opening, Advertisement, Ready, Failed}
-use Rattle.git_client.specs.declared.events.Ending.{Ending}
+use Rattle.git_client.specs.declared.phase.Phase.TheVariants.{Failed}
 use Rattle.git_client.specs.declared.client.Client.{Client}
 
-module _ (format : Format) (bytes : List ℕ) (clean given : List Given) (rest : List ℕ) (events : List EventValue) (splits : Splits 0 bytes given rest)
-    (gives : GiveAll format [] clean events) (fault : Fault) where
-  by_packet : (reader : PacketReader) → RefusedPacket format clean given rest fault reader → FirstMalformed format bytes fault
+module _ (t : Terms) (asked : List Asked) (bytes : List ℕ) (clean given : List Given) (rest : List ℕ) (events : List EventValue)
+    (splits : Splits 0 bytes given rest) (gives : GiveAll t asked [] clean events) (fault : Fault) where
+  by_packet : (reader : PacketReader) → RefusedPacket t asked clean given rest fault reader → FirstMalformed t asked bytes fault
   by_packet reader p = inl (record {
     given = given;
     rest = rest;
@@ -35,43 +34,43 @@ module _ (format : Format) (bytes : List ℕ) (clean given : List Given) (rest :
     };
   })
 
-  by_bytes : RefusedBytes clean given rest (length bytes) fault → FirstMalformed format bytes fault
+  by_bytes : RefusedBytes t asked clean given rest (length bytes) fault → FirstMalformed t asked bytes fault
   by_bytes p = inr (inl (record {
     given = given;
     rest = rest;
     events = events;
     splits = splits;
-    sound = subst (λ (gs : List Given). GiveAll format [] gs events) (sym p.cut) gives;
-    due = subst (λ (gs : List Given). flushes (nearest gs []) ≡ 0) (sym p.cut) p.due;
+    sound = subst (λ (gs : List Given). GiveAll t asked [] gs events) (sym p.cut) gives;
+    due = subst (λ (gs : List Given). HasDue t asked (nearest gs [])) (sym p.cut) p.due;
     by = p.by;
   }))
 
-  by_end : EndedEarly clean given rest (length bytes) fault → FirstMalformed format bytes fault
+  by_end : EndedEarly t asked clean given rest (length bytes) fault → FirstMalformed t asked bytes fault
   by_end p = inr (inr (record {
     given = given;
     rest = rest;
     events = events;
     splits = splits;
-    sound = subst (λ (gs : List Given). GiveAll format [] gs events) (sym p.cut) gives;
+    sound = subst (λ (gs : List Given). GiveAll t asked [] gs events) (sym p.cut) gives;
     still_open = subst (λ (l : List ℕ). IsOpen l) (sym p.nothing) open_nothing;
-    due = subst (λ (gs : List Given). flushes (nearest gs []) ≡ 0) (sym p.cut) p.due;
+    due = subst (λ (gs : List Given). HasDue t asked (nearest gs [])) (sym p.cut) p.due;
     kind = p.kind;
     at = omega (arith, p.at, ap length p.nothing);
   }))
 
-  in_phase : (phase : Phase) (reader : PacketReader) → fault_in phase ≡ Some fault → StandsIn phase format clean given rest (length bytes) reader
-      → FirstMalformed format bytes fault
-  in_phase Opening reader e h = absurd (cc)
-  in_phase Advertisement reader e h = absurd (cc)
-  in_phase Ready reader e h = absurd (cc)
-  in_phase (Failed f) reader e h =
+  in_phase : (phase : Phase) (question : Option Asked) (reader : PacketReader) → fault_in phase ≡ Some fault
+      → StandsIn phase t asked clean given rest (length bytes) question reader → FirstMalformed t asked bytes fault
+  in_phase (Failed f) question reader e h =
       let same : f ≡ fault = cc in
-      elim (subst (λ (x : Fault). StandsIn (Failed x) format clean given rest (length bytes) reader) same h) [
+      elim (subst (λ (x : Fault). StandsIn (Failed x) t asked clean given rest (length bytes) question reader) same h) [
         | inl p ↦ by_packet reader p
         | inr others ↦ elim others [ inl p ↦ by_bytes p | inr p ↦ by_end p ]
       ]
+  in_phase phase question reader e h = absurd (cc)
 
-pub first_fault : (format : Format) (ending : Ending) (client : Client) (bytes : List ℕ) (events : List EventValue) (fault : Fault)
-    → Hears format ending client bytes events → fault_of client ≡ Some fault → FirstMalformed format bytes fault
-first_fault format ending client bytes events fault h told =
-    in_phase format bytes h.clean h.given h.rest events h.reads.splits h.gives fault (phase_of client) (reader_of client) told h.stands
+module _ {A : Type 0} where
+  pub first_fault : (t : Terms) (h : History) (client : Client A) (fault : Fault) → Converses t h client → fault_of client ≡ Some fault
+      → FirstMalformed t h.asked h.used fault
+  first_fault t h client fault c told =
+      in_phase t h.asked h.used c.clean c.given c.rest h.events c.reads.splits c.gives fault (phase_of client) (question_in (request_of client))
+      (reader_of client) told c.stands

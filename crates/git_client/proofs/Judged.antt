@@ -1,83 +1,218 @@
 -- What the judge of packets answers says what the packet gives, or why it is refused, after whatever came before.
-use Rattle.std.proofs.Common.{◌≡◌, ℕ, suc, List, [], ◌∷◌, true, Err, ap, sym, ◌∙◌, refl, subst, codes}
+use Rattle.std.proofs.Common.{arith, ◌≡◌, ℕ, suc, Bool, true, false, not, List, [], ◌∷◌, length, Option, Some, None, Result, Ok, Err, MatchResult, ap}
+use Rattle.std.proofs.Common.{cond, codes, refl, sym, ◌∙◌, subst}
 use Rattle.git_names.specs.declared.object_format.Format.{Format}
-use Rattle.git_pkt.specs.Packets.{Pkt, flush, delim, resp_end, payload, text_of, flushes}
+use Rattle.git_pkt.specs.Packets.{Pkt, flush, delim, resp_end, payload, text_of, body_of, flushes}
 use Rattle.git_pkt.specs.declared.fault.Kind.{Kind}
-use Rattle.git_pkt.specs.declared.fault.Kind.TheVariants.{Truncated, StreamTooLong}
 use Rattle.git_msg.specs.Advertisement.{noted_of, is_spoken}
+use Rattle.git_msg.specs.Asked.{Asked}
 use Rattle.git_msg.specs.declared.offers.Caps.{Caps}
-use Rattle.git_client.specs.Parts.{opening, advertisement, advertisement_of}
-use Rattle.git_client.specs.Events.{capability, offered, IsVersion, RefusesFlush}
+use Rattle.git_client.specs.Parts.{Terms, terms_of, Part, sections, closing, advertisement_of, message_of, is_end_due, is_zero, part_after}
+use Rattle.git_client.specs.Places.{version, capabilities, header, acknowledgments, place_in, place_of, place_after}
+use Rattle.git_client.specs.Events.{EventValue, Gives, Refuses, SaysLine}
 use Rattle.git_client.specs.Conversation.{GivesAt, RefusesAt}
-use Rattle.git_client.specs.Turns.{takes_packets, Judges, NotesLine}
-use Rattle.git_client.specs.Client.{Behind}
-use Rattle.git_client.specs.declared.phase.Phase.{Phase}
-use Rattle.git_client.specs.declared.phase.Phase.TheVariants.{Opening, Advertisement, Ready, Failed}
+use Rattle.git_client.specs.Sections.{section_named, lines_of, may_begin, told_by, told_with}
+use Rattle.git_client.specs.Turns.{NotesAfter, IsTurn, events_at, place_due, due_after_line, due_after_delimiter, phase_after, phase_after_response}
+use Rattle.git_client.specs.Turns.{is_asking, fault_in}
+use Rattle.git_client.specs.Client.{IsDue, IsDueIn, IsInside, AreWhole, Behind, HearsNext, awaits_end}
+use Rattle.git_client.specs.declared.sections.Section.{Section}
+use Rattle.git_client.specs.declared.sections.Allowed.{Allowed}
+use Rattle.git_client.specs.declared.sections.Told.{Told}
+use Rattle.git_client.specs.declared.events.Ending.{Ending}
+use Rattle.git_client.specs.declared.events.Ending.TheVariants.{FlushOnly, ResponseEnd as WithResponseEnd}
+use Rattle.git_client.specs.declared.phase.Due.{Due}
+use Rattle.git_client.specs.declared.phase.Due.TheVariants.{Version, Capabilities, References, Header, Acknowledgments, ShallowInfo, WantedRefs}
+use Rattle.git_client.specs.declared.phase.Due.TheVariants.{Packfile, ResponseEnd}
+use Rattle.git_client.specs.declared.phase.Turn.{Turn}
+use Rattle.git_client.proofs.PartSteps.{is_early, next_part, part_due, awaits_where, goes_on, no_flush, Stands, stands, no_end, GoesInto, due_after}
 use Rattle.git_client.proofs.Sequences.{advertisement_more}
+use Rattle.git_client.proofs.SectionSteps.{inside_more, allowed_stays, header_due}
+
+place_inside : (format : Format) (done : Bool) (message : List Pkt) (section : Section) → IsInside section message
+    → place_of format (Some (sections done)) message ≡ place_in (Some section) (lines_of message)
+place_inside format done message section inside = rw (inside.inside, inside.begun) refl
+
+place_where : (format : Format) (done : Bool) (message : List Pkt) (due : Due) (caps : Caps)
+    → (is_early (part_due done due) ≡ true → caps ≡ noted_of message) → IsDueIn (part_due done due) message due
+    → place_of format (Some (part_due done due)) message ≡ Some (place_due caps format due)
+place_where format done message Version caps notes is = refl
+place_where format done message Capabilities caps notes is = ap (λ (c : Caps). Some (capabilities (is_spoken c format))) (sym (notes refl))
+place_where format done message References caps notes is = refl
+place_where format done message (Header allowed) caps notes (due, is) = rw due (ap (λ (a : Allowed). Some (header a)) (sym is))
+place_where format done message (Acknowledgments told) caps notes (inside, told_is, allowed_is) =
+    place_inside format done message _ inside ∙ ap (λ (t : Told). Some (acknowledgments t)) (sym told_is)
+place_where format done message (ShallowInfo allowed) caps notes (inside, is) = place_inside format done message _ inside
+place_where format done message (WantedRefs allowed) caps notes (inside, is) = place_inside format done message _ inside
+place_where format done message Packfile caps notes inside = place_inside format done message _ inside
+place_where format done message ResponseEnd caps notes is = refl
+
+-- the packets before tell the place where something is due
+pub place_is : (t : Terms) (asked : List Asked) (before : List Pkt) (due : Due) (caps : Caps) → IsDue t asked before due
+    → caps ≡ noted_of (advertisement_of before) → place_after t asked before ≡ Some (place_due caps t.format due)
+place_is t asked before due caps is notes =
+    let s = stands t asked before due is in
+    let early : is_early (part_due s.done due) ≡ true → caps ≡ noted_of (message_of before) =
+    λ early. notes ∙ ap noted_of (sym (is.same_lines (no_flush t asked before (part_due s.done due) s.is_part early))) in
+    ap (λ (part : Option Part). place_of t.format part (message_of before)) s.is_part
+    ∙ place_where t.format s.done (message_of before) due caps early s.is_due
+
+-- a line in the place of a header names a section that may begin
+header_may_begin : (allowed : Allowed) (format : Format) (text : List ℕ) (events : List EventValue) → SaysLine (header allowed) format text events
+    → may_begin allowed (section_named text) ≡ true
+header_may_begin allowed format text [] says = says
+header_may_begin allowed format text (event ∷ events) says = absurd says
+
+line_due : (format : Format) (ending : Ending) (caps : Caps) (done : Bool) (message : List Pkt) (due : Due) (line : List ℕ) (events : List EventValue)
+    → IsDueIn (part_due done due) message due → Gives format ending (place_due caps format due) (payload line) events
+    → IsDueIn (next_part (part_due done due)) (payload line ∷ message) (due_after_line due (text_of line))
+line_due format ending caps done message Version line events is gives = tt
+line_due format ending caps done message Capabilities line events is gives = tt
+line_due format ending caps done message References line events is gives = tt
+line_due format ending caps done message (Header allowed) line events is gives =
+    header_due done message allowed line is (header_may_begin allowed format (text_of line) events gives.says)
+line_due format ending caps done message (Acknowledgments told) line events (inside, told_is, allowed_is) gives = (
+  inside_more _ message line inside,
+  ap (λ (t : Told). told_with t (text_of line)) told_is ∙ ap (λ (b : Bool). told_by (cond b [] (payload line ∷ lines_of message))) (sym inside.inside),
+  allowed_stays done (payload line) message inside.inside ∙ allowed_is,
+)
+line_due format ending caps done message (ShallowInfo allowed) line events (inside, is) gives =
+    (inside_more _ message line inside, is ∙ sym (allowed_stays done (payload line) message inside.inside))
+line_due format ending caps done message (WantedRefs allowed) line events (inside, is) gives =
+    (inside_more _ message line inside, is ∙ sym (allowed_stays done (payload line) message inside.inside))
+line_due format ending caps done message Packfile line events inside gives = inside_more _ message line inside
+line_due format ending caps done message ResponseEnd line events is gives = absurd gives
+
+delimiter_due : (format : Format) (ending : Ending) (caps : Caps) (done : Bool) (message : List Pkt) (due : Due) (events : List EventValue)
+    → IsDueIn (part_due done due) message due → Gives format ending (place_due caps format due) delim events
+    → IsDueIn (next_part (part_due done due)) (delim ∷ message) (due_after_delimiter due)
+delimiter_due format ending caps done message (Acknowledgments told) events (inside, told_is, allowed_is) gives =
+    (refl, sym (allowed_stays done delim message inside.inside ∙ allowed_is))
+delimiter_due format ending caps done message (ShallowInfo allowed) events (inside, is) gives =
+    (refl, is ∙ sym (allowed_stays done delim message inside.inside))
+delimiter_due format ending caps done message (WantedRefs allowed) events (inside, is) gives =
+    (refl, is ∙ sym (allowed_stays done delim message inside.inside))
+delimiter_due format ending caps done message due events is gives = absurd (cc)
+
+-- a packet inside a message comes where no response end is due
+not_last : (format : Format) (ending : Ending) (caps : Caps) (due : Due) (p : Pkt) (events : List EventValue) → GoesInto p
+    → Gives format ending (place_due caps format due) p events → awaits_end due ≡ 0
+not_last format ending caps ResponseEnd (payload line) events goes gives = absurd gives
+not_last format ending caps ResponseEnd delim events goes gives = absurd (cc)
+not_last format ending caps ResponseEnd flush events goes gives = absurd goes
+not_last format ending caps ResponseEnd resp_end events goes gives = absurd goes
+not_last format ending caps due p events goes gives = refl
+
+response_over : (format : Format) (ending : Ending) (asked : List Asked) (before : List Pkt) → flushes before ≡ length asked → is_zero (flushes before) ≡ false
+    → Behind (terms_of format ending) asked (flush ∷ before) None (phase_after_response ending)
+response_over format FlushOnly asked before counts some = record { all_flushes = ap suc counts; no_end_due = refl; no_message = refl }
+response_over format WithResponseEnd asked before counts some = record {
+  part = closing;
+  is_part = ap (λ (b : Bool). cond (not b) (Some closing) (part_after asked (suc (flushes before)))) some;
+  counts = omega arith;
+  same_lines = λ none. absurd (omega arith);
+  is_due = tt;
+}
+
+-- the flush of a response ends it, or its response end is due
+response_flush : (t : Terms) (asked : List Asked) (before : List Pkt) (due : Due) → IsDue t asked before due → (s : Stands t asked before due)
+    → awaits_end due ≡ 0 → is_early (part_due s.done due) ≡ false → Behind t asked (flush ∷ before) None (phase_after_response t.ending)
+response_flush t asked before due is s none late =
+    let goes = goes_on t asked before (part_due s.done due) s.is_part (sym (awaits_where s.done due) ∙ none) in
+    response_over t.format t.ending asked before (omega (arith, is.counts)) (goes.early ∙ late)
+
+no_end_yet : (ending : Ending) (before : List Pkt) → flushes before ≡ 0 → is_end_due ending (flush ∷ before) ≡ false
+no_end_yet FlushOnly before none = refl
+no_end_yet WithResponseEnd before none = ap (λ (n : ℕ). not (is_zero n)) none
+
+flush_due : (t : Terms) (asked : List Asked) (before : List Pkt) (due : Due) (caps : Caps) (events : List EventValue) → IsDue t asked before due
+    → (s : Stands t asked before due) → Gives t.format t.ending (place_due caps t.format due) flush events
+    → Behind t asked (flush ∷ before) None (phase_after t.ending due flush)
+flush_due t asked before Capabilities caps events is s gives = record {
+  all_flushes = omega (arith, is.counts);
+  no_end_due = no_end_yet t.ending before (no_flush t asked before _ s.is_part refl);
+  no_message = refl;
+}
+flush_due t asked before References caps events is s gives = response_flush t asked before References is s refl refl
+flush_due t asked before (Acknowledgments told) caps events is s gives = response_flush t asked before (Acknowledgments told) is s refl refl
+flush_due t asked before Packfile caps events is s gives = response_flush t asked before Packfile is s refl refl
+flush_due t asked before due caps events is s gives = absurd (cc)
+
+end_due : (t : Terms) (asked : List Asked) (before : List Pkt) (due : Due) (caps : Caps) (events : List EventValue) → IsDue t asked before due
+    → Gives t.format t.ending (place_due caps t.format due) resp_end events → AreWhole t asked (resp_end ∷ before)
+end_due t asked before ResponseEnd caps events is gives =
+    record { all_flushes = omega (arith, is.counts); no_end_due = no_end t.ending resp_end before (λ e. cc); no_message = refl }
+end_due t asked before due caps events is gives = absurd (cc)
+
+behind_after : (t : Terms) (asked : List Asked) (before : List Pkt) (due : Due) (caps : Caps) (p : Pkt) (events : List EventValue)
+    → IsDue t asked before due → (s : Stands t asked before due) → Gives t.format t.ending (place_due caps t.format due) p events
+    → Behind t asked (p ∷ before) None (phase_after t.ending due p)
+behind_after t asked before due caps (payload line) events is s gives =
+    due_after t asked before due _ (payload line) tt (not_last t.format t.ending caps due (payload line) events tt gives) is s
+    (line_due t.format t.ending caps s.done (message_of before) due line events s.is_due gives)
+behind_after t asked before due caps delim events is s gives =
+    due_after t asked before due _ delim tt (not_last t.format t.ending caps due delim events tt gives) is s
+    (delimiter_due t.format t.ending caps s.done (message_of before) due events s.is_due gives)
+behind_after t asked before due caps flush events is s gives = flush_due t asked before due caps events is s gives
+behind_after t asked before due caps resp_end events is s gives = end_due t asked before due caps events is gives
+
+version_said : (format : Format) (text : List ℕ) (events : List EventValue) → SaysLine version format text events → text ≡ codes "version 2"
+version_said format text [] says = says
+version_said format text (event ∷ events) says = absurd says
 
 -- the line `version 2` notes nothing
-version_notes : (line : List ℕ) → text_of line ≡ codes "version 2" → noted_of (payload line ∷ []) ≡ noted_of []
-version_notes line e = rw e refl
+version_notes : (line : List ℕ) (packets : List Pkt) → text_of line ≡ codes "version 2" → noted_of (payload line ∷ packets) ≡ noted_of packets
+version_notes line packets says = rw says refl
 
--- the first packet is the line `version 2`
-pub says_version : (format : Format) (caps : Caps) (p : Pkt) (before : List Pkt) → IsVersion p → before ≡ [] → caps ≡ noted_of (advertisement_of before)
-    → GivesAt format before p [] × (caps ≡ noted_of (advertisement_of (p ∷ before))) × Behind Advertisement (p ∷ before)
-says_version format caps (payload line) before version none notes = (
-  record { part = opening; is_part = none; gives = (version, refl) },
-  notes ∙ ap (λ (l : List Pkt). noted_of (advertisement_of l)) none ∙ sym (version_notes line version)
-      ∙ ap (λ (l : List Pkt). noted_of (advertisement_of (payload line ∷ l))) (sym none),
-  (λ e. absurd (cc), ap flushes none),
-)
-says_version format caps flush before version none notes = absurd version
-says_version format caps delim before version none notes = absurd version
-says_version format caps resp_end before version none notes = absurd version
+-- a packet that notes nothing leaves what the advertisement noted
+nothing_noted : (p : Pkt) (before : List Pkt) → noted_of (p ∷ advertisement_of before) ≡ noted_of (advertisement_of before)
+    → noted_of (advertisement_of (p ∷ before)) ≡ noted_of (advertisement_of before)
+nothing_noted p before same = go (is_zero (flushes before)) where
+  go : (b : Bool) → noted_of (cond b (p ∷ advertisement_of before) (advertisement_of before)) ≡ noted_of (advertisement_of before)
+  go true = same
+  go false = refl
 
--- a line of the advertisement
-pub says_line : (format : Format) (caps after : Caps) (line : List ℕ) (before : List Pkt) (j : NotesLine caps line after) → Behind Advertisement before
-    → caps ≡ noted_of (advertisement_of before)
-    → GivesAt format before (payload line) (capability j.key j.value ∷ []) × (after ≡ noted_of (advertisement_of (payload line ∷ before)))
-    × Behind Advertisement (payload line ∷ before)
-says_line format caps after line before j behind notes = (
-  record { part = advertisement; is_part = behind; gives = (j.no_error, (j.key, j.value, j.is_line, refl)) },
-  j.notes (advertisement_of before) notes ∙ ap noted_of (sym (advertisement_more (payload line) before behind.1)),
-  (λ e. absurd (cc), behind.1),
-)
+notes_after : (t : Terms) (asked : List Asked) (before : List Pkt) (due : Due) (caps after : Caps) (p : Pkt) (events : List EventValue)
+    → Stands t asked before due → Gives t.format t.ending (place_due caps t.format due) p events → NotesAfter due caps p after
+    → caps ≡ noted_of (advertisement_of before) → after ≡ noted_of (advertisement_of (p ∷ before))
+notes_after t asked before Version caps after (payload line) events s gives same notes =
+    let says = version_said t.format (text_of line) events gives.says in
+    same ∙ notes ∙ sym (nothing_noted (payload line) before (version_notes line (advertisement_of before) says))
+notes_after t asked before Capabilities caps after (payload line) events s gives adds notes =
+    adds (advertisement_of before) notes ∙ ap noted_of (sym (advertisement_more (payload line) before (no_flush t asked before _ s.is_part refl)))
+notes_after t asked before ResponseEnd caps after (payload line) events s gives same notes = absurd gives
+notes_after t asked before due caps after (payload line) events s gives same notes =
+    let late = (goes_on t asked before (part_due s.done due) s.is_part refl).early in
+    same ∙ notes ∙ ap (λ (b : Bool). noted_of (cond b (payload line ∷ advertisement_of before) (advertisement_of before))) (sym late)
+notes_after t asked before due caps after p events s gives same notes = same ∙ notes ∙ sym (nothing_noted p before refl)
 
--- the end of the advertisement
-pub says_offered : (format : Format) (caps : Caps) (before : List Pkt) → is_spoken caps format ≡ true → Behind Advertisement before
-    → caps ≡ noted_of (advertisement_of before)
-    → GivesAt format before flush (offered ∷ []) × (caps ≡ noted_of (advertisement_of (flush ∷ before))) × Behind Ready (flush ∷ before)
-says_offered format caps before spoken behind notes = (
-  record { part = advertisement; is_part = behind; gives = (ap (λ (c : Caps). is_spoken c format) (sym notes) ∙ spoken, refl) },
-  notes ∙ ap noted_of (sym (advertisement_more flush before behind.1)),
-  ap suc behind.1,
-)
+-- a packet in which no fault was found gives what was found of it, and then what was found to be due is due
+pub judged_well : (t : Terms) (asked : List Asked) (before : List Pkt) (due : Due) (caps : Caps) (p : Pkt) (turn : Turn) → IsDue t asked before due
+    → caps ≡ noted_of (advertisement_of before) → IsTurn t.format t.ending due caps p turn
+    → GivesAt t asked before p (events_at turn.said (body_of p)) × (turn.caps ≡ noted_of (advertisement_of (p ∷ before)))
+    × Behind t asked (p ∷ before) None turn.next
+judged_well t asked before due caps p turn is notes judged =
+    let s = stands t asked before due is in (
+      record { place = place_due caps t.format due; is_place = place_is t asked before due caps is notes; gives = judged.gives },
+      notes_after t asked before due caps turn.caps p _ s judged.gives judged.notes notes,
+      subst (Behind t asked (p ∷ before) None) (sym judged.next) (behind_after t asked before due caps p _ is s judged.gives),
+    )
 
--- a packet that is refused
-pub says_refused : (phase : Phase) (format : Format) (caps : Caps) (p : Pkt) (kind : Kind) (before : List Pkt) → Judges phase format caps p (Err kind)
-    → Behind phase before → takes_packets phase ≡ true → caps ≡ noted_of (advertisement_of before) → RefusesAt format before p kind
-says_refused Opening format caps p kind before j behind takes notes = record { part = opening; is_part = behind; refuses = j }
-says_refused Advertisement format caps (payload line) kind before j behind takes notes = record { part = advertisement; is_part = behind; refuses = j }
-says_refused Advertisement format caps flush kind before j behind takes notes = record {
-  part = advertisement;
-  is_part = behind;
-  refuses = subst (λ (c : Caps). RefusesFlush (is_spoken c format) kind) notes j;
-}
-says_refused Advertisement format caps delim kind before j behind takes notes = record { part = advertisement; is_part = behind; refuses = j }
-says_refused Advertisement format caps resp_end kind before j behind takes notes = record { part = advertisement; is_part = behind; refuses = j }
-says_refused Ready format caps p kind before j behind takes notes = absurd (cc)
-says_refused (Failed fault) format caps p kind before j behind takes notes = absurd (cc)
+-- a packet in which one was found is refused for it
+pub judged_badly : (t : Terms) (asked : List Asked) (before : List Pkt) (due : Due) (caps : Caps) (p : Pkt) (kind : Kind) → IsDue t asked before due
+    → caps ≡ noted_of (advertisement_of before) → Refuses t.format t.ending (place_due caps t.format due) p kind → RefusesAt t asked before p kind
+judged_badly t asked before due caps p kind is notes refuses =
+    record { place = place_due caps t.format due; is_place = place_is t asked before due caps is notes; refuses = refuses }
 
--- no packet is refused by the name of a fault that the reader tells
-pub refused_by : (phase : Phase) (format : Format) (caps : Caps) (p : Pkt) → takes_packets phase ≡ true
-    → (Judges phase format caps p (Err Truncated) → ⊥) × (Judges phase format caps p (Err StreamTooLong) → ⊥)
-refused_by Opening format caps (payload line) takes = (λ j. j, λ j. j)
-refused_by Opening format caps flush takes = (λ j. j, λ j. j)
-refused_by Opening format caps delim takes = (λ j. j, λ j. j)
-refused_by Opening format caps resp_end takes = (λ j. j, λ j. j)
-refused_by Advertisement format caps (payload line) takes = (λ j. j, λ j. j)
-refused_by Advertisement format caps flush takes = (λ j. j, λ j. j)
-refused_by Advertisement format caps delim takes = (λ j. j, λ j. j)
-refused_by Advertisement format caps resp_end takes = (λ j. j, λ j. j)
-refused_by Ready format caps p takes = absurd (cc)
-refused_by (Failed fault) format caps p takes = absurd (cc)
+hears_after : (ending : Ending) (due : Due) (p : Pkt) → (is_asking (phase_after ending due p) ≡ false) × (fault_in (phase_after ending due p) ≡ None)
+hears_after ending due (payload bytes) = (refl, refl)
+hears_after ending due delim = (refl, refl)
+hears_after ending Capabilities flush = (refl, refl)
+hears_after FlushOnly due flush = (refl, refl)
+hears_after WithResponseEnd due flush = (refl, refl)
+hears_after ending due resp_end = (refl, refl)
+
+-- after a packet in which no fault was found the server is heard on, or can be asked
+pub hears_next : (format : Format) (ending : Ending) (due : Due) (caps : Caps) (p : Pkt) (judged : Result Turn Kind)
+    → MatchResult judged (IsTurn format ending due caps p) (Refuses format ending (place_due caps format due) p) → HearsNext judged
+hears_next format ending due caps p (Ok turn) is = rw is.next (hears_after ending due p)
+hears_next format ending due caps p (Err kind) is = tt

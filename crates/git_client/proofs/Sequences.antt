@@ -1,27 +1,33 @@
--- One packet more, after those before it.
-use Rattle.std.proofs.Common.{arith, ◌≡◌, ℕ, ◌+◌, List, [], ◌∷◌, ◌++◌, refl, sym, ap, ◌∙◌, append_assoc, cond}
+-- One packet more, after those before it, and questions that come later.
+use Rattle.std.proofs.Common.{arith, ◌≡◌, ◌⊎◌, inl, inr, ℕ, zero, suc, ◌+◌, Bool, true, false, List, [], ◌∷◌, ◌++◌}
+use Rattle.std.proofs.Common.{Option, Some, None, refl, sym, ap, ◌∙◌, append_assoc, cond, slice_get}
 use Rattle.std.proofs.lemmas.List.{append-nil}
-use Rattle.git_names.specs.declared.object_format.Format.{Format}
-use Rattle.git_pkt.specs.Packets.{Pkt, flush, delim, resp_end, payload, flushes}
+use Rattle.git_pkt.specs.Packets.{Pkt, flushes}
 use Rattle.git_pkt.specs.Splits.{Given}
-use Rattle.git_client.specs.Parts.{Part, opening, advertisement, nearest, is_zero, advertisement_of}
-use Rattle.git_client.specs.Events.{EventValue, capability, offered, Gives, turns_of}
-use Rattle.git_client.specs.Conversation.{GivesAt, GiveAll}
+use Rattle.git_pkt.specs.declared.fault.Kind.{Kind}
+use Rattle.git_msg.specs.Asked.{Asked}
+use Rattle.git_client.specs.Parts.{Terms, Part, closing, nearest, is_zero, advertisement_of, message_of, is_end_due, answer_to, part_after, part_of}
+use Rattle.git_client.specs.Places.{Place}
+use Rattle.git_client.specs.Places.{place_of, place_after}
+use Rattle.git_client.specs.Events.{EventValue, offered, ended}
+use Rattle.git_client.specs.Events.{turns_of}
+use Rattle.git_client.specs.Conversation.{GivesAt, RefusesAt, GiveAll, HasDue}
+use Rattle.git_client.proofs.PlacePackets.{nothing_due, comes_after, one_if, packet_adds}
 
 pub nearest_push : (gs : List Given) (g : Given) (before : List Pkt) → nearest (gs ++ g ∷ []) before ≡ g.packet ∷ nearest gs before
 nearest_push [] g before = refl
 nearest_push (h ∷ gs) g before = nearest_push gs g (h.packet ∷ before)
 
-pub give_all_push : (format : Format) (before : List Pkt) (gs : List Given) (g : Given) (events now : List EventValue) → GiveAll format before gs events
-    → GivesAt format (nearest gs before) g.packet now → GiveAll format before (gs ++ g ∷ []) (events ++ now)
-give_all_push format before [] g events now e a =
+pub give_all_push : (t : Terms) (asked : List Asked) (before : List Pkt) (gs : List Given) (g : Given) (events now : List EventValue)
+    → GiveAll t asked before gs events → GivesAt t asked (nearest gs before) g.packet now → GiveAll t asked before (gs ++ g ∷ []) (events ++ now)
+give_all_push t asked before [] g events now e a =
     (now, [], ap (λ (l : List EventValue). l ++ now) e ∙ sym (append-nil now), a, refl)
-give_all_push format before (h ∷ gs) g events now (first, later, e, at, rest) a = (
+give_all_push t asked before (h ∷ gs) g events now (first, later, e, at, rest) a = (
   first,
   later ++ now,
   ap (λ (l : List EventValue). l ++ now) e ∙ append_assoc first later now,
   at,
-  give_all_push format (h.packet ∷ before) gs g later now rest a,
+  give_all_push t asked (h.packet ∷ before) gs g later now rest a,
 )
 
 -- the advertisement goes on until its flush
@@ -29,32 +35,85 @@ pub advertisement_more : (p : Pkt) (before : List Pkt) → flushes before ≡ 0 
 advertisement_more p before none =
     ap (λ (n : ℕ). cond (is_zero n) (p ∷ advertisement_of before) (advertisement_of before)) none
 
+-- what stands in a list stays when more comes after it
+slice_get_more : {X : Type 0} (xs more : List X) (k : ℕ) → (slice_get xs k ≡ None) ⊎ (slice_get (xs ++ more) k ≡ slice_get xs k)
+slice_get_more [] more k = inl refl
+slice_get_more (x ∷ xs) more zero = inr refl
+slice_get_more (x ∷ xs) more (suc k) = slice_get_more xs more k
+
+part_after_same : (asked more : List Asked) (n : ℕ) → (part_after asked n ≡ None) ⊎ (part_after (asked ++ more) n ≡ part_after asked n)
+part_after_same asked more zero = inr refl
+part_after_same asked more (suc k) = elim (slice_get_more asked more k) [ inl none ↦ inl (ap answer_to none) | inr same ↦ inr (ap answer_to same) ]
+
+part_chosen : (due : Bool) (part more : Option Part) → (part ≡ None) ⊎ (more ≡ part)
+    → (cond due (Some closing) part ≡ None) ⊎ (cond due (Some closing) more ≡ cond due (Some closing) part)
+part_chosen true part more h = inr refl
+part_chosen false part more h = h
+
+part_same : (t : Terms) (asked more : List Asked) (before : List Pkt)
+    → (part_of t asked before ≡ None) ⊎ (part_of t (asked ++ more) before ≡ part_of t asked before)
+part_same t asked more [] = inr refl
+part_same t asked more (p ∷ before) =
+    part_chosen (is_end_due t.ending (p ∷ before)) (part_after asked (flushes (p ∷ before))) (part_after (asked ++ more) (flushes (p ∷ before)))
+    (part_after_same asked more (flushes (p ∷ before)))
+
+-- later questions leave the part of a packet as it is
+pub part_more : (t : Terms) (asked more : List Asked) (before : List Pkt) (part : Part) → part_of t asked before ≡ Some part
+    → part_of t (asked ++ more) before ≡ Some part
+part_more t asked more before part h = elim (part_same t asked more before) [
+  | inl none ↦ let both = sym none ∙ h in absurd (cc)
+  | inr same ↦ same ∙ h
+]
+
+-- and its place
+pub place_more : (t : Terms) (asked more : List Asked) (before : List Pkt) (place : Place) → place_after t asked before ≡ Some place
+    → place_after t (asked ++ more) before ≡ Some place
+place_more t asked more before place h = elim (part_same t asked more before) [
+  | inl none ↦ let both = sym (ap (λ (o : Option Part). place_of t.format o (message_of before)) none) ∙ h in absurd (cc)
+  | inr same ↦ ap (λ (o : Option Part). place_of t.format o (message_of before)) same ∙ h
+]
+
+pub gives_at_more : (t : Terms) (asked more : List Asked) (before : List Pkt) (p : Pkt) (events : List EventValue) → GivesAt t asked before p events
+    → GivesAt t (asked ++ more) before p events
+gives_at_more t asked more before p events h =
+    record { place = h.place; is_place = place_more t asked more before h.place h.is_place; gives = h.gives }
+
+pub gives_more : (t : Terms) (asked more : List Asked) (before : List Pkt) (gs : List Given) (events : List EventValue) → GiveAll t asked before gs events
+    → GiveAll t (asked ++ more) before gs events
+gives_more t asked more before [] events e = e
+gives_more t asked more before (g ∷ gs) events (now, later, e, at, rest) =
+    (now, later, e, gives_at_more t asked more before g.packet now at, gives_more t asked more (g.packet ∷ before) gs later rest)
+
+pub refuses_more : (t : Terms) (asked more : List Asked) (before : List Pkt) (p : Pkt) (kind : Kind) → RefusesAt t asked before p kind
+    → RefusesAt t (asked ++ more) before p kind
+refuses_more t asked more before p kind h =
+    record { place = h.place; is_place = place_more t asked more before h.place h.is_place; refuses = h.refuses }
+
+pub due_more : (t : Terms) (asked more : List Asked) (before : List Pkt) → HasDue t asked before → HasDue t (asked ++ more) before
+due_more t asked more before (place, is) = (place, place_more t asked more before place is)
+
 turns-append : (events later : List EventValue) → turns_of (events ++ later) ≡ turns_of events + turns_of later
 turns-append [] later = omega arith
 turns-append (offered ∷ events) later = omega (arith, turns-append events later)
-turns-append (capability key value ∷ events) later = turns-append events later
+turns-append (ended ∷ events) later = omega (arith, turns-append events later)
+turns-append (event ∷ events) later = turns-append events later
 
-one_turn : (part : Part) (format : Format) (before : List Pkt) (p : Pkt) (now : List EventValue) → Gives part format before p now
-    → turns_of now + flushes before ≡ flushes (p ∷ before)
-one_turn opening format before (payload line) now g = ap (λ (l : List EventValue). turns_of l + flushes before) g.1 ∙ omega arith
-one_turn opening format before flush now g = absurd g.0
-one_turn opening format before delim now g = absurd g.0
-one_turn opening format before resp_end now g = absurd g.0
-one_turn advertisement format before (payload line) now (no_error, line_is) =
-    ap (λ (l : List EventValue). turns_of l + flushes before) line_is.3 ∙ omega arith
-one_turn advertisement format before flush now g = ap (λ (l : List EventValue). turns_of l + flushes before) g.1 ∙ omega arith
-one_turn advertisement format before delim now g = absurd g
-one_turn advertisement format before resp_end now g = absurd g
-
--- a flush ends each turn
-pub turns_are_flushes : (format : Format) (before : List Pkt) (gs : List Given) (events : List EventValue) → GiveAll format before gs events
-    → turns_of events + flushes before ≡ flushes (nearest gs before)
-turns_are_flushes format before [] events e = ap (λ (l : List EventValue). turns_of l + flushes before) e ∙ omega arith
-turns_are_flushes format before (g ∷ gs) events (now, later, e, at, rest) =
+-- packets add a turn for each flush but that of a response after which an end is due
+turns_after : (t : Terms) (asked : List Asked) (before : List Pkt) (gs : List Given) (events : List EventValue) → GiveAll t asked before gs events
+    → turns_of events + one_if (is_end_due t.ending (nearest gs before)) + flushes before
+    ≡ flushes (nearest gs before) + one_if (is_end_due t.ending before)
+turns_after t asked before [] events e = omega (arith, ap turns_of e)
+turns_after t asked before (g ∷ gs) events (now, later, e, at, rest) =
     omega (
       arith,
       ap turns_of e,
       turns-append now later,
-      one_turn at.part format before g.packet now at.gives,
-      turns_are_flushes format (g.packet ∷ before) gs later rest,
+      (packet_adds t.format t.ending at.place before g.packet now (comes_after t asked before at.place at.is_place) at.gives).turn,
+      turns_after t asked (g.packet ∷ before) gs later rest,
     )
+
+-- the client came to where it can ask once for each flush, but for that of a response after which an end is due
+pub turns_are_messages : (t : Terms) (asked : List Asked) (clean : List Given) (events : List EventValue) → GiveAll t asked [] clean events
+    → turns_of events + one_if (is_end_due t.ending (nearest clean [])) ≡ flushes (nearest clean [])
+turns_are_messages t asked clean events h =
+    omega (arith, turns_after t asked [] clean events h, ap one_if (nothing_due t.ending))

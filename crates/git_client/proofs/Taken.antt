@@ -1,181 +1,206 @@
 -- What the client has done once a packet is settled.
-use Rattle.std.proofs.Common.{Some, ◌≡◌, ℕ, ◌+◌, ◌<◌, List, [], ◌∷◌, length, true, false, None, Result, Ok, Err, ap, sym, ◌∙◌, refl, subst, take}
-use Rattle.git_pkt.specs.Packets.{Pkt, flush, delim, resp_end, payload, Spells}
+use Rattle.std.proofs.Common.{◌≡◌, ◌⊎◌, inl, inr, ℕ, ◌<◌, true, false, List, [], ◌∷◌, take, drop, map}
+use Rattle.std.proofs.Common.{Some, None, Result, Ok, Err, MatchResult, refl, ap, sym, ◌∙◌, subst}
+use Rattle.git_names.specs.declared.object_format.Format.{Format}
+use Rattle.git_pkt.specs.Packets.{Pkt, Spells, flush, delim, resp_end, payload, text_of, body_of}
 use Rattle.git_pkt.specs.Splits.{Given}
-use Rattle.git_pkt.specs.PacketReader.{ShownByFeed, ReadsOn, position_of, is_open, held_of, fault_of as reader_fault_of}
+use Rattle.git_pkt.specs.PacketReader.{ReadsOn, ShownByFeed, held_of, is_open, fault_of as reader_fault_of}
 use Rattle.git_pkt.specs.declared.fault.Fault.{Fault}
 use Rattle.git_pkt.specs.declared.fault.Kind.{Kind}
 use Rattle.git_pkt.specs.declared.reader.PacketReader.{PacketReader}
 use Rattle.git_msg.specs.Advertisement.{is_spoken}
 use Rattle.git_msg.specs.declared.offers.Caps.{Caps}
-use Rattle.git_client.specs.Events.{capability, offered, IsVersion}
-use Rattle.git_client.specs.Turns.{takes_packets, Judges, NotesLine}
-use Rattle.git_client.specs.Client.{Behind, Takes, fault_in, is_ready, phase_after, caps_after, outcome_of}
-use Rattle.git_client.specs.Client.{phase_of, reader_of, format_of, ending_of, caps_of, wants_input}
+use Rattle.git_client.specs.Places.{Place, acknowledgments, shallow_info, wanted_refs, packfile, response_end}
+use Rattle.git_client.specs.Events.{EventValue, pack, progress, Gives, Refuses, turns_of, ended_by, delimiter_says, response_end_says}
+use Rattle.git_client.specs.Turns.{fault_in, is_ready, takes_packets, place_due, phase_after, phase_after_response, events_at, Fits, IsTurn}
+use Rattle.git_client.specs.Client.{Comes, Takes, LeavesStep, StandsAfter, phase_judged, caps_judged, said_judged, outcome_judged, outcome_said, IsMessage}
+use Rattle.git_client.specs.Client.{format_of, ending_of, caps_of, phase_of, reader_of, said_last}
+use Rattle.git_client.specs.declared.events.Ending.{Ending}
+use Rattle.git_client.specs.declared.events.Ending.TheVariants.{FlushOnly, ResponseEnd as WithResponseEnd}
 use Rattle.git_client.specs.declared.phase.Phase.{Phase}
-use Rattle.git_client.specs.declared.phase.Phase.TheVariants.{Opening, Advertisement, Ready, Failed}
+use Rattle.git_client.specs.declared.phase.Phase.TheVariants.{Hearing, Ready, Asking, Leaving, Left, Failed}
+use Rattle.git_client.specs.declared.phase.Due.{Due}
+use Rattle.git_client.specs.declared.phase.Due.TheVariants.{Capabilities, References, Acknowledgments, Packfile}
+use Rattle.git_client.specs.declared.phase.Said.{Said}
+use Rattle.git_client.specs.declared.phase.Said.TheVariants.{Nothing, Pack, Progress, Offered, Ended}
 use Rattle.git_client.specs.declared.phase.Turn.{Turn}
-use Rattle.git_client.specs.declared.phase.Turn.TheVariants.{Version, Capability, Offered}
 use Rattle.git_client.specs.declared.client.Client.{Client}
-use Rattle.git_client.specs.declared.client.Outcome.{Outcome}
-use Rattle.git_client.specs.declared.client.Outcome.TheVariants.{More as Nothing, Capability as CapabilityLine}
-use Rattle.git_client.specs.declared.client.Outcome.TheVariants.{Offered as OfferedNow, Failed as FailedNow}
-use Rattle.git_client.proofs.Carries.{hears_packet, hears_refused, hears_failed}
-use Rattle.git_client.proofs.Judged.{says_version, says_line, says_offered, says_refused, refused_by}
+use Rattle.git_client.specs.declared.client.Outcome.TheVariants.{Failed as FailedNow}
+use Rattle.git_client.proofs.PlaceLines.{line_is, band_is}
+use Rattle.git_client.proofs.PlacePackets.{one_if, said_by, said_if, said_unless}
+use Rattle.git_client.proofs.Refusals.{TellsFault, is_own, why_refused}
+use Rattle.git_client.proofs.Carries.{goes_on, HearsPacket, HearsBytes, hears_packet, hears_refused, hears_failed}
 
--- the client's reader has read one packet
-pub record ReadsPacket (old new : Client) (piece : List ℕ) (used : ℕ) (g : Given) : Type 0 where
-  pub wants : wants_input old ≡ true
-  pub reads : ReadsOn (reader_of old) (take used piece) (g ∷ []) (reader_of new)
-  pub some : 0 < used
-  pub sound : reader_fault_of (reader_of new) ≡ None
-  pub shut : is_open (reader_of new) ≡ false
-  pub held : Spells g.packet (held_of (reader_of new))
-  pub format : format_of new ≡ format_of old
-  pub ending : ending_of new ≡ ending_of old
+-- after a packet without a fault the server is heard on, or can be asked
+pub goes_after : (ending : Ending) (due : Due) (p : Pkt) → goes_on (phase_after ending due p) ≡ true
+goes_after ending due (payload bytes) = refl
+goes_after ending due delim = refl
+goes_after ending Capabilities flush = refl
+goes_after FlushOnly _ flush = refl
+goes_after WithResponseEnd _ flush = refl
+goes_after ending due resp_end = refl
 
--- the reader's own words for it
-pub packet_read : (old new : Client) (reader : PacketReader) (piece : List ℕ) (used : ℕ) (g : Given) → wants_input old ≡ true
-    → ReadsOn (reader_of old) (take used piece) (g ∷ []) reader
-    → (0 < used) × (reader_fault_of reader ≡ None) × (is_open reader ≡ false) × Spells g.packet (held_of reader)
-    × (g.offset + length (held_of reader) ≡ position_of reader) → reader_of new ≡ reader → format_of new ≡ format_of old → ending_of new ≡ ending_of old
-    → ReadsPacket old new piece used g
-packet_read old new reader piece used g wants reads tells same format ending = record {
-  wants = wants;
-  reads = subst (λ (r : PacketReader). ReadsOn (reader_of old) (take used piece) (g ∷ []) r) (sym same) reads;
-  some = tells.0;
-  sound = ap reader_fault_of same ∙ tells.1;
-  shut = ap is_open same ∙ tells.2;
-  held = subst (λ (r : PacketReader). Spells g.packet (held_of r)) (sym same) tells.3;
-  format = format;
-  ending = ending;
+-- the packet is a turn just where it can be asked after it
+abbrev pub IsTurnTo : Phase → List EventValue → Type 0
+IsTurnTo next events = turns_of events ≡ one_if (is_ready next)
+
+abbrev TurnsAfter : Format → Ending → Caps → Due → Pkt → List EventValue → Type 0
+TurnsAfter format ending caps due p events = Gives format ending (place_due caps format due) p events → IsTurnTo (phase_after ending due p) events
+
+payload_turn : (format : Format) (ending : Ending) (place : Place) (bytes : List ℕ) (events : List EventValue)
+    → Gives format ending place (payload bytes) events → turns_of events ≡ 0
+payload_turn format ending packfile bytes events g = (band_is bytes events g).0
+payload_turn format ending response_end bytes events g = absurd g
+payload_turn format ending place bytes events g = (line_is place format (text_of bytes) events g.says).turns
+
+ended_turn : (ending : Ending) (events : List EventValue) → events ≡ ended_by ending → IsTurnTo (phase_after_response ending) events
+ended_turn FlushOnly events e = ap turns_of e
+ended_turn WithResponseEnd events e = ap turns_of e
+
+flush_turn : (format : Format) (ending : Ending) (caps : Caps) (due : Due) (events : List EventValue) → TurnsAfter format ending caps due flush events
+flush_turn format ending caps Capabilities events g = ap turns_of (said_if (is_spoken caps format) _ _ events g)
+flush_turn format ending caps References events g = ended_turn ending events (said_by _ _ events refl g)
+flush_turn format ending caps (Acknowledgments told) events g = ended_turn ending events (said_unless told.ready _ _ events g)
+flush_turn format ending caps Packfile events g = ended_turn ending events (said_by _ _ events refl g)
+flush_turn format ending caps _ events g = absurd (cc)
+
+delimiter_turn : (place : Place) (events : List EventValue) → delimiter_says place ≡ Ok events → turns_of events ≡ 0
+delimiter_turn (acknowledgments told) events g = ap turns_of (said_if told.ready _ _ events g)
+delimiter_turn shallow_info events g = ap turns_of (said_by _ _ events refl g)
+delimiter_turn wanted_refs events g = ap turns_of (said_by _ _ events refl g)
+delimiter_turn _ events g = absurd (cc)
+
+response_end_turn : (place : Place) (events : List EventValue) → response_end_says place ≡ Ok events → turns_of events ≡ 1
+response_end_turn response_end events g = ap turns_of (said_by _ _ events refl g)
+response_end_turn _ events g = absurd (cc)
+
+packet_turn : (format : Format) (ending : Ending) (caps : Caps) (due : Due) (p : Pkt) (events : List EventValue) → TurnsAfter format ending caps due p events
+packet_turn format ending caps due (payload bytes) events g = payload_turn format ending (place_due caps format due) bytes events g
+packet_turn format ending caps due flush events g = flush_turn format ending caps due events g
+packet_turn format ending caps due delim events g = delimiter_turn (place_due caps format due) events g
+packet_turn format ending caps due resp_end events g = response_end_turn (place_due caps format due) events g
+
+hears_on : (next : Phase) → goes_on next ≡ true → one_if (is_ready next) ≡ 0 → takes_packets next ≡ true
+hears_on (Hearing due) goes none = refl
+hears_on Ready goes none = absurd (cc)
+hears_on (Asking writer) goes none = absurd (cc)
+hears_on Leaving goes none = absurd (cc)
+hears_on Left goes none = absurd (cc)
+hears_on (Failed fault) goes none = absurd (cc)
+
+can_be_asked : (next : Phase) → one_if (is_ready next) ≡ 1 → is_ready next ≡ true
+can_be_asked Ready one = refl
+can_be_asked _ one = absurd (cc)
+
+-- what was said of bytes of a band is no turn
+pub no_turns : (bytes : List ℕ) → (turns_of (map pack bytes) ≡ 0) × (turns_of (map progress bytes) ≡ 0)
+no_turns bytes = ((band_is (1 ∷ bytes) (map pack bytes) refl).0, (band_is (2 ∷ bytes) (map progress bytes) refl).0)
+
+-- where the client stands after what was said of a packet
+abbrev StandsOn : Said → Phase → Type 0
+StandsOn Offered next = is_ready next ≡ true
+StandsOn Ended next = is_ready next ≡ true
+StandsOn said next = takes_packets next ≡ true
+
+stands_after : (said : Said) (bytes : List ℕ) (next : Phase) → goes_on next ≡ true → IsTurnTo next (events_at said bytes) → StandsOn said next
+stands_after Offered bytes next goes turn = can_be_asked next (sym turn)
+stands_after Ended bytes next goes turn = can_be_asked next (sym turn)
+stands_after Pack bytes next goes turn = hears_on next goes (sym turn ∙ (no_turns (drop 1 bytes)).0)
+stands_after Progress bytes next goes turn = hears_on next goes (sym turn ∙ (no_turns (drop 1 bytes)).1)
+stands_after said bytes next goes turn = hears_on next goes (sym turn)
+
+-- a fault of a packet is none that the reader tells
+told_by_packet : (p : Pkt) (f : Fault) (used : ℕ) (piece : List ℕ) → TellsFault p f.kind ⊎ (is_own f.kind ≡ true) → ShownByFeed f used piece
+told_by_packet p f used piece (inl told) = record {
+  not_the_end = λ e. subst (λ (k : Kind). IsMessage k told.line told.message) e told.says;
+  one_more = λ e. absurd (subst (λ (k : Kind). IsMessage k told.line told.message) e told.says);
+}
+told_by_packet p f used piece (inr own) = record {
+  not_the_end = λ e. let never = sym own ∙ ap is_own e in absurd (cc);
+  one_more = λ e. let never = sym own ∙ ap is_own e in absurd (cc);
 }
 
-abbrev StepTakes : Client → Client → List ℕ → ℕ → Outcome → Type 0
-StepTakes old new piece used outcome = Takes old piece (record { used = used; outcome = outcome }) new
+module _ {A : Type 0} where
+  -- what was said comes, with its bytes in the hold
+  comes : (said : Said) (body : List ℕ) (new : Client A) → said_last new ≡ said → drop 4 (held_of (reader_of new)) ≡ body → Fits said body
+      → Comes (outcome_said said) (events_at said body) new
+  comes Nothing body new is held fits = refl
+  comes said body new is held fits = (
+    ap (λ (s : Said). events_at s body) (sym is) ∙ ap (events_at (said_last new)) (sym held),
+    (λ none. let e : said ≡ Nothing = sym is ∙ none in absurd (cc)),
+    subst (Fits (said_last new)) (sym held) (subst (λ (s : Said). Fits s body) (sym is) fits),
+  )
 
-taken_version : (old new : Client) (piece : List ℕ) (used : ℕ) (g : Given) → ReadsPacket old new piece used g → phase_of old ≡ Opening → IsVersion g.packet
-    → phase_of new ≡ Advertisement → caps_of new ≡ caps_of old → StepTakes old new piece used Nothing
-taken_version old new piece used g r was version now caps = record {
-  events = [];
-  comes = refl;
-  hears = hears_packet old new (take used piece) g [] r.wants (ap fault_in now) r.reads r.sound r.shut r.format r.ending (
-      λ before behind notes.
-      let start : Behind Opening before = subst (λ (phase : Phase). Behind phase before) was behind in
-      let says = says_version (format_of old) (caps_of old) g.packet before version start notes in
+  leaves : (said : Said) (used : ℕ) (piece : List ℕ) (new : Client A) → said_last new ≡ said → 0 < used → is_open (reader_of new) ≡ false
+      → StandsOn said (phase_of new) → LeavesStep (outcome_said said) used piece new
+  leaves Nothing used piece new is some shut stands = (stands, λ _. some)
+  leaves Offered used piece new is some shut stands = (some, shut, subst (λ (s : Said). StandsAfter s new) (sym is) stands)
+  leaves Ended used piece new is some shut stands = (some, shut, subst (λ (s : Said). StandsAfter s new) (sym is) stands)
+  leaves said used piece new is some shut stands = (some, shut, subst (λ (s : Said). StandsAfter s new) (sym is) stands)
+
+  taken_well : (old new : Client A) (due : Due) (piece : List ℕ) (used : ℕ) (g : Given) (turn : Turn) → HearsPacket old new due (take used piece) g
+      → 0 < used → IsTurn (format_of old) (ending_of old) due (caps_of old) g.packet turn → phase_of new ≡ turn.next → caps_of new ≡ turn.caps
+      → said_last new ≡ turn.said → Takes old piece (record { used = used; outcome = outcome_said turn.said }) new
+  taken_well old new due piece used g turn b some judged now caps said =
+      let body = body_of g.packet in
+      let goes : goes_on turn.next ≡ true = ap goes_on judged.next ∙ goes_after (ending_of old) due g.packet in
+      let turns : IsTurnTo turn.next (events_at turn.said body) =
+      subst (λ (phase : Phase). IsTurnTo phase (events_at turn.said body)) (sym judged.next)
+      (packet_turn (format_of old) (ending_of old) (caps_of old) due g.packet (events_at turn.said body) judged.gives) in
       record {
-        gives = says.0;
-        notes = caps ∙ says.1;
-        behind = subst (λ (phase : Phase). Behind phase (g.packet ∷ before)) (sym now) says.2;
+        events = events_at turn.said body;
+        comes = comes turn.said body new said b.held.body judged.fits;
+        hears = hears_packet old new due (take used piece) g turn b judged goes now caps;
+        leaves = leaves turn.said used piece new said some b.shut
+            (subst (StandsOn turn.said) (sym now) (stands_after turn.said body turn.next goes turns));
       }
-      );
-  leaves = (ap takes_packets now, λ _. r.some);
-}
 
-taken_line : (old new : Client) (piece : List ℕ) (used offset : ℕ) (line : List ℕ) (after : Caps)
-    → ReadsPacket old new piece used (record { packet = payload line; offset = offset }) → phase_of old ≡ Advertisement → NotesLine (caps_of old) line after
-    → phase_of new ≡ phase_of old → caps_of new ≡ after → StepTakes old new piece used CapabilityLine
-taken_line old new piece used offset line after r was j now caps = record {
-  events = capability j.key j.value ∷ [];
-  comes = (j.key, j.value, record { line = line; spells = r.held; is_line = j.is_line }, refl);
-  hears =
-      hears_packet old new (take used piece) (record { packet = payload line; offset = offset }) (capability j.key j.value ∷ []) r.wants
-      (ap fault_in (now ∙ was)) r.reads r.sound r.shut r.format r.ending (
-      λ before behind notes.
-      let start : Behind Advertisement before = subst (λ (phase : Phase). Behind phase before) was behind in
-      let says = says_line (format_of old) (caps_of old) after line before j start notes in
+  taken_badly : (old new : Client A) (due : Due) (piece : List ℕ) (used : ℕ) (g : Given) (kind : Kind) → HearsPacket old new due (take used piece) g
+      → Refuses (format_of old) (ending_of old) (place_due (caps_of old) (format_of old) due) g.packet kind
+      → phase_of new ≡ Failed (record { kind = kind; offset = g.offset }) → caps_of new ≡ caps_of old
+      → Takes old piece (record { used = used; outcome = FailedNow (record { kind = kind; offset = g.offset }) }) new
+  taken_badly old new due piece used g kind b judged failed caps =
+      let why = why_refused (format_of old) (ending_of old) (place_due (caps_of old) (format_of old) due) g.packet kind judged in
       record {
-        gives = says.0;
-        notes = caps ∙ says.1;
-        behind = subst (λ (phase : Phase). Behind phase (payload line ∷ before)) (sym (now ∙ was)) says.2;
+        events = [];
+        comes = refl;
+        hears = hears_refused old new due (take used piece) g kind b judged failed caps;
+        leaves = (ap fault_in failed, told_by_packet g.packet (record { kind = kind; offset = g.offset }) used piece why);
       }
-      );
-  leaves = (ap takes_packets (now ∙ was), r.some, r.shut);
-}
 
-taken_flush : (old new : Client) (piece : List ℕ) (used offset : ℕ) → ReadsPacket old new piece used (record { packet = flush; offset = offset })
-    → phase_of old ≡ Advertisement → is_spoken (caps_of old) (format_of old) ≡ true → phase_of new ≡ Ready → caps_of new ≡ caps_of old
-    → StepTakes old new piece used OfferedNow
-taken_flush old new piece used offset r was spoken now caps = record {
-  events = offered ∷ [];
-  comes = refl;
-  hears =
-      hears_packet old new (take used piece) (record { packet = flush; offset = offset }) (offered ∷ []) r.wants
-      (ap fault_in now) r.reads r.sound r.shut r.format r.ending (
-      λ before behind notes.
-      let start : Behind Advertisement before = subst (λ (phase : Phase). Behind phase before) was behind in
-      let says = says_offered (format_of old) (caps_of old) before spoken start notes in
-      record {
-        gives = says.0;
-        notes = caps ∙ says.1;
-        behind = subst (λ (phase : Phase). Behind phase (flush ∷ before)) (sym now) says.2;
-      }
-      );
-  leaves = (ap is_ready now, r.some, r.shut);
-}
+  -- the reader has read a packet, and what was done after it left the reader alone
+  pub packet_read : (old new : Client A) (due : Due) (u : List ℕ) (g : Given) (reader : PacketReader) → phase_of old ≡ Hearing due
+      → ReadsOn (reader_of old) u (g ∷ []) reader → reader_fault_of reader ≡ None → is_open reader ≡ false → Spells g.packet (held_of reader)
+      → reader_of new ≡ reader → format_of new ≡ format_of old → ending_of new ≡ ending_of old → HearsPacket old new due u g
+  packet_read old new due u g reader hearing reads sound shut held same format ending = record {
+    bytes = record {
+      hearing = hearing;
+      reads = subst (ReadsOn (reader_of old) u (g ∷ [])) (sym same) reads;
+      format = format;
+      ending = ending;
+    };
+    sound = ap reader_fault_of same ∙ sound;
+    shut = ap is_open same ∙ shut;
+    held = subst (λ (r : PacketReader). Spells g.packet (held_of r)) (sym same) held;
+  }
 
-taken_refused : (old new : Client) (piece : List ℕ) (used : ℕ) (g : Given) (phase : Phase) (kind : Kind) → ReadsPacket old new piece used g
-    → phase_of old ≡ phase → Judges phase (format_of old) (caps_of old) g.packet (Err kind)
-    → phase_of new ≡ Failed (record { kind = kind; offset = g.offset }) → caps_of new ≡ caps_of old
-    → StepTakes old new piece used (FailedNow (record { kind = kind; offset = g.offset }))
-taken_refused old new piece used g phase kind r was j now caps =
-    let takes : takes_packets phase ≡ true = ap takes_packets (sym was) ∙ r.wants in
-    let never = refused_by phase (format_of old) (caps_of old) g.packet takes in
-    record {
-      events = [];
-      comes = refl;
-      hears =
-          hears_refused old new (take used piece) g (record { kind = kind; offset = g.offset }) r.wants now r.reads r.sound r.shut r.held refl r.format
-          r.ending caps (
-          λ before behind notes.
-          let start : Behind phase before = subst (λ (p : Phase). Behind p before) was behind in
-          says_refused phase (format_of old) (caps_of old) g.packet kind before j start takes notes
-          );
-      leaves = (
-        ap fault_in now,
-        record {
-          not_the_end = λ e. never.0 (subst (λ (k : Kind). Judges phase (format_of old) (caps_of old) g.packet (Err k)) e j);
-          one_more = λ e. absurd (never.1 (subst (λ (k : Kind). Judges phase (format_of old) (caps_of old) g.packet (Err k)) e j));
-        },
-      );
-    }
+  -- a packet was judged and settled
+  pub taken : (old new : Client A) (due : Due) (piece : List ℕ) (used : ℕ) (g : Given) (judged : Result Turn Kind)
+      → HearsPacket old new due (take used piece) g → 0 < used
+      → MatchResult judged (IsTurn (format_of old) (ending_of old) due (caps_of old) g.packet)
+      (Refuses (format_of old) (ending_of old) (place_due (caps_of old) (format_of old) due) g.packet)
+      → phase_of new ≡ phase_judged g.offset judged → caps_of new ≡ caps_judged (caps_of old) judged → said_last new ≡ said_judged (said_last old) judged
+      → Takes old piece (record { used = used; outcome = outcome_judged g.offset judged }) new
+  taken old new due piece used g (Ok turn) b some judged now caps said = taken_well old new due piece used g turn b some judged now caps said
+  taken old new due piece used g (Err kind) b some judged now caps said = taken_badly old new due piece used g kind b judged now caps
 
-pub taken_failed : (old new : Client) (piece : List ℕ) (used : ℕ) (f : Fault) → wants_input old ≡ true → phase_of new ≡ Failed f
-    → ReadsOn (reader_of old) (take used piece) [] (reader_of new) → reader_fault_of (reader_of new) ≡ Some f → ShownByFeed f used piece
-    → format_of new ≡ format_of old → ending_of new ≡ ending_of old → caps_of new ≡ caps_of old → StepTakes old new piece used (FailedNow f)
-taken_failed old new piece used f wants now reads told shown format ending caps = record {
-  events = [];
-  comes = refl;
-  hears = hears_failed old new (take used piece) f wants now reads told format ending caps;
-  leaves = (ap fault_in now, shown);
-}
-
-no_wait : (phase : Phase) (old : Client) → phase_of old ≡ phase → wants_input old ≡ true → takes_packets phase ≡ false → ⊥
-no_wait phase old was wants none =
-    let e : true ≡ false = sym wants ∙ ap takes_packets was ∙ none in
-    cc
-
--- a packet was judged and settled
-pub taken : (phase : Phase) (judged : Result Turn Kind) (p : Pkt) (old new : Client) (piece : List ℕ) (used offset : ℕ)
-    → ReadsPacket old new piece used (record { packet = p; offset = offset }) → phase_of old ≡ phase → Judges phase (format_of old) (caps_of old) p judged
-    → phase_of new ≡ phase_after (phase_of old) offset judged → caps_of new ≡ caps_after (caps_of old) judged
-    → StepTakes old new piece used (outcome_of offset judged)
-taken Opening (Ok Version) p old new piece used offset r was j now caps = taken_version old new piece used _ r was j now caps
-taken Opening (Ok (Capability after)) p old new piece used offset r was j now caps = absurd j
-taken Opening (Ok Offered) p old new piece used offset r was j now caps = absurd j
-taken Advertisement (Ok Version) (payload line) old new piece used offset r was j now caps = absurd j
-taken Advertisement (Ok Version) flush old new piece used offset r was j now caps = absurd j
-taken Advertisement (Ok Version) delim old new piece used offset r was j now caps = absurd j
-taken Advertisement (Ok Version) resp_end old new piece used offset r was j now caps = absurd j
-taken Advertisement (Ok (Capability after)) (payload line) old new piece used offset r was j now caps =
-    taken_line old new piece used offset line after r was j now caps
-taken Advertisement (Ok (Capability after)) flush old new piece used offset r was j now caps = absurd j
-taken Advertisement (Ok (Capability after)) delim old new piece used offset r was j now caps = absurd j
-taken Advertisement (Ok (Capability after)) resp_end old new piece used offset r was j now caps = absurd j
-taken Advertisement (Ok Offered) (payload line) old new piece used offset r was j now caps = absurd j
-taken Advertisement (Ok Offered) flush old new piece used offset r was j now caps = taken_flush old new piece used offset r was j now caps
-taken Advertisement (Ok Offered) delim old new piece used offset r was j now caps = absurd j
-taken Advertisement (Ok Offered) resp_end old new piece used offset r was j now caps = absurd j
-taken phase (Err kind) p old new piece used offset r was j now caps = taken_refused old new piece used _ phase kind r was j now caps
-taken Ready (Ok turn) p old new piece used offset r was j now caps = absurd (no_wait Ready old was r.wants refl)
-taken (Failed fault) (Ok turn) p old new piece used offset r was j now caps = absurd (no_wait (Failed fault) old was r.wants refl)
+  -- the reader refused the bytes
+  pub taken_failed : (old new : Client A) (due : Due) (piece : List ℕ) (used : ℕ) (f : Fault) → HearsBytes old new due (take used piece) []
+      → reader_fault_of (reader_of new) ≡ Some f → ShownByFeed f used piece → phase_of new ≡ Failed f → caps_of new ≡ caps_of old
+      → Takes old piece (record { used = used; outcome = FailedNow f }) new
+  taken_failed old new due piece used f b told shown now caps = record {
+    events = [];
+    comes = refl;
+    hears = hears_failed old new due (take used piece) f b told now caps;
+    leaves = (ap fault_in now, shown);
+  }

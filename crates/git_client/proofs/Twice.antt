@@ -3,29 +3,29 @@ use Rattle.std.proofs.Common.{arith, ◌≡◌, ◌≢◌, ℕ, ◌+◌, ◌-◌
 use Rattle.std.proofs.lemmas.Grind.{common_steps}
 use Rattle.git_pkt.proofs.Pieces.{take_joined}
 use Rattle.git_client.specs.Events.{EventValue}
-use Rattle.git_client.specs.Client.{HearsOn, Leaves}
+use Rattle.git_client.specs.Client.{HearsOn, LeavesStep}
 use Rattle.git_client.specs.declared.client.Client.{Client}
 use Rattle.git_client.specs.declared.client.Outcome.{Outcome}
-use Rattle.git_client.specs.declared.client.Outcome.TheVariants.{More, Capability, Offered, Failed}
+use Rattle.git_client.specs.declared.client.Outcome.TheVariants.{More, Event, Failed}
 use Rattle.git_client.proofs.Carries.{hears_twice}
-
-pub hears_then : (a b c : Client) (piece : List ℕ) (used step : ℕ) (now : List EventValue) → used ≤ length piece → HearsOn a (take used piece) [] b
-    → HearsOn b (take step (take (length piece - used) (drop used piece))) now c → HearsOn a (take (used + step) piece) now c
-hears_then a b c piece used step now within h k =
-    subst (λ (l : List ℕ). HearsOn a l now c) (take_joined piece used step within) (hears_twice a b c _ _ [] now h k)
 
 left_length : (piece : List ℕ) (used : ℕ) → used ≤ length piece → length (take (length piece - used) (drop used piece)) ≡ length piece - used
 left_length piece used within = grind (arith, common_steps)
 
-pub leaves_then : (outcome : Outcome) (piece : List ℕ) (used step : ℕ) (new : Client) → outcome ≢ More → used ≤ length piece
-    → Leaves outcome step (take (length piece - used) (drop used piece)) new → Leaves outcome (used + step) piece new
-leaves_then More piece used step new other within h = absurd (other refl)
-leaves_then Capability piece used step new other within h = (h.0, omega arith, h.2)
-leaves_then Offered piece used step new other within h = (h.0, omega arith, h.2)
-leaves_then (Failed fault) piece used step new other within h = (
-  h.0,
-  record {
-    not_the_end = h.1.not_the_end;
-    one_more = λ e. omega (arith, h.1.one_more e, left_length piece used within);
-  },
-)
+module _ {A : Type 0} where
+  pub hears_then : (a b c : Client A) (piece : List ℕ) (used step : ℕ) (now : List EventValue) → used ≤ length piece → HearsOn a (take used piece) [] b
+      → HearsOn b (take step (take (length piece - used) (drop used piece))) now c → HearsOn a (take (used + step) piece) now c
+  hears_then a b c piece used step now within h k =
+      subst (λ (l : List ℕ). HearsOn a l now c) (take_joined piece used step within) (hears_twice a b c _ _ [] now h k)
+
+  pub leaves_then : (outcome : Outcome) (piece : List ℕ) (used step : ℕ) (new : Client A) → outcome ≢ More → used ≤ length piece
+      → LeavesStep outcome step (take (length piece - used) (drop used piece)) new → LeavesStep outcome (used + step) piece new
+  leaves_then More piece used step new other within h = absurd (other refl)
+  leaves_then Event piece used step new other within h = (omega (arith, h.0), h.1, h.2)
+  leaves_then (Failed fault) piece used step new other within h = (
+    h.0,
+    record {
+      not_the_end = h.1.not_the_end;
+      one_more = λ e. omega (arith, h.1.one_more e, left_length piece used within);
+    },
+  )

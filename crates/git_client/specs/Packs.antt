@@ -1,6 +1,7 @@
 -- The pack of a conversation: what came on the first side band, joined in order.
-use Rattle.std.specs.Prelude.{◌≡◌, ℕ, ◌==◌, Bool, true, false, List, [], ◌∷◌, ◌++◌, length, drop, Option, Some, None, if◌then◌else◌}
+use Rattle.std.specs.Prelude.{◌≡◌, ◌⊎◌, ℕ, ◌==◌, List, [], ◌∷◌, ◌++◌, drop, Option, Some, if◌then◌else◌}
 use Rattle.git_pkt.specs.Packets.{Pkt, payload}
+use Rattle.git_pkt.specs.Faults.{IsOpen}
 use Rattle.git_pkt.specs.Splits.{Given, Splits}
 use Rattle.git_msg.specs.Asked.{Asked}
 use Rattle.git_client.specs.Parts.{Terms, nearest}
@@ -31,13 +32,19 @@ abbrev pub open_part : List Given → Option Place → List ℕ → List ℕ
 open_part [] place rest = open_pack_in place rest
 open_part (g ∷ gs) place rest = []
 
+-- what an open rest has of the pack; a rest that can become no packet has nothing of it
+abbrev pub IsOfRest : List ℕ → List ℕ → List ℕ → Type 0
+IsOfRest rest part opened = (IsOpen rest × (opened ≡ part)) ⊎ ((¬ IsOpen rest) × (opened ≡ []))
+
 -- the pack of the bytes: that of their packets up to the first that is refused, and what has come of an open one
 pub record HasPack (t : Terms) (asked : List Asked) (bytes pack : List ℕ) : Type 0 where
   pub clean : List Given
   pub more : List Given
   pub rest : List ℕ
   pub events : List EventValue
+  pub opened : List ℕ
   pub splits : Splits 0 bytes (clean ++ more) rest
   pub gives : GiveAll t asked [] clean events
   pub stops : IsStop t asked (nearest clean []) more
-  pub pack_is : pack ≡ pack_of t asked [] clean ++ open_part more (place_after t asked (nearest clean [])) rest
+  pub of_rest : IsOfRest rest (open_part more (place_after t asked (nearest clean [])) rest) opened
+  pub pack_is : pack ≡ pack_of t asked [] clean ++ opened

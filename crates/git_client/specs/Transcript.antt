@@ -5,7 +5,7 @@ use Rattle.git_pkt.specs.Escape.{escaped_of}
 use Rattle.git_msg.specs.Arguments.{name_of}
 use Rattle.git_msg.specs.Asked.{Asked, command_asked}
 use Rattle.git_msg.specs.declared.arguments.Command.{Command}
-use Rattle.git_msg.specs.References.{Ref, target_text, peeled_text}
+use Rattle.git_msg.specs.References.{Ref, peeled_text}
 use Rattle.git_client.specs.Events.{EventValue, capability, offered, reference, ack, nak, ready, shallow, unshallow, wanted_ref, pack, progress, ended}
 
 -- what stands after a capability's key

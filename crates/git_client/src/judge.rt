@@ -8,7 +8,10 @@ ghost use Rattle.git_client.specs.Turns.{IsBandTurn, IsLineTurn, IsTurn, TakesLi
 ghost use Rattle.git_client.specs.declared.events.Ending.{Ending};
 
 use crate::events::Ending;
-use crate::judge_lines::{judge_acknowledgment, judge_boundary, judge_capability, judge_header, judge_reference, judge_version, judge_wanted};
+use crate::judge_lines::{
+    judge_acknowledgment, judge_boundary, judge_capability, judge_header, judge_reference,
+    judge_version, judge_wanted,
+};
 use crate::phase::{Due, Phase, Said, Turn};
 use crate::sections::Allowed;
 use git_msg::{Caps, is_error};
@@ -150,7 +153,11 @@ fn judge_delimiter(due: Due, caps: Caps) -> Result<Turn, Kind>
             if !told.ready {
                 return Err(Kind::UnexpectedPacket);
             }
-            Ok(heard(Said::Nothing, caps, Due::Header(Allowed::AFTER_ACKNOWLEDGMENTS)))
+            Ok(heard(
+                Said::Nothing,
+                caps,
+                Due::Header(Allowed::AFTER_ACKNOWLEDGMENTS),
+            ))
         }
         Due::ShallowInfo(allowed) => Ok(heard(Said::Nothing, caps, Due::Header(allowed))),
         Due::WantedRefs(allowed) => Ok(heard(Said::Nothing, caps, Due::Header(allowed))),

@@ -11,7 +11,9 @@ ghost use Rattle.git_client.specs.Turns.{FindsCapability, Says, due_after_header
 
 use crate::phase::{CapabilityPlaces, Due, Said};
 use crate::sections::{Allowed, Section, Told, read_header};
-use git_msg::{Boundary, Caps, locate_reference, read_ack, read_boundary, read_capability, read_wanted};
+use git_msg::{
+    Boundary, Caps, locate_reference, read_ack, read_boundary, read_capability, read_wanted,
+};
 use git_names::Format;
 use git_pkt::Kind;
 
@@ -76,23 +78,30 @@ pub(crate) fn judge_acknowledgment(
     ensures { MatchResult result (λ turn. Says (acknowledgments told) format line.now turn.0 × (turn.1 ≡ told_with told line.now))
         (IsLineFault (acknowledgments told) format line.now) }
 {
+    let after = Told { any: true, ..told };
     if line == b"NAK".as_slice() {
         if told.any {
             return Err(Kind::BadLine);
         }
-        return Ok((Said::Nak, Told { any: true, nak: true, ready: told.ready }));
+        return Ok((Said::Nak, Told { nak: true, ..after }));
     }
     if line == b"ready".as_slice() {
         if told.ready {
             return Err(Kind::BadLine);
         }
-        return Ok((Said::Ready, Told { any: true, nak: told.nak, ready: true }));
+        return Ok((
+            Said::Ready,
+            Told {
+                ready: true,
+                ..after
+            },
+        ));
     }
     if told.nak || told.ready {
         return Err(Kind::BadLine);
     }
     let id = read_ack(format, line)?;
-    Ok((Said::Ack(id), Told { any: true, nak: false, ready: false }))
+    Ok((Said::Ack(id), after))
 }
 
 /// A line of the section `shallow-info`.

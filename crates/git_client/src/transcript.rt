@@ -20,8 +20,8 @@ use std::io::Write;
 /// How many bytes are escaped at a time.
 const BLOCK: usize = 64;
 
-/// Writes the transcript's line of an event, and nothing else: none for bytes of the pack or the progress. The numbers are those of the pack and progress bytes of
-/// the response: the line of a response's end shows them.
+/// Writes the transcript's line of an event, and nothing else: none for bytes of the pack or the progress. The numbers are
+/// those of the pack and progress bytes of the response: the line of a response's end shows them.
 ///
 /// The fault is `WriteFault`, where the writing fails; a front of the line was written then. A writer that has not
 /// failed before has failed exactly where this is the answer.
@@ -102,10 +102,7 @@ fn write_reference<W: Write>(
     ensures failed { has_failed out.new ≡ (has_failed out.old || is_err result) }
     ensures reads { ReadsNothing out.old out.new }
 {
-    send(out, b"ref ")?;
-    write_id(out, id)?;
-    send(out, b" ")?;
-    write_escaped(out, name)?;
+    write_pointed(out, b"ref ", id, name)?;
     write_target(out, target)?;
     write_peeled(out, peeled)?;
     send(out, b"\n")
@@ -146,11 +143,27 @@ fn write_wanted<W: Write>(out: &mut Told<W>, id: &Oid, name: &[u8]) -> Result<()
     ensures failed { has_failed out.new ≡ (has_failed out.old || is_err result) }
     ensures reads { ReadsNothing out.old out.new }
 {
-    send(out, b"wanted-ref ")?;
+    write_pointed(out, b"wanted-ref ", id, name)?;
+    send(out, b"\n")
+}
+
+/// Writes a word, the name of an object and the reference that points to it.
+fn write_pointed<W: Write>(
+    out: &mut Told<W>,
+    word: &[u8],
+    id: &Oid,
+    name: &[u8],
+) -> Result<(), RunFault>
+    ensures ok { OnOk result (Appends (W.contents (inner_of out.old)) (W.contents (inner_of out.new)) (word.now ++ hex_of id.now ++ codes " " ++ escaped_of name.now)) }
+    ensures err { OnErr result (AppendsFront (W.contents (inner_of out.old)) (W.contents (inner_of out.new)) (word.now ++ hex_of id.now ++ codes " " ++ escaped_of name.now)) }
+    ensures fault { IfErr result (λ fault. fault ≡ RunFault.WriteFault) }
+    ensures failed { has_failed out.new ≡ (has_failed out.old || is_err result) }
+    ensures reads { ReadsNothing out.old out.new }
+{
+    send(out, word)?;
     write_id(out, id)?;
     send(out, b" ")?;
-    write_escaped(out, name)?;
-    send(out, b"\n")
+    write_escaped(out, name)
 }
 
 /// Writes a word and the name of an object.
@@ -187,10 +200,20 @@ fn write_ended<W: Write>(out: &mut Told<W>, pack: u64, progress: u64) -> Result<
     ensures reads { ReadsNothing out.old out.new }
 {
     send(out, b"end ")?;
-    send(out, Buffer::new().format(pack).as_bytes())?;
+    write_number(out, pack)?;
     send(out, b" ")?;
-    send(out, Buffer::new().format(progress).as_bytes())?;
+    write_number(out, progress)?;
     send(out, b"\n")
+}
+
+fn write_number<W: Write>(out: &mut Told<W>, number: u64) -> Result<(), RunFault>
+    ensures ok { OnOk result (Appends (W.contents (inner_of out.old)) (W.contents (inner_of out.new)) (decimal number)) }
+    ensures err { OnErr result (AppendsFront (W.contents (inner_of out.old)) (W.contents (inner_of out.new)) (decimal number)) }
+    ensures fault { IfErr result (λ fault. fault ≡ RunFault.WriteFault) }
+    ensures failed { has_failed out.new ≡ (has_failed out.old || is_err result) }
+    ensures reads { ReadsNothing out.old out.new }
+{
+    send(out, Buffer::new().format(number).as_bytes())
 }
 
 fn write_value<W: Write>(out: &mut Told<W>, value: Option<&[u8]>) -> Result<(), RunFault>

@@ -8,6 +8,7 @@ pub mod StepFacts
 pub mod TextParts
 pub mod ReferenceLines
 pub mod ReferenceWords
+pub mod LastValues
 pub mod LineLaws
 pub mod ReferenceLaws
 pub mod LinesLeft

@@ -1,5 +1,6 @@
 -- The words of reference lines, one by one.
-use Rattle.std.proofs.Common.{arith, ◌≡◌, ℕ, ◌+◌, ◌-◌, ◌≤◌, ◌==◌, Bool, true, false, Option, Some, None, option_to_list, List, [], ◌∷◌, ◌++◌, refl, ap, sym, ◌∙◌, subst}
+use Rattle.std.proofs.Common.{arith, ◌≡◌, ℕ, ◌+◌, ◌-◌, ◌≤◌, ◌==◌}
+use Rattle.std.proofs.Common.{Bool, true, false, Option, Some, None, option_to_list, List, [], ◌∷◌, ◌++◌, refl, ap, sym, ◌∙◌, subst}
 use Rattle.std.proofs.Common.{append_assoc, length, take, drop, codes, inl, inr}
 use Rattle.std.specs.Prelude.{if◌then◌else◌}
 use Rattle.std.specs.List.{onto_first}
@@ -34,7 +35,7 @@ nothing_behind word text h = go (bytes_eq (take (length word) text) word) refl w
       absurd (h (drop (length word) text) (sym (take-append-drop (length word) text) ∙ ap (λ (xs : List ℕ). xs ++ drop (length word) text) same))
 
 -- what stands after a word
-value_spelled : (word text value : List ℕ) → value_behind word text ≡ Some value → text ≡ word ++ value
+pub value_spelled : (word text value : List ℕ) → value_behind word text ≡ Some value → text ≡ word ++ value
 value_spelled word text value = go (bytes_eq (take (length word) text) word) refl where
   go : (b : Bool) → bytes_eq (take (length word) text) word ≡ b → (if b then Some (drop (length word) text) else None) ≡ Some value → text ≡ word ++ value
   go false e h = cc

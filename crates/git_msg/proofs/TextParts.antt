@@ -82,10 +82,10 @@ parted_has_byte byte text before after h lacks =
     let long = ap length h.spelled ∙ length-append before (byte ∷ after) in
     lacks (length before) (omega (arith, long)) (ap (λ (xs : List ℕ). get_or xs (length before) 0) h.spelled ∙ get_or-append_seam before byte after 0)
 
--- what stands before the first such byte is no part of what stands before another
 lacks_rest : (c byte : ℕ) (text : List ℕ) → Lacks (c ∷ text) byte → Lacks text byte
 lacks_rest c byte text h k within = h (suc k) (omega arith)
 
+-- two bytes of this value, each the first, stand at one place
 same_parting : (byte : ℕ) (before other after rest : List ℕ) → Lacks before byte → Lacks other byte → before ++ byte ∷ after ≡ other ++ byte ∷ rest
     → (before ≡ other) × (after ≡ rest)
 same_parting byte [] [] after rest h k e = (refl, cc)

@@ -44,7 +44,8 @@ pub record AreLocated (format : Format) (text : List ℕ) (words : List (List �
   pub fits : PartFits (length text) target
 
 -- some of the words were read, and these are left
-pub record ReadSoFar (format : Format) (text : List ℕ) (whole : List (List ℕ)) (left : Option (List ℕ)) (target : Option Part) (peeled : Option ObjectName) : Type 0 where
+pub record ReadSoFar (format : Format) (text : List ℕ) (whole : List (List ℕ)) (left : Option (List ℕ)) (target : Option Part)
+    (peeled : Option ObjectName) : Type 0 where
   pub before : List (List ℕ)
   pub whole_is : whole ≡ before ++ parts_left 32 left
   pub left_is : IsLeftOf text left

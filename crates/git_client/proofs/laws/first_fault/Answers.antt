@@ -2,4 +2,4 @@ use Rattle.git_client.proofs.Faults.{first_fault}
 use Rattle.git_client.proofs.laws.first_fault.Goals as goal
 
 pub returns : goal.returns
-returns c = first_fault
+returns g c = first_fault

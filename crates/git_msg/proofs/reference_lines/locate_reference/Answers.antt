@@ -15,7 +15,8 @@ pub read_attributes-requires : goal.read_attributes-requires
 read_attributes-requires c =
     let cut = rw c.in_default-Some.is-1 at c.split_at_first.ensures.cut in
     let begins = rw c.in_default-Some.rest-is at c.in_ok-name.ensures.parts in
-    left_after_names c.args.text.now c.split_at_first.result.0.now c.in_default-Some.rest.now c.in_ok-name.name.now (option_copied c.in_ok-name.words) cut begins
+    left_after_names c.args.text.now c.split_at_first.result.0.now c.in_default-Some.rest.now c.in_ok-name.name.now
+    (option_copied c.in_ok-name.words) cut begins
 
 pub returns : goal.returns
 returns c =

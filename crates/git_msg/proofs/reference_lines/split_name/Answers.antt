@@ -6,5 +6,9 @@ pub returns-in-Ok : goal.returns-in-Ok
 returns-in-Ok c =
     let is_name = c.in-Ok.ensures.name.1 in
     record {
-      parts = record { words = word_alone c.args.text.now (lacking_is_unspaced c.args.text.now is_name.no_space); cut = (refl, is_name.no_space); is_name = is_name };
+      parts = record {
+        words = word_alone c.args.text.now (lacking_is_unspaced c.args.text.now is_name.no_space);
+        cut = (refl, is_name.no_space);
+        is_name = is_name;
+      };
     }

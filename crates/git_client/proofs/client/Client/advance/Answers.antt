@@ -1,18 +1,18 @@
 use Rattle.std.proofs.Common.{arith, ◌≡◌, [], List, subst, take, drop, length, ◌-◌}
 use Rattle.git_client.specs.Events.{EventValue}
-use Rattle.git_client.specs.Client.{Comes, HearsOn, Leaves}
+use Rattle.git_client.specs.Client.{Comes, HearsOn, LeavesStep}
 use Rattle.git_client.specs.declared.client.Outcome.{Outcome}
 use Rattle.git_client.specs.declared.client.Outcome.TheVariants.{More}
 use Rattle.git_client.proofs.Twice.{hears_then, leaves_then}
 use Rattle.git_client.proofs.client.Client.advance.Goals as goal
 
 pub loop-used-preserved : goal.loop-used-preserved
-loop-used-preserved c =
+loop-used-preserved g c =
     let takes = c.take-step.ensures.takes in
     let new = c.take-step.new.self in
     let rest = take (length c.args.piece.now - c.loop-used.used) (drop c.loop-used.used c.args.piece.now) in
     let none : takes.events ≡ [] = subst (λ (o : Outcome). Comes o takes.events new) c.in-More.is takes.comes in
-    let left : Leaves More c.take-step.result.used rest new = subst (λ (o : Outcome). Leaves o c.take-step.result.used rest new) c.in-More.is takes.leaves in
+    let left : LeavesStep More c.take-step.result.used rest new = subst (λ (o : Outcome). LeavesStep o c.take-step.result.used rest new) c.in-More.is takes.leaves in
     record {
       within = omega (arith, c.take-step.ensures.used, c.loop-used.invariant.within);
       waits = left.0;
@@ -23,7 +23,7 @@ loop-used-preserved c =
     }
 
 pub returns-in_default : goal.returns-in_default
-returns-in_default c =
+returns-in_default g c =
     let takes = c.take-step.ensures.takes in
     let new = c.take-step.new.self in
     record {

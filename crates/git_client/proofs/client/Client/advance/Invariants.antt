@@ -4,11 +4,11 @@ use Rattle.git_client.proofs.client.Client.advance.Given as goal
 
 -- the bytes so far gave no event
 abbrev pub invariant-loop-used : goal.invariant-loop-used
-invariant-loop-used l = record {
+invariant-loop-used g l = record {
   within : l.used ≤ length l.piece;
   waits : wants_input l.self ≡ true;
   hears : HearsOn l.fn.self (take l.used l.piece) [] l.self;
 }
 
 abbrev pub decreases-loop-used : goal.decreases-loop-used
-decreases-loop-used l = length l.piece - l.used
+decreases-loop-used g l = length l.piece - l.used

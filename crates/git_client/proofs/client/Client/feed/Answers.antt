@@ -1,52 +1,79 @@
-use Rattle.std.proofs.Common.{rules, ◌≡◌, ◌∙◌, ap, sym, refl, List, [], ◌∷◌, subst, take, true, Option, Some, ℕ}
+use Rattle.std.proofs.Common.{arith, ◌≡◌, ◌≢◌, ◌∙◌, sym, refl, ℕ, zero, suc, ◌<◌, List, [], ◌∷◌, length, map, drop, subst, take, true, Some}
+use Rattle.git_pkt.specs.PacketReader.{held_of}
 use Rattle.git_pkt.specs.declared.fault.Fault.{Fault}
-use Rattle.git_client.specs.Turns.{takes_packets}
+use Rattle.git_client.specs.Events.{EventValue, pack, progress, turns_of}
+use Rattle.git_client.specs.Turns.{takes_packets, fault_in, events_at, values_of, Fits}
+use Rattle.git_client.specs.Client.{Feeds, HearsOn, Takes, LeavesAfter, StandsAfter, phase_of, reader_of, said_last, can_ask, wants_input}
+use Rattle.git_client.specs.declared.events.Event.{Event}
+use Rattle.git_client.specs.declared.events.Event.TheVariants.{Pack, Progress}
+use Rattle.git_client.specs.declared.events.HeardGot.TheVariants.{Event as EventGot}
 use Rattle.git_client.specs.declared.phase.Phase.{Phase}
-use Rattle.git_client.specs.declared.phase.Phase.TheVariants.{Opening, Advertisement, Ready, Failed}
-use Rattle.git_client.proofs.Carries.{takes_no_fault}
-use Rattle.std.specs.Option.{option_copied}
-use Rattle.git_client.specs.Events.{EventValue, capability}
-use Rattle.git_client.specs.Client.{Comes, HearsOn, Leaves, phase_of, fault_in, is_ready}
+use Rattle.git_client.specs.declared.phase.Phase.TheVariants.{Hearing}
+use Rattle.git_client.specs.declared.phase.Said.{Said}
+use Rattle.git_client.specs.declared.phase.Said.TheVariants.{Nothing, Pack as SaidPack, Progress as SaidProgress}
+use Rattle.git_client.specs.declared.client.Client.{Client}
 use Rattle.git_client.specs.declared.client.Outcome.{Outcome}
-use Rattle.git_client.specs.declared.client.Outcome.TheVariants.{Capability}
+use Rattle.git_client.specs.declared.client.Outcome.TheVariants.{Event as EventNow}
+use Rattle.git_client.proofs.Taken.{no_turns}
 use Rattle.git_client.proofs.client.Client.feed.Goals as goal
 
 has_no_fault : (phase : Phase) → takes_packets phase ≡ true → (f : Fault) → fault_in phase ≡ Some f → ⊥
-has_no_fault phase wants f is = let none = takes_no_fault phase wants in cc
+has_no_fault (Hearing due) takes f is = cc
+has_no_fault _ takes f is = absurd (cc)
 
-is_not_ready : (phase : Phase) → takes_packets phase ≡ true → is_ready phase ≡ true → ⊥
-is_not_ready Opening wants ready = cc
-is_not_ready Advertisement wants ready = cc
-is_not_ready Ready wants ready = cc
-is_not_ready (Failed fault) wants ready = cc
+some_bytes : (event : ℕ → EventValue) (bytes : List ℕ) → 1 < length bytes → map event (drop 1 bytes) ≢ []
+some_bytes event [] some e = absurd (omega arith)
+some_bytes event (band ∷ []) some e = absurd (omega arith)
+some_bytes event (band ∷ byte ∷ bytes) some e = cc
 
-pub returns-then-not-wants_input : goal.returns-then-not-wants_input
-returns-then-not-wants_input c = search rules
+-- what was said gives some event
+gives_some : (said : Said) (bytes : List ℕ) → said ≢ Nothing → Fits said bytes → events_at said bytes ≢ []
+gives_some Nothing bytes other fits e = other refl
+gives_some SaidPack bytes other fits e = some_bytes pack bytes fits e
+gives_some SaidProgress bytes other fits e = some_bytes progress bytes fits e
+gives_some said bytes other fits e = cc
 
-pub returns-in-Capability : goal.returns-in-Capability
-returns-in-Capability c =
-    let takes = c.advance-step.ensures.takes in
-    let new = c.advance-step.new.self in
-    let used = c.advance-step.result.used in
-    let piece = c.args.piece.now in
-    let comes : Comes Capability takes.events new = subst (λ (o : Outcome). Comes o takes.events new) c.in-Capability.is takes.comes in
-    let left : Leaves Capability used piece new = subst (λ (o : Outcome). Leaves o used piece new) c.in-Capability.is takes.leaves in
-    let wants : takes_packets (phase_of c.args.self.now) ≡ true = sym c.wants_input.ensures.value ∙ c.if-not-wants_input.false in
-    let same = c.capability.ensures comes.0 comes.1 comes.2 in
-    let event : takes.events ≡ capability c.capability.result.key.now (option_copied c.capability.result.value) ∷ [] =
-    comes.3
-    ∙ ap (λ (k : List ℕ). capability k comes.1 ∷ []) (sym same.0)
-    ∙ ap (λ (v : Option (List ℕ)). capability c.capability.result.key.now v ∷ []) (sym same.1) in (
-      (
-        refl,
-        (λ _. tt),
-        record {
-          hears = subst (λ (es : List EventValue). HearsOn c.args.self.now (take used piece) es new) event takes.hears;
-          tells = (left.1, left.2, left.0);
-          news = λ f none is. absurd (cc);
-          stays = λ f is. absurd (has_no_fault (phase_of c.args.self.now) wants f is);
-          waits = λ ready. absurd (is_not_ready (phase_of c.args.self.now) wants ready);
-        },
-      ),
-      record { after = tt; used = c.advance-step.ensures.used },
-    )
+module _ {A : Type 0} where
+  -- where the client stands after so many turns: none or one
+  abbrev ComesTo : ℕ → Client A → Type 0
+  ComesTo zero new = wants_input new ≡ true
+  ComesTo (suc n) new = can_ask new ≡ true
+
+  said_comes : (said : Said) (bytes : List ℕ) (new : Client A) → StandsAfter said new → ComesTo (turns_of (events_at said bytes)) new
+  said_comes SaidPack bytes new stands = subst (λ (n : ℕ). ComesTo n new) (sym (no_turns (drop 1 bytes)).0) stands
+  said_comes SaidProgress bytes new stands = subst (λ (n : ℕ). ComesTo n new) (sym (no_turns (drop 1 bytes)).1) stands
+  said_comes said bytes new stands = stands
+
+  event_leaves : (event : Event) (new : Client A) → ComesTo (turns_of (values_of event)) new → LeavesAfter event new
+  event_leaves (Pack bytes) new comes = subst (λ (n : ℕ). ComesTo n new) (no_turns bytes.now).0 comes
+  event_leaves (Progress bytes) new comes = subst (λ (n : ℕ). ComesTo n new) (no_turns bytes.now).1 comes
+  event_leaves event new comes = comes
+
+  -- an event of bytes taken
+  feeds_event : (old new : Client A) (piece : List ℕ) (used : ℕ) (outcome : Outcome) (event : Event) → wants_input old ≡ true
+      → outcome ≡ EventNow → Takes old piece (record { used = used; outcome = outcome }) new
+      → values_of event ≡ events_at (said_last new) (drop 4 (held_of (reader_of new))) → Feeds old piece (record { used = used; got = EventGot event }) new
+  feeds_event old new piece used EventNow event wants is takes shows =
+      let body = drop 4 (held_of (reader_of new)) in
+      let comes : ComesTo (turns_of (values_of event)) new =
+      subst (λ (es : List EventValue). ComesTo (turns_of es) new) (sym shows) (said_comes (said_last new) body new takes.leaves.2) in
+      record {
+        hears = subst (λ (es : List EventValue). HearsOn old (take used piece) es new) (takes.comes.0 ∙ sym shows) takes.hears;
+        tells = (
+          takes.leaves.0,
+          takes.leaves.1,
+          (λ none. gives_some (said_last new) body takes.comes.1 takes.comes.2 (sym shows ∙ none)),
+          event_leaves event new comes,
+        );
+        news = λ f none is. absurd (cc);
+        stays = λ f is. absurd (has_no_fault (phase_of old) wants f is);
+        waits = λ idle. let never = sym wants ∙ idle in absurd (cc);
+      }
+  feeds_event old new piece used outcome event wants is takes shows = absurd (cc)
+
+pub returns-in-Event : goal.returns-in-Event
+returns-in-Event g c =
+    let feeds =
+    feeds_event c.args.self.now c.advance-step.new.self c.args.piece.now c.advance-step.result.used c.advance-step.result.outcome c.event.result
+    (sym c.wants_input.ensures.value ∙ c.if-not-wants_input.false) c.in-Event.is c.advance-step.ensures.takes c.event.ensures in
+    ((refl, (λ _. tt), feeds), record { after = tt; used = c.advance-step.ensures.used })

@@ -14,7 +14,8 @@ arguments-init g c = All-nil (λ arg. is_offered c.args.offer.now arg ≡ true)
 pub returns-then-not-is_offered : goal.returns-then-not-is_offered
 returns-then-not-is_offered g c =
     let at = sym c.argument.ensures.value ∙ ap (option_map shown) c.in-Some.is in
-    (λ all. let met = all_at (λ (arg : Arg). is_offered c.args.offer.now arg ≡ true) (arguments_in (asked_of c.args.self.now)) c.arguments.i _ all at in cc, refl)
+    let args = arguments_in (asked_of c.args.self.now) in
+    (λ all. let met = all_at (λ (arg : Arg). is_offered c.args.offer.now arg ≡ true) args c.arguments.i _ all at in cc, refl)
 
 pub arguments-smaller : goal.arguments-smaller
 arguments-smaller g c =

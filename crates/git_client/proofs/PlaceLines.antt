@@ -1,0 +1,219 @@
+-- What a text line at a place gives, told from the place.
+use Rattle.std.proofs.Common.{arith, ◌≡◌, ◌⊎◌, inl, inr, ℕ, Bool, true, false, ◌||◌, List, [], ◌∷◌, ◌++◌}
+use Rattle.std.proofs.Common.{Option, Ok, Err, refl, ap, sym, ◌∙◌, codes, cond, map, ◌==◌, slice_index}
+use Rattle.git_names.specs.ObjectName.{ObjectName}
+use Rattle.git_names.specs.declared.object_format.Format.{Format}
+use Rattle.git_pkt.specs.declared.fault.Kind.{Kind}
+use Rattle.git_pkt.specs.declared.fault.Kind.TheVariants.{RemoteFatal, BadBand, BadObjectName}
+use Rattle.git_msg.specs.Capability.{IsCapability}
+use Rattle.git_msg.specs.References.{Ref, IsReferenceLine}
+use Rattle.git_msg.specs.ResponseLines.{Wanted, IsAckLine, IsBoundaryLine, IsWantedLine}
+use Rattle.git_msg.specs.declared.response_lines.Boundary.{Boundary}
+use Rattle.git_msg.specs.declared.response_lines.Boundary.TheVariants.{Shallow, Unshallow}
+use Rattle.git_msg.proofs.Keys.{one_capability}
+use Rattle.git_msg.proofs.ReferenceLaws.{one_reference}
+use Rattle.git_msg.proofs.ReferenceFaults.{reference_or_fault, one_reference_fault}
+use Rattle.git_msg.proofs.ResponseLines.{one_ack, one_boundary, one_wanted}
+use Rattle.git_msg.proofs.ResponseFaults.{ack_or_fault, boundary_or_fault, wanted_or_fault, one_boundary_fault, one_wanted_fault}
+use Rattle.git_client.specs.declared.sections.Told.{Told}
+use Rattle.git_client.specs.Sections.{section_named, may_begin}
+use Rattle.git_client.specs.Places.{Place, version, capabilities, references, header, acknowledgments, shallow_info, wanted_refs, packfile, response_end}
+use Rattle.git_client.specs.Events.{EventValue, capability, reference, ack, nak, ready, shallow, unshallow, wanted_ref, pack, progress}
+use Rattle.git_client.specs.Packs.{on_first_band}
+use Rattle.git_client.specs.Events.{SaysLine, IsLineFault, IsNotDue, IsBadAck, band_says, turns_of, pack_bytes}
+
+abbrev pub boundary_event : Boundary → EventValue
+boundary_event (Shallow id) = shallow id
+boundary_event (Unshallow id) = unshallow id
+
+-- the line `NAK`, the line `ready` or an acknowledgment, each where it may come
+abbrev pub IsAcknowledging : Format → Told → List ℕ → List EventValue → Type 0
+IsAcknowledging format told text events =
+    ((text ≡ codes "NAK") × (told.any ≡ false) × (events ≡ nak ∷ []))
+    ⊎ (((text ≡ codes "ready") × (told.ready ≡ false) × (events ≡ ready ∷ []))
+    ⊎ ((id : ObjectName) × IsAckLine format text id × ((told.nak || told.ready) ≡ false) × (events ≡ ack id ∷ [])))
+
+-- what is read of a text line at the place, and the events of that
+abbrev pub ReadsLine : Place → Format → List ℕ → List EventValue → Type 0
+ReadsLine version format text events = (text ≡ codes "version 2") × (events ≡ [])
+ReadsLine (capabilities spoken) format text events =
+    (key : List ℕ) × (value : Option (List ℕ)) × IsCapability text key value × (events ≡ capability key value ∷ [])
+ReadsLine references format text events = (ref : Ref) × IsReferenceLine format text ref × (events ≡ reference ref ∷ [])
+ReadsLine (header allowed) format text events = (may_begin allowed (section_named text) ≡ true) × (events ≡ [])
+ReadsLine (acknowledgments told) format text events = IsAcknowledging format told text events
+ReadsLine shallow_info format text events = (line : Boundary) × IsBoundaryLine format text line × (events ≡ boundary_event line ∷ [])
+ReadsLine wanted_refs format text events = (wanted : Wanted) × IsWantedLine format text wanted × (events ≡ wanted_ref wanted ∷ [])
+ReadsLine _ format text events = ⊥
+
+pub line_read : (place : Place) (format : Format) (text : List ℕ) (events : List EventValue) → SaysLine place format text events
+    → ReadsLine place format text events
+line_read version format text [] says = (says, refl)
+line_read (capabilities spoken) format text (capability key value ∷ []) says = (key, value, says, refl)
+line_read references format text (reference ref ∷ []) says = (ref, says, refl)
+line_read (header allowed) format text [] says = (says, refl)
+line_read (acknowledgments told) format text (nak ∷ []) says = inl (says.0, says.1, refl)
+line_read (acknowledgments told) format text (ready ∷ []) says = inr (inl (says.0, says.1, refl))
+line_read (acknowledgments told) format text (ack id ∷ []) says = inr (inr (id, says.0, says.1, refl))
+line_read shallow_info format text (shallow id ∷ []) says = (Shallow id, says, refl)
+line_read shallow_info format text (unshallow id ∷ []) says = (Unshallow id, says, refl)
+line_read wanted_refs format text (wanted_ref wanted ∷ []) says = (wanted, says, refl)
+line_read place format text events says = absurd says
+
+same_heads : (text a b : List ℕ) → text ≡ a → text ≡ b → slice_index a 0 ≡ slice_index b 0
+same_heads text a b h k = ap (λ (l : List ℕ). slice_index l 0) (sym h ∙ k)
+
+nak_or_ready : (text : List ℕ) → text ≡ codes "NAK" → text ≡ codes "ready" → ⊥
+nak_or_ready text h k = omega (arith, same_heads text (codes "NAK") (codes "ready") h k)
+
+nak_or_ack : (text name : List ℕ) → text ≡ codes "NAK" → text ≡ codes "ACK " ++ name → ⊥
+nak_or_ack text name h k = omega (arith, same_heads text (codes "NAK") (codes "ACK " ++ name) h k)
+
+ready_or_ack : (text name : List ℕ) → text ≡ codes "ready" → text ≡ codes "ACK " ++ name → ⊥
+ready_or_ack text name h k = omega (arith, same_heads text (codes "ready") (codes "ACK " ++ name) h k)
+
+one_acknowledging : (format : Format) (told : Told) (text : List ℕ) (events others : List EventValue) → IsAcknowledging format told text events
+    → IsAcknowledging format told text others → events ≡ others
+one_acknowledging format told text events others (inl h) (inl k) = h.2 ∙ sym k.2
+one_acknowledging format told text events others (inl h) (inr (inl k)) = absurd (nak_or_ready text h.0 k.0)
+one_acknowledging format told text events others (inl h) (inr (inr k)) = absurd (nak_or_ack text k.1.value h.0 k.1.spelled)
+one_acknowledging format told text events others (inr (inl h)) (inl k) = absurd (nak_or_ready text k.0 h.0)
+one_acknowledging format told text events others (inr (inl h)) (inr (inl k)) = h.2 ∙ sym k.2
+one_acknowledging format told text events others (inr (inl h)) (inr (inr k)) = absurd (ready_or_ack text k.1.value h.0 k.1.spelled)
+one_acknowledging format told text events others (inr (inr h)) (inl k) = absurd (nak_or_ack text h.1.value k.0 h.1.spelled)
+one_acknowledging format told text events others (inr (inr h)) (inr (inl k)) = absurd (ready_or_ack text h.1.value k.0 h.1.spelled)
+one_acknowledging format told text events others (inr (inr h)) (inr (inr k)) =
+    h.3 ∙ ap (λ (id : ObjectName). ack id ∷ []) (one_ack format text h.0 k.0 h.1 k.1) ∙ sym k.3
+
+-- one text is read in one way
+one_reading : (place : Place) (format : Format) (text : List ℕ) (events others : List EventValue) → ReadsLine place format text events
+    → ReadsLine place format text others → events ≡ others
+one_reading version format text events others h k = h.1 ∙ sym k.1
+one_reading (capabilities spoken) format text events others h k =
+    let same = one_capability text h.0 k.0 h.1 k.1 h.2 k.2 in
+    h.3
+    ∙ ap (λ (key : List ℕ). capability key h.1 ∷ []) same.0
+    ∙ ap (λ (value : Option (List ℕ)). capability k.0 value ∷ []) same.1
+    ∙ sym k.3
+one_reading references format text events others h k =
+    h.2 ∙ ap (λ (ref : Ref). reference ref ∷ []) (one_reference format text h.0 k.0 h.1 k.1) ∙ sym k.2
+one_reading (header allowed) format text events others h k = h.1 ∙ sym k.1
+one_reading (acknowledgments told) format text events others h k = one_acknowledging format told text events others h k
+one_reading shallow_info format text events others h k =
+    h.2 ∙ ap (λ (line : Boundary). boundary_event line ∷ []) (one_boundary format text h.0 k.0 h.1 k.1) ∙ sym k.2
+one_reading wanted_refs format text events others h k =
+    h.2 ∙ ap (λ (wanted : Wanted). wanted_ref wanted ∷ []) (one_wanted format text h.0 k.0 h.1 k.1) ∙ sym k.2
+one_reading packfile format text events others h k = absurd h
+one_reading response_end format text events others h k = absurd h
+
+pub one_line : (place : Place) (format : Format) (text : List ℕ) (events others : List EventValue) → SaysLine place format text events
+    → SaysLine place format text others → events ≡ others
+one_line place format text events others h k =
+    one_reading place format text events others (line_read place format text events h) (line_read place format text others k)
+
+-- a line of the acknowledgments is none that is not due
+due_or_not : (format : Format) (told : Told) (text : List ℕ) (events : List EventValue) → IsAcknowledging format told text events → IsNotDue told text → ⊥
+due_or_not format told text events (inl h) not_due = let any = not_due.nak h.0 in cc
+due_or_not format told text events (inr (inl h)) not_due = let ready = not_due.ready h.0 in cc
+due_or_not format told text events (inr (inr h)) not_due = let late = not_due.ack h.1.value h.1.spelled in cc
+
+named_or_not : (format : Format) (told : Told) (text : List ℕ) (events : List EventValue) → IsAcknowledging format told text events
+    → IsBadAck format told text → ⊥
+named_or_not format told text events (inl h) bad = nak_or_ack text bad.no_name.value h.0 bad.no_name.spelled
+named_or_not format told text events (inr (inl h)) bad = ready_or_ack text bad.no_name.value h.0 bad.no_name.spelled
+named_or_not format told text events (inr (inr h)) bad = ack_or_fault format text h.0 BadObjectName h.1 bad.no_name
+
+read_or_refused : (place : Place) (format : Format) (text : List ℕ) (events : List EventValue) (kind : Kind) → ReadsLine place format text events
+    → IsLineFault place format text kind → ⊥
+read_or_refused version format text events kind h bad = bad.0 h.0
+read_or_refused (capabilities spoken) format text events kind h bad = bad.0 h.0 h.1 h.2
+read_or_refused references format text events kind h bad = reference_or_fault format text h.0 kind h.1 bad
+read_or_refused (header allowed) format text events kind h bad = let may = h.0 in let never = bad.0 in cc
+read_or_refused (acknowledgments told) format text events kind h (inl bad) = due_or_not format told text events h bad.0
+read_or_refused (acknowledgments told) format text events kind h (inr bad) = named_or_not format told text events h bad.0
+read_or_refused shallow_info format text events kind h bad = boundary_or_fault format text h.0 kind h.1 bad
+read_or_refused wanted_refs format text events kind h bad = wanted_or_fault format text h.0 kind h.1 bad
+read_or_refused packfile format text events kind h bad = bad
+read_or_refused response_end format text events kind h bad = bad
+
+-- a text line is not both read and refused
+pub line_or_fault : (place : Place) (format : Format) (text : List ℕ) (events : List EventValue) (kind : Kind) → SaysLine place format text events
+    → IsLineFault place format text kind → ⊥
+line_or_fault place format text events kind h bad = read_or_refused place format text events kind (line_read place format text events h) bad
+
+not_due_or_bad : (format : Format) (told : Told) (text : List ℕ) → IsNotDue told text → IsBadAck format told text → ⊥
+not_due_or_bad format told text not_due bad =
+    let late = not_due.ack bad.no_name.value bad.no_name.spelled in let due = bad.due in cc
+
+pub one_line_fault : (place : Place) (format : Format) (text : List ℕ) (kind other : Kind) → IsLineFault place format text kind
+    → IsLineFault place format text other → kind ≡ other
+one_line_fault version format text kind other h k = h.1 ∙ sym k.1
+one_line_fault (capabilities spoken) format text kind other h k = h.1 ∙ sym k.1
+one_line_fault references format text kind other h k = one_reference_fault format text kind other h k
+one_line_fault (header allowed) format text kind other h k = h.1 ∙ sym k.1
+one_line_fault (acknowledgments told) format text kind other (inl h) (inl k) = h.1 ∙ sym k.1
+one_line_fault (acknowledgments told) format text kind other (inl h) (inr k) = absurd (not_due_or_bad format told text h.0 k.0)
+one_line_fault (acknowledgments told) format text kind other (inr h) (inl k) = absurd (not_due_or_bad format told text k.0 h.0)
+one_line_fault (acknowledgments told) format text kind other (inr h) (inr k) = h.1 ∙ sym k.1
+one_line_fault shallow_info format text kind other h k = one_boundary_fault format text kind other h k
+one_line_fault wanted_refs format text kind other h k = one_wanted_fault format text kind other h k
+one_line_fault packfile format text kind other h k = absurd h
+one_line_fault response_end format text kind other h k = absurd h
+
+-- an event of a text line: no turn, and nothing of the pack
+pub record IsOfLine (events : List EventValue) : Type 0 where
+  pub turns : turns_of events ≡ 0
+  pub bytes : pack_bytes events ≡ []
+
+of_line : (one events : List EventValue) → events ≡ one → turns_of one ≡ 0 → pack_bytes one ≡ [] → IsOfLine events
+of_line one events e none nothing = record { turns = ap turns_of e ∙ none; bytes = ap pack_bytes e ∙ nothing }
+
+of_boundary : (line : Boundary) (events : List EventValue) → events ≡ boundary_event line ∷ [] → IsOfLine events
+of_boundary (Shallow id) events e = of_line (shallow id ∷ []) events e refl refl
+of_boundary (Unshallow id) events e = of_line (unshallow id ∷ []) events e refl refl
+
+of_read : (place : Place) (format : Format) (text : List ℕ) (events : List EventValue) → ReadsLine place format text events → IsOfLine events
+of_read version format text events (is, e) = of_line [] events e refl refl
+of_read (capabilities spoken) format text events (key, value, is, e) = of_line (capability key value ∷ []) events e refl refl
+of_read references format text events (ref, is, e) = of_line (reference ref ∷ []) events e refl refl
+of_read (header allowed) format text events (is, e) = of_line [] events e refl refl
+of_read (acknowledgments told) format text events (inl h) = of_line (nak ∷ []) events h.2 refl refl
+of_read (acknowledgments told) format text events (inr (inl h)) = of_line (ready ∷ []) events h.2 refl refl
+of_read (acknowledgments told) format text events (inr (inr h)) = of_line (ack h.0 ∷ []) events h.3 refl refl
+of_read shallow_info format text events (line, is, e) = of_boundary line events e
+of_read wanted_refs format text events (wanted, is, e) = of_line (wanted_ref wanted ∷ []) events e refl refl
+of_read packfile format text events h = absurd h
+of_read response_end format text events h = absurd h
+
+pub line_is : (place : Place) (format : Format) (text : List ℕ) (events : List EventValue) → SaysLine place format text events → IsOfLine events
+line_is place format text events says = of_read place format text events (line_read place format text events says)
+
+-- bytes of the pack, or of the progress where the first band has none
+abbrev pub IsOfBand : List ℕ → List ℕ → List EventValue → Type 0
+IsOfBand first bytes events = (events ≡ map pack first) ⊎ ((first ≡ []) × (events ≡ map progress bytes))
+
+band_of : (first second third : Bool) (bytes : List ℕ) (events : List EventValue)
+    → cond first (Ok (map pack bytes)) (cond second (Ok (map progress bytes)) (cond third (Err RemoteFatal) (Err BadBand))) ≡ Ok events
+    → IsOfBand (cond first bytes []) bytes events
+band_of true second third bytes events says = inl (cc)
+band_of false true third bytes events says = inr (refl, cc)
+band_of false false true bytes events says = absurd (cc)
+band_of false false false bytes events says = absurd (cc)
+
+progress_is : (bytes : List ℕ) → IsOfLine (map progress bytes)
+progress_is [] = record { turns = refl; bytes = refl }
+progress_is (byte ∷ bytes) = record { turns = (progress_is bytes).turns; bytes = (progress_is bytes).bytes }
+
+pack_is : (bytes : List ℕ) → (turns_of (map pack bytes) ≡ 0) × (pack_bytes (map pack bytes) ≡ bytes)
+pack_is [] = (refl, refl)
+pack_is (byte ∷ bytes) = ((pack_is bytes).0, ap (λ (l : List ℕ). byte ∷ l) (pack_is bytes).1)
+
+band_is_of : (first bytes : List ℕ) (events : List EventValue) → IsOfBand first bytes events → (turns_of events ≡ 0) × (pack_bytes events ≡ first)
+band_is_of first bytes events (inl e) = (ap turns_of e ∙ (pack_is first).0, ap pack_bytes e ∙ (pack_is first).1)
+band_is_of first bytes events (inr (none, e)) =
+    let of = progress_is bytes in (ap turns_of e ∙ of.turns, ap pack_bytes e ∙ of.bytes ∙ sym none)
+
+-- a payload of the packfile section is no turn, and gives of the pack what it has on the first band
+pub band_is : (bytes : List ℕ) (events : List EventValue) → band_says bytes ≡ Ok events → (turns_of events ≡ 0) × (pack_bytes events ≡ on_first_band bytes)
+band_is [] events says = absurd (cc)
+band_is (band ∷ bytes) events says =
+    band_is_of (on_first_band (band ∷ bytes)) bytes events (band_of (band == 1) (band == 2) (band == 3) bytes events says)

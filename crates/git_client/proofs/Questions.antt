@@ -1,0 +1,289 @@
+-- What a question, and each packet of it that is said, does to all that came and went.
+use Rattle.std.proofs.Common.{arith, ◌≡◌, ◌≢◌, ℕ, Bool, true, false, List, [], ◌∷◌, ◌++◌, length, Option, Some, None}
+use Rattle.std.proofs.Common.{refl, sym, ap, ◌∙◌, subst, append_assoc, length-append, cond, slice_get}
+use Rattle.std.specs.Bool.{OnTrue, OnFalse}
+use Rattle.std.proofs.lemmas.Grind.{flat_map-append}
+use Rattle.std.proofs.lemmas.List.{append-nil, flat_map_more}
+use Rattle.git_names.specs.declared.object_format.Format.{Format}
+use Rattle.git_pkt.specs.Packets.{Pkt, spelling_of, flushes}
+use Rattle.git_pkt.specs.Splits.{Given}
+use Rattle.git_pkt.specs.PacketReader.{Reads, StandsAt, is_open, held_of, fault_of as reader_fault_of}
+use Rattle.git_pkt.specs.LentHold.{with_hold, with_hold_by}
+use Rattle.git_pkt.specs.declared.fault.Fault.{Fault}
+use Rattle.git_pkt.specs.declared.reader.PacketReader.{PacketReader}
+use Rattle.git_pkt.proofs.ReaderMoves.{rest_of_shut}
+use Rattle.git_msg.specs.Asked.{Asked, ls_refs, fetch}
+use Rattle.git_msg.specs.HeldRequest.{asked_of, format_of as request_format}
+use Rattle.git_msg.specs.WrittenRequest.{lines_written, written_of, left_to_write, PutsFirst}
+use Rattle.git_msg.specs.declared.offers.Caps.{Caps}
+use Rattle.git_msg.specs.declared.requests.Request.{Request}
+use Rattle.git_msg.specs.declared.writer.RequestWriter.{RequestWriter}
+use Rattle.git_client.specs.Parts.{Terms, listing, sections, closing, nearest, answer_to, part_after, part_of}
+use Rattle.git_client.specs.Sections.{is_header_due, allowed_after}
+use Rattle.git_client.specs.Turns.{fault_in, is_ready, has_left_in, left_in, question_in, first_due}
+use Rattle.git_client.specs.Client.{History, Converses, AsksOn, SaysOn, GivesOne, Puts, StandsIn, Goes, Behind, AreWhole, IsAsked, IsDue}
+use Rattle.git_client.specs.Client.{questions_of, said_of, spelled, format_of, ending_of, caps_of, phase_of, reader_of, request_of, has_left, left_to_say}
+use Rattle.git_client.specs.declared.phase.Phase.{Phase}
+use Rattle.git_client.specs.declared.phase.Phase.TheVariants.{Hearing, Ready, Asking, Leaving, Left, Failed}
+use Rattle.git_client.specs.declared.phase.Due.{Due}
+use Rattle.git_client.specs.declared.client.Client.{Client}
+use Rattle.git_client.proofs.Sequences.{gives_more}
+
+slice_get_last : {X : Type 0} (xs : List X) (x : X) → slice_get (xs ++ x ∷ []) (length xs) ≡ Some x
+slice_get_last [] x = refl
+slice_get_last (y ∷ xs) x = slice_get_last xs x
+
+-- after the responses to all questions before it, a packet belongs to the answer to the last one
+part_asked : (t : Terms) (earlier : List Asked) (last : Asked) (before : List Pkt) → AreWhole t earlier before
+    → part_of t (earlier ++ last ∷ []) before ≡ answer_to (Some last)
+part_asked t earlier last [] whole = absurd (omega (arith, whole.all_flushes))
+part_asked t earlier last (p ∷ before) whole =
+    let asked = earlier ++ last ∷ [] in
+    ap (λ (due : Bool). cond due (Some closing) (part_after asked (flushes (p ∷ before)))) whole.no_end_due
+    ∙ ap (part_after asked) whole.all_flushes ∙ ap answer_to (slice_get_last earlier last)
+
+-- where the last question has been said, its response is due
+due_asked : (t : Terms) (earlier : List Asked) (last : Asked) (before : List Pkt) → AreWhole t earlier before
+    → IsDue t (earlier ++ last ∷ []) before (first_due last)
+due_asked t earlier (ls_refs q) before whole =
+    record {
+      part = listing;
+      is_part = part_asked t earlier (ls_refs q) before whole;
+      counts = omega (arith, whole.all_flushes, length-append earlier (ls_refs q ∷ []));
+      same_lines = λ none. absurd (omega (arith, none, whole.all_flushes));
+      is_due = tt;
+    }
+due_asked t earlier (fetch q) before whole =
+    record {
+      part = sections q.done;
+      is_part = part_asked t earlier (fetch q) before whole;
+      counts = omega (arith, whole.all_flushes, length-append earlier (fetch q ∷ []));
+      same_lines = λ none. absurd (omega (arith, none, whole.all_flushes));
+      is_due = (ap is_header_due whole.no_message, ap (allowed_after q.done) (sym whole.no_message));
+    }
+
+pub due_said : (t : Terms) (asked : List Asked) (before : List Pkt) (question : Asked) → IsAsked t asked before (Some question)
+    → IsDue t asked before (first_due question)
+due_said t asked before question h =
+    let same : h.last ≡ question = cc in
+    subst (λ (l : List Asked). IsDue t l before (first_due question)) (sym h.asked_is)
+    (subst (λ (q : Asked). IsDue t (h.earlier ++ h.last ∷ []) before (first_due q)) same (due_asked t h.earlier h.last before h.whole))
+
+-- what is said with a question more
+said_more : (format : Format) (caps : Caps) (asked : List Asked) (question : Asked) (given : List ℕ)
+    → given ++ [] ≡ spelled (said_of format caps asked false)
+    → given ++ spelled (lines_written caps.agent caps.object_format format question) ≡ spelled (said_of format caps (asked ++ question ∷ []) false)
+said_more format caps asked question given h =
+    let write : Asked → List Pkt = lines_written caps.agent caps.object_format format in
+    ap (λ (l : List ℕ). l ++ spelled (write question))
+    (sym (append-nil given) ∙ h ∙ ap spelled (append-nil (questions_of format caps asked)))
+    ∙ sym (flat_map-append spelling_of (questions_of format caps asked) (write question))
+    ∙ ap spelled (flat_map_more write [] asked question ∙ sym (append-nil (questions_of format caps (asked ++ question ∷ []))))
+
+-- a reader between two packets, whose hold was lent, reads on as before
+pub record IsLent (old new : PacketReader) : Type 0 where
+  pub fault : reader_fault_of new ≡ reader_fault_of old
+  pub reads : (start : ℕ) (bytes : List ℕ) (given : List Given) (rest : List ℕ) → Reads old start bytes given rest → Reads new start bytes given rest
+
+stands_lent : (fault : Option Fault) (p end : ℕ) (rest : List ℕ) (old new : PacketReader) → is_open old ≡ false → is_open new ≡ false
+    → StandsAt fault p end rest old → StandsAt fault p end rest new
+stands_lent None p end rest old new shut still h = (record { all = rest_of_shut new still ∙ sym (rest_of_shut old shut) ∙ h.0.all }, h.1)
+stands_lent (Some fault) p end rest old new shut still h = (still, h.1)
+
+lent_by : (r : PacketReader) (hold : _) (begun : Bool) (e : r.begun ≡ begun) → begun ≡ false
+    → IsLent r (with_hold_by r hold begun e) × (held_of (with_hold_by r hold begun e) ≡ hold.items)
+lent_by r hold true e shut = absurd (cc)
+lent_by r hold false e shut = (
+  record {
+    fault = refl;
+    reads = λ start bytes given rest h. record {
+      position = h.position;
+      within = h.within;
+      splits = h.splits;
+      state = stands_lent (reader_fault_of r) _ _ rest r (with_hold_by r hold false e) e e h.state;
+    };
+  },
+  refl,
+)
+
+pub lent : (r : PacketReader) (hold : _) → is_open r ≡ false → IsLent r (with_hold r hold) × (held_of (with_hold r hold) ≡ hold.items)
+lent r hold shut = lent_by r hold r.begun refl shut
+
+-- a phase without a fault
+stands_in : (phase : Phase) (t : Terms) (asked : List Asked) (clean given : List Given) (rest : List ℕ) (end : ℕ) (question : Option Asked)
+    (reader : PacketReader) → fault_in phase ≡ None → Goes t asked clean given rest question phase reader
+    → StandsIn phase t asked clean given rest end question reader
+stands_in (Hearing due) t asked clean given rest end question reader e h = h
+stands_in Ready t asked clean given rest end question reader e h = h
+stands_in (Asking writer) t asked clean given rest end question reader e h = h
+stands_in Leaving t asked clean given rest end question reader e h = h
+stands_in Left t asked clean given rest end question reader e h = h
+stands_in (Failed fault) t asked clean given rest end question reader e h = absurd (cc)
+
+pub ready_phase : (phase : Phase) → is_ready phase ≡ true → phase ≡ Ready
+ready_phase (Hearing due) e = absurd (cc)
+ready_phase Ready e = refl
+ready_phase (Asking writer) e = absurd (cc)
+ready_phase Leaving e = absurd (cc)
+ready_phase Left e = absurd (cc)
+ready_phase (Failed fault) e = absurd (cc)
+
+module _ {A : Type 0} where
+  -- the terms and what is noted are as they were
+  pub record SameTerms (old new : Client A) : Type 0 where
+    pub format : format_of new ≡ format_of old
+    pub ending : ending_of new ≡ ending_of old
+    pub caps : caps_of new ≡ caps_of old
+
+  -- a client that could ask now asks this
+  pub record BeginsToAsk (old : Client A) (request : Request A) (writer : RequestWriter) (new : Client A) : Type 0 where
+    pub terms : SameTerms old new
+    pub was : phase_of old ≡ Ready
+    pub now : phase_of new ≡ Asking writer
+    pub keeps : request_of new ≡ Some request
+    pub reader : reader_of new ≡ reader_of old
+    pub format : request_format request ≡ format_of old
+    pub writes : left_to_write writer request ≡ written_of request (caps_of old)
+
+  -- where it stands then
+  stands_asking : (t : Terms) (h : History) (old new : Client A) (request : Request A) (writer : RequestWriter) (c : Converses t h old)
+      → BeginsToAsk old request writer new → StandsIn (phase_of new) t (h.asked ++ asked_of request ∷ []) c.clean c.given c.rest (length h.used)
+      (question_in (request_of new)) (reader_of new)
+  stands_asking t h old new request writer c b =
+      let asked = h.asked ++ asked_of request ∷ [] in
+      let goes : Goes t h.asked c.clean c.given c.rest (question_in (request_of old)) Ready (reader_of old) =
+      subst (λ (phase : Phase). StandsIn phase t h.asked c.clean c.given c.rest (length h.used) (question_in (request_of old)) (reader_of old)) b.was c.stands in
+      let behind : IsAsked t asked (nearest c.clean []) (Some (asked_of request)) =
+      record { earlier = h.asked; last = asked_of request; asked_is = refl; question_is = refl; whole = goes.behind } in
+      let stands : Goes t asked c.clean c.given c.rest (Some (asked_of request)) (Asking writer) (reader_of old) =
+      record { cut = goes.cut; sound = goes.sound; behind = behind; shut = λ _. goes.shut refl } in
+      subst (λ (reader : PacketReader). StandsIn (phase_of new) t asked c.clean c.given c.rest (length h.used) (question_in (request_of new)) reader)
+      (sym b.reader)
+      (subst (λ (phase : Phase). StandsIn phase t asked c.clean c.given c.rest (length h.used) (question_in (request_of new)) (reader_of old))
+      (sym b.now)
+      (subst (λ (kept : Option (Request A)). StandsIn (Asking writer) t asked c.clean c.given c.rest (length h.used) (question_in kept) (reader_of old))
+      (sym b.keeps) stands))
+
+  pub asks : (old new : Client A) (request : Request A) (writer : RequestWriter) → BeginsToAsk old request writer new → AsksOn old (asked_of request) new
+  asks old new request writer b t h c =
+      let caps = caps_of old in
+      let asked = h.asked ++ asked_of request ∷ [] in
+      let stays : h.left ≡ false = c.left ∙ ap has_left_in b.was in
+      let spoken : h.given ++ [] ≡ spelled (said_of t.format caps h.asked false) =
+      ap (λ (phase : Phase). h.given ++ spelled (left_in phase (request_of old))) (sym b.was) ∙ c.spoken
+      ∙ ap (λ (left : Bool). spelled (said_of t.format caps h.asked left)) stays in
+      let written : left_to_say new ≡ lines_written caps.agent caps.object_format t.format (asked_of request) =
+      ap (λ (phase : Phase). left_in phase (request_of new)) b.now ∙ ap (left_in (Asking writer)) b.keeps ∙ b.writes
+      ∙ ap (λ (format : Format). lines_written caps.agent caps.object_format format (asked_of request)) (b.format ∙ c.format_is) in
+      record {
+        given = c.given;
+        rest = c.rest;
+        clean = c.clean;
+        format_is = b.terms.format ∙ c.format_is;
+        ending_is = b.terms.ending ∙ c.ending_is;
+        reads = subst (λ (reader : PacketReader). Reads reader 0 h.used c.given c.rest) (sym b.reader) c.reads;
+        gives = gives_more t h.asked (asked_of request ∷ []) [] c.clean h.events c.gives;
+        notes = b.terms.caps ∙ c.notes;
+        stands = stands_asking t h old new request writer c b;
+        left = stays ∙ sym (ap has_left_in b.now);
+        spoken = ap (λ (l : List Pkt). h.given ++ spelled l) written ∙ said_more t.format caps h.asked (asked_of request) h.given spoken
+            ∙ ap (λ (left : Bool). spelled (said_of t.format caps asked left)) (sym stays)
+            ∙ ap (λ (noted : Caps). spelled (said_of t.format noted asked h.left)) (sym b.terms.caps);
+      }
+
+  -- the writer of the question has put its next packet into the hold
+  pub record PutsNext (old : Client A) (request : Request A) (writer next : RequestWriter) (bytes : List ℕ) (new : Client A) : Type 0 where
+    pub terms : SameTerms old new
+    pub was : phase_of old ≡ Asking writer
+    pub kept : request_of old ≡ Some request
+    pub reader : IsLent (reader_of old) (reader_of new)
+    pub held : held_of (reader_of new) ≡ bytes
+    pub puts : PutsFirst (left_to_write writer request) (left_to_write next request) bytes
+
+  -- what is left to say of the question
+  left_of : (client : Client A) (request : Request A) (writer : RequestWriter) → phase_of client ≡ Asking writer → request_of client ≡ Some request
+      → left_to_say client ≡ left_to_write writer request
+  left_of client request writer is kept = ap (λ (phase : Phase). left_in phase (request_of client)) is ∙ ap (left_in (Asking writer)) kept
+
+  -- the packet is the next one of what is said
+  says_next : (old new : Client A) (request : Request A) (writer next : RequestWriter) (bytes : List ℕ) → PutsNext old request writer next bytes new
+      → fault_in (phase_of new) ≡ None → has_left new ≡ false → left_to_say new ≡ left_to_write next request
+      → ((t : Terms) (asked : List Asked) (before : List Pkt) → IsAsked t asked before (Some (asked_of request))
+      → Behind t asked before (question_in (request_of new)) (phase_of new)) → SaysOn old (held_of (reader_of new)) new
+  says_next old new request writer next bytes b sound stays left behind t h c =
+      let later = left_to_say new in
+      let stood : StandsIn (Asking writer) t h.asked c.clean c.given c.rest (length h.used) (question_in (request_of old)) (reader_of old) =
+      subst (λ (phase : Phase). StandsIn phase t h.asked c.clean c.given c.rest (length h.used) (question_in (request_of old)) (reader_of old)) b.was c.stands in
+      let goes : Goes t h.asked c.clean c.given c.rest (Some (asked_of request)) (Asking writer) (reader_of old) =
+      subst (λ (kept : Option (Request A)). Goes t h.asked c.clean c.given c.rest (question_in kept) (Asking writer) (reader_of old)) b.kept stood in
+      record {
+        given = c.given;
+        rest = c.rest;
+        clean = c.clean;
+        format_is = b.terms.format ∙ c.format_is;
+        ending_is = b.terms.ending ∙ c.ending_is;
+        reads = b.reader.reads 0 h.used c.given c.rest c.reads;
+        gives = c.gives;
+        notes = b.terms.caps ∙ c.notes;
+        stands = stands_in (phase_of new) t h.asked c.clean c.given c.rest (length h.used) (question_in (request_of new)) (reader_of new) sound (record {
+          cut = goes.cut;
+          sound = b.reader.fault ∙ goes.sound;
+          behind = behind t h.asked (nearest c.clean []) goes.behind;
+          shut = λ _. goes.shut refl;
+        });
+        left = c.left ∙ ap has_left_in b.was ∙ sym stays;
+        spoken = append_assoc h.given (held_of (reader_of new)) (spelled later)
+            ∙ ap (λ (l : List ℕ). h.given ++ (l ++ spelled later)) (b.held ∙ b.puts.written)
+            ∙ ap (λ (l : List Pkt). h.given ++ spelled (b.puts.packet ∷ l)) left
+            ∙ ap (λ (l : List Pkt). h.given ++ spelled l) (sym (left_of old request writer b.was b.kept ∙ b.puts.first)) ∙ c.spoken
+            ∙ ap (λ (noted : Caps). spelled (said_of t.format noted h.asked h.left)) (sym b.terms.caps);
+      }
+
+  gives_next : (old new : Client A) (request : Request A) (writer next : RequestWriter) (bytes : List ℕ) → PutsNext old request writer next bytes new
+      → fault_in (phase_of new) ≡ None → has_left new ≡ false → is_ready (phase_of new) ≡ false → left_to_say new ≡ left_to_write next request
+      → GivesOne old new (held_of (reader_of new))
+  gives_next old new request writer next bytes b sound stays not_ready left = record {
+    packet = b.puts.packet;
+    first = left_of old request writer b.was b.kept ∙ b.puts.first ∙ ap (λ (l : List Pkt). b.puts.packet ∷ l) (sym left);
+    written = b.held ∙ b.puts.written;
+    same_leaving = stays ∙ sym (ap has_left_in b.was);
+    sound = sound;
+    not_ready = not_ready;
+  }
+
+  -- more of the question is to be said
+  pub asks_on : (old new : Client A) (request : Request A) (writer next : RequestWriter) (bytes : List ℕ) → PutsNext old request writer next bytes new
+      → phase_of new ≡ Asking next → request_of new ≡ Some request → Puts old new
+  asks_on old new request writer next bytes b now keeps =
+      let sound = ap fault_in now in
+      let stays = ap has_left_in now in
+      let left = left_of new request next now keeps in
+      record {
+        says = says_next old new request writer next bytes b sound stays left (λ t asked before h.
+            subst (Behind t asked before (question_in (request_of new))) (sym now)
+            (subst (λ (kept : Option (Request A)). IsAsked t asked before (question_in kept)) (sym keeps) h));
+        gives = gives_next old new request writer next bytes b sound stays (ap is_ready now) left;
+      }
+
+  -- all of it was said
+  pub hears_now : (old new : Client A) (request : Request A) (writer next : RequestWriter) (bytes : List ℕ) (due : Due)
+      → PutsNext old request writer next bytes new → phase_of new ≡ Hearing due → due ≡ first_due (asked_of request)
+      → left_to_write next request ≡ [] → Puts old new
+  hears_now old new request writer next bytes due b now first none =
+      let sound = ap fault_in now in
+      let stays = ap has_left_in now in
+      let left = ap (λ (phase : Phase). left_in phase (request_of new)) now ∙ sym none in
+      record {
+        says = says_next old new request writer next bytes b sound stays left (λ t asked before h.
+            subst (Behind t asked before (question_in (request_of new))) (sym now)
+            (subst (IsDue t asked before) (sym first) (due_said t asked before (asked_of request) h)));
+        gives = gives_next old new request writer next bytes b sound stays (ap is_ready now) left;
+      }
+
+  -- a writer that had something left has put the first of it
+  pub puts_next : (old : Client A) (request : Request A) (writer next : RequestWriter) (held : List ℕ) (pulled : Bool) (P Q : Type 0)
+      → phase_of old ≡ Asking writer → request_of old ≡ Some request → left_to_say old ≢ []
+      → OnTrue pulled (PutsFirst (left_to_write writer request) (left_to_write next request) held)
+      → OnFalse pulled ((left_to_write writer request ≡ []) × P × Q) → PutsFirst (left_to_write writer request) (left_to_write next request) held
+  puts_next old request writer next held true P Q was kept some put none = put
+  puts_next old request writer next held false P Q was kept some put none = absurd (some (left_of old request writer was kept ∙ none.0))

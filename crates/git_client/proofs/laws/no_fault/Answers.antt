@@ -1,0 +1,5 @@
+use Rattle.git_client.proofs.EventsHeard.{goes_well}
+use Rattle.git_client.proofs.laws.no_fault.Goals as goal
+
+pub returns : goal.returns
+returns g c = goes_well

@@ -1,0 +1,5 @@
+use Rattle.git_client.proofs.EventsHeard.{is_whole}
+use Rattle.git_client.proofs.laws.whole_responses.Goals as goal
+
+pub returns : goal.returns
+returns g c = is_whole

@@ -1,0 +1,19 @@
+use Rattle.std.proofs.Common.{[], ◌∷◌, codes}
+use Rattle.std.proofs.lemmas.Result.{on_ok_weaker, on_err_weaker}
+use Rattle.git_names.specs.ObjectName.{hex_of}
+use Rattle.git_client.proofs.Writing.{on_err, line_stopped, line_written}
+use Rattle.git_client.proofs.transcript.write_peeled.Goals as goal
+
+pub returns-in_err-send-clause-err : goal.returns-in_err-send-clause-err
+returns-in_err-send-clause-err g c =
+    rw c.in-Some.is (on_err _ (line_stopped _ _ [] (codes " peeled:") (hex_of c.in-Some.id.now ∷ []) tt c.in_err-send.ensures.err))
+
+pub returns-clause-ok : goal.returns-clause-ok
+returns-clause-ok g c =
+    rw c.in-Some.is (on_ok_weaker c.write_id.result (λ now. line_written _ ((codes " peeled:", _) ∷ (hex_of c.in-Some.id.now, _) ∷ [])
+    (c.in_ok-send.ensures.ok, (now, tt))) c.write_id.ensures.ok)
+
+pub returns-clause-err : goal.returns-clause-err
+returns-clause-err g c =
+    rw c.in-Some.is (on_err_weaker c.write_id.result (line_stopped _ _ ((codes " peeled:", _) ∷ []) (hex_of c.in-Some.id.now) []
+    (c.in_ok-send.ensures.ok, tt)) c.write_id.ensures.err)

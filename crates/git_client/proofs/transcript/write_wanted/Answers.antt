@@ -1,0 +1,22 @@
+use Rattle.std.proofs.Common.{[], ◌∷◌, ◌++◌, codes}
+use Rattle.std.proofs.lemmas.Result.{on_ok_weaker, on_err_weaker}
+use Rattle.git_names.specs.ObjectName.{hex_of}
+use Rattle.git_pkt.specs.Escape.{escaped_of}
+use Rattle.git_client.proofs.Writing.{on_err, line_stopped, line_written}
+use Rattle.git_client.proofs.transcript.write_wanted.Goals as goal
+
+pub returns-in_err-write_pointed-clause-err : goal.returns-in_err-write_pointed-clause-err
+returns-in_err-write_pointed-clause-err g c =
+    let front = codes "wanted-ref " ++ hex_of c.args.id.now ++ codes " " ++ escaped_of c.args.name.now in
+    on_err _ (line_stopped _ _ [] front (codes "\n" ∷ []) tt c.in_err-write_pointed.ensures.err)
+
+pub returns-clause-ok : goal.returns-clause-ok
+returns-clause-ok g c =
+    let front = codes "wanted-ref " ++ hex_of c.args.id.now ++ codes " " ++ escaped_of c.args.name.now in
+    on_ok_weaker c.send.result (λ now. line_written _ ((front, _) ∷ (codes "\n", _) ∷ [])
+    (c.in_ok-write_pointed.ensures.ok, (now, tt))) c.send.ensures.ok
+
+pub returns-clause-err : goal.returns-clause-err
+returns-clause-err g c =
+    let front = codes "wanted-ref " ++ hex_of c.args.id.now ++ codes " " ++ escaped_of c.args.name.now in
+    on_err_weaker c.send.result (line_stopped _ _ ((front, _) ∷ []) (codes "\n") [] (c.in_ok-write_pointed.ensures.ok, tt)) c.send.ensures.err
