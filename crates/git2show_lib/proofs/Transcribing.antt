@@ -90,6 +90,12 @@ module _ {A : Type 0} where
   sound_after Ended c leaves = ready_sound (phase_of c) leaves
   sound_after event c leaves = taken_sound (phase_of c) leaves
 
+  -- after an event a client that waits for no input can ask
+  stands_after : (e : Event) (c : Client A) → LeavesAfter e c → wants_input c ≡ false → can_ask c ≡ true
+  stands_after Offered c leaves none = leaves
+  stands_after Ended c leaves none = leaves
+  stands_after event c leaves none = absurd (cc)
+
   -- ---- one call of `feed` over what is left of a piece
 
   module _ (old b c : Client A) (piece : List ℕ) (done : ℕ) (before held : Option (List ℕ)) (heard : Heard) (within : done ≤ length piece)
@@ -121,6 +127,9 @@ module _ {A : Type 0} where
 
     pub heard_sound : (e : Event) → heard.got ≡ EventGot e → fault_of c ≡ None
     heard_sound e is = sound_after e c (tells_by (EventGot e) is).3
+
+    pub heard_stands : (e : Event) → heard.got ≡ EventGot e → wants_input c ≡ false → can_ask c ≡ true
+    heard_stands e is = stands_after e c (tells_by (EventGot e) is).3
 
     pub heard_event : (e : Event) (after : Option (List ℕ)) → heard.got ≡ EventGot e → Appends held after (lines_of (values_of e) 0 0)
         → Transcribes old (take (done + heard.used) piece) before after c

@@ -152,6 +152,7 @@ fn hear_piece<W: Write>(
     ensures used { IfOk result (λ used. used ≤ length piece.now) }
     ensures all { IfOk result (λ used. wants_input client.new ≡ true → used ≡ length piece.now) }
     ensures goes_on { OnOk result (fault_of client.new ≡ None) }
+    ensures stands { OnOk result (wants_input client.new ≡ false → can_ask client.new ≡ true) }
     ensures heard { IfOk result (λ used. Transcribes client.old (take used piece.now)
         (W.contents (inner_of out.old)) (W.contents (inner_of out.new)) client.new) }
     ensures stopped { IfErr result (λ fault. TranscribesUntil fault client.old piece.now

@@ -19,8 +19,8 @@ returns-in-Ok-eq0-clause-reads g c = search rules
 pub returns-in-Ok-clause-reads : goal.returns-in-Ok-clause-reads
 returns-in-Ok-clause-reads g c = search rules
 
-pub returns-in-Err-clause-reads : goal.returns-in-Err-clause-reads
-returns-in-Err-clause-reads g c = search rules
+pub returns-clause-reads : goal.returns-clause-reads
+returns-clause-reads g c = search rules
 
 pub returns-in-Ok-clause-ok : goal.returns-in-Ok-clause-ok
 returns-in-Ok-clause-ok g c = search rules
@@ -121,8 +121,8 @@ returns-in-Ok-clause-checked g c =
     (no_more_left c.hear_advertisement-heard.new.piece c.in_ok-left.left.start c.in_ok-left.left.end none) c.in_ok-left.ensures.heard read) so
     c.left_over-in-Ok.result c.left_over-in-Ok.ensures more
 
-pub returns-in-Err-clause-checked : goal.returns-in-Err-clause-checked
-returns-in-Err-clause-checked g c =
+pub returns-clause-checked : goal.returns-clause-checked
+returns-clause-checked g c =
     let so : Judges (has_ended c.read_requests.new.requests) (has_failed c.read_requests.new.requests) (g.Q.Read.remaining (inner_of c.args.requests.now))
     (g.Q.Read.remaining (inner_of c.read_requests.new.requests)) nothing_asked = search rules in
     let none : c.in_ok-left.left.end ≤ c.in_ok-left.left.start = search rules in

@@ -5,13 +5,14 @@ use Rattle.git_client.specs.Turns.{values_of}
 use Rattle.git2show_lib.specs.CheckedStreams.{TranscribesUntil}
 use Rattle.git2show_lib.specs.declared.checking.CheckFault.{CheckFault}
 use Rattle.git2show_lib.specs.declared.checking.CheckFault.TheVariants.{WriteFault}
-use Rattle.git2show_lib.proofs.Transcribing.{transcribes_nothing, heard_failed, heard_event, heard_event_front, heard_sound, rest_length, until_fault}
+use Rattle.git2show_lib.proofs.Transcribing.{transcribes_nothing, heard_failed, heard_event, heard_event_front, heard_sound, heard_stands, rest_length, until_fault}
 use Rattle.git2show_lib.proofs.checking.hear_piece.Goals as goal
 
 pub loop-used-init : goal.loop-used-init
 loop-used-init g c = record {
   within = search rules;
   sound = search rules;
+  stands = λ none. let waits = c.requires.waits in absurd (cc);
   out_stays = search rules;
   heard = transcribes_nothing _ _;
 }
@@ -41,6 +42,7 @@ loop-used-preserved g c =
     record {
       within = omega (arith, c.feed-heard.ensures.used, rest, c.loop-used.invariant.within);
       sound = heard_sound _ _ _ _ _ _ _ _ c.loop-used.invariant.within c.loop-used.invariant.heard c.feed-heard.follows.holds-at-none _ c.in-Event.is;
+      stands = heard_stands _ _ _ _ _ _ _ _ c.loop-used.invariant.within c.loop-used.invariant.heard c.feed-heard.follows.holds-at-none _ c.in-Event.is;
       out_stays = search rules;
       heard = heard_event _ _ _ _ _ _ _ _ c.loop-used.invariant.within c.loop-used.invariant.heard c.feed-heard.follows.holds-at-none _ _ c.in-Event.is
           (search rules);
