@@ -1,5 +1,5 @@
 -- Where a client can ask, by its history.
-use Rattle.std.proofs.Common.{arith, ◌≡◌, ◌↔◌, ◌≤◌, ℕ, suc, ◌+◌, Bool, true, false, List, [], ◌∷◌, length, Option, None, length-append, refl, sym, ap, ◌∙◌}
+use Rattle.std.proofs.Common.{arith, ◌≡◌, ◌↔◌, ◌≤◌, ℕ, suc, Bool, true, false, List, [], ◌∷◌, length, Option, None, length-append, refl, sym, ap, ◌∙◌}
 use Rattle.git_pkt.specs.Packets.{flushes}
 use Rattle.git_pkt.specs.Splits.{Given}
 use Rattle.git_pkt.specs.declared.reader.PacketReader.{PacketReader}
