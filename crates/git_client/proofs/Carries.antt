@@ -40,7 +40,7 @@ goes_on Ready = true
 goes_on phase = false
 
 -- how a phase in which the conversation goes on stands, whatever the request was
-pub stands_on : (phase : Phase) (t : Terms) (asked : List Asked) (clean given : List Given) (rest : List ℕ) (end : ℕ) (question : Option Asked)
+stands_on : (phase : Phase) (t : Terms) (asked : List Asked) (clean given : List Given) (rest : List ℕ) (end : ℕ) (question : Option Asked)
     (reader : PacketReader) → goes_on phase ≡ true → Goes t asked clean given rest None phase reader
     → StandsIn phase t asked clean given rest end question reader
 stands_on (Hearing due) t asked clean given rest end question reader e h =
