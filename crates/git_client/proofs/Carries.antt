@@ -18,7 +18,7 @@ use Rattle.git_msg.specs.declared.offers.Caps.{Caps}
 use Rattle.git_msg.specs.declared.requests.Request.{Request}
 use Rattle.git_client.specs.Parts.{Terms, nearest, advertisement_of}
 use Rattle.git_client.specs.Events.{EventValue, Refuses}
-use Rattle.git_client.specs.Conversation.{GiveAll}
+use Rattle.git_client.specs.Conversation.{GiveAll, HasDue}
 use Rattle.git_client.specs.Turns.{has_left_in, left_in, question_in, events_at, place_due, NotesAfter, IsTurn}
 use Rattle.git_client.specs.Client.{History, Converses, HearsOn, StandsIn, Goes, Behind, IsDue, spelled}
 use Rattle.git_client.specs.Client.{questions_of, farewell, format_of, ending_of, caps_of, phase_of, reader_of, request_of}
@@ -40,51 +40,46 @@ goes_on Ready = true
 goes_on phase = false
 
 -- how a phase in which the conversation goes on stands, whatever the request was
-pub stands_on : (phase : Phase) (t : Terms) (asked : List Asked) (clean given : List Given) (rest : List ℕ) (end : ℕ) (question : Option Asked)
+stands_on : (phase : Phase) (t : Terms) (asked : List Asked) (clean given : List Given) (rest : List ℕ) (end : ℕ) (question : Option Asked)
     (reader : PacketReader) → goes_on phase ≡ true → Goes t asked clean given rest None phase reader
     → StandsIn phase t asked clean given rest end question reader
 stands_on (Hearing due) t asked clean given rest end question reader e h =
     record { cut = h.cut; sound = h.sound; behind = h.behind; shut = h.shut }
 stands_on Ready t asked clean given rest end question reader e h =
     record { cut = h.cut; sound = h.sound; behind = h.behind; shut = h.shut }
-stands_on (Asking writer) t asked clean given rest end question reader e h = absurd (cc)
-stands_on Leaving t asked clean given rest end question reader e h = absurd (cc)
-stands_on Left t asked clean given rest end question reader e h = absurd (cc)
-stands_on (Failed fault) t asked clean given rest end question reader e h = absurd (cc)
+stands_on phase t asked clean given rest end question reader e h = absurd (cc)
 
 -- a phase in which the client says nothing, and has not left
 abbrev pub is_quiet : Phase → Bool
 is_quiet (Failed fault) = true
 is_quiet phase = goes_on phase
 
-pub goes_quietly : (phase : Phase) → goes_on phase ≡ true → is_quiet phase ≡ true
-goes_quietly (Hearing due) e = refl
-goes_quietly Ready e = refl
-goes_quietly (Asking writer) e = absurd (cc)
-goes_quietly Leaving e = absurd (cc)
-goes_quietly Left e = absurd (cc)
+goes_quietly : (phase : Phase) → goes_on phase ≡ true → is_quiet phase ≡ true
 goes_quietly (Failed fault) e = refl
+goes_quietly phase e = e
 
 not_left : (phase : Phase) → is_quiet phase ≡ true → has_left_in phase ≡ false
-not_left (Hearing due) e = refl
-not_left Ready e = refl
-not_left (Asking writer) e = absurd (cc)
 not_left Leaving e = absurd (cc)
 not_left Left e = absurd (cc)
-not_left (Failed fault) e = refl
+not_left phase e = refl
 
 owes_nothing : {A : Type 0} (phase : Phase) (request : Option (Request A)) → is_quiet phase ≡ true → left_in phase request ≡ []
-owes_nothing (Hearing due) request e = refl
-owes_nothing Ready request e = refl
 owes_nothing (Asking writer) request e = absurd (cc)
 owes_nothing Leaving request e = absurd (cc)
-owes_nothing Left request e = refl
-owes_nothing (Failed fault) request e = refl
+owes_nothing phase request e = refl
 
 -- after a packet nothing is left
 nothing_left : (reader : PacketReader) (bytes : List ℕ) (given : List Given) (rest : List ℕ) → reader_fault_of reader ≡ None → is_open reader ≡ false
     → Reads reader 0 bytes given rest → rest ≡ []
 nothing_left reader bytes given rest sound shut reads = none_between reader rest (sound_rest reader 0 bytes given rest sound reads).0 shut
+
+-- the client's format and ending are those of the terms
+on_terms : (P : Format → Ending → Type 0) (format : Format) (ending : Ending) (t : Terms) → format ≡ t.format → ending ≡ t.ending → P format ending
+    → P t.format t.ending
+on_terms P format ending t same_format same_ending h = subst (P t.format) same_ending (subst (λ (f : Format). P f ending) same_format h)
+
+some_place : (t : Terms) (asked : List Asked) (before : List Pkt) (due : Due) → IsDue t asked before due → HasDue t asked before
+some_place t asked before due d = (_, place_is t asked before due (noted_of (advertisement_of before)) d refl)
 
 none_of : (asked : List Asked) → length asked ≡ 0 → asked ≡ []
 none_of [] e = refl
@@ -159,9 +154,8 @@ module _ {A : Type 0} where
   hears_packet old new due u g turn b judged goes_after now caps =
       hears_bytes old new due u (g ∷ []) (events_at turn.said (body_of g.packet)) b.bytes
       (ap is_quiet now ∙ goes_quietly turn.next goes_after) (λ t h c rest goes reads.
-      let of_terms : IsTurn t.format t.ending due (caps_of old) g.packet turn =
-      subst (λ (ending : Ending). IsTurn t.format ending due (caps_of old) g.packet turn) c.ending_is
-      (subst (λ (format : Format). IsTurn format (ending_of old) due (caps_of old) g.packet turn) c.format_is judged) in
+      let of_terms =
+      on_terms (λ format ending. IsTurn format ending due (caps_of old) g.packet turn) _ _ t c.format_is c.ending_is judged in
       let says = judged_well t h.asked (nearest c.clean []) due (caps_of old) g.packet turn goes.behind c.notes of_terms in
       let push = nearest_push c.clean g [] in
       let next : Goes t h.asked (c.clean ++ g ∷ []) (c.given ++ g ∷ []) rest None turn.next (reader_of new) = record {
@@ -174,12 +168,15 @@ module _ {A : Type 0} where
         clean = c.clean ++ g ∷ [];
         gives = give_all_push t h.asked [] c.clean g h.events (events_at turn.said (body_of g.packet)) c.gives says.0;
         notes = caps ∙ says.1 ∙ ap (λ (l : List Pkt). noted_of (advertisement_of l)) (sym push);
-        stands = subst (λ (phase : Phase). StandsIn phase t h.asked (c.clean ++ g ∷ []) (c.given ++ g ∷ []) rest (length (h.used ++ u)) (question_in (request_of new)) (reader_of new))
-            (sym now) (stands_on turn.next t h.asked _ _ _ _ _ _ goes_after next);
-        same_questions = ap (λ (a : Caps). questions_of t.format a h.asked) caps ∙ same_questions t h.asked (nearest c.clean []) due (caps_of old) turn.caps g.packet goes.behind of_terms.notes;
+        stands =
+            subst (λ (phase : Phase). StandsIn phase t h.asked (c.clean ++ g ∷ []) (c.given ++ g ∷ []) rest (length (h.used ++ u))
+            (question_in (request_of new)) (reader_of new)) (sym now) (stands_on turn.next t h.asked _ _ _ _ _ _ goes_after next);
+        same_questions =
+            ap (λ (a : Caps). questions_of t.format a h.asked) caps
+            ∙ same_questions t h.asked (nearest c.clean []) due (caps_of old) turn.caps g.packet goes.behind of_terms.notes;
       })
 
-  -- what refuses nothing adds nothing
+  -- where the client fails nothing was given, and all else stays
   fails : (t : Terms) (h : History) (old new : Client A) (c : Converses t h old) (f : Fault) (given : List Given) (rest : List ℕ) (end : ℕ)
       → phase_of new ≡ Failed f → caps_of new ≡ caps_of old
       → StandsIn (Failed f) t h.asked c.clean given rest end (question_in (request_of new)) (reader_of new) → Continues t h old new [] given rest end
@@ -197,9 +194,8 @@ module _ {A : Type 0} where
       → phase_of new ≡ Failed (record { kind = kind; offset = g.offset }) → caps_of new ≡ caps_of old → HearsOn old u [] new
   hears_refused old new due u g kind b judged failed caps =
       hears_bytes old new due u (g ∷ []) [] b.bytes (ap is_quiet failed) (λ t h c rest goes reads.
-      let of_terms : Refuses t.format t.ending (place_due (caps_of old) t.format due) g.packet kind =
-      subst (λ (ending : Ending). Refuses t.format ending (place_due (caps_of old) t.format due) g.packet kind) c.ending_is
-      (subst (λ (format : Format). Refuses format (ending_of old) (place_due (caps_of old) format due) g.packet kind) c.format_is judged) in
+      let of_terms =
+      on_terms (λ format ending. Refuses format ending (place_due (caps_of old) format due) g.packet kind) _ _ t c.format_is c.ending_is judged in
       fails t h old new c (record { kind = kind; offset = g.offset }) (c.given ++ g ∷ []) rest (length (h.used ++ u)) failed caps (inl (record {
         bad = g;
         cut = ap (λ (l : List Given). l ++ g ∷ []) goes.cut;
@@ -220,7 +216,7 @@ module _ {A : Type 0} where
       subst (λ (o : Option Fault). StandsAt o (0 + end - length rest) (0 + end) rest (reader_of new)) told reads.state in
       fails t h old new c f (c.given ++ []) rest end failed caps (inr (inl (record {
         cut = append-nil c.given ∙ goes.cut;
-        due = (place_due (caps_of old) t.format due, place_is t h.asked (nearest c.clean []) due (caps_of old) goes.behind c.notes);
+        due = some_place t h.asked (nearest c.clean []) due goes.behind;
         by = subst (λ (n : ℕ). StopsBy (n - length rest) rest n f.kind f.offset) start stops.1;
       }))))
 
@@ -233,7 +229,7 @@ module _ {A : Type 0} where
       fails t h old new c f (c.given ++ []) rest (length (h.used ++ [])) failed caps (inr (inr (record {
         cut = append-nil c.given ∙ goes.cut;
         nothing = nothing_left (reader_of new) (h.used ++ []) (c.given ++ []) rest sound shut reads;
-        due = (place_due (caps_of old) t.format due, place_is t h.asked (nearest c.clean []) due (caps_of old) goes.behind c.notes);
+        due = some_place t h.asked (nearest c.clean []) due goes.behind;
         kind = kind;
         at = at ∙ reads.position ∙ zero-add (length (h.used ++ []));
       }))))

@@ -16,7 +16,7 @@ use Rattle.git_client.specs.declared.phase.Due.{Due}
 use Rattle.git_client.specs.declared.client.Client.{Client}
 use Rattle.git_client.proofs.Carries.{HearsBytes, hears_end, hears_failed}
 
-pub hearing_in : (phase : Phase) → takes_packets phase ≡ true → (due : Due) × (phase ≡ Hearing due)
+hearing_in : (phase : Phase) → takes_packets phase ≡ true → (due : Due) × (phase ≡ Hearing due)
 hearing_in (Hearing due) takes = (due, refl)
 hearing_in phase takes = absurd (cc)
 

@@ -12,7 +12,8 @@ use Rattle.git_msg.specs.Asked.{Asked}
 use Rattle.git_msg.specs.Texts.{IsErrorOf, IsErrorText}
 use Rattle.git_client.specs.Parts.{Terms}
 use Rattle.git_client.specs.Turns.{question_in}
-use Rattle.git_client.specs.Client.{History, Converses, StandsIn, RefusedPacket, EndsWithMessage, EndsWithoutMessage, IsMessage, is_told, phase_of, reader_of, request_of}
+use Rattle.git_client.specs.Client.{History, Converses, StandsIn, RefusedPacket, phase_of, reader_of, request_of}
+use Rattle.git_client.specs.Client.{EndsWithMessage, EndsWithoutMessage, IsMessage, is_told}
 use Rattle.git_client.specs.declared.phase.Phase.{Phase}
 use Rattle.git_client.specs.declared.phase.Phase.TheVariants.{Failed}
 use Rattle.git_client.specs.declared.client.Client.{Client}

@@ -1,5 +1,5 @@
 -- What the judge of packets answers says what the packet gives, or why it is refused, after whatever came before.
-use Rattle.std.proofs.Common.{arith, ◌≡◌, ℕ, suc, Bool, true, false, not, List, [], ◌∷◌, length, Option, Some, None, Result, Ok, Err, MatchResult, ap}
+use Rattle.std.proofs.Common.{arith, ◌≡◌, ℕ, suc, Bool, true, false, not, List, [], ◌∷◌, length, Option, Some, None, ap}
 use Rattle.std.proofs.Common.{cond, codes, refl, sym, ◌∙◌, subst}
 use Rattle.git_names.specs.declared.object_format.Format.{Format}
 use Rattle.git_pkt.specs.Packets.{Pkt, flush, delim, resp_end, payload, text_of, body_of, flushes}
@@ -13,8 +13,7 @@ use Rattle.git_client.specs.Events.{EventValue, Gives, Refuses, SaysLine}
 use Rattle.git_client.specs.Conversation.{GivesAt, RefusesAt}
 use Rattle.git_client.specs.Sections.{section_named, lines_of, may_begin, told_by, told_with}
 use Rattle.git_client.specs.Turns.{NotesAfter, IsTurn, events_at, place_due, due_after_line, due_after_delimiter, phase_after, phase_after_response}
-use Rattle.git_client.specs.Turns.{is_asking, fault_in}
-use Rattle.git_client.specs.Client.{IsDue, IsDueIn, IsInside, AreWhole, Behind, HearsNext, awaits_end}
+use Rattle.git_client.specs.Client.{IsDue, IsDueIn, IsInside, AreWhole, Behind, awaits_end}
 use Rattle.git_client.specs.declared.sections.Section.{Section}
 use Rattle.git_client.specs.declared.sections.Allowed.{Allowed}
 use Rattle.git_client.specs.declared.sections.Told.{Told}
@@ -202,17 +201,3 @@ pub judged_badly : (t : Terms) (asked : List Asked) (before : List Pkt) (due : D
     → caps ≡ noted_of (advertisement_of before) → Refuses t.format t.ending (place_due caps t.format due) p kind → RefusesAt t asked before p kind
 judged_badly t asked before due caps p kind is notes refuses =
     record { place = place_due caps t.format due; is_place = place_is t asked before due caps is notes; refuses = refuses }
-
-hears_after : (ending : Ending) (due : Due) (p : Pkt) → (is_asking (phase_after ending due p) ≡ false) × (fault_in (phase_after ending due p) ≡ None)
-hears_after ending due (payload bytes) = (refl, refl)
-hears_after ending due delim = (refl, refl)
-hears_after ending Capabilities flush = (refl, refl)
-hears_after FlushOnly due flush = (refl, refl)
-hears_after WithResponseEnd due flush = (refl, refl)
-hears_after ending due resp_end = (refl, refl)
-
--- after a packet in which no fault was found the server is heard on, or can be asked
-pub hears_next : (format : Format) (ending : Ending) (due : Due) (caps : Caps) (p : Pkt) (judged : Result Turn Kind)
-    → MatchResult judged (IsTurn format ending due caps p) (Refuses format ending (place_due caps format due) p) → HearsNext judged
-hears_next format ending due caps p (Ok turn) is = rw is.next (hears_after ending due p)
-hears_next format ending due caps p (Err kind) is = tt

@@ -18,7 +18,7 @@ use Rattle.git_client.specs.Client.{format_of, ending_of, caps_of, phase_of, rea
 use Rattle.git_client.specs.declared.events.Ending.{Ending}
 use Rattle.git_client.specs.declared.events.Ending.TheVariants.{FlushOnly, ResponseEnd as WithResponseEnd}
 use Rattle.git_client.specs.declared.phase.Phase.{Phase}
-use Rattle.git_client.specs.declared.phase.Phase.TheVariants.{Hearing, Ready, Asking, Leaving, Left, Failed}
+use Rattle.git_client.specs.declared.phase.Phase.TheVariants.{Hearing, Ready, Failed}
 use Rattle.git_client.specs.declared.phase.Due.{Due}
 use Rattle.git_client.specs.declared.phase.Due.TheVariants.{Capabilities, References, Acknowledgments, Packfile}
 use Rattle.git_client.specs.declared.phase.Said.{Said}
@@ -82,11 +82,7 @@ packet_turn format ending caps due resp_end events g = response_end_turn (place_
 
 hears_on : (next : Phase) → goes_on next ≡ true → one_if (is_ready next) ≡ 0 → takes_packets next ≡ true
 hears_on (Hearing due) goes none = refl
-hears_on Ready goes none = absurd (cc)
-hears_on (Asking writer) goes none = absurd (cc)
-hears_on Leaving goes none = absurd (cc)
-hears_on Left goes none = absurd (cc)
-hears_on (Failed fault) goes none = absurd (cc)
+hears_on phase goes none = absurd (cc)
 
 can_be_asked : (next : Phase) → one_if (is_ready next) ≡ 1 → is_ready next ≡ true
 can_be_asked Ready one = refl
@@ -110,12 +106,12 @@ stands_after Progress bytes next goes turn = hears_on next goes (sym turn ∙ (n
 stands_after said bytes next goes turn = hears_on next goes (sym turn)
 
 -- a fault of a packet is none that the reader tells
-told_by_packet : (p : Pkt) (f : Fault) (used : ℕ) (piece : List ℕ) → TellsFault p f.kind ⊎ (is_own f.kind ≡ true) → ShownByFeed f used piece
-told_by_packet p f used piece (inl told) = record {
+shown_by_packet : (p : Pkt) (f : Fault) (used : ℕ) (piece : List ℕ) → TellsFault p f.kind ⊎ (is_own f.kind ≡ true) → ShownByFeed f used piece
+shown_by_packet p f used piece (inl told) = record {
   not_the_end = λ e. subst (λ (k : Kind). IsMessage k told.line told.message) e told.says;
   one_more = λ e. absurd (subst (λ (k : Kind). IsMessage k told.line told.message) e told.says);
 }
-told_by_packet p f used piece (inr own) = record {
+shown_by_packet p f used piece (inr own) = record {
   not_the_end = λ e. let never = sym own ∙ ap is_own e in absurd (cc);
   one_more = λ e. let never = sym own ∙ ap is_own e in absurd (cc);
 }
@@ -165,7 +161,7 @@ module _ {A : Type 0} where
         events = [];
         comes = refl;
         hears = hears_refused old new due (take used piece) g kind b judged failed caps;
-        leaves = (ap fault_in failed, told_by_packet g.packet (record { kind = kind; offset = g.offset }) used piece why);
+        leaves = (ap fault_in failed, shown_by_packet g.packet (record { kind = kind; offset = g.offset }) used piece why);
       }
 
   -- the reader has read a packet, and what was done after it left the reader alone
@@ -194,7 +190,7 @@ module _ {A : Type 0} where
   taken old new due piece used g (Ok turn) b some judged now caps said = taken_well old new due piece used g turn b some judged now caps said
   taken old new due piece used g (Err kind) b some judged now caps said = taken_badly old new due piece used g kind b judged now caps
 
-  -- the reader refused the bytes
+  -- bytes that the reader refuses
   pub taken_failed : (old new : Client A) (due : Due) (piece : List ℕ) (used : ℕ) (f : Fault) → HearsBytes old new due (take used piece) []
       → reader_fault_of (reader_of new) ≡ Some f → ShownByFeed f used piece → phase_of new ≡ Failed f → caps_of new ≡ caps_of old
       → Takes old piece (record { used = used; outcome = FailedNow f }) new

@@ -12,7 +12,8 @@ loop-used-preserved g c =
     let new = c.take-step.new.self in
     let rest = take (length c.args.piece.now - c.loop-used.used) (drop c.loop-used.used c.args.piece.now) in
     let none : takes.events ≡ [] = subst (λ (o : Outcome). Comes o takes.events new) c.in-More.is takes.comes in
-    let left : LeavesStep More c.take-step.result.used rest new = subst (λ (o : Outcome). LeavesStep o c.take-step.result.used rest new) c.in-More.is takes.leaves in
+    let left : LeavesStep More c.take-step.result.used rest new =
+    subst (λ (o : Outcome). LeavesStep o c.take-step.result.used rest new) c.in-More.is takes.leaves in
     record {
       within = omega (arith, c.take-step.ensures.used, c.loop-used.invariant.within);
       waits = left.0;

@@ -13,10 +13,14 @@ returns-clause-carries g c =
     elim c.match-close.branch [
       | in-Ok w ↦
           let (same, sound, shut) = w.in-Ok.ensures.between in
+          let at : c.match-close.fault.offset ≡ position_of reader = search (rules, w.fault-is, w.position.ensures.value) in
           closes old _ reader c.match-close.fault c.requires c.close.ensures.carries
-          (inl (ap reader_fault_of same ∙ sound, ap is_open same ∙ shut, ap (λ (f : Fault). f.kind) w.fault-is, search (rules, w.fault-is, w.position.ensures.value))) (search (rules, w.self-is)) refl
+          (inl (ap reader_fault_of same ∙ sound, ap is_open same ∙ shut, ap (λ (f : Fault). f.kind) w.fault-is, at))
+          (search (rules, w.self-is)) refl
       | in-Err w ↦
-          closes old _ reader c.match-close.fault c.requires c.close.ensures.carries (inr (subst (λ (f : Fault). reader_fault_of reader ≡ Some f) (sym w.fault-is) w.in-Err.ensures.told)) (search (rules, w.self-is)) refl
+          closes old _ reader c.match-close.fault c.requires c.close.ensures.carries
+          (inr (subst (λ (f : Fault). reader_fault_of reader ≡ Some f) (sym w.fault-is) w.in-Err.ensures.told))
+          (search (rules, w.self-is)) refl
     ]
 
 pub returns-clause-offset : goal.returns-clause-offset
