@@ -1,9 +1,7 @@
 -- How a check of two streams ends.
 use Rattle.std.specs.Prelude.{◌≡◌, ◌≢◌, ◌⊎◌, ℕ, ◌+◌, ◌<◌, Bool, true, false, List, [], ◌++◌, length}
 use Rattle.std.specs.Prelude.{take, Option, Some, None, Result, Ok, Err, IsTrue, MatchResult}
-use Rattle.std.specs.List.{flat_map}
 use Rattle.std.specs.Io.KnownBytes.{Appends, Consumes}
-use Rattle.git_names.specs.declared.object_format.Format.{Format}
 use Rattle.git_pkt.specs.declared.told.Told.{Told}
 use Rattle.git_pkt.specs.Told.{reads_of, has_failed, has_ended, AppendsFront}
 use Rattle.git_pkt.specs.Engine.{Relation, Exchanges, ExchangesFront}
@@ -15,11 +13,12 @@ use Rattle.git_pkt.specs.declared.packet.Packet.{Packet}
 use Rattle.git_pkt.specs.declared.reader.PacketReader.{PacketReader}
 use Rattle.git_pkt.specs.declared.fault.Fault.{Fault}
 use Rattle.git_pkt.specs.declared.fault.Kind.TheVariants.{UnexpectedPacket}
+use Rattle.git_client.specs.Parts.{Terms}
 use Rattle.git_client.specs.Events.{EventValue, turns_of}
-use Rattle.git_client.specs.Conversation.{HasEvents, FirstMalformed, GoesWell, IsAdvertisement}
-use Rattle.git_client.specs.Transcript.{line_of}
+use Rattle.git_client.specs.Conversation.{HasEvents, FirstMalformed, GoesWell, IsConversation}
+use Rattle.git_client.specs.Transcript.{lines_of}
 use Rattle.git_client.specs.Client.{HearsOn, fault_of, wants_input}
-use Rattle.git_client.specs.declared.conversation.Client.{Client}
+use Rattle.git_client.specs.declared.client.Client.{Client}
 use Rattle.git2show_lib.specs.declared.checking.CheckFault.{CheckFault}
 use Rattle.git2show_lib.specs.declared.checking.CheckFault.TheVariants.{Requests, Responses, ReadFault, WriteFault, ReadLimit}
 use Rattle.git2show_lib.specs.ShownStream.{IsTimely}
@@ -67,18 +66,18 @@ IsShownInRequests requests turns ReadFault = IsTrue (has_failed requests)
 IsShownInRequests requests turns WriteFault = ⊥
 IsShownInRequests requests turns ReadLimit = (reads_of requests ≡ turns) × (has_ended requests ≡ false)
 
--- the transcript of events: a line for each
+-- the transcript of what is heard where nothing was asked: a line for each event, and no response whose bytes are counted
 abbrev pub transcript_of : List EventValue → List ℕ
-transcript_of events = flat_map (λ (e : EventValue). line_of e 0 0) events
+transcript_of events = lines_of events 0 0
 
 -- the responses are refused for their first fault: truncated only where they have ended, too long only where one more byte was read
-pub record IsMalformed (format : Format) (ended : Bool) (used unused : List ℕ) (f : Fault) : Type 0 where
-  pub first : FirstMalformed format used f
+pub record IsMalformed (t : Terms) (ended : Bool) (used unused : List ℕ) (f : Fault) : Type 0 where
+  pub first : FirstMalformed t [] used f
   pub timely : IsTimely f.kind ended unused
 
 -- the advertisement is whole, and more was read after it
-pub record IsLeftOver (format : Format) (used unused : List ℕ) (events : List EventValue) (f : Fault) : Type 0 where
-  pub whole : IsAdvertisement format used events
+pub record IsLeftOver (t : Terms) (used unused : List ℕ) (events : List EventValue) (f : Fault) : Type 0 where
+  pub whole : IsConversation t [] used events
   pub fault : f ≡ record { kind = UnexpectedPacket; offset = length used }
   pub more : 0 < length unused
 
@@ -93,37 +92,37 @@ pub data Judgement : Type 0 where
 
 -- where a check is cut off with nothing wrong so far: in the advertisement; in the requests after it, while the responses
 -- are not read on; or at the end of both
-abbrev pub IsCutOffAt : Format → (Judgement → Type 0) → Judgement → Bool → List ℕ → List ℕ → List EventValue → Type 0
-IsCutOffAt format judged inside ended used unused events =
+abbrev pub IsCutOffAt : Terms → (Judgement → Type 0) → Judgement → Bool → List ℕ → List ℕ → List EventValue → Type 0
+IsCutOffAt t judged inside ended used unused events =
     ((turns_of events ≡ 0) × (unused ≡ []) × judged unread)
-    ⊎ ((IsAdvertisement format used events × judged inside × (ended ≡ false)) ⊎ (IsAdvertisement format used events × (unused ≡ []) × judged nothing_asked))
+    ⊎ ((IsConversation t [] used events × judged inside × (ended ≡ false)) ⊎ (IsConversation t [] used events × (unused ≡ []) × judged nothing_asked))
 
 -- nothing is wrong with the responses so far, and one more read was due
-pub record IsCutOff (format : Format) (judged : Judgement
+pub record IsCutOff (t : Terms) (judged : Judgement
     → Type 0) (inside : Judgement) (ended : Bool) (used unused : List ℕ) (events : List EventValue) : Type 0 where
-  pub sound : GoesWell format used events
-  pub at : IsCutOffAt format judged inside ended used unused events
+  pub sound : GoesWell t [] used events
+  pub at : IsCutOffAt t judged inside ended used unused events
 
 -- what the bytes used of the responses, those that were read and not used, and how the requests were judged by then have to
 -- do with how the check ended: the requests are judged after the advertisement, and before anything left over is
-abbrev pub EndsAs : Format → Result (Unit {0}) CheckFault → (Judgement → Type 0) → Bool → List ℕ → List ℕ → List EventValue → Type 0
-EndsAs format (Ok done) judged ended used unused events = IsAdvertisement format used events × (unused ≡ []) × (ended ≡ true) × judged nothing_asked
-EndsAs format (Err (Requests f)) judged ended used unused events = IsAdvertisement format used events × judged (refused f) × (ended ≡ false)
-EndsAs format (Err (Responses f)) judged ended used unused events =
-    (IsMalformed format ended used unused f × judged unread) ⊎ (IsLeftOver format used unused events f × judged nothing_asked)
-EndsAs format (Err ReadFault) judged ended used unused events = IsCutOff format judged broken ended used unused events
-EndsAs format (Err WriteFault) judged ended used unused events = judged unread
-EndsAs format (Err ReadLimit) judged ended used unused events = IsCutOff format judged unfinished ended used unused events
+abbrev pub EndsAs : Terms → Result (Unit {0}) CheckFault → (Judgement → Type 0) → Bool → List ℕ → List ℕ → List EventValue → Type 0
+EndsAs t (Ok done) judged ended used unused events = IsConversation t [] used events × (unused ≡ []) × (ended ≡ true) × judged nothing_asked
+EndsAs t (Err (Requests f)) judged ended used unused events = IsConversation t [] used events × judged (refused f) × (ended ≡ false)
+EndsAs t (Err (Responses f)) judged ended used unused events =
+    (IsMalformed t ended used unused f × judged unread) ⊎ (IsLeftOver t used unused events f × judged nothing_asked)
+EndsAs t (Err ReadFault) judged ended used unused events = IsCutOff t judged broken ended used unused events
+EndsAs t (Err WriteFault) judged ended used unused events = judged unread
+EndsAs t (Err ReadLimit) judged ended used unused events = IsCutOff t judged unfinished ended used unused events
 
 -- the bytes given are the transcript of what was used of the responses
-pub record Checks (format : Format) (result : Result (Unit {0}) CheckFault) (judged : Judgement → Type 0) (ended : Bool) (read given : List ℕ) : Type 0 where
+pub record Checks (t : Terms) (result : Result (Unit {0}) CheckFault) (judged : Judgement → Type 0) (ended : Bool) (read given : List ℕ) : Type 0 where
   pub used : List ℕ
   pub unused : List ℕ
   pub events : List EventValue
   pub cut : read ≡ used ++ unused
-  pub heard : HasEvents format used events
+  pub heard : HasEvents t [] used events
   pub lines : given ≡ transcript_of events
-  pub ends : EndsAs format result judged ended used unused events
+  pub ends : EndsAs t result judged ended used unused events
 
 -- what was written at the end of a check: all that was given, but after a failing write a front of it
 abbrev pub EndsCheck : Relation → Option (List ℕ) → Option (List ℕ) → Option (List ℕ) → Option (List ℕ) → Result (Unit {0}) CheckFault → Type 0
@@ -134,72 +133,73 @@ EndsCheck P left_before left_after held_before held_after (Err ReadFault) = Exch
 EndsCheck P left_before left_after held_before held_after (Err WriteFault) = ExchangesFront P left_before left_after held_before held_after
 EndsCheck P left_before left_after held_before held_after (Err ReadLimit) = Exchanges P left_before left_after held_before held_after
 
--- the client went on over these bytes, and the lines of their events were written
-pub record Transcribes (old : Client) (bytes : List ℕ) (held_before held_after : Option (List ℕ)) (new : Client) : Type 0 where
-  pub events : List EventValue
-  pub hears : HearsOn old bytes events new
-  pub written : Appends held_before held_after (transcript_of events)
+module _ {A : Type 0} where
+  -- the client went on over these bytes, and the lines of their events were written
+  pub record Transcribes (old : Client A) (bytes : List ℕ) (held_before held_after : Option (List ℕ)) (new : Client A) : Type 0 where
+    pub events : List EventValue
+    pub hears : HearsOn old bytes events new
+    pub written : Appends held_before held_after (transcript_of events)
 
--- the same, and then a write failed: a front of the lines was written
-pub record TranscribesFront (old : Client) (bytes : List ℕ) (held_before held_after : Option (List ℕ)) (new : Client) : Type 0 where
-  pub events : List EventValue
-  pub hears : HearsOn old bytes events new
-  pub written : AppendsFront held_before held_after (transcript_of events)
+  -- the same, and then a write failed: a front of the lines was written
+  pub record TranscribesFront (old : Client A) (bytes : List ℕ) (held_before held_after : Option (List ℕ)) (new : Client A) : Type 0 where
+    pub events : List EventValue
+    pub hears : HearsOn old bytes events new
+    pub written : AppendsFront held_before held_after (transcript_of events)
 
--- a front of the piece was used up to a fault
-pub record TranscribesUpTo (f : Fault) (old : Client) (piece : List ℕ) (held_before held_after : Option (List ℕ)) (new : Client) : Type 0 where
-  pub used : ℕ
-  pub writes : Transcribes old (take used piece) held_before held_after new
-  pub told : fault_of new ≡ Some f
-  pub shown : ShownByFeed f used piece
+  -- a front of the piece was used up to a fault
+  pub record TranscribesUpTo (f : Fault) (old : Client A) (piece : List ℕ) (held_before held_after : Option (List ℕ)) (new : Client A) : Type 0 where
+    pub used : ℕ
+    pub writes : Transcribes old (take used piece) held_before held_after new
+    pub told : fault_of new ≡ Some f
+    pub shown : ShownByFeed f used piece
 
--- a write failed somewhere in the piece
-pub record TranscribesInto (old : Client) (piece : List ℕ) (held_before held_after : Option (List ℕ)) (new : Client) : Type 0 where
-  pub used : ℕ
-  pub writes : TranscribesFront old (take used piece) held_before held_after new
+  -- a write failed somewhere in the piece
+  pub record TranscribesInto (old : Client A) (piece : List ℕ) (held_before held_after : Option (List ℕ)) (new : Client A) : Type 0 where
+    pub used : ℕ
+    pub writes : TranscribesFront old (take used piece) held_before held_after new
 
--- how far a piece was heard when this fault ended it
-abbrev pub TranscribesUntil : CheckFault → Client → List ℕ → Option (List ℕ) → Option (List ℕ) → Client → Type 0
-TranscribesUntil (Requests f) old piece held_before held_after new = ⊥
-TranscribesUntil (Responses f) old piece held_before held_after new = TranscribesUpTo f old piece held_before held_after new
-TranscribesUntil ReadFault old piece held_before held_after new = ⊥
-TranscribesUntil WriteFault old piece held_before held_after new = TranscribesInto old piece held_before held_after new
-TranscribesUntil ReadLimit old piece held_before held_after new = ⊥
+  -- how far a piece was heard when this fault ended it
+  abbrev pub TranscribesUntil : CheckFault → Client A → List ℕ → Option (List ℕ) → Option (List ℕ) → Client A → Type 0
+  TranscribesUntil (Requests f) old piece held_before held_after new = ⊥
+  TranscribesUntil (Responses f) old piece held_before held_after new = TranscribesUpTo f old piece held_before held_after new
+  TranscribesUntil ReadFault old piece held_before held_after new = ⊥
+  TranscribesUntil WriteFault old piece held_before held_after new = TranscribesInto old piece held_before held_after new
+  TranscribesUntil ReadLimit old piece held_before held_after new = ⊥
 
--- bytes were read, of which the client used all but the last
-pub record Transcribed (old new : Client) (unused : List ℕ) (left_before left_after held_before held_after : Option (List ℕ)) : Type 0 where
-  pub used : List ℕ
-  pub read : Consumes left_before left_after (used ++ unused)
-  pub writes : Transcribes old used held_before held_after new
+  -- bytes were read, of which the client used all but the last
+  pub record Transcribed (old new : Client A) (unused : List ℕ) (left_before left_after held_before held_after : Option (List ℕ)) : Type 0 where
+    pub used : List ℕ
+    pub read : Consumes left_before left_after (used ++ unused)
+    pub writes : Transcribes old used held_before held_after new
 
--- the same, and then a write failed
-pub record TranscribedFront (old new : Client) (left_before left_after held_before held_after : Option (List ℕ)) : Type 0 where
-  pub used : List ℕ
-  pub unused : List ℕ
-  pub read : Consumes left_before left_after (used ++ unused)
-  pub writes : TranscribesFront old used held_before held_after new
+  -- the same, and then a write failed
+  pub record TranscribedFront (old new : Client A) (left_before left_after held_before held_after : Option (List ℕ)) : Type 0 where
+    pub used : List ℕ
+    pub unused : List ℕ
+    pub read : Consumes left_before left_after (used ++ unused)
+    pub writes : TranscribesFront old used held_before held_after new
 
--- the same up to a fault of the bytes
-pub record TranscribedUpTo (f : Fault) (ended : Bool) (old new : Client) (left_before left_after held_before held_after : Option (List ℕ)) : Type 0 where
-  pub unused : List ℕ
-  pub writes : Transcribed old new unused left_before left_after held_before held_after
-  pub told : fault_of new ≡ Some f
-  pub timely : IsTimely f.kind ended unused
+  -- the same up to a fault of the bytes
+  pub record TranscribedUpTo (f : Fault) (ended : Bool) (old new : Client A) (left_before left_after held_before held_after : Option (List ℕ)) : Type 0 where
+    pub unused : List ℕ
+    pub writes : Transcribed old new unused left_before left_after held_before held_after
+    pub told : fault_of new ≡ Some f
+    pub timely : IsTimely f.kind ended unused
 
--- all that was read was used, and more is due
-pub record TranscribedAll (old new : Client) (left_before left_after held_before held_after : Option (List ℕ)) : Type 0 where
-  pub writes : Transcribed old new [] left_before left_after held_before held_after
-  pub sound : fault_of new ≡ None
-  pub due : wants_input new ≡ true
+  -- all that was read was used, and more is due
+  pub record TranscribedAll (old new : Client A) (left_before left_after held_before held_after : Option (List ℕ)) : Type 0 where
+    pub writes : Transcribed old new [] left_before left_after held_before held_after
+    pub sound : fault_of new ≡ None
+    pub due : wants_input new ≡ true
 
--- how far the responses were heard when this fault ended them
-abbrev pub TranscribedUntil : CheckFault → Bool → Client → Client → Option (List ℕ) → Option (List ℕ) → Option (List ℕ) → Option (List ℕ) → Type 0
-TranscribedUntil (Requests f) ended old new left_before left_after held_before held_after = ⊥
-TranscribedUntil (Responses f) ended old new left_before left_after held_before held_after =
-    TranscribedUpTo f ended old new left_before left_after held_before held_after
-TranscribedUntil ReadFault ended old new left_before left_after held_before held_after = TranscribedAll old new left_before left_after held_before held_after
-TranscribedUntil WriteFault ended old new left_before left_after held_before held_after = TranscribedFront old new left_before left_after held_before held_after
-TranscribedUntil ReadLimit ended old new left_before left_after held_before held_after = TranscribedAll old new left_before left_after held_before held_after
+  -- how far the responses were heard when this fault ended them
+  abbrev pub TranscribedUntil : CheckFault → Bool → Client A → Client A → Option (List ℕ) → Option (List ℕ) → Option (List ℕ) → Option (List ℕ) → Type 0
+  TranscribedUntil (Requests f) ended old new left_before left_after held_before held_after = ⊥
+  TranscribedUntil (Responses f) ended old new left_before left_after held_before held_after =
+      TranscribedUpTo f ended old new left_before left_after held_before held_after
+  TranscribedUntil ReadFault ended old new left_before left_after held_before held_after = TranscribedAll old new left_before left_after held_before held_after
+  TranscribedUntil WriteFault ended old new left_before left_after held_before held_after = TranscribedFront old new left_before left_after held_before held_after
+  TranscribedUntil ReadLimit ended old new left_before left_after held_before held_after = TranscribedAll old new left_before left_after held_before held_after
 
 -- the bytes begin with a spelling of this packet
 pub record BeginsWith (p : Pkt) (read : List ℕ) : Type 0 where

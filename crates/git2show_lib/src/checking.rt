@@ -2,12 +2,14 @@
 
 ghost use Rattle.std.specs.Prelude.{◌≡◌, ◌+◌, ◌-◌, ◌≤◌, ◌<◌, ◌||◌, true, false, None, length, take, drop, IsTrue, OnOk, IfOk, IfErr};
 ghost use Rattle.git_pkt.specs.Told.{inner_of, reads_of, has_failed, has_ended, IsNew};
+ghost use Rattle.git_client.specs.Parts.{terms_of};
 ghost use Rattle.git_client.specs.Client.{bytes_used, fault_of, can_ask, wants_input};
 ghost use Rattle.git2show_lib.specs.CheckedStreams.{FailsInCheck, IsShownInCheck, IsShownInHearing, IsShownInPiece, IsShownInRequests, Checks, EndsCheck, Judges, judgement_of, IsFirst, Transcribes, TranscribesUntil, Transcribed, TranscribedUntil};
 
 use git_client::{Client, Ending, HeardGot, write_event};
 use git_names::Format;
 use git_pkt::{Fault, Got, Kind, Packet, PacketReader, Told, flush, receive};
+use std::alloc::Global;
 use std::io::{Read, Write};
 use thiserror::Error;
 
@@ -63,11 +65,11 @@ pub fn check<Q: Read, A: Read, W: Write>(
     ensures ok { OnOk result (IsTrue (has_ended responses.new)) }
     ensures fault { IfErr result (IsShownInCheck requests.new responses.new (has_failed out.new) turns) }
     ensures told { FailsInCheck result (has_failed requests.new || has_failed responses.new) (has_failed out.new) }
-    ensures checked { EndsCheck (Checks format result (Judges (has_ended requests.new) (has_failed requests.new) (Q.remaining (inner_of requests.old)) (Q.remaining (inner_of requests.new)))
+    ensures checked { EndsCheck (Checks (terms_of format ending) result (Judges (has_ended requests.new) (has_failed requests.new) (Q.remaining (inner_of requests.old)) (Q.remaining (inner_of requests.new)))
         (has_ended responses.new)) (A.remaining (inner_of responses.old)) (A.remaining (inner_of responses.new))
         (W.contents (inner_of out.old)) (W.contents (inner_of out.new)) result }
 {
-    let mut client = Client::new(format, ending);
+    let mut client: Client<Global> = Client::new(format, ending);
     let heard = hear_advertisement(&mut client, responses, other_piece, out, turns);
     // What was heard is sent before anything is told of it, a fault too.
     flush(out).map_err(|_| CheckFault::WriteFault)?;
@@ -87,7 +89,7 @@ pub fn check<Q: Read, A: Read, W: Write>(
 }
 
 /// The first byte that nobody asked for.
-fn left_over(client: &Client) -> CheckFault
+fn left_over(client: &Client<Global>) -> CheckFault
     ensures { result ≡ CheckFault.Responses (record { kind = Kind.UnexpectedPacket; offset = bytes_used client.now }) }
 {
     CheckFault::Responses(Fault {
@@ -98,7 +100,7 @@ fn left_over(client: &Client) -> CheckFault
 
 /// Reads the advertisement and writes its events. Answers what is left of the last piece.
 fn hear_advertisement<A: Read, W: Write>(
-    client: &mut Client,
+    client: &mut Client<Global>,
     responses: &mut Told<A>,
     piece: &mut [u8],
     out: &mut Told<W>,
@@ -140,7 +142,7 @@ fn hear_advertisement<A: Read, W: Write>(
 
 /// Hears what a piece says, up to the advertisement's end, and writes the events. Answers how many bytes were used.
 fn hear_piece<W: Write>(
-    client: &mut Client,
+    client: &mut Client<Global>,
     piece: &[u8],
     out: &mut Told<W>,
 ) -> Result<usize, CheckFault>
@@ -150,6 +152,7 @@ fn hear_piece<W: Write>(
     ensures used { IfOk result (λ used. used ≤ length piece.now) }
     ensures all { IfOk result (λ used. wants_input client.new ≡ true → used ≡ length piece.now) }
     ensures goes_on { OnOk result (fault_of client.new ≡ None) }
+    ensures stands { OnOk result (wants_input client.new ≡ false → can_ask client.new ≡ true) }
     ensures heard { IfOk result (λ used. Transcribes client.old (take used piece.now)
         (W.contents (inner_of out.old)) (W.contents (inner_of out.new)) client.new) }
     ensures stopped { IfErr result (λ fault. TranscribesUntil fault client.old piece.now

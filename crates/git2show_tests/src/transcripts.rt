@@ -1,8 +1,10 @@
 //! The lines of a transcript, and writers that fail under them.
 
-use git_client::{Event, write_event};
-use git_msg::Capability;
+use git_client::{Event, write_asked, write_event};
+use git_msg::{Capability, Command};
+use git_names::{Format, Oid};
 use git_pkt::{RunFault, Told};
+use std::process::Abort;
 use std::test::Fail;
 use test_streams::Sink;
 
@@ -12,10 +14,34 @@ fn event_of(value: Option<&'static [u8]>) -> Event<'static> {
     Event::Capability(Capability { key: b"key", value })
 }
 
+/// The object whose name has this digit forty times.
+fn object(rt: &impl Abort, digit: u8) -> Oid {
+    Oid::read(Format::Sha1, &[digit; 40]).expect(rt, "an object name")
+}
+
+/// That the event, in a response of 7 bytes of pack and 8 of progress, is this line, or none.
+fn expect_line(
+    rt: &(impl Abort + AllocGlobal),
+    event: &Event<'_>,
+    line: &[u8],
+) -> Result<(), Fail> {
+    let mut sink = Sink::new(Vec::new(rt.alloc()), usize::MAX, NEVER);
+    let mut out = Told::new(&mut sink);
+    assert_eq!(rt; write_event(&mut out, event, 7, 8), Ok(()));
+    assert!(rt; !out.failed());
+    assert_eq!(rt; sink.taken.as_slice(), line);
+    Ok(())
+}
+
 #[test]
 fn each_event_is_a_line(rt: HostRuntime) -> Result<(), Fail> {
-    let rows: [(Event<'static>, &[u8]); 5] = [
+    let rows: [(Event<'static>, &[u8]); 10] = [
         (Event::Offered, b"offered\n"),
+        (Event::Nak, b"nak\n"),
+        (Event::Ready, b"ready\n"),
+        (Event::Pack(b"PACK"), b""),
+        (Event::Progress(b"half\n"), b""),
+        (Event::Ended, b"end 7 8\n"),
         (event_of(None), b"capability key\n"),
         (event_of(Some(b"")), b"capability key=\n"),
         (event_of(Some(b"a=b ~")), b"capability key=a=b ~\n"),
@@ -25,10 +51,71 @@ fn each_event_is_a_line(rt: HostRuntime) -> Result<(), Fail> {
         ),
     ];
     for (event, line) in rows {
+        expect_line(&rt, &event, line)?;
+    }
+    Ok(())
+}
+
+#[test]
+fn each_object_is_shown_by_its_name(rt: HostRuntime) -> Result<(), Fail> {
+    let (id, peeled) = (object(&rt, b'a'), object(&rt, b'B'));
+    expect_line(
+        &rt,
+        &Event::Ack(&id),
+        b"ack aaaaaaaaaaaaaaaaaaaaaaaaaaaaaaaaaaaaaaaa\n",
+    )?;
+    expect_line(
+        &rt,
+        &Event::Shallow(&id),
+        b"shallow aaaaaaaaaaaaaaaaaaaaaaaaaaaaaaaaaaaaaaaa\n",
+    )?;
+    expect_line(
+        &rt,
+        &Event::Unshallow(&peeled),
+        b"unshallow bbbbbbbbbbbbbbbbbbbbbbbbbbbbbbbbbbbbbbbb\n",
+    )?;
+    let wanted = Event::WantedRef {
+        id: &id,
+        name: b"refs/heads/\xff",
+    };
+    expect_line(
+        &rt,
+        &wanted,
+        b"wanted-ref aaaaaaaaaaaaaaaaaaaaaaaaaaaaaaaaaaaaaaaa refs/heads/\\xff\n",
+    )?;
+    let plain = Event::Reference {
+        id: &id,
+        name: b"HEAD",
+        target: None,
+        peeled: None,
+    };
+    expect_line(
+        &rt,
+        &plain,
+        b"ref aaaaaaaaaaaaaaaaaaaaaaaaaaaaaaaaaaaaaaaa HEAD\n",
+    )?;
+    let told = Event::Reference {
+        id: &id,
+        name: b"HEAD",
+        target: Some(b"refs/x"),
+        peeled: Some(&peeled),
+    };
+    expect_line(
+        &rt,
+        &told,
+        b"ref aaaaaaaaaaaaaaaaaaaaaaaaaaaaaaaaaaaaaaaa HEAD symref-target:refs/x peeled:bbbbbbbbbbbbbbbbbbbbbbbbbbbbbbbbbbbbbbbb\n",
+    )
+}
+
+#[test]
+fn each_question_is_a_line(rt: HostRuntime) -> Result<(), Fail> {
+    for (command, line) in [
+        (Command::LsRefs, b"request ls-refs\n".as_slice()),
+        (Command::Fetch, b"request fetch\n".as_slice()),
+    ] {
         let mut sink = Sink::new(Vec::new(rt.alloc()), usize::MAX, NEVER);
         let mut out = Told::new(&mut sink);
-        assert_eq!(rt; write_event(&mut out, &event, 7, 8), Ok(()));
-        assert!(rt; !out.failed());
+        assert_eq!(rt; write_asked(&mut out, command), Ok(()));
         assert_eq!(rt; sink.taken.as_slice(), line);
     }
     Ok(())

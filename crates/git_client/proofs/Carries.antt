@@ -1,5 +1,5 @@
 -- A step of a client that hears carries what it stands for.
-use Rattle.std.proofs.Common.{arith, ◌≡◌, ◌≢◌, ◌⊎◌, inl, inr, Bool, Option, Some, ◌+◌, ◌-◌, ℕ, List, [], ◌∷◌, ◌++◌}
+use Rattle.std.proofs.Common.{arith, ◌≡◌, inl, inr, Bool, Option, Some, ◌+◌, ◌-◌, ℕ, List, [], ◌∷◌, ◌++◌}
 use Rattle.std.proofs.Common.{length, zero-add, true, false, None, ap, sym, ◌∙◌, refl, subst, append_assoc}
 use Rattle.std.proofs.lemmas.List.{append-nil}
 use Rattle.git_names.specs.declared.object_format.Format.{Format}
@@ -18,10 +18,10 @@ use Rattle.git_msg.specs.declared.offers.Caps.{Caps}
 use Rattle.git_msg.specs.declared.requests.Request.{Request}
 use Rattle.git_client.specs.Parts.{Terms, nearest, advertisement_of}
 use Rattle.git_client.specs.Events.{EventValue, Refuses}
-use Rattle.git_client.specs.Conversation.{GiveAll, RefusesAt, HasDue}
-use Rattle.git_client.specs.Turns.{takes_packets, fault_in, has_left_in, is_asking, left_in, question_in, events_at, place_due, NotesAfter, IsTurn}
-use Rattle.git_client.specs.Client.{History, Converses, HearsOn, StandsIn, Goes, Behind, IsDue, RefusedPacket, RefusedBytes, EndedEarly, said_of, spelled}
-use Rattle.git_client.specs.Client.{questions_of, farewell, format_of, ending_of, caps_of, phase_of, reader_of, request_of, has_left, left_to_say}
+use Rattle.git_client.specs.Conversation.{GiveAll}
+use Rattle.git_client.specs.Turns.{has_left_in, left_in, question_in, events_at, place_due, NotesAfter, IsTurn}
+use Rattle.git_client.specs.Client.{History, Converses, HearsOn, StandsIn, Goes, Behind, IsDue, spelled}
+use Rattle.git_client.specs.Client.{questions_of, farewell, format_of, ending_of, caps_of, phase_of, reader_of, request_of}
 use Rattle.git_client.specs.declared.events.Ending.{Ending}
 use Rattle.git_client.specs.declared.phase.Phase.{Phase}
 use Rattle.git_client.specs.declared.phase.Phase.TheVariants.{Hearing, Ready, Asking, Leaving, Left, Failed}
@@ -141,7 +141,7 @@ module _ {A : Type 0} where
         left = c.left ∙ not_left (phase_of old) was ∙ sym (not_left (phase_of new) quiet);
         spoken =
             ap (λ (l : List Pkt). h.given ++ spelled l)
-                (owes_nothing (phase_of new) (request_of new) quiet ∙ sym (owes_nothing (phase_of old) (request_of old) was))
+            (owes_nothing (phase_of new) (request_of new) quiet ∙ sym (owes_nothing (phase_of old) (request_of old) was))
             ∙ c.spoken ∙ ap (λ (l : List Pkt). spelled (l ++ farewell h.left)) (sym a.same_questions);
       }
 

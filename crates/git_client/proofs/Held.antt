@@ -1,5 +1,5 @@
 -- What the server says of a fault of its own, as the hold has it.
-use Rattle.std.proofs.Common.{arith, ◌≡◌, ℕ, ◌<◌, Option, Some, None, Bor, MatchOption, true, List, [], ◌∷◌, length, drop, inl, inr, ap, sym, ◌∙◌, subst}
+use Rattle.std.proofs.Common.{arith, ◌≡◌, ℕ, ◌<◌, Option, Some, None, Bor, MatchOption, true, List, ◌∷◌, length, drop, inl, inr, ap, sym, ◌∙◌, subst}
 use Rattle.git_pkt.specs.Packets.{body_of, text_of}
 use Rattle.git_pkt.specs.Splits.{Given, Splits}
 use Rattle.git_pkt.specs.Faults.{StopsBy}
@@ -56,21 +56,21 @@ module _ {A : Type 0} where
       let refused = packet.refused in
       elim (why_refused t.format t.ending refused.place bad.packet fault.kind refused.refuses) [
         | inl tells ↦ record {
+          line = tells.line;
+          held = packet.held.body ∙ ap body_of tells.packet;
+          says = (tells.message, tells.says);
+          ends = λ message says. record {
+            clean = c.clean;
+            bad = bad;
+            rest = c.rest;
             line = tells.line;
-            held = packet.held.body ∙ ap body_of tells.packet;
-            says = (tells.message, tells.says);
-            ends = λ message says. record {
-                clean = c.clean;
-                bad = bad;
-                rest = c.rest;
-                line = tells.line;
-                kind = fault.kind;
-                splits = subst (λ (gs : List Given). Splits 0 h.used gs c.rest) packet.cut c.reads.splits;
-                refused = refused;
-                packet = tells.packet;
-                says = says;
-              };
-          }
+            kind = fault.kind;
+            splits = subst (λ (gs : List Given). Splits 0 h.used gs c.rest) packet.cut c.reads.splits;
+            refused = refused;
+            packet = tells.packet;
+            says = says;
+          };
+        }
         | inr own ↦ absurd (not_own fault.kind told own)
       ]
 

@@ -76,7 +76,7 @@ said_more : (format : Format) (caps : Caps) (asked : List Asked) (question : Ask
 said_more format caps asked question given h =
     let write : Asked → List Pkt = lines_written caps.agent caps.object_format format in
     ap (λ (l : List ℕ). l ++ spelled (write question))
-        (sym (append-nil given) ∙ h ∙ ap spelled (append-nil (questions_of format caps asked)))
+    (sym (append-nil given) ∙ h ∙ ap spelled (append-nil (questions_of format caps asked)))
     ∙ sym (flat_map-append spelling_of (questions_of format caps asked) (write question))
     ∙ ap spelled (flat_map_more write [] asked question ∙ sym (append-nil (questions_of format caps (asked ++ question ∷ []))))
 
@@ -97,11 +97,11 @@ lent_by r hold false e shut = (
   record {
     fault = refl;
     reads = λ start bytes given rest h. record {
-        position = h.position;
-        within = h.within;
-        splits = h.splits;
-        state = stands_lent (reader_fault_of r) _ _ rest r (with_hold_by r hold false e) e e h.state;
-      };
+      position = h.position;
+      within = h.within;
+      splits = h.splits;
+      state = stands_lent (reader_fault_of r) _ _ rest r (with_hold_by r hold false e) e e h.state;
+    };
   },
   refl,
 )
@@ -152,7 +152,8 @@ module _ {A : Type 0} where
   stands_asking t h old new request writer c b =
       let asked = h.asked ++ asked_of request ∷ [] in
       let goes : Goes t h.asked c.clean c.given c.rest (question_in (request_of old)) Ready (reader_of old) =
-      subst (λ (phase : Phase). StandsIn phase t h.asked c.clean c.given c.rest (length h.used) (question_in (request_of old)) (reader_of old)) b.was c.stands in
+      subst (λ (phase : Phase). StandsIn phase t h.asked c.clean c.given c.rest (length h.used) (question_in (request_of old)) (reader_of old))
+      b.was c.stands in
       let behind : IsAsked t asked (nearest c.clean []) (Some (asked_of request)) =
       record { earlier = h.asked; last = asked_of request; asked_is = refl; question_is = refl; whole = goes.behind } in
       let stands : Goes t asked c.clean c.given c.rest (Some (asked_of request)) (Asking writer) (reader_of old) =
@@ -213,7 +214,8 @@ module _ {A : Type 0} where
   says_next old new request writer next bytes b sound stays left behind t h c =
       let later = left_to_say new in
       let stood : StandsIn (Asking writer) t h.asked c.clean c.given c.rest (length h.used) (question_in (request_of old)) (reader_of old) =
-      subst (λ (phase : Phase). StandsIn phase t h.asked c.clean c.given c.rest (length h.used) (question_in (request_of old)) (reader_of old)) b.was c.stands in
+      subst (λ (phase : Phase). StandsIn phase t h.asked c.clean c.given c.rest (length h.used) (question_in (request_of old)) (reader_of old))
+      b.was c.stands in
       let goes : Goes t h.asked c.clean c.given c.rest (Some (asked_of request)) (Asking writer) (reader_of old) =
       subst (λ (kept : Option (Request A)). Goes t h.asked c.clean c.given c.rest (question_in kept) (Asking writer) (reader_of old)) b.kept stood in
       record {

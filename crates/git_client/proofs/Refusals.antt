@@ -4,7 +4,7 @@ use Rattle.std.proofs.lemmas.Bool.{eqb-true}
 use Rattle.git_names.specs.declared.object_format.Format.{Format}
 use Rattle.git_pkt.specs.Packets.{Pkt, flush, delim, resp_end, payload, text_of}
 use Rattle.git_pkt.specs.declared.fault.Kind.{Kind}
-use Rattle.git_pkt.specs.declared.fault.Kind.TheVariants.{RemoteError, RemoteFatal, NotVersion2, BadCapability, WrongFormat, UnexpectedPacket}
+use Rattle.git_pkt.specs.declared.fault.Kind.TheVariants.{RemoteFatal, NotVersion2, BadCapability, WrongFormat, UnexpectedPacket}
 use Rattle.git_pkt.specs.declared.fault.Kind.TheVariants.{UnexpectedSection, BadLine, BadObjectName, BadRefName, NoBand, BadBand}
 use Rattle.git_msg.specs.Checks.{Refuses as RefusesBy}
 use Rattle.git_msg.specs.References.{reference_checks, attribute_checks, IsAttributeFault}
@@ -12,7 +12,7 @@ use Rattle.git_msg.specs.ResponseLines.{IsBoundaryFault, IsWantedFault}
 use Rattle.git_msg.specs.Texts.{spaced_words}
 use Rattle.git_client.specs.declared.events.Ending.{Ending}
 use Rattle.git_client.specs.Places.{Place, version, capabilities, references, header, acknowledgments, shallow_info, wanted_refs, packfile, response_end}
-use Rattle.git_client.specs.Events.{EventValue, Refuses, RefusesLine, IsLineFault, band_says, flush_says, delimiter_says, response_end_says, ended_by, offered, pack, progress}
+use Rattle.git_client.specs.Events.{EventValue, Refuses, RefusesLine, IsLineFault, band_says, flush_says, delimiter_says, response_end_says, pack, progress}
 use Rattle.git_client.specs.Client.{IsMessage}
 
 -- a name of the client's own rules

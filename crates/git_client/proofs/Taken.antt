@@ -1,6 +1,6 @@
 -- What the client has done once a packet is settled.
-use Rattle.std.proofs.Common.{arith, ◌≡◌, ◌≢◌, ◌⊎◌, inl, inr, ℕ, ◌+◌, ◌<◌, Bool, true, false, List, [], ◌∷◌, length, take, drop, map}
-use Rattle.std.proofs.Common.{Option, Some, None, Result, Ok, Err, MatchResult, refl, ap, sym, ◌∙◌, subst, cond}
+use Rattle.std.proofs.Common.{◌≡◌, ◌⊎◌, inl, inr, ℕ, ◌<◌, true, false, List, [], ◌∷◌, take, drop, map}
+use Rattle.std.proofs.Common.{Some, None, Result, Ok, Err, MatchResult, refl, ap, sym, ◌∙◌, subst}
 use Rattle.git_names.specs.declared.object_format.Format.{Format}
 use Rattle.git_pkt.specs.Packets.{Pkt, Spells, flush, delim, resp_end, payload, text_of, body_of}
 use Rattle.git_pkt.specs.Splits.{Given}
@@ -10,22 +10,21 @@ use Rattle.git_pkt.specs.declared.fault.Kind.{Kind}
 use Rattle.git_pkt.specs.declared.reader.PacketReader.{PacketReader}
 use Rattle.git_msg.specs.Advertisement.{is_spoken}
 use Rattle.git_msg.specs.declared.offers.Caps.{Caps}
-use Rattle.git_client.specs.Places.{Place, version, capabilities, references, header, acknowledgments, shallow_info, wanted_refs, packfile, response_end}
-use Rattle.git_client.specs.Events.{EventValue, offered, ended, pack, progress, Gives, Refuses, turns_of, ended_by, flush_says, delimiter_says, response_end_says}
+use Rattle.git_client.specs.Places.{Place, acknowledgments, shallow_info, wanted_refs, packfile, response_end}
+use Rattle.git_client.specs.Events.{EventValue, pack, progress, Gives, Refuses, turns_of, ended_by, delimiter_says, response_end_says}
 use Rattle.git_client.specs.Turns.{fault_in, is_ready, takes_packets, place_due, phase_after, phase_after_response, events_at, Fits, IsTurn}
 use Rattle.git_client.specs.Client.{Comes, Takes, LeavesStep, StandsAfter, phase_judged, caps_judged, said_judged, outcome_judged, outcome_said, IsMessage}
-use Rattle.git_client.specs.Client.{format_of, ending_of, caps_of, phase_of, reader_of, said_last, can_ask, wants_input, fault_of}
+use Rattle.git_client.specs.Client.{format_of, ending_of, caps_of, phase_of, reader_of, said_last}
 use Rattle.git_client.specs.declared.events.Ending.{Ending}
 use Rattle.git_client.specs.declared.events.Ending.TheVariants.{FlushOnly, ResponseEnd as WithResponseEnd}
 use Rattle.git_client.specs.declared.phase.Phase.{Phase}
 use Rattle.git_client.specs.declared.phase.Phase.TheVariants.{Hearing, Ready, Asking, Leaving, Left, Failed}
 use Rattle.git_client.specs.declared.phase.Due.{Due}
-use Rattle.git_client.specs.declared.phase.Due.TheVariants.{Version, Capabilities, References, Header, Acknowledgments, ShallowInfo, WantedRefs, Packfile, ResponseEnd}
+use Rattle.git_client.specs.declared.phase.Due.TheVariants.{Capabilities, References, Acknowledgments, Packfile}
 use Rattle.git_client.specs.declared.phase.Said.{Said}
 use Rattle.git_client.specs.declared.phase.Said.TheVariants.{Nothing, Pack, Progress, Offered, Ended}
 use Rattle.git_client.specs.declared.phase.Turn.{Turn}
 use Rattle.git_client.specs.declared.client.Client.{Client}
-use Rattle.git_client.specs.declared.client.Outcome.{Outcome}
 use Rattle.git_client.specs.declared.client.Outcome.TheVariants.{Failed as FailedNow}
 use Rattle.git_client.proofs.PlaceLines.{line_is, band_is}
 use Rattle.git_client.proofs.PlacePackets.{one_if, said_by, said_if, said_unless}

@@ -11,7 +11,7 @@ use Rattle.git_pkt.specs.declared.fault.Kind.{Kind}
 use Rattle.git_pkt.specs.declared.fault.Kind.TheVariants.{RemoteError, RemoteFatal, NotAdvertised, WrongFormat, Truncated}
 use Rattle.git_pkt.specs.declared.reader.PacketReader.{PacketReader}
 use Rattle.git_msg.specs.Advertisement.{noted_of, noted_offer, offers_command}
-use Rattle.git_msg.specs.Asked.{Asked, ls_refs, fetch, command_asked, AreOffered}
+use Rattle.git_msg.specs.Asked.{Asked, command_asked, AreOffered}
 use Rattle.git_msg.specs.Checks.{Check, check, Refuses as RefusesBy, Passes}
 use Rattle.git_msg.specs.HeldRequest.{asked_of, format_of as request_format}
 use Rattle.git_msg.specs.Lines.{end_checks}
@@ -27,7 +27,7 @@ use Rattle.git_client.specs.Turns.{takes_packets, fault_in, is_ready, has_left_i
 use Rattle.git_client.specs.declared.sections.Section.{Section}
 use Rattle.git_client.specs.declared.sections.Section.TheVariants.{Acknowledgments as AcknowledgmentsSection, ShallowInfo as ShallowInfoSection, WantedRefs as WantedRefsSection, Packfile as PackfileSection}
 use Rattle.git_client.specs.declared.phase.Phase.{Phase}
-use Rattle.git_client.specs.declared.phase.Phase.TheVariants.{Hearing, Ready, Asking, Leaving, Left, Failed as FailedPhase}
+use Rattle.git_client.specs.declared.phase.Phase.TheVariants.{Hearing, Asking, Failed as FailedPhase}
 use Rattle.git_client.specs.declared.phase.Due.{Due}
 use Rattle.git_client.specs.declared.phase.Due.TheVariants.{Version, Capabilities, References, Header, Acknowledgments, ShallowInfo, WantedRefs, Packfile, ResponseEnd}
 use Rattle.git_client.specs.declared.phase.Said.{Said}

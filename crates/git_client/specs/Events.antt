@@ -1,5 +1,5 @@
 -- What a packet gives, and what refuses it, by the place where it stands.
-use Rattle.std.specs.Prelude.{◌≡◌, ◌≢◌, ◌⊎◌, ℕ, suc, ◌==◌, ◌||◌, Bool, true, false, List, [], ◌∷◌, ◌++◌, Option, Some, None, Result, Ok, Err, codes, map}
+use Rattle.std.specs.Prelude.{◌≡◌, ◌≢◌, ◌⊎◌, ℕ, suc, ◌==◌, ◌||◌, true, false, List, [], ◌∷◌, ◌++◌, Option, Result, Ok, Err, codes, map}
 use Rattle.std.specs.Prelude.{if◌then◌else◌}
 use Rattle.git_names.specs.ObjectName.{ObjectName, IsNoObjectName}
 use Rattle.git_names.specs.declared.object_format.Format.{Format}

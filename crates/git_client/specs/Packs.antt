@@ -1,5 +1,5 @@
 -- The pack of a conversation: what came on the first side band, joined in order.
-use Rattle.std.specs.Prelude.{◌≡◌, ◌⊎◌, ℕ, ◌==◌, Bool, true, false, List, [], ◌∷◌, ◌++◌, length, drop, Option, Some, None, if◌then◌else◌}
+use Rattle.std.specs.Prelude.{◌≡◌, ◌⊎◌, ℕ, ◌==◌, List, [], ◌∷◌, ◌++◌, drop, Option, Some, if◌then◌else◌}
 use Rattle.git_pkt.specs.Packets.{Pkt, payload}
 use Rattle.git_pkt.specs.Faults.{IsOpen}
 use Rattle.git_pkt.specs.Splits.{Given, Splits}

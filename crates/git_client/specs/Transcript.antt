@@ -5,18 +5,21 @@ use Rattle.git_pkt.specs.Escape.{escaped_of}
 use Rattle.git_msg.specs.Arguments.{name_of}
 use Rattle.git_msg.specs.Asked.{Asked, command_asked}
 use Rattle.git_msg.specs.declared.arguments.Command.{Command}
-use Rattle.git_msg.specs.References.{Ref, target_text, peeled_text}
+use Rattle.git_msg.specs.References.{Ref, peeled_text}
 use Rattle.git_client.specs.Events.{EventValue, capability, offered, reference, ack, nak, ready, shallow, unshallow, wanted_ref, pack, progress, ended}
+
+-- a text that may be there, after a word that stands before it
+abbrev pub shown_after : List ℕ → Option (List ℕ) → List ℕ
+shown_after word None = []
+shown_after word (Some text) = word ++ escaped_of text
 
 -- what stands after a capability's key
 abbrev pub value_shown : Option (List ℕ) → List ℕ
-value_shown None = []
-value_shown (Some value) = codes "=" ++ escaped_of value
+value_shown value = shown_after (codes "=") value
 
 -- what stands after a reference's name
 abbrev pub target_shown : Option (List ℕ) → List ℕ
-target_shown None = []
-target_shown (Some name) = codes " symref-target:" ++ escaped_of name
+target_shown target = shown_after (codes " symref-target:") target
 
 -- the line of a reference
 abbrev pub reference_shown : Ref → List ℕ

@@ -8,7 +8,7 @@ ghost use Rattle.git_pkt.specs.Escape.{escaped_of};
 ghost use Rattle.git_names.specs.ObjectName.{hex_of};
 ghost use Rattle.git_msg.specs.References.{reference_of, peeled_text};
 ghost use Rattle.git_client.specs.Turns.{values_of};
-ghost use Rattle.git_client.specs.Transcript.{lines_of, value_shown, target_shown, reference_shown, asked_line};
+ghost use Rattle.git_client.specs.Transcript.{lines_of, value_shown, shown_after, reference_shown, asked_line};
 
 use crate::events::Event;
 use git_msg::{Capability, Command};
@@ -85,7 +85,7 @@ fn write_capability<W: Write>(
 {
     send(out, b"capability ")?;
     write_escaped(out, capability.key)?;
-    write_value(out, capability.value)?;
+    write_after(out, b"=", capability.value)?;
     send(out, b"\n")
 }
 
@@ -103,23 +103,9 @@ fn write_reference<W: Write>(
     ensures reads { ReadsNothing out.old out.new }
 {
     write_pointed(out, b"ref ", id, name)?;
-    write_target(out, target)?;
+    write_after(out, b" symref-target:", target)?;
     write_peeled(out, peeled)?;
     send(out, b"\n")
-}
-
-fn write_target<W: Write>(out: &mut Told<W>, target: Option<&[u8]>) -> Result<(), RunFault>
-    ensures ok { OnOk result (Appends (W.contents (inner_of out.old)) (W.contents (inner_of out.new)) (target_shown (option_copied target.entry))) }
-    ensures err { OnErr result (AppendsFront (W.contents (inner_of out.old)) (W.contents (inner_of out.new)) (target_shown (option_copied target.entry))) }
-    ensures fault { IfErr result (λ fault. fault ≡ RunFault.WriteFault) }
-    ensures failed { has_failed out.new ≡ (has_failed out.old || is_err result) }
-    ensures reads { ReadsNothing out.old out.new }
-{
-    let Some(name) = target else {
-        return Ok(());
-    };
-    send(out, b" symref-target:")?;
-    write_escaped(out, name)
 }
 
 fn write_peeled<W: Write>(out: &mut Told<W>, peeled: Option<&Oid>) -> Result<(), RunFault>
@@ -216,18 +202,23 @@ fn write_number<W: Write>(out: &mut Told<W>, number: u64) -> Result<(), RunFault
     send(out, Buffer::new().format(number).as_bytes())
 }
 
-fn write_value<W: Write>(out: &mut Told<W>, value: Option<&[u8]>) -> Result<(), RunFault>
-    ensures ok { OnOk result (Appends (W.contents (inner_of out.old)) (W.contents (inner_of out.new)) (value_shown (option_copied value.entry))) }
-    ensures err { OnErr result (AppendsFront (W.contents (inner_of out.old)) (W.contents (inner_of out.new)) (value_shown (option_copied value.entry))) }
+/// Writes the word and the escapes of the text, where there is one.
+fn write_after<W: Write>(
+    out: &mut Told<W>,
+    word: &[u8],
+    text: Option<&[u8]>,
+) -> Result<(), RunFault>
+    ensures ok { OnOk result (Appends (W.contents (inner_of out.old)) (W.contents (inner_of out.new)) (shown_after word.now (option_copied text.entry))) }
+    ensures err { OnErr result (AppendsFront (W.contents (inner_of out.old)) (W.contents (inner_of out.new)) (shown_after word.now (option_copied text.entry))) }
     ensures fault { IfErr result (λ fault. fault ≡ RunFault.WriteFault) }
     ensures failed { has_failed out.new ≡ (has_failed out.old || is_err result) }
     ensures reads { ReadsNothing out.old out.new }
 {
-    let Some(value) = value else {
+    let Some(text) = text else {
         return Ok(());
     };
-    send(out, b"=")?;
-    write_escaped(out, value)
+    send(out, word)?;
+    write_escaped(out, text)
 }
 
 /// Writes the escapes of the bytes, a block at a time.

@@ -30,6 +30,21 @@ fn argument_of(format: Format, text: &[u8]) -> Option<Argument<'_>> {
     None
 }
 
+/// The packets that are written of a request to one who advertised this, a line each.
+pub fn written(alloc: Global, request: &Request<Global>, caps: &Caps) -> Result<Vec<u8>, Trouble> {
+    let mut writer = RequestWriter::new(request, caps);
+    let mut hold = Hold::new();
+    let mut lines = Vec::new(alloc);
+    for _ in 0..MANY {
+        if !writer.pull(request, &mut hold) {
+            return Ok(lines);
+        }
+        lines.extend_from_slice(escaped(alloc, hold.as_slice())?.as_slice())?;
+        lines.push(b'\n')?;
+    }
+    Err(Trouble::Breaks("a request has no end"))
+}
+
 impl Asking {
     // Adds an argument, and says how that went.
     fn told(
@@ -57,17 +72,7 @@ impl Asking {
             object_format: self.object_format,
             ..Caps::new()
         };
-        let mut writer = RequestWriter::new(request, &caps);
-        let mut hold = Hold::new();
-        let mut lines = Vec::new(alloc);
-        for _ in 0..MANY {
-            if !writer.pull(request, &mut hold) {
-                return Ok(lines);
-            }
-            lines.extend_from_slice(escaped(alloc, hold.as_slice())?.as_slice())?;
-            lines.push(b'\n')?;
-        }
-        Err(Trouble::Breaks("a request has no end"))
+        written(alloc, request, &caps)
     }
 
     /// Each argument is kept or refused as the line after it says, and the request is written as the ending does.
@@ -75,7 +80,7 @@ impl Asking {
         let limits = limits(self.limit);
         let mut request = Request::new(alloc, self.command, self.format, limits);
         let mut told = Vec::new(alloc);
-        let mut last = Step { input: 0, given: 0 };
+        let mut last = Step::default();
         for step in script.steps.as_slice() {
             let text = script.input.as_slice().get(last.input..step.input);
             let line = self.told(alloc, &mut request, text.unwrap_or(&[]))?;

@@ -2,11 +2,12 @@
 
 use crate::asking::Asking;
 use crate::ends::End;
-use crate::runs;
-use crate::script::{Given, Script};
+use crate::script::{Given, Recording, Script};
 use crate::sessions::{Reads, Setup};
 use crate::tables::Table;
 use crate::trouble::Trouble;
+use crate::{clients, runs};
+use git_client::Ending;
 use git_msg::Command;
 use git_names::Format;
 use std::alloc::{AllocError, Global};
@@ -14,6 +15,17 @@ use std::fs;
 
 /// The usual limit of a request's arguments.
 const USUAL: u32 = 16_777_216;
+
+/// The files that a case names.
+#[derive(Drop)]
+struct Files {
+    /// The text of a server's repository, and its pack.
+    repository: Vec<u8>,
+    pack: Vec<u8>,
+    /// What a client has heard before.
+    heard: Vec<u8>,
+    recording: Option<Recording>,
+}
 
 /// What a case runs.
 #[derive(Drop)]
@@ -49,6 +61,14 @@ impl<'a> Words<'a> {
         match self.has("sha256") {
             true => Format::Sha256,
             false => Format::Sha1,
+        }
+    }
+
+    // How each response ends.
+    fn ending(self) -> Ending {
+        match self.has("stateless") {
+            true => Ending::ResponseEnd,
+            false => Ending::FlushOnly,
         }
     }
 
@@ -118,12 +138,8 @@ fn table_of(words: Words<'_>) -> Option<Table> {
     }
 }
 
-// What these words name. A server has this repository and this pack.
-fn subject_of<'a>(
-    words: Words<'_>,
-    repository: &'a [u8],
-    pack: &'a [u8],
-) -> Result<Subject<'a>, Trouble> {
+// What these words name.
+fn subject_of<'a>(words: Words<'_>, files: &'a Files) -> Result<Subject<'a>, Trouble> {
     if let Some(table) = table_of(words) {
         return Ok(Subject::Table(table));
     }
@@ -132,11 +148,15 @@ fn subject_of<'a>(
     Ok(match words.text.split_whitespace().next() {
         Some("packets") => Subject::End(End::Packets(words.start()?)),
         Some("requests") => Subject::End(End::Requests(format, limit, words.features())),
-        Some("client") => Subject::End(End::Client(format)),
+        Some("client") => Subject::End(End::Client(clients::Setup {
+            format,
+            ending: words.ending(),
+            heard: files.heard.as_slice(),
+        })),
         Some("check") => Subject::End(End::Check(format)),
         Some("server") => Subject::End(End::Server(Setup {
-            repository,
-            pack,
+            repository: files.repository.as_slice(),
+            pack: files.pack.as_slice(),
             reads: words.reads()?,
             limit,
             features: words.features(),
@@ -166,14 +186,54 @@ fn file_after(
     }
 }
 
+// One of the files of a recording of this name.
+fn read_recorded(
+    rt: &HostRuntime,
+    alloc: Global,
+    name: &str,
+    file: &str,
+) -> Result<Vec<u8>, Trouble> {
+    let path = format!(in alloc; "sessions/{name}{file}")?;
+    Ok(fs::read(rt, path.as_str())?)
+}
+
+// What was recorded, where these words name it.
+fn read_recording(
+    rt: &HostRuntime,
+    alloc: Global,
+    words: Words<'_>,
+) -> Result<Option<Recording>, Trouble> {
+    let Some(name) = words.after("recorded") else {
+        return Ok(None);
+    };
+    Ok(Some(Recording {
+        requests: read_recorded(rt, alloc, name, "-requests.pkt")?,
+        responses: read_recorded(rt, alloc, name, "-responses.pkt")?,
+        pack: read_recorded(rt, alloc, name, ".pack")?,
+    }))
+}
+
+// The files that these words name.
+fn read_files(rt: &HostRuntime, alloc: Global, words: Words<'_>) -> Result<Files, Trouble> {
+    Ok(Files {
+        repository: file_after(rt, alloc, words, "server")?,
+        pack: file_after(rt, alloc, words, "pack")?,
+        heard: file_after(rt, alloc, words, "after")?,
+        recording: read_recording(rt, alloc, words)?,
+    })
+}
+
 // Runs a case of which these are the lines after its name. Answers how many runs were made.
 fn goes(rt: &HostRuntime, alloc: Global, setup: &str, lines: &[&str]) -> Result<usize, Trouble> {
     let words = Words { text: setup };
-    let repository = file_after(rt, alloc, words, "server")?;
-    let pack = file_after(rt, alloc, words, "pack")?;
-    match subject_of(words, repository.as_slice(), pack.as_slice())? {
+    let mut files = read_files(rt, alloc, words)?;
+    let recording = files.recording.take();
+    match subject_of(words, &files)? {
         Subject::End(end) => {
-            let script = Script::read(alloc, lines, end.form())?;
+            let mut script = Script::read(alloc, lines, end.form())?;
+            if let Some(recording) = recording {
+                script.take_recording(recording)?;
+            }
             runs::goes(alloc, &end, &script)
         }
         Subject::Table(table) => {

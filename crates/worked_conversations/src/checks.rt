@@ -1,6 +1,6 @@
 //! Recorded streams that are checked against each other.
 
-use crate::runs::{Due, Run, compare};
+use crate::runs::{Due, Known, Run, compare};
 use crate::script::Script;
 use crate::setup::TURNS;
 use crate::trouble::Trouble;
@@ -42,11 +42,8 @@ fn checked(
     if sink.flushes != 1 {
         return Err(Trouble::Breaks("check does not flush once"));
     }
-    Ok(Run {
-        given: sink.taken,
-        ending: ending_of(alloc, answer)?,
-        used: None,
-    })
+    let ending = ending_of(alloc, answer)?;
+    Ok(Run::new(alloc, sink.taken, ending, None))
 }
 
 /// Checks the pieces as responses, with the requests whole and cut at the same place.
@@ -86,9 +83,11 @@ pub fn goes_with_requests_cut_short(
         let run = checked(alloc, format, &[&asked[..end]], &[script.input.as_slice()])?;
         let due = Due {
             given: script.given.clone()?,
+            pack: Vec::new(alloc),
+            progress: Vec::new(alloc),
             ending: String::from_str(alloc, "requests: Truncated at 0\n")?,
             used: 0,
-            is_whole: true,
+            known: Known::All,
         };
         compare(alloc, &run, &due, end)?;
         runs = runs.saturating_add(1);

@@ -1,14 +1,26 @@
-//! A client that is fed: the transcript of its events, how it ended, and what it noted.
+//! A client that asks and is fed: what it sends, the transcript of what it hears, the bytes of the side bands, how it ended,
+//! and what it noted.
 
 use crate::escapes::escaped;
+use crate::questions::{Question, shown};
 use crate::runs::Run;
+use crate::script::{Script, append_sent};
+use crate::setup::MANY;
 use crate::trouble::Trouble;
-use git_client::{Client, Ending, HeardGot, Sent, write_event};
+use git_client::{Client, Ending, Event, HeardGot, Sent, write_asked, write_event};
 use git_msg::Caps;
 use git_names::Format;
-use git_pkt::{Fault, Told};
+use git_pkt::Told;
 use std::alloc::{AllocError, Global};
-use test_streams::Sink;
+
+/// How a client is set up.
+#[derive(Clone, Copy)]
+pub struct Setup<'a> {
+    pub format: Format,
+    pub ending: Ending,
+    /// The advertisement that it has heard before its case begins, where the case does not begin with one.
+    pub heard: &'a [u8],
+}
 
 // Appends a word where its flag is set.
 fn append_word(line: &mut String, is_set: bool, word: &str) -> Result<(), AllocError> {
@@ -35,92 +47,265 @@ pub fn append_noted(line: &mut String, caps: &Caps) -> Result<(), AllocError> {
     line.push_str("\n")
 }
 
-// Feeds a piece whole, and writes the lines of its events. Answers the fault that it met.
-fn feed(
-    client: &mut Client,
-    piece: &[u8],
-    out: &mut Told<&mut Sink>,
-) -> Result<Option<Fault>, Trouble> {
-    let mut rest = piece;
-    for _ in 0..=piece.len() {
-        let heard = client.feed(rest);
-        rest = &rest[heard.used..];
-        match heard.got {
-            HeardGot::More => return Ok(None),
-            HeardGot::Failed(fault) => return Ok(Some(fault)),
-            HeardGot::Event(event) => {
-                if write_event(out, &event, 0, 0).is_err() {
+/// What a client sent and heard.
+#[derive(Drop)]
+struct Notes {
+    // A line for each packet that it sends and each event, and for each request that was refused.
+    lines: Vec<u8>,
+    // The bytes of the pack and of the progress, joined.
+    pack: Vec<u8>,
+    progress: Vec<u8>,
+    // Where those of the last response begin.
+    pack_start: usize,
+    progress_start: usize,
+}
+
+impl Notes {
+    fn new(alloc: Global) -> Notes {
+        Notes {
+            lines: Vec::new(alloc),
+            pack: Vec::new(alloc),
+            progress: Vec::new(alloc),
+            pack_start: 0,
+            progress_start: 0,
+        }
+    }
+
+    fn note(&mut self, event: &Event<'_>) -> Result<(), Trouble> {
+        let pack = self.pack.len().saturating_sub(self.pack_start);
+        let progress = self.progress.len().saturating_sub(self.progress_start);
+        let lines = &mut Told::new(&mut self.lines);
+        if write_event(lines, event, pack as u64, progress as u64).is_err() {
+            return Err(Trouble::Breaks("a line is not written"));
+        }
+        match event {
+            Event::Pack([]) | Event::Progress([]) => {
+                return Err(Trouble::Breaks("an event of no bytes"));
+            }
+            Event::Pack(bytes) => self.pack.extend_from_slice(bytes)?,
+            Event::Progress(bytes) => self.progress.extend_from_slice(bytes)?,
+            Event::Ended => {
+                self.pack_start = self.pack.len();
+                self.progress_start = self.progress.len();
+            }
+            _ => {}
+        }
+        Ok(())
+    }
+}
+
+/// A client, what it is still to be asked, and what came of it so far.
+#[derive(Drop)]
+struct Talk<'a> {
+    alloc: Global,
+    client: Client<Global>,
+    questions: &'a [Question],
+    leaves: bool,
+    // Whether the case has the packets that are sent.
+    shows_sent: bool,
+    notes: Notes,
+}
+
+impl<'a> Talk<'a> {
+    // A client that has heard what comes before its case.
+    fn new(alloc: Global, setup: &Setup<'_>, script: &'a Script) -> Result<Talk<'a>, Trouble> {
+        let mut talk = Talk {
+            alloc,
+            client: Client::new(setup.format, setup.ending),
+            questions: &[],
+            leaves: false,
+            shows_sent: !script.asked.is_empty(),
+            notes: Notes::new(alloc),
+        };
+        talk.hear(setup.heard)?;
+        if talk.client.position() != setup.heard.len() as u64 {
+            return Err(Trouble::BadCase("more than an advertisement was heard before"));
+        }
+        talk.notes = Notes::new(alloc);
+        talk.questions = script.questions.as_slice();
+        talk.leaves = script.leaves;
+        talk.say()?;
+        Ok(talk)
+    }
+
+    // A client that does not wait for input uses none.
+    fn check_waiting(&mut self) -> Result<(), Trouble> {
+        if !self.client.wants_input() && self.client.feed(b"0000").used != 0 {
+            return Err(Trouble::Breaks("a client uses bytes that it does not want"));
+        }
+        Ok(())
+    }
+
+    // Sends all that is to be sent, and asks all that can be asked now.
+    fn say(&mut self) -> Result<(), Trouble> {
+        for _ in 0..MANY {
+            self.check_waiting()?;
+            match self.client.pull() {
+                Sent::Packet(packet) => {
+                    if self.shows_sent {
+                        append_sent(self.alloc, &mut self.notes.lines, packet)?;
+                    }
+                }
+                Sent::CanAsk => {
+                    if !self.ask()? {
+                        return Ok(());
+                    }
+                }
+                Sent::NeedInput | Sent::Finished | Sent::Failed(_) => return Ok(()),
+            }
+        }
+        Err(Trouble::Breaks("a client sends without an end"))
+    }
+
+    // Asks what is to be asked next, or leaves. Answers whether there was something to do.
+    fn ask(&mut self) -> Result<bool, Trouble> {
+        if !self.client.can_ask() {
+            return Err(Trouble::Breaks("a client that can be asked says that it cannot"));
+        }
+        let Some((question, rest)) = self.questions.split_first() else {
+            if self.leaves {
+                self.leaves = false;
+                self.client.leave();
+                return Ok(true);
+            }
+            return Ok(false);
+        };
+        self.questions = rest;
+        self.ask_one(question)?;
+        Ok(true)
+    }
+
+    fn ask_one(&mut self, question: &Question) -> Result<(), Trouble> {
+        let request = question.request(self.alloc)?;
+        let asked = shown(self.alloc, &request)?;
+        if !self.client.can_ask() {
+            return Ok(());
+        }
+        match self.client.ask(request) {
+            Ok(()) => {
+                let lines = &mut Told::new(&mut self.notes.lines);
+                if write_asked(lines, question.command).is_err() {
                     return Err(Trouble::Breaks("a line is not written"));
                 }
             }
+            Err((request, fault)) => {
+                if shown(self.alloc, &request)?.as_slice() != asked.as_slice() {
+                    return Err(Trouble::Breaks("another request comes back"));
+                }
+                if !self.client.can_ask() {
+                    return Err(Trouble::Breaks("a refused request changes the client"));
+                }
+                let line = format!(in self.alloc; "refused {fault}\n")?;
+                self.notes.lines.extend_from_slice(line.as_bytes())?;
+            }
         }
+        Ok(())
     }
-    Err(Trouble::Breaks("a piece is never used up"))
-}
 
-// A client that can ask, or has failed, uses nothing more and says so of itself in every way.
-fn check_settled(client: &mut Client, fault: Option<Fault>) -> Result<(), Trouble> {
-    let position = client.position();
-    let heard = client.feed(b"0000");
-    let used = heard.used;
-    let told = match heard.got {
-        HeardGot::More => None,
-        HeardGot::Failed(fault) => Some(fault),
-        HeardGot::Event(_) => return Err(Trouble::Breaks("an event of no bytes")),
-    };
-    let sent = match client.pull() {
-        Sent::CanAsk => None,
-        Sent::Failed(fault) => Some(fault),
-        _ => return Err(Trouble::Breaks("a client wants to be asked or to read")),
-    };
-    if used != 0 || told != fault || sent != fault {
-        return Err(Trouble::Breaks("a client goes on after its end"));
-    }
-    if client.can_ask() != fault.is_none()
-        || client.wants_input()
-        || client.position() != position
-    {
-        return Err(Trouble::Breaks("a client is not at its end"));
-    }
-    Ok(())
-}
-
-/// Feeds the pieces to a client, after which the input ends.
-pub fn fed(alloc: Global, format: Format, pieces: &[&[u8]]) -> Result<Run, Trouble> {
-    let mut sink = Sink::new(Vec::new(alloc), usize::MAX, u32::MAX);
-    let mut out = Told::new(&mut sink);
-    let mut client = Client::new(format, Ending::FlushOnly);
-    let mut fault = None;
-    for piece in pieces {
-        fault = feed(&mut client, piece, &mut out)?;
-        if fault.is_some() {
-            break;
+    // Hears a piece, up to where no more input is wanted, and says what is to be said between.
+    fn hear(&mut self, piece: &[u8]) -> Result<(), Trouble> {
+        let mut rest = piece;
+        for _ in 0..=piece.len() {
+            let is_wanted = self.client.wants_input();
+            let heard = self.client.feed(rest);
+            rest = &rest[heard.used..];
+            match heard.got {
+                HeardGot::More if is_wanted && !rest.is_empty() => {
+                    return Err(Trouble::Breaks("a piece is not used up"));
+                }
+                HeardGot::More | HeardGot::Failed(_) => return Ok(()),
+                HeardGot::Event(event) => self.notes.note(&event)?,
+            }
+            self.say()?;
         }
+        Err(Trouble::Breaks("a piece has events without an end"))
     }
-    if client.wants_input() {
-        if !matches!(client.pull(), Sent::NeedInput) {
+
+    // The input ends here.
+    fn close(&mut self) -> Result<(), Trouble> {
+        if !self.client.wants_input() {
+            return Ok(());
+        }
+        if !matches!(self.client.pull(), Sent::NeedInput) {
             return Err(Trouble::Breaks("a client that wants input does not say so"));
         }
-        fault = Some(client.close());
-    }
-    check_settled(&mut client, fault)?;
-    let mut ending = match fault {
-        None => String::from_str(alloc, "can ask\n")?,
-        Some(fault) => format!(in alloc; "refused {fault}\n")?,
-    };
-    if let Some(message) = client.message() {
-        ending.push_str("message")?;
-        if !message.is_empty() {
-            ending.push_str(" ")?;
-            let message = escaped(alloc, message)?;
-            ending.push_str(String::from_utf8_lossy(alloc, message.as_slice())?.as_str())?;
+        if !self.client.wants_input() {
+            return Err(Trouble::Breaks("a client wants input no more once it said so"));
         }
-        ending.push_str("\n")?;
+        let fault = self.client.close();
+        match self.client.pull() {
+            Sent::Failed(told) if told == fault => Ok(()),
+            _ => Err(Trouble::Breaks("a client that was closed tells another fault")),
+        }
     }
-    append_noted(&mut ending, &client.caps())?;
+
+    // A client that is at its end uses nothing more, and says so of itself in every way. Answers how it ended.
+    fn ended(&mut self) -> Result<String, Trouble> {
+        let position = self.client.position();
+        let heard = self.client.feed(b"0000");
+        let used = heard.used;
+        let told = match heard.got {
+            HeardGot::More => None,
+            HeardGot::Failed(fault) => Some(fault),
+            HeardGot::Event(_) => return Err(Trouble::Breaks("an event of no bytes")),
+        };
+        let (can_ask, fault, ending) = match self.client.pull() {
+            Sent::CanAsk => (true, None, String::from_str(self.alloc, "can ask\n")?),
+            Sent::Finished => (false, None, String::from_str(self.alloc, "left\n")?),
+            Sent::Failed(fault) => (
+                false,
+                Some(fault),
+                format!(in self.alloc; "refused {fault}\n")?,
+            ),
+            _ => return Err(Trouble::Breaks("a client wants to send or to read")),
+        };
+        if used != 0 || told != fault {
+            return Err(Trouble::Breaks("a client goes on after its end"));
+        }
+        if self.client.can_ask() != can_ask
+            || self.client.wants_input()
+            || self.client.position() != position
+        {
+            return Err(Trouble::Breaks("a client is not at its end"));
+        }
+        Ok(ending)
+    }
+}
+
+// Appends the line of the message that ended a conversation.
+fn append_message(alloc: Global, ending: &mut String, message: &[u8]) -> Result<(), AllocError> {
+    ending.push_str("message")?;
+    if !message.is_empty() {
+        ending.push_str(" ")?;
+        let message = escaped(alloc, message)?;
+        ending.push_str(String::from_utf8_lossy(alloc, message.as_slice())?.as_str())?;
+    }
+    ending.push_str("\n")
+}
+
+/// Feeds the pieces to a client, which asks what the case says as soon as it can, and after which the input ends.
+pub fn fed(
+    alloc: Global,
+    setup: &Setup<'_>,
+    script: &Script,
+    pieces: &[&[u8]],
+) -> Result<Run, Trouble> {
+    let mut talk = Talk::new(alloc, setup, script)?;
+    for piece in pieces {
+        talk.hear(piece)?;
+    }
+    talk.close()?;
+    let mut ending = talk.ended()?;
+    if let Some(message) = talk.client.message() {
+        append_message(alloc, &mut ending, message)?;
+    }
+    append_noted(&mut ending, &talk.client.caps())?;
+    let used = (talk.client.position() as usize).saturating_sub(setup.heard.len());
     Ok(Run {
-        given: sink.taken,
+        given: talk.notes.lines,
+        pack: talk.notes.pack,
+        progress: talk.notes.progress,
         ending,
-        used: Some(client.position() as usize),
+        used: Some(used),
     })
 }

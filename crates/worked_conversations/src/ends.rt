@@ -18,7 +18,7 @@ pub enum End<'a> {
     /// A server of a repository's text.
     Server(sessions::Setup<'a>),
     /// A client.
-    Client(Format),
+    Client(clients::Setup<'a>),
     /// `check`, of which the second stream has the requests.
     Check(Format),
 }
@@ -28,6 +28,7 @@ impl<'a> End<'a> {
     pub fn form(&self) -> Given {
         match self {
             End::Server(_) => Given::Bytes,
+            End::Client(_) => Given::Talk,
             _ => Given::Lines,
         }
     }
@@ -36,6 +37,7 @@ impl<'a> End<'a> {
     pub fn start(&self) -> u64 {
         match self {
             End::Packets(start) => *start,
+            End::Client(setup) => setup.heard.len() as u64,
             _ => 0,
         }
     }
@@ -108,8 +110,9 @@ impl<'a> End<'a> {
                 compare(alloc, &sessions::fed(alloc, setup, pieces)?, due, place)?;
                 compare(alloc, &sessions::served(alloc, setup, pieces)?, due, place)
             }
-            End::Client(format) => {
-                compare(alloc, &clients::fed(alloc, *format, pieces)?, due, place)
+            End::Client(setup) => {
+                let run = clients::fed(alloc, setup, script, pieces)?;
+                compare(alloc, &run, due, place)
             }
             End::Check(format) => checks::goes(alloc, *format, script, pieces, due, place),
         }

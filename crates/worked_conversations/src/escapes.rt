@@ -25,6 +25,16 @@ fn digit(byte: u8) -> Option<u8> {
     }
 }
 
+/// The length that the four digits of a packet tell.
+pub fn length_told(digits: &[u8]) -> Option<usize> {
+    let [first, second, third, fourth] = digits else {
+        return None;
+    };
+    let (first, second) = (digit(*first)? as usize, digit(*second)? as usize);
+    let (third, fourth) = (digit(*third)? as usize, digit(*fourth)? as usize);
+    Some(((first * 16 + second) * 16 + third) * 16 + fourth)
+}
+
 /// Appends the bytes that an escaped text stands for: `\n` is LF, `\\` a backslash, `\x` and two digits that byte.
 pub fn append_unescaped(bytes: &mut Vec<u8>, text: &str) -> Result<(), Trouble> {
     let mut place = Place::Plain;

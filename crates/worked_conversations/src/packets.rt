@@ -122,11 +122,7 @@ pub fn read(alloc: Global, start: u64, script: &Script, pieces: &[&[u8]]) -> Res
             format!(in alloc; "refused {fault}\n")?
         }
     };
-    Ok(Run {
-        given: lines,
-        ending,
-        used: Some(used),
-    })
+    Ok(Run::new(alloc, lines, ending, Some(used)))
 }
 
 /// Shows the pieces.
@@ -144,9 +140,5 @@ pub fn shown(alloc: Global, pieces: &[&[u8]]) -> Result<Run, Trouble> {
         Err(RunFault::Refused(fault)) => format!(in alloc; "refused {fault}\n")?,
         Err(fault) => format!(in alloc; "{fault}\n")?,
     };
-    Ok(Run {
-        given: sink.taken,
-        ending,
-        used: None,
-    })
+    Ok(Run::new(alloc, sink.taken, ending, None))
 }

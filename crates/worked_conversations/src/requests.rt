@@ -232,9 +232,5 @@ pub fn heard(alloc: Global, offer: Offer, limit: u32, pieces: &[&[u8]]) -> Resul
         (None, Ok(())) => String::from_str(alloc, "closed\n")?,
         (None, Err(fault)) => format!(in alloc; "refused {fault}\n")?,
     };
-    Ok(Run {
-        given: lines,
-        ending,
-        used: Some(packets.position() as usize),
-    })
+    Ok(Run::new(alloc, lines, ending, Some(packets.position() as usize)))
 }

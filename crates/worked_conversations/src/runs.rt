@@ -1,34 +1,61 @@
 //! One end over an input that is cut in every way and ended everywhere, and what is due of it.
 
 use crate::ends::End;
-use crate::escapes::escaped;
+use crate::escapes::{escaped, length_told};
 use crate::script::{Script, Step};
+use crate::setup::MANY;
 use crate::trouble::Trouble;
 use std::alloc::{AllocError, Global};
 
 /// What came of a run.
 #[derive(Drop)]
 pub struct Run {
-    /// What the end gave.
+    /// What the end gave, and beside it the bytes of the pack and of the progress, joined.
     pub given: Vec<u8>,
+    pub pack: Vec<u8>,
+    pub progress: Vec<u8>,
     /// How it ended, a line or more.
     pub ending: String,
     /// How many bytes it used, where the end tells that.
     pub used: Option<usize>,
 }
 
+impl Run {
+    /// A run of an end that gives no bytes on side bands.
+    pub fn new(alloc: Global, given: Vec<u8>, ending: String, used: Option<usize>) -> Run {
+        Run {
+            given,
+            pack: Vec::new(alloc),
+            progress: Vec::new(alloc),
+            ending,
+            used,
+        }
+    }
+}
+
+/// How much of what is due of a run is known.
+#[derive(Clone, Copy, PartialEq, Eq)]
+pub enum Known {
+    All,
+    /// What is given, and the first line of the ending.
+    Given,
+    /// That what is given begins what is told here, and the first line of the ending.
+    Front,
+}
+
 /// What is due of a run.
 #[derive(Drop)]
 pub struct Due {
     pub given: Vec<u8>,
+    pub pack: Vec<u8>,
+    pub progress: Vec<u8>,
     pub ending: String,
     pub used: usize,
-    /// Whether all lines of the ending are known, and not its first alone.
-    pub is_whole: bool,
+    pub known: Known,
 }
 
 /// Near its two ends alone an input of more bytes is cut and ended.
-const LONG: usize = 1_000;
+const LONG: usize = 3_000;
 
 const NEAR: usize = 8;
 
@@ -38,10 +65,7 @@ fn is_cut_at(length: usize, place: usize) -> bool {
 
 // The last step that ends by here, and whether something was given for it.
 fn last_step(script: &Script, end: usize) -> (Step, bool) {
-    let mut last = Step {
-        input: 0,
-        given: script.greeting,
-    };
+    let mut last = script.greeting;
     let mut is_answered = true;
     for step in script.steps.as_slice() {
         if step.input <= end {
@@ -52,20 +76,63 @@ fn last_step(script: &Script, end: usize) -> (Step, bool) {
     (last, is_answered)
 }
 
+// The first bytes.
+fn front(alloc: Global, bytes: &Vec<u8>, count: usize) -> Result<Vec<u8>, AllocError> {
+    Vec::from_slice(alloc, bytes.as_slice().get(..count).unwrap_or(&[]))
+}
+
+// Where the last packet ends that ends by here.
+fn last_packet(input: &[u8], at: usize) -> usize {
+    let mut end = 0usize;
+    for _ in 0..MANY {
+        let digits = input.get(end..end.saturating_add(4)).unwrap_or(&[]);
+        let Some(next) = length_told(digits).map(|length| end.saturating_add(length.max(4))) else {
+            return end;
+        };
+        if next > at {
+            return end;
+        }
+        end = next;
+    }
+    end
+}
+
+// What is due where the input ends at this byte of a recording.
+fn recorded_due_at(
+    alloc: Global,
+    end: &End<'_>,
+    script: &Script,
+    at: usize,
+) -> Result<Due, Trouble> {
+    let last = last_packet(script.input.as_slice(), at) as u64;
+    Ok(Due {
+        given: script.given.clone()?,
+        pack: script.pack.clone()?,
+        progress: script.progress.clone()?,
+        ending: end.truncated(alloc, end.start().saturating_add(last))?,
+        used: at,
+        known: Known::Front,
+    })
+}
+
 /// What is due where the input ends at this byte.
 pub fn due_at(alloc: Global, end: &End<'_>, script: &Script, at: usize) -> Result<Due, Trouble> {
     let told = script.told();
     if told <= at {
         return Ok(Due {
             given: script.given.clone()?,
+            pack: script.pack.clone()?,
+            progress: script.progress.clone()?,
             ending: script.ending.clone()?,
             used: told.saturating_sub(end.unread(script)),
-            is_whole: true,
+            known: Known::All,
         });
     }
+    if script.is_recorded {
+        return recorded_due_at(alloc, end, script, at);
+    }
     let (last, is_answered) = last_step(script, at);
-    let given = script.given.as_slice().get(..last.given).unwrap_or(&[]);
-    let mut given = Vec::from_slice(alloc, given)?;
+    let mut given = front(alloc, &script.given, last.given)?;
     let ending = if last.input == at && end.may_end_after(given.as_slice(), is_answered) {
         String::from_str(alloc, "closed\n")?
     } else {
@@ -75,9 +142,11 @@ pub fn due_at(alloc: Global, end: &End<'_>, script: &Script, at: usize) -> Resul
     };
     Ok(Due {
         given,
+        pack: front(alloc, &script.pack, last.pack)?,
+        progress: front(alloc, &script.progress, last.progress)?,
         ending,
         used: at,
-        is_whole: false,
+        known: Known::Given,
     })
 }
 
@@ -93,15 +162,29 @@ fn told(alloc: Global, place: usize, what: &str, came: &[u8]) -> Result<Trouble,
     Ok(Trouble::Differs(format!(in alloc; "at {place}, {what}: {came}")?))
 }
 
+// Whether what came is what is due, or begins it where no more is known.
+fn is_due(came: &Vec<u8>, due: &Vec<u8>, known: Known) -> bool {
+    match known {
+        Known::All | Known::Given => came.as_slice() == due.as_slice(),
+        Known::Front => due.as_slice().starts_with(came.as_slice()),
+    }
+}
+
 /// Compares what came with what is due.
 pub fn compare(alloc: Global, run: &Run, due: &Due, place: usize) -> Result<(), Trouble> {
-    if run.given.as_slice() != due.given.as_slice() {
-        return Err(told(alloc, place, "given", run.given.as_slice())?);
+    for (what, came, wanted) in [
+        ("given", &run.given, &due.given),
+        ("pack", &run.pack, &due.pack),
+        ("progress", &run.progress, &due.progress),
+    ] {
+        if !is_due(came, wanted, due.known) {
+            return Err(told(alloc, place, what, came.as_slice())?);
+        }
     }
     let (came, wanted) = (run.ending.as_str(), due.ending.as_str());
-    let is_same = match due.is_whole {
-        true => came == wanted,
-        false => first_line(came) == first_line(wanted),
+    let is_same = match due.known {
+        Known::All => came == wanted,
+        Known::Given | Known::Front => first_line(came) == first_line(wanted),
     };
     if !is_same {
         return Err(told(alloc, place, "ended", came.as_bytes())?);

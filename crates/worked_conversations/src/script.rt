@@ -1,8 +1,9 @@
 //! The lines of a case: what comes, what is given for it, and how it ends.
 
-use crate::escapes::append_unescaped;
+use crate::escapes::{append_unescaped, escaped};
+use crate::questions::Question;
 use crate::trouble::Trouble;
-use std::alloc::Global;
+use std::alloc::{AllocError, Global};
 
 /// How a line of what is given is written.
 #[derive(Clone, Copy, PartialEq, Eq)]
@@ -11,13 +12,17 @@ pub enum Given {
     Bytes,
     /// Lines of text as they are, each with its LF.
     Lines,
+    /// The same, and beside them the packets that are sent and the bytes of the side bands, in their escaped form.
+    Talk,
 }
 
 /// Where a step ends, in what comes and in what is given.
-#[derive(Clone, Copy, PartialEq, Eq)]
+#[derive(Clone, Copy, Default, PartialEq, Eq)]
 pub struct Step {
     pub input: usize,
     pub given: usize,
+    pub pack: usize,
+    pub progress: usize,
 }
 
 /// What a line with a plus sign goes on with.
@@ -27,7 +32,17 @@ enum Last {
     Input,
     Given,
     Asked,
+    Pack,
+    Progress,
     Ending,
+}
+
+/// What was recorded of a client and a server: what each of them sent, and the pack bytes among it.
+#[derive(Drop)]
+pub struct Recording {
+    pub requests: Vec<u8>,
+    pub responses: Vec<u8>,
+    pub pack: Vec<u8>,
 }
 
 /// What the lines of a case say.
@@ -37,13 +52,21 @@ pub struct Script {
     pub input: Vec<u8>,
     /// What is given, whole.
     pub given: Vec<u8>,
+    /// What is given of the pack and of the progress, whole.
+    pub pack: Vec<u8>,
+    pub progress: Vec<u8>,
     /// Where each step ends.
     pub steps: Vec<Step>,
     /// What was given before the first step.
-    pub greeting: usize,
-    /// What a second stream has, whole, and how much of it is read.
+    pub greeting: Step,
+    /// Whether the steps are not known, since all that comes was recorded.
+    pub is_recorded: bool,
+    /// What a second stream has, whole, and how much of it is read; of a client, what it sends.
     pub asked: Vec<u8>,
     pub asked_read: usize,
+    /// What a client is to ask, and whether it leaves then.
+    pub questions: Vec<Question>,
+    pub leaves: bool,
     /// The lines that say how it ends, each with its LF.
     pub ending: String,
     last: Last,
@@ -55,32 +78,49 @@ impl Script {
         let mut script = Script {
             input: Vec::new(alloc),
             given: Vec::new(alloc),
+            pack: Vec::new(alloc),
+            progress: Vec::new(alloc),
             steps: Vec::new(alloc),
-            greeting: 0,
+            greeting: Step::default(),
+            is_recorded: false,
             asked: Vec::new(alloc),
             asked_read: 0,
+            questions: Vec::new(alloc),
+            leaves: false,
             ending: String::new(alloc),
             last: Last::Nothing,
         };
         for line in lines {
-            script.take(line, form)?;
+            script.take(alloc, line, form)?;
         }
         Ok(script)
     }
 
-    fn take(&mut self, line: &str, form: Given) -> Result<(), Trouble> {
-        match line.split_once(' ').unwrap_or((line, "")) {
-            (">", text) => self.take_input(text),
-            ("<", text) => self.take_given(text, form),
-            ("?", text) => self.take_asked(text),
-            ("+", text) => self.take_more(text, form),
-            _ => {
-                self.ending.push_str(line)?;
-                self.ending.push_str("\n")?;
-                self.last = Last::Ending;
+    fn take(&mut self, alloc: Global, line: &str, form: Given) -> Result<(), Trouble> {
+        let (word, text) = line.split_once(' ').unwrap_or((line, ""));
+        match (word, form) {
+            (">", _) => self.take_input(text),
+            ("<", _) => self.take_given(text, form),
+            ("?", Given::Talk) => self.take_sent(alloc, text),
+            ("?", _) => self.take_asked(text),
+            ("+", _) => self.take_more(text, form),
+            ("ask", Given::Talk) => self.take_question(alloc, text),
+            ("with", Given::Talk) => self.take_argument(alloc, text),
+            ("leave", Given::Talk) => {
+                self.leaves = true;
                 Ok(())
             }
+            ("pack", Given::Talk) => self.take_pack(text),
+            ("progress", Given::Talk) => self.take_progress(text),
+            _ => self.take_ending(line),
         }
+    }
+
+    fn take_ending(&mut self, line: &str) -> Result<(), Trouble> {
+        self.ending.push_str(line)?;
+        self.ending.push_str("\n")?;
+        self.last = Last::Ending;
+        Ok(())
     }
 
     // A step, or what is left after the end.
@@ -88,19 +128,26 @@ impl Script {
         append_unescaped(&mut self.input, text)?;
         self.last = Last::Input;
         if self.ending.is_empty() {
-            let step = Step {
-                input: self.input.len(),
-                given: self.given.len(),
-            };
+            let step = self.reached();
             self.steps.push(step).map_err(|_| Trouble::OutOfMemory)?;
         }
         Ok(())
     }
 
+    // Where the bytes so far end.
+    fn reached(&self) -> Step {
+        Step {
+            input: self.input.len(),
+            given: self.given.len(),
+            pack: self.pack.len(),
+            progress: self.progress.len(),
+        }
+    }
+
     fn take_given(&mut self, text: &str, form: Given) -> Result<(), Trouble> {
         match form {
             Given::Bytes => append_unescaped(&mut self.given, text)?,
-            Given::Lines => {
+            Given::Lines | Given::Talk => {
                 self.given.extend_from_slice(text.as_bytes())?;
                 self.given.push(b'\n')?;
             }
@@ -119,6 +166,66 @@ impl Script {
         Ok(())
     }
 
+    // A packet that is sent: a line among what is given.
+    fn take_sent(&mut self, alloc: Global, text: &str) -> Result<(), Trouble> {
+        let start = self.asked.len();
+        append_unescaped(&mut self.asked, text)?;
+        let packet = self.asked.as_slice().get(start..).unwrap_or(&[]);
+        append_sent(alloc, &mut self.given, packet)?;
+        self.last = Last::Nothing;
+        self.mark();
+        Ok(())
+    }
+
+    fn take_question(&mut self, alloc: Global, words: &str) -> Result<(), Trouble> {
+        let question = Question::new(alloc, words)?;
+        self.questions
+            .push(question)
+            .map_err(|_| Trouble::OutOfMemory)
+    }
+
+    // An argument of what is asked last.
+    fn take_argument(&mut self, alloc: Global, text: &str) -> Result<(), Trouble> {
+        let mut argument = Vec::new(alloc);
+        append_unescaped(&mut argument, text)?;
+        match self.questions.as_mut_slice().last_mut() {
+            Some(question) => question
+                .arguments
+                .push(argument)
+                .map_err(|_| Trouble::OutOfMemory),
+            None => Err(Trouble::BadCase("an argument of nothing")),
+        }
+    }
+
+    fn take_pack(&mut self, text: &str) -> Result<(), Trouble> {
+        append_unescaped(&mut self.pack, text)?;
+        self.last = Last::Pack;
+        self.mark();
+        Ok(())
+    }
+
+    fn take_progress(&mut self, text: &str) -> Result<(), Trouble> {
+        append_unescaped(&mut self.progress, text)?;
+        self.last = Last::Progress;
+        self.mark();
+        Ok(())
+    }
+
+    /// Takes what was recorded: what was sent, which has to be what the lines say, all that came, and its pack.
+    pub fn take_recording(&mut self, recording: Recording) -> Result<(), Trouble> {
+        if self.asked.as_slice() != recording.requests.as_slice() {
+            return Err(Trouble::BadCase("other requests than were recorded"));
+        }
+        if !self.steps.is_empty() {
+            return Err(Trouble::BadCase("more comes than was recorded"));
+        }
+        self.is_recorded = true;
+        self.input = recording.responses;
+        self.pack = recording.pack;
+        let step = self.reached();
+        self.steps.push(step).map_err(|_| Trouble::OutOfMemory)
+    }
+
     // Goes on with the line before: so many times these bytes.
     fn take_more(&mut self, text: &str, form: Given) -> Result<(), Trouble> {
         let (count, text) = text.split_once(' ').unwrap_or((text, ""));
@@ -128,8 +235,10 @@ impl Script {
         match self.last {
             Last::Input => append_often(&mut self.input, count, text)?,
             Last::Asked => append_often(&mut self.asked, count, text)?,
+            Last::Pack => append_often(&mut self.pack, count, text)?,
+            Last::Progress => append_often(&mut self.progress, count, text)?,
             Last::Given => {
-                let is_lines = form == Given::Lines;
+                let is_lines = form != Given::Bytes;
                 if is_lines {
                     self.given.pop();
                 }
@@ -159,14 +268,10 @@ impl Script {
         if !self.ending.is_empty() {
             return;
         }
+        let reached = self.reached();
         match self.steps.as_mut_slice().last_mut() {
-            Some(step) => {
-                *step = Step {
-                    input: self.input.len(),
-                    given: self.given.len(),
-                };
-            }
-            None => self.greeting = self.given.len(),
+            Some(step) => *step = reached,
+            None => self.greeting = reached,
         }
     }
 
@@ -177,6 +282,13 @@ impl Script {
             None => 0,
         }
     }
+}
+
+/// Appends the line of a packet that is sent.
+pub fn append_sent(alloc: Global, lines: &mut Vec<u8>, packet: &[u8]) -> Result<(), AllocError> {
+    lines.extend_from_slice(b"? ")?;
+    lines.extend_from_slice(escaped(alloc, packet)?.as_slice())?;
+    lines.extend_from_slice(b"\n")
 }
 
 fn append_often(bytes: &mut Vec<u8>, count: u32, text: &str) -> Result<(), Trouble> {

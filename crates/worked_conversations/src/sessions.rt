@@ -136,11 +136,8 @@ fn fed_to<R: Repo + Drop>(
         return Err(Trouble::Breaks("a closed server has no outcome"));
     };
     check_over(&mut server, outcome)?;
-    Ok(Run {
-        given,
-        ending: ending_of(alloc, outcome)?,
-        used: Some(used),
-    })
+    let ending = ending_of(alloc, outcome)?;
+    Ok(Run::new(alloc, given, ending, Some(used)))
 }
 
 /// Feeds the pieces to a server, after which the input ends.
@@ -174,11 +171,7 @@ fn served_by<R: Repo + Drop>(
         Ok(outcome) => ending_of(alloc, outcome)?,
         Err(fault) => format!(in alloc; "{fault}\n")?,
     };
-    Ok(Run {
-        given,
-        ending,
-        used: None,
-    })
+    Ok(Run::new(alloc, given, ending, None))
 }
 
 /// Serves the pieces.

@@ -15,7 +15,7 @@ pub const MANY: usize = 100_000;
 pub const LAST_POSITION: u64 = 9_223_372_036_854_775_807;
 
 /// The most bytes that the texts of a request's arguments may have.
-const MOST_KEPT: u32 = 1_073_741_824;
+pub const MOST_KEPT: u32 = 1_073_741_824;
 
 /// All that is offered so far, in this format, but the features of `fetch` where they are left out.
 pub fn offer(format: Format, features: bool) -> Offer

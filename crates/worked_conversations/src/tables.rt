@@ -259,7 +259,7 @@ impl Table {
 
     /// Each text gives the lines that stand after it. Answers how many texts there are.
     pub fn goes(self, alloc: Global, script: &Script) -> Result<usize, Trouble> {
-        let mut last = Step { input: 0, given: 0 };
+        let mut last = Step::default();
         for step in script.steps.as_slice() {
             let text = script.input.as_slice().get(last.input..step.input);
             let lines = script.given.as_slice().get(last.given..step.given);

@@ -1,6 +1,7 @@
 use Rattle.std.proofs.Common.{rules, arith, ◌≡◌, ◌-◌, ◌≤◌, ◌<◌, true, take, drop, length, [], refl}
 use Rattle.std.specs.Io.KnownBytes.{Consumes, Keeps}
 use Rattle.git_pkt.specs.Told.{inner_of, has_ended, has_failed}
+use Rattle.git_client.specs.Parts.{terms_of}
 use Rattle.git2show_lib.specs.CheckedStreams.{Judges, nothing_asked}
 use Rattle.git2show_lib.specs.declared.checking.Left.{Left}
 use Rattle.git2show_lib.specs.declared.checking.CheckFault.TheVariants.{WriteFault}
@@ -18,8 +19,8 @@ returns-in-Ok-eq0-clause-reads g c = search rules
 pub returns-in-Ok-clause-reads : goal.returns-in-Ok-clause-reads
 returns-in-Ok-clause-reads g c = search rules
 
-pub returns-in-Err-clause-reads : goal.returns-in-Err-clause-reads
-returns-in-Err-clause-reads g c = search rules
+pub returns-clause-reads : goal.returns-clause-reads
+returns-clause-reads g c = search rules
 
 pub returns-in-Ok-clause-ok : goal.returns-in-Ok-clause-ok
 returns-in-Ok-clause-ok g c = search rules
@@ -27,8 +28,8 @@ returns-in-Ok-clause-ok g c = search rules
 pub returns-in_err-map_err-clause-checked : goal.returns-in_err-map_err-clause-checked
 returns-in_err-map_err-clause-checked g c =
     let named : c.in_err-map_err.field-0.0 ≡ WriteFault = search rules in
-    ends_at_write c.from_residual.result _ c.args.format _ (has_ended c.hear_advertisement-heard.new.responses) _ _ _ _ c.from_residual.ensures.1 named
-    (flush_failed c.args.format c.args.ending c.new-client.result c.hear_advertisement-heard.new.client c.new-client.ensures.hears _
+    ends_at_write c.from_residual.result _ (terms_of c.args.format c.args.ending) _ (has_ended c.hear_advertisement-heard.new.responses) _ _ _ _ c.from_residual.ensures.1 named
+    (flush_failed (terms_of c.args.format c.args.ending) c.new-client.result c.hear_advertisement-heard.new.client c.new-client.ensures.converses _
     (has_ended c.hear_advertisement-heard.new.responses) (g.A.Read.remaining (inner_of c.args.responses.now))
     (g.A.Read.remaining (inner_of c.hear_advertisement-heard.new.responses)) (g.W.Write.contents (inner_of c.args.out.now))
     (g.W.Write.contents (inner_of c.hear_advertisement-heard.new.out)) (g.W.Write.contents (inner_of c.flush.new.writer)) c.flush.ensures.bytes
@@ -39,9 +40,9 @@ returns-in_err-map_err-clause-checked g c =
 
 pub returns-in_err-left-clause-checked : goal.returns-in_err-left-clause-checked
 returns-in_err-left-clause-checked g c =
-    ends_at c.from_residual-in_err-left.result _ c.args.format _ (has_ended c.hear_advertisement-heard.new.responses) _ _ _ _
+    ends_at c.from_residual-in_err-left.result _ (terms_of c.args.format c.args.ending) _ (has_ended c.hear_advertisement-heard.new.responses) _ _ _ _
     c.from_residual-in_err-left.ensures.1
-    (responses_stopped c.args.format c.args.ending c.new-client.result c.hear_advertisement-heard.new.client c.new-client.ensures.hears _
+    (responses_stopped (terms_of c.args.format c.args.ending) c.new-client.result c.hear_advertisement-heard.new.client c.new-client.ensures.converses _
     (has_ended c.hear_advertisement-heard.new.responses) (g.A.Read.remaining (inner_of c.args.responses.now))
     (g.A.Read.remaining (inner_of c.hear_advertisement-heard.new.responses)) (g.W.Write.contents (inner_of c.args.out.now))
     (g.W.Write.contents (inner_of c.hear_advertisement-heard.new.out)) (g.W.Write.contents (inner_of c.flush.new.writer)) c.flush.ensures.bytes
@@ -50,9 +51,9 @@ returns-in_err-left-clause-checked g c =
 
 pub returns-in_err-read_requests-clause-checked : goal.returns-in_err-read_requests-clause-checked
 returns-in_err-read_requests-clause-checked g c =
-    ends_at c.from_residual-in_err-read_requests.result _ c.args.format _
+    ends_at c.from_residual-in_err-read_requests.result _ (terms_of c.args.format c.args.ending) _
     (has_ended c.hear_advertisement-heard.new.responses) _ _ _ _ c.from_residual-in_err-read_requests.ensures.1
-    (requests_stopped c.args.format c.args.ending c.new-client.result c.hear_advertisement-heard.new.client c.new-client.ensures.hears _
+    (requests_stopped (terms_of c.args.format c.args.ending) c.new-client.result c.hear_advertisement-heard.new.client c.new-client.ensures.converses _
     (has_ended c.hear_advertisement-heard.new.responses) (g.A.Read.remaining (inner_of c.args.responses.now))
     (g.A.Read.remaining (inner_of c.hear_advertisement-heard.new.responses)) (g.W.Write.contents (inner_of c.args.out.now))
     (g.W.Write.contents (inner_of c.hear_advertisement-heard.new.out))
@@ -65,7 +66,7 @@ pub returns-then-left-clause-checked : goal.returns-then-left-clause-checked
 returns-then-left-clause-checked g c =
     let so : Judges (has_ended c.read_requests.new.requests) (has_failed c.read_requests.new.requests) (g.Q.Read.remaining (inner_of c.args.requests.now))
     (g.Q.Read.remaining (inner_of c.read_requests.new.requests)) nothing_asked = search rules in
-    some_was_left c.args.format c.args.ending c.new-client.result c.hear_advertisement-heard.new.client c.new-client.ensures.hears _
+    some_was_left (terms_of c.args.format c.args.ending) c.new-client.result c.hear_advertisement-heard.new.client c.new-client.ensures.converses _
     (has_ended c.hear_advertisement-heard.new.responses) (g.A.Read.remaining (inner_of c.args.responses.now))
     (g.A.Read.remaining (inner_of c.hear_advertisement-heard.new.responses)) (g.W.Write.contents (inner_of c.args.out.now))
     (g.W.Write.contents (inner_of c.hear_advertisement-heard.new.out)) (g.W.Write.contents (inner_of c.flush.new.writer)) c.flush.ensures.bytes
@@ -78,7 +79,7 @@ returns-then-reads-turns-clause-checked g c =
     let so : Judges (has_ended c.read_requests.new.requests) (has_failed c.read_requests.new.requests) (g.Q.Read.remaining (inner_of c.args.requests.now))
     (g.Q.Read.remaining (inner_of c.read_requests.new.requests)) nothing_asked = search rules in
     let none : c.in_ok-left.left.end ≤ c.in_ok-left.left.start = search rules in
-    limit_met c.args.format c.args.ending c.new-client.result c.hear_advertisement-heard.new.client c.new-client.ensures.hears _
+    limit_met (terms_of c.args.format c.args.ending) c.new-client.result c.hear_advertisement-heard.new.client c.new-client.ensures.converses _
     (has_ended c.hear_advertisement-heard.new.responses) (g.A.Read.remaining (inner_of c.args.responses.now))
     (g.A.Read.remaining (inner_of c.hear_advertisement-heard.new.responses)) (g.W.Write.contents (inner_of c.args.out.now))
     (g.W.Write.contents (inner_of c.hear_advertisement-heard.new.out)) (g.W.Write.contents (inner_of c.flush.new.writer)) c.flush.ensures.bytes
@@ -94,7 +95,7 @@ returns-in-Ok-eq0-clause-checked g c =
     let at_end : has_ended c.receive.new.reader ≡ true = search rules in
     let read : Consumes (g.A.Read.remaining (inner_of c.hear_advertisement-heard.new.responses)) (g.A.Read.remaining (inner_of c.receive.new.reader)) [] =
     search rules in
-    all_was_used c.args.format c.args.ending c.new-client.result c.hear_advertisement-heard.new.client c.new-client.ensures.hears _
+    all_was_used (terms_of c.args.format c.args.ending) c.new-client.result c.hear_advertisement-heard.new.client c.new-client.ensures.converses _
     (has_ended c.receive.new.reader) (g.A.Read.remaining (inner_of c.args.responses.now)) (g.A.Read.remaining (inner_of c.receive.new.reader))
     (g.W.Write.contents (inner_of c.args.out.now)) (g.W.Write.contents (inner_of c.hear_advertisement-heard.new.out))
     (g.W.Write.contents (inner_of c.flush.new.writer)) c.flush.ensures.bytes c.in_ok-left.ensures.whole []
@@ -112,7 +113,7 @@ returns-in-Ok-clause-checked g c =
     let bound : c.in-Ok.field-0 ≤ length c.receive.new.piece = search rules in
     let some : 0 < c.in-Ok.field-0 = search rules in
     let more : 0 < length (take c.in-Ok.field-0 c.receive.new.piece) = taken_some c.receive.new.piece c.in-Ok.field-0 some bound in
-    some_was_left c.args.format c.args.ending c.new-client.result c.hear_advertisement-heard.new.client c.new-client.ensures.hears _
+    some_was_left (terms_of c.args.format c.args.ending) c.new-client.result c.hear_advertisement-heard.new.client c.new-client.ensures.converses _
     (has_ended c.receive.new.reader) (g.A.Read.remaining (inner_of c.args.responses.now)) (g.A.Read.remaining (inner_of c.receive.new.reader))
     (g.W.Write.contents (inner_of c.args.out.now)) (g.W.Write.contents (inner_of c.hear_advertisement-heard.new.out))
     (g.W.Write.contents (inner_of c.flush.new.writer)) c.flush.ensures.bytes c.in_ok-left.ensures.whole (take c.in-Ok.field-0 c.receive.new.piece)
@@ -120,14 +121,14 @@ returns-in-Ok-clause-checked g c =
     (no_more_left c.hear_advertisement-heard.new.piece c.in_ok-left.left.start c.in_ok-left.left.end none) c.in_ok-left.ensures.heard read) so
     c.left_over-in-Ok.result c.left_over-in-Ok.ensures more
 
-pub returns-in-Err-clause-checked : goal.returns-in-Err-clause-checked
-returns-in-Err-clause-checked g c =
+pub returns-clause-checked : goal.returns-clause-checked
+returns-clause-checked g c =
     let so : Judges (has_ended c.read_requests.new.requests) (has_failed c.read_requests.new.requests) (g.Q.Read.remaining (inner_of c.args.requests.now))
     (g.Q.Read.remaining (inner_of c.read_requests.new.requests)) nothing_asked = search rules in
     let none : c.in_ok-left.left.end ≤ c.in_ok-left.left.start = search rules in
     let kept : Keeps (g.A.Read.remaining (inner_of c.hear_advertisement-heard.new.responses)) (g.A.Read.remaining (inner_of c.receive.new.reader)) =
     search rules in
-    read_failed c.args.format c.args.ending c.new-client.result c.hear_advertisement-heard.new.client c.new-client.ensures.hears _
+    read_failed (terms_of c.args.format c.args.ending) c.new-client.result c.hear_advertisement-heard.new.client c.new-client.ensures.converses _
     (has_ended c.receive.new.reader) (g.A.Read.remaining (inner_of c.args.responses.now)) (g.A.Read.remaining (inner_of c.receive.new.reader))
     (g.W.Write.contents (inner_of c.args.out.now)) (g.W.Write.contents (inner_of c.hear_advertisement-heard.new.out))
     (g.W.Write.contents (inner_of c.flush.new.writer)) c.flush.ensures.bytes c.in_ok-left.ensures.whole

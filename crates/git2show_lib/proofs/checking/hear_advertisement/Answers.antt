@@ -17,6 +17,7 @@ loop-init g c = record {
   sound = search rules;
   open_ended = search rules;
   client_sound = search rules;
+  stands = λ none. let waits = c.requires.waits in absurd (cc);
   out_stays = search rules;
   heard = transcribed_nothing _ _ _;
 }
@@ -72,6 +73,7 @@ loop-preserved g c =
       sound = search rules;
       open_ended = search rules;
       client_sound = search rules;
+      stands = search rules;
       out_stays = search rules;
       heard =
           subst (λ l. Transcribed c.args.client.now c.hear_piece.new.client l (g.A.Read.remaining (inner_of c.args.responses.now))

@@ -1,6 +1,6 @@
 use Rattle.std.proofs.Common.{◌≡◌, ◌-◌, ◌≤◌, ◌<◌, length, take, drop, true, false, None}
 use Rattle.git_pkt.specs.Told.{inner_of, reads_of, has_failed, has_ended}
-use Rattle.git_client.specs.Client.{fault_of, wants_input}
+use Rattle.git_client.specs.Client.{fault_of, can_ask, wants_input}
 use Rattle.git2show_lib.specs.CheckedStreams.{Transcribed}
 use Rattle.git2show_lib.proofs.checking.hear_advertisement.Given as goal
 
@@ -14,6 +14,7 @@ invariant-loop g l = record {
   sound : has_failed l.responses ≡ false;
   open_ended : has_ended l.responses ≡ false;
   client_sound : fault_of l.client ≡ None;
+  stands : wants_input l.client ≡ false → can_ask l.client ≡ true;
   out_stays : has_failed l.out ≡ has_failed l.fn.out;
   heard : Transcribed l.fn.client l.client (take (l.left.end - l.left.start) (drop l.left.start l.piece))
       (g.A.Read.remaining (inner_of l.fn.responses)) (g.A.Read.remaining (inner_of l.responses))

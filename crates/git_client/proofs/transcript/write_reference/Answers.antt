@@ -15,13 +15,13 @@ returns-in_err-write_pointed-clause-err g c =
     let peeled = peeled_text (option_copied c.args.peeled) in
     on_err _ (line_stopped _ _ [] front (target ∷ peeled ∷ codes "\n" ∷ []) tt c.in_err-write_pointed.ensures.err)
 
-pub returns-in_err-write_target-clause-err : goal.returns-in_err-write_target-clause-err
-returns-in_err-write_target-clause-err g c =
+pub returns-in_err-write_after-clause-err : goal.returns-in_err-write_after-clause-err
+returns-in_err-write_after-clause-err g c =
     let front = codes "ref " ++ hex_of c.args.id.now ++ codes " " ++ escaped_of c.args.name.now in
     let target = target_shown (option_copied c.args.target) in
     let peeled = peeled_text (option_copied c.args.peeled) in
     on_err _ (line_stopped _ _ ((front, _) ∷ []) target (peeled ∷ codes "\n" ∷ [])
-    (c.in_ok-write_pointed.ensures.ok, tt) c.in_err-write_target.ensures.err)
+    (c.in_ok-write_pointed.ensures.ok, tt) c.in_err-write_after.ensures.err)
 
 pub returns-in_err-write_peeled-clause-err : goal.returns-in_err-write_peeled-clause-err
 returns-in_err-write_peeled-clause-err g c =
@@ -29,7 +29,7 @@ returns-in_err-write_peeled-clause-err g c =
     let target = target_shown (option_copied c.args.target) in
     let peeled = peeled_text (option_copied c.args.peeled) in
     on_err _ (line_stopped _ _ ((front, _) ∷ (target, _) ∷ []) peeled (codes "\n" ∷ [])
-    (c.in_ok-write_pointed.ensures.ok, (c.in_ok-write_target.ensures.ok, tt)) c.in_err-write_peeled.ensures.err)
+    (c.in_ok-write_pointed.ensures.ok, (c.in_ok-write_after.ensures.ok, tt)) c.in_err-write_peeled.ensures.err)
 
 pub returns-clause-ok : goal.returns-clause-ok
 returns-clause-ok g c =
@@ -37,7 +37,7 @@ returns-clause-ok g c =
     let target = target_shown (option_copied c.args.target) in
     let peeled = peeled_text (option_copied c.args.peeled) in
     on_ok_weaker c.send.result (λ now. line_written _ ((front, _) ∷ (target, _) ∷ (peeled, _) ∷ (codes "\n", _) ∷ [])
-    (c.in_ok-write_pointed.ensures.ok, (c.in_ok-write_target.ensures.ok, (c.in_ok-write_peeled.ensures.ok, (now, tt))))) c.send.ensures.ok
+    (c.in_ok-write_pointed.ensures.ok, (c.in_ok-write_after.ensures.ok, (c.in_ok-write_peeled.ensures.ok, (now, tt))))) c.send.ensures.ok
 
 pub returns-clause-err : goal.returns-clause-err
 returns-clause-err g c =
@@ -45,4 +45,4 @@ returns-clause-err g c =
     let target = target_shown (option_copied c.args.target) in
     let peeled = peeled_text (option_copied c.args.peeled) in
     on_err_weaker c.send.result (line_stopped _ _ ((front, _) ∷ (target, _) ∷ (peeled, _) ∷ []) (codes "\n") []
-    (c.in_ok-write_pointed.ensures.ok, (c.in_ok-write_target.ensures.ok, (c.in_ok-write_peeled.ensures.ok, tt)))) c.send.ensures.err
+    (c.in_ok-write_pointed.ensures.ok, (c.in_ok-write_after.ensures.ok, (c.in_ok-write_peeled.ensures.ok, tt)))) c.send.ensures.err

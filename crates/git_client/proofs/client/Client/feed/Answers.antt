@@ -1,16 +1,16 @@
-use Rattle.std.proofs.Common.{arith, ◌≡◌, ◌≢◌, ◌∙◌, ap, sym, refl, ℕ, zero, suc, ◌<◌, List, [], ◌∷◌, length, map, drop, subst, take, true, Some}
+use Rattle.std.proofs.Common.{arith, ◌≡◌, ◌≢◌, ◌∙◌, sym, refl, ℕ, zero, suc, ◌<◌, List, [], ◌∷◌, length, map, drop, subst, take, true, Some}
 use Rattle.git_pkt.specs.PacketReader.{held_of}
 use Rattle.git_pkt.specs.declared.fault.Fault.{Fault}
 use Rattle.git_client.specs.Events.{EventValue, pack, progress, turns_of}
 use Rattle.git_client.specs.Turns.{takes_packets, fault_in, events_at, values_of, Fits}
 use Rattle.git_client.specs.Client.{Feeds, HearsOn, Takes, LeavesAfter, StandsAfter, phase_of, reader_of, said_last, can_ask, wants_input}
 use Rattle.git_client.specs.declared.events.Event.{Event}
-use Rattle.git_client.specs.declared.events.Event.TheVariants.{Offered, Ended, Pack, Progress}
+use Rattle.git_client.specs.declared.events.Event.TheVariants.{Pack, Progress}
 use Rattle.git_client.specs.declared.events.HeardGot.TheVariants.{Event as EventGot}
 use Rattle.git_client.specs.declared.phase.Phase.{Phase}
 use Rattle.git_client.specs.declared.phase.Phase.TheVariants.{Hearing}
 use Rattle.git_client.specs.declared.phase.Said.{Said}
-use Rattle.git_client.specs.declared.phase.Said.TheVariants.{Nothing, Offered as SaidOffered, Ended as SaidEnded, Pack as SaidPack, Progress as SaidProgress}
+use Rattle.git_client.specs.declared.phase.Said.TheVariants.{Nothing, Pack as SaidPack, Progress as SaidProgress}
 use Rattle.git_client.specs.declared.client.Client.{Client}
 use Rattle.git_client.specs.declared.client.Outcome.{Outcome}
 use Rattle.git_client.specs.declared.client.Outcome.TheVariants.{Event as EventNow}

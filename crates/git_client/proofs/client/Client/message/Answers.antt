@@ -1,7 +1,6 @@
-use Rattle.std.proofs.Common.{arith, ◌≡◌, ◌⊎◌, inl, inr, ℕ, ◌+◌, ◌<◌, ◌≤◌, List, length, drop, Option, Some, None, Bor, MatchOption, true, ap, ◌∙◌, subst}
+use Rattle.std.proofs.Common.{arith, ◌≡◌, ◌⊎◌, inl, inr, ℕ, ◌+◌, ◌<◌, ◌≤◌, List, length, drop, Option, Some, None, Bor, MatchOption, ap, ◌∙◌, subst}
 use Rattle.std.specs.List.{slice_range}
 use Rattle.git_pkt.specs.Packets.{text_of}
-use Rattle.git_pkt.specs.declared.fault.Kind.{Kind}
 use Rattle.git_pkt.specs.declared.fault.Kind.TheVariants.{RemoteError, RemoteFatal}
 use Rattle.git_pkt.proofs.Pieces.{left_of}
 use Rattle.git_client.specs.Client.{is_told}

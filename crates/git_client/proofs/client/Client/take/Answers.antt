@@ -5,7 +5,7 @@ use Rattle.git_pkt.specs.PacketReader.{ReadsOn, Tells, given_by, fault_of as rea
 use Rattle.git_pkt.specs.declared.reader.Got.{Got}
 use Rattle.git_pkt.specs.declared.reader.Got.TheVariants.{Packet}
 use Rattle.git_client.specs.Turns.{fault_in}
-use Rattle.git_client.specs.Client.{Takes, phase_of, reader_of}
+use Rattle.git_client.specs.Client.{Takes, reader_of}
 use Rattle.git_client.specs.declared.client.Outcome.{Outcome}
 use Rattle.git_client.proofs.Carries.{HearsBytes, HearsPacket}
 use Rattle.git_client.proofs.Taken.{packet_read, taken, taken_failed}
