@@ -61,6 +61,9 @@ class Edit:
         """Makes the edit in these texts. The functions that it changes; None where it does not fit."""
         places = set()
         for file, old, new in self.pairs:
+            if not (folder / file).is_file():
+                self.why = f"there is no {file}"
+                return None
             text = texts.get(file, (folder / file).read_text())
             if text.count(old) != 1:
                 self.why = f"an 'old:' text is in {file} {text.count(old)} times, and not once"

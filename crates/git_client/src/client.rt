@@ -60,11 +60,12 @@ pub struct Client<A: Allocator + Copy> {
     ghost sound: { fault_in phase ≡ None → reader_fault_of reader ≡ None },
     ghost shut: { fault_in phase ≡ None → takes_packets phase ≡ false → is_open reader ≡ false },
     ghost owes: { is_asking phase ≡ true → left_in phase request ≢ [] },
+    ghost freed: { is_asking phase ≡ false → request ≡ None },
     ghost formats: { ForSome request (λ q. request_format q ≡ format) },
 }
 
 impl<A: Allocator + Copy> Client<A> {
-    ghost use Rattle.git_client.specs.Client.{said_last, HearsNext, Converses, History, nothing_yet, HearsOn, Feeds, EndsWithMessage, EndsWithoutMessage, fault_of, can_ask, wants_input, has_left, left_to_say, bytes_used, caps_of, reader_of, Takes, Settles};
+    ghost use Rattle.git_client.specs.Client.{said_last, HearsNext, Converses, History, nothing_yet, HearsOn, Feeds, EndsWithMessage, EndsWithoutMessage, fault_of, can_ask, wants_input, has_left, left_to_say, bytes_used, caps_of, phase_of, reader_of, Takes, Settles};
     ghost use Rattle.git_client.specs.contracts.client.Client.{the_row};
 
     /// A client of this object format, before the first byte of the advertisement.
@@ -255,6 +256,7 @@ impl<A: Allocator + Copy> Client<A> {
     fn settle(&mut self, judged: Result<Turn, Kind>, offset: u64) -> Outcome
         requires whole { is_open (reader_of self.old) ≡ false }
         requires sound { reader_fault_of (reader_of self.old) ≡ None }
+        requires said { is_asking (phase_of self.old) ≡ false }
         requires hears { HearsNext judged }
         ensures { Settles self.old judged offset result self.new }
     {
