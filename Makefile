@@ -31,6 +31,7 @@ audit:
 # Builds the Rattle programs, and measures them beside C and the real Git.
 bench:
 	@cd crates/bench_packets && $(RT) run < stdin > /dev/null
+	@cd crates/bench_client && $(RT) run < stdin > /dev/null
 	@cd crates/bench_names && $(RT) run > /dev/null
 	@cd crates/git2show && $(RT) run -- show < ../../sample/conversation.pkt > /dev/null
 	@bench/run.sh

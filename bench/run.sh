@@ -1,11 +1,11 @@
 #!/usr/bin/env bash
 # Measures the Rattle programs against the C programs beside this script and the real Git, and prints a table.
 #
-#     bench/run.sh [BENCH_PACKETS [GIT2SHOW [BENCH_NAMES]]]
+#     bench/run.sh [BENCH_PACKETS [GIT2SHOW [BENCH_NAMES [BENCH_CLIENT]]]]
 #
 # The arguments are the paths of the Rattle programs; without them, where `rt run` leaves them in this repository.
 # `bench/run.sh --c-only` measures the C programs and Git alone; without a git the rows `serve` and `fetch` are left out. The streams
-# lie in a new folder of /tmp (or of $BENCH_FOLDER), which is removed at the end, and take 4 GB. Times are wall-clock
+# lie in a new folder of /tmp (or of $BENCH_FOLDER), which is removed at the end, and take 5 GB. Times are wall-clock
 # seconds, the best of five runs that alternate; a ratio is C's time by ours, so 1.00 is as fast as C and more is faster.
 set -eu -o pipefail
 shopt -s inherit_errexit
@@ -22,6 +22,7 @@ fi
 our_packets=${1:-$top/crates/bench_packets/out/bench_packets}
 our_show=${2:-$top/crates/git2show/out/git2show}
 our_names=${3:-$top/crates/bench_names/out/bench_names}
+our_client=${4:-$top/crates/bench_client/out/bench_client}
 
 stop() {
     echo "bench/run.sh: $*" >&2
@@ -29,25 +30,27 @@ stop() {
 }
 
 if [ -z "$c_only" ]; then
-    for program in "$our_packets" "$our_show" "$our_names"; do
+    for program in "$our_packets" "$our_show" "$our_names" "$our_client"; do
         [ -x "$program" ] || stop "no program $program: run 'rt run' in its crate first"
     done
 fi
 
 mkdir -p "$out"
-for program in packets show names generate ask bands; do
+for program in packets show names client generate ask bands; do
     ${CC:-gcc} -O3 -Wall -Wextra -o "$out/$program" "$top/bench/$program.c"
 done
 
 streams=$(mktemp -d "${BENCH_FOLDER:-/tmp}/git2show-bench.XXXXXX")
 trap 'rm -rf "$streams"' EXIT
 free=$(df -Pk "$streams" | awk 'NR == 2 { print $4 }')
-[ "$free" -gt 4500000 ] || stop "$streams has ${free} KiB left, and 4,500,000 are wanted; set BENCH_FOLDER"
+[ "$free" -gt 5700000 ] || stop "$streams has ${free} KiB left, and 5,700,000 are wanted; set BENCH_FOLDER"
 
-# The counts give 1 GB, 200 MB, 250 MB and 10 GB.
+# The counts give 1 GB, 200 MB, 250 MB, 1 GB, 200 MB and 10 GB.
 "$out/generate" 15264 65515 text > "$streams/large"
 "$out/generate" 3703704 50 text > "$streams/small"
 "$out/generate" 3816 65515 binary > "$streams/binary"
+"$out/generate" 15264 65515 pack > "$streams/large_pack"
+"$out/generate" 3636364 50 pack > "$streams/small_pack"
 huge() {
     "$out/generate" 152640 65515 "$1"
 }
@@ -96,6 +99,8 @@ same_output() {
     for stream in large small; do
         [ "$("$our_packets" < "$streams/$stream")" = "$("$out/packets" < "$streams/$stream")" ] ||
             stop "bench_packets and packets.c differ on the stream '$stream'"
+        [ "$("$our_client" < "$streams/${stream}_pack")" = "$("$out/client" < "$streams/${stream}_pack")" ] ||
+            stop "bench_client and client.c differ on the stream '${stream}_pack'"
     done
     for stream in large small binary; do
         cmp <("$our_show" show < "$streams/$stream") <("$out/show" < "$streams/$stream") ||
@@ -128,6 +133,8 @@ echo
 printf '%-34s %22s   %22s   %6s\n' '' 'C' 'Rattle' 'ratio'
 measure 'packets, 65,515 bytes, 1 GB' large "$out/packets" "$our_packets"
 measure 'packets, 50 bytes, 200 MB' small "$out/packets" "$our_packets"
+measure 'client, 65,515 bytes, 1 GB' large_pack "$out/client" "$our_client"
+measure 'client, 50 bytes, 200 MB' small_pack "$out/client" "$our_client"
 measure 'show, 65,515 text, 1 GB' large "$out/show" "$our_show" show
 measure 'show, 50 text, 200 MB' small "$out/show" "$our_show" show
 measure 'show, 65,515 binary, 250 MB' binary "$out/show" "$our_show" show

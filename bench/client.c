@@ -1,0 +1,99 @@
+/*
+ * Reads what a server says to a client that asked for a pack, and prints one line: `packets bytes checksum` of the
+ * packets of the pack's band. The checksum takes the length and the first byte of what each of them has. This is what
+ * `git_client::Client` is measured against; crates/bench_client prints the same line.
+ */
+#include "pkt_line.h"
+
+enum band { PACK = 1, PROGRESS = 2, FATAL = 3 };
+
+static struct reader reader;
+static uint64_t packets, bytes, checksum;
+
+static void count(const unsigned char *pack, size_t length)
+{
+	packets++;
+	bytes += length;
+	checksum = checksum * 31 + (uint64_t)pack[0] * 65536 + length;
+}
+
+static bool is_line(const char *line)
+{
+	size_t length = strlen(line);
+
+	return reader.length == length && memcmp(payload_of(&reader), line, length) == 0;
+}
+
+/* A fault that the packet last read shows. */
+static bool refuse(const char *name)
+{
+	if (!reader.fault)
+		fail(&reader, name, reader.offset);
+	return false;
+}
+
+/* Whether there is a next packet. One is due. */
+static bool read_packet(enum packet *packet)
+{
+	*packet = next_packet(&reader);
+	if (*packet == NO_PACKET && !reader.fault)
+		fail(&reader, "Truncated", reader.next);
+	return *packet != NO_PACKET;
+}
+
+static bool read_advertisement(void)
+{
+	enum packet packet;
+
+	if (!read_packet(&packet))
+		return false;
+	if (packet != DATA || !is_line("version 2\n"))
+		return refuse("NotVersion2");
+	while (read_packet(&packet) && packet == DATA)
+		;
+	return packet == FLUSH || refuse("UnexpectedPacket");
+}
+
+/* A packet of the packfile section, by its band. Where it has nothing after the band's byte, nothing is said. */
+static bool split(void)
+{
+	const unsigned char *payload = payload_of(&reader);
+
+	if (reader.length == 0)
+		return refuse("NoBand");
+	switch (payload[0]) {
+	case PACK:
+		if (reader.length > 1)
+			count(payload + 1, reader.length - 1);
+		return true;
+	case PROGRESS:
+		return true;
+	case FATAL:
+		return refuse("RemoteFatal");
+	default:
+		return refuse("BadBand");
+	}
+}
+
+static bool read_pack(void)
+{
+	enum packet packet;
+
+	if (!read_packet(&packet))
+		return false;
+	if (packet != DATA || !is_line("packfile\n"))
+		return refuse("UnexpectedSection");
+	while (read_packet(&packet) && packet == DATA)
+		if (!split())
+			return false;
+	return packet == FLUSH || refuse("UnexpectedPacket");
+}
+
+int main(void)
+{
+	prepare_digits();
+	if (!read_advertisement() || !read_pack())
+		return tell_fault(&reader, "bench_client");
+	printf("%" PRIu64 " %" PRIu64 " %" PRIu64 "\n", packets, bytes, checksum);
+	return 0;
+}

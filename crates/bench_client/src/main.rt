@@ -1,0 +1,147 @@
+//! Asks for a pack and hears the answer on standard input, as a client does, and prints one line, `events bytes checksum`
+//! of the pack, or tells the first fault. This is `Client` as a caller uses it, for `bench/run.sh` to measure beside
+//! `bench/client.c`.
+#![tactic(auto)]
+
+ghost use Rattle.std.specs.Prelude.{◌≡◌, ◌+◌, ◌≤◌, ◌%◌, ◌^◌, true, length, IfOk};
+ghost use Rattle.git_client.specs.Client.{can_ask};
+
+use git_client::{Client, Ending, Event, HeardGot, Sent};
+use git_msg::{Argument, Command, Limits, Request};
+use git_names::{Format, Oid};
+use git_pkt::{Fault, Kind, RunFault};
+use std::alloc::Global;
+use std::io::{self, BufRead, BufReader};
+use std::process::ExitCode;
+
+/// How many bytes of input are read at a time.
+const PIECE_BYTES: usize = 65_536;
+
+/// The object that is wanted.
+const WANTED: &[u8] = b"1111111111111111111111111111111111111111";
+
+/// What is told of a pack; each number wraps at 2^64, as it does in C.
+#[derive(Clone, Copy, Debug)]
+struct Counts {
+    events: u64,
+    bytes: u64,
+    /// Of the length and the first byte of what each event has.
+    checksum: u64,
+}
+
+impl Counts {
+    fn none() -> Self
+        ensures events { result.events ≡ 0 }
+        ensures bytes { result.bytes ≡ 0 }
+    {
+        Counts {
+            events: 0,
+            bytes: 0,
+            checksum: 0,
+        }
+    }
+
+    /// Counts one more event.
+    fn add(&mut self, pack: &[u8])
+        ensures events { self.new.events ≡ (self.old.events + 1) % 2 ^ 64 }
+        ensures bytes { self.new.bytes ≡ (self.old.bytes + length pack.now) % 2 ^ 64 }
+    {
+        let length = pack.len() as u64;
+        let first = pack.first().copied().unwrap_or(0);
+        let mark = (u64::from(first) * 65_536).wrapping_add(length);
+        self.events = self.events.wrapping_add(1);
+        self.bytes = self.bytes.wrapping_add(length);
+        self.checksum = self.checksum.wrapping_mul(31).wrapping_add(mark);
+    }
+}
+
+/// A request for the pack of one object.
+fn request(alloc: Global) -> Result<Request<Global>, Kind> {
+    let wanted = Oid::read(Format::Sha1, WANTED)?;
+    let limits = Limits {
+        args: Limits::USUAL,
+    };
+    let mut request = Request::new(alloc, Command::Fetch, Format::Sha1, limits);
+    request.add(Argument::Want(wanted))?;
+    request.add(Argument::IsDone)?;
+    Ok(request)
+}
+
+/// Asks what is to be asked, and leaves after it.
+fn go_on(client: &mut Client<Global>, asking: &mut Option<Request<Global>>) -> Result<(), RunFault>
+    requires { can_ask client.old ≡ true }
+{
+    match asking.take() {
+        Some(request) => client
+            .ask(request)
+            .map_err(|refusal| RunFault::Refused(refusal.1)),
+        None => {
+            client.leave();
+            Ok(())
+        }
+    }
+}
+
+/// Hears what a piece says, up to where the client can ask, and counts it. Answers how many bytes were used.
+fn hear_piece(
+    client: &mut Client<Global>,
+    piece: &[u8],
+    counts: &mut Counts,
+) -> Result<usize, RunFault>
+    ensures { IfOk result (λ used. used ≤ length piece.now) }
+{
+    let mut used = 0;
+    while used < piece.len() && client.wants_input() {
+        let heard = client.feed(&piece[used..]);
+        match heard.got {
+            HeardGot::More => return Ok(piece.len()),
+            HeardGot::Failed(fault) => return Err(RunFault::Refused(fault)),
+            HeardGot::Event(Event::Pack(pack)) => counts.add(pack),
+            HeardGot::Event(_) => {}
+        }
+        used += heard.used;
+    }
+    Ok(used)
+}
+
+/// Hears the whole conversation, and counts its pack. What the client sends is dropped.
+fn hear<R: BufRead>(input: &mut R, request: Request<Global>) -> Result<Counts, RunFault> {
+    let mut client = Client::new(Format::Sha1, Ending::FlushOnly);
+    let mut asking = Some(request);
+    let mut counts = Counts::none();
+    for _ in 0..u64::MAX {
+        match client.pull() {
+            Sent::Packet(_) => {}
+            Sent::CanAsk => go_on(&mut client, &mut asking)?,
+            Sent::Finished => return Ok(counts),
+            Sent::Failed(fault) => return Err(RunFault::Refused(fault)),
+            Sent::NeedInput => {
+                let piece = input.fill_buf().map_err(|_| RunFault::ReadFault)?;
+                if piece.is_empty() {
+                    return Err(RunFault::Refused(client.close()));
+                }
+                let used = hear_piece(&mut client, piece, &mut counts)?;
+                input.consume(used);
+            }
+        }
+    }
+    Err(RunFault::ReadLimit)
+}
+
+fn main(rt: HostRuntime) -> io::Result<ExitCode> {
+    let mut input = BufReader::with_capacity(rt.alloc(), PIECE_BYTES, rt.stdin())?;
+    let heard = match request(rt.alloc()) {
+        Ok(request) => hear(&mut input, request),
+        Err(kind) => Err(RunFault::Refused(Fault { kind, offset: 0 })),
+    };
+    match heard {
+        Ok(counts) => {
+            println!(rt; "{} {} {}", counts.events, counts.bytes, counts.checksum)?;
+            Ok(ExitCode::SUCCESS)
+        }
+        Err(fault) => {
+            eprintln!(rt; "bench_client: {fault}")?;
+            Ok(ExitCode::FAILURE)
+        }
+    }
+}
