@@ -138,39 +138,60 @@ fn table_of(words: Words<'_>) -> Option<Table> {
     }
 }
 
+// The server that these words set up.
+fn server_of<'a>(words: Words<'_>, files: &'a Files) -> Result<Setup<'a>, Trouble> {
+    Ok(Setup {
+        repository: files.repository.as_slice(),
+        pack: files.pack.as_slice(),
+        reads: words.reads()?,
+        limit: words.limit()?,
+        features: words.features(),
+        advertises: words.has("advertises"),
+    })
+}
+
+// The client that these words set up.
+fn client_of<'a>(words: Words<'_>, files: &'a Files) -> clients::Setup<'a> {
+    clients::Setup {
+        format: words.format(),
+        ending: words.ending(),
+        heard: files.heard.as_slice(),
+    }
+}
+
+// The request that these words begin.
+fn asking_of(words: Words<'_>) -> Result<Asking, Trouble> {
+    Ok(Asking {
+        command: words.command(),
+        format: words.format(),
+        limit: words.limit()?,
+        agent: words.has("agent"),
+        object_format: words.has("object-format"),
+    })
+}
+
+// The end that these words name.
+fn end_of<'a>(words: Words<'_>, files: &'a Files) -> Result<End<'a>, Trouble> {
+    let format = words.format();
+    match words.text.split_whitespace().next() {
+        Some("packets") => Ok(End::Packets(words.start()?)),
+        Some("requests") => Ok(End::Requests(format, words.limit()?, words.features())),
+        Some("client") => Ok(End::Client(client_of(words, files))),
+        Some("check") => Ok(End::Check(format)),
+        Some("server") => Ok(End::Server(server_of(words, files)?)),
+        _ => Err(Trouble::BadCase("nothing to run")),
+    }
+}
+
 // What these words name.
 fn subject_of<'a>(words: Words<'_>, files: &'a Files) -> Result<Subject<'a>, Trouble> {
     if let Some(table) = table_of(words) {
         return Ok(Subject::Table(table));
     }
-    let format = words.format();
-    let limit = words.limit()?;
-    Ok(match words.text.split_whitespace().next() {
-        Some("packets") => Subject::End(End::Packets(words.start()?)),
-        Some("requests") => Subject::End(End::Requests(format, limit, words.features())),
-        Some("client") => Subject::End(End::Client(clients::Setup {
-            format,
-            ending: words.ending(),
-            heard: files.heard.as_slice(),
-        })),
-        Some("check") => Subject::End(End::Check(format)),
-        Some("server") => Subject::End(End::Server(Setup {
-            repository: files.repository.as_slice(),
-            pack: files.pack.as_slice(),
-            reads: words.reads()?,
-            limit,
-            features: words.features(),
-            advertises: words.has("advertises"),
-        })),
-        Some("asking") => Subject::Asking(Asking {
-            command: words.command(),
-            format,
-            limit,
-            agent: words.has("agent"),
-            object_format: words.has("object-format"),
-        }),
-        _ => return Err(Trouble::BadCase("nothing to run")),
-    })
+    if words.text.split_whitespace().next() == Some("asking") {
+        return Ok(Subject::Asking(asking_of(words)?));
+    }
+    Ok(Subject::End(end_of(words, files)?))
 }
 
 // The file that stands after this word, or nothing where the word does not stand there.

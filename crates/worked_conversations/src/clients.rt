@@ -71,13 +71,14 @@ impl Notes {
         }
     }
 
-    fn note(&mut self, event: &Event<'_>) -> Result<(), Trouble> {
-        let pack = self.pack.len().saturating_sub(self.pack_start);
-        let progress = self.progress.len().saturating_sub(self.progress_start);
-        let lines = &mut Told::new(&mut self.lines);
-        if write_event(lines, event, pack as u64, progress as u64).is_err() {
+    fn note(&mut self, alloc: Global, event: &Event<'_>) -> Result<(), Trouble> {
+        let pack = self.pack.len().saturating_sub(self.pack_start) as u64;
+        let progress = self.progress.len().saturating_sub(self.progress_start) as u64;
+        let mut line = Vec::new(alloc);
+        if write_event(&mut Told::new(&mut line), event, pack, progress).is_err() {
             return Err(Trouble::Breaks("a line is not written"));
         }
+        self.lines.extend_from_slice(line.as_slice())?;
         match event {
             Event::Pack([]) | Event::Progress([]) => {
                 return Err(Trouble::Breaks("an event of no bytes"));
@@ -183,10 +184,11 @@ impl<'a> Talk<'a> {
         }
         match self.client.ask(request) {
             Ok(()) => {
-                let lines = &mut Told::new(&mut self.notes.lines);
-                if write_asked(lines, question.command).is_err() {
+                let mut line = Vec::new(self.alloc);
+                if write_asked(&mut Told::new(&mut line), question.command).is_err() {
                     return Err(Trouble::Breaks("a line is not written"));
                 }
+                self.notes.lines.extend_from_slice(line.as_slice())?;
             }
             Err((request, fault)) => {
                 if shown(self.alloc, &request)?.as_slice() != asked.as_slice() {
@@ -214,7 +216,7 @@ impl<'a> Talk<'a> {
                     return Err(Trouble::Breaks("a piece is not used up"));
                 }
                 HeardGot::More | HeardGot::Failed(_) => return Ok(()),
-                HeardGot::Event(event) => self.notes.note(&event)?,
+                HeardGot::Event(event) => self.notes.note(self.alloc, &event)?,
             }
             self.say()?;
         }
