@@ -2,7 +2,6 @@
 
 use git_client::{Event, write_asked, write_event};
 use git_msg::{Capability, Command};
-use git_names::{Format, Oid};
 use git_pkt::{RunFault, Told};
 use std::process::Abort;
 use std::test::Fail;
@@ -12,11 +11,6 @@ const NEVER: u32 = u32::MAX;
 
 fn event_of(value: Option<&'static [u8]>) -> Event<'static> {
     Event::Capability(Capability { key: b"key", value })
-}
-
-/// The object whose name has this digit forty times.
-fn object(rt: &impl Abort, digit: u8) -> Oid {
-    Oid::read(Format::Sha1, &[digit; 40]).expect(rt, "an object name")
 }
 
 /// That the event, in a response of 7 bytes of pack and 8 of progress, is this line, or none.
@@ -54,57 +48,6 @@ fn each_event_is_a_line(rt: HostRuntime) -> Result<(), Fail> {
         expect_line(&rt, &event, line)?;
     }
     Ok(())
-}
-
-#[test]
-fn each_object_is_shown_by_its_name(rt: HostRuntime) -> Result<(), Fail> {
-    let (id, peeled) = (object(&rt, b'a'), object(&rt, b'B'));
-    expect_line(
-        &rt,
-        &Event::Ack(&id),
-        b"ack aaaaaaaaaaaaaaaaaaaaaaaaaaaaaaaaaaaaaaaa\n",
-    )?;
-    expect_line(
-        &rt,
-        &Event::Shallow(&id),
-        b"shallow aaaaaaaaaaaaaaaaaaaaaaaaaaaaaaaaaaaaaaaa\n",
-    )?;
-    expect_line(
-        &rt,
-        &Event::Unshallow(&peeled),
-        b"unshallow bbbbbbbbbbbbbbbbbbbbbbbbbbbbbbbbbbbbbbbb\n",
-    )?;
-    let wanted = Event::WantedRef {
-        id: &id,
-        name: b"refs/heads/\xff",
-    };
-    expect_line(
-        &rt,
-        &wanted,
-        b"wanted-ref aaaaaaaaaaaaaaaaaaaaaaaaaaaaaaaaaaaaaaaa refs/heads/\\xff\n",
-    )?;
-    let plain = Event::Reference {
-        id: &id,
-        name: b"HEAD",
-        target: None,
-        peeled: None,
-    };
-    expect_line(
-        &rt,
-        &plain,
-        b"ref aaaaaaaaaaaaaaaaaaaaaaaaaaaaaaaaaaaaaaaa HEAD\n",
-    )?;
-    let told = Event::Reference {
-        id: &id,
-        name: b"HEAD",
-        target: Some(b"refs/x"),
-        peeled: Some(&peeled),
-    };
-    expect_line(
-        &rt,
-        &told,
-        b"ref aaaaaaaaaaaaaaaaaaaaaaaaaaaaaaaaaaaaaaaa HEAD symref-target:refs/x peeled:bbbbbbbbbbbbbbbbbbbbbbbbbbbbbbbbbbbbbbbb\n",
-    )
 }
 
 #[test]
