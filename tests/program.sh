@@ -13,6 +13,7 @@ advertisement() {
     packet 'fetch=shallow ref-in-want'
     packet server-option
     packet "object-format=$1"
+    packet object-info
     printf 0000
 }
 
@@ -36,6 +37,17 @@ fetch() {
         packet "want $object"
     done
     packet 'done'
+    printf 0000
+}
+
+# object_info ARGUMENT..: asks what is known of objects.
+object_info() {
+    local argument
+    packet command=object-info
+    printf 0001
+    for argument; do
+        packet "$argument"
+    done
     printf 0000
 }
 
@@ -166,6 +178,20 @@ case_serve_tells_an_object_that_is_not_there() {
     expect 1 <(advertisement sha1; packet 'ERR NotOurs at 72') <(fault 'NotOurs at 72')
     serve < <(fetch $one)
     expect 1 <(advertisement sha1; packet 'ERR NotOurs at 22') <(fault 'NotOurs at 22')
+}
+
+# The sizes are those of the lines of the text; an object that has no line there has none.
+case_serve_tells_sizes() {
+    serve_pack < <(object_info size "oid $two" "oid $other" "oid $one"; request 'ref-prefix refs/tags/'; printf 0000)
+    expect 0 <(advertisement sha1; packet size; packet "$two 140"; packet "$other "; packet "$one 230"; printf 0000; tags_answer) /dev/null
+    serve < <(object_info size "oid $one")
+    expect 0 <(advertisement sha1; packet size; packet "$one "; printf 0000) /dev/null
+}
+
+# What object-info is asked for beside sizes is nothing that is known.
+case_serve_tells_an_object_info_without_sizes() {
+    serve_pack < <(object_info "oid $one")
+    expect 1 <(advertisement sha1; packet 'ERR NoSize at 77') <(fault 'NoSize at 77')
 }
 
 case_serve_tells_a_fetch_of_nothing() {

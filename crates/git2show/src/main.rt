@@ -160,7 +160,7 @@ fn run_serve(rt: &HostRuntime, matches: &ArgMatches<'_>) -> Result<(), ProgramFa
         format: repo.format(),
         shallow: true,
         ref_in_want: true,
-        object_info: false,
+        object_info: true,
         server_option: true,
     };
     // clap refuses more than the most, which is said once more for the prover.

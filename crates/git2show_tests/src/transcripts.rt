@@ -55,6 +55,7 @@ fn each_question_is_a_line(rt: HostRuntime) -> Result<(), Fail> {
     for (command, line) in [
         (Command::LsRefs, b"request ls-refs\n".as_slice()),
         (Command::Fetch, b"request fetch\n".as_slice()),
+        (Command::ObjectInfo, b"request object-info\n".as_slice()),
     ] {
         let mut sink = Sink::new(Vec::new(rt.alloc()), usize::MAX, NEVER);
         let mut out = Told::new(&mut sink);

@@ -19,8 +19,8 @@ use Rattle.git_msg.specs.Texts.{IsErrorOf}
 use Rattle.git_msg.specs.WrittenRequest.{lines_written, written_of}
 use Rattle.git_msg.specs.declared.offers.Caps.{Caps}
 use Rattle.git_msg.specs.declared.requests.Request.{Request}
-use Rattle.git_client.specs.Parts.{Terms, Part, opening, advertisement, listing, sections, closing, nearest, advertisement_of, message_of, is_end_due, part_of}
-use Rattle.git_client.specs.Sections.{is_header_due, section_of, lines_of, allowed_after, told_by}
+use Rattle.git_client.specs.Parts.{Terms, Part, opening, advertisement, listing, sections, informing, closing, nearest, advertisement_of, message_of, is_end_due, part_of}
+use Rattle.git_client.specs.Sections.{is_empty, is_header_due, section_of, lines_of, allowed_after, told_by}
 use Rattle.git_client.specs.Events.{EventValue}
 use Rattle.git_client.specs.Conversation.{GiveAll, RefusesAt, HasDue}
 use Rattle.git_client.specs.Turns.{takes_packets, fault_in, is_ready, has_left_in, is_asking, left_in, question_in, values_of, events_at, Fits, after_acknowledgments}
@@ -29,7 +29,7 @@ use Rattle.git_client.specs.declared.sections.Section.TheVariants.{Acknowledgmen
 use Rattle.git_client.specs.declared.phase.Phase.{Phase}
 use Rattle.git_client.specs.declared.phase.Phase.TheVariants.{Hearing, Asking, Failed as FailedPhase}
 use Rattle.git_client.specs.declared.phase.Due.{Due}
-use Rattle.git_client.specs.declared.phase.Due.TheVariants.{Version, Capabilities, References, Header, Acknowledgments, ShallowInfo, WantedRefs, Packfile, ResponseEnd}
+use Rattle.git_client.specs.declared.phase.Due.TheVariants.{Version, Capabilities, References, Header, Acknowledgments, ShallowInfo, WantedRefs, Packfile, SizeLine, Sizes, ResponseEnd}
 use Rattle.git_client.specs.declared.phase.Said.{Said}
 use Rattle.git_client.specs.declared.phase.Said.TheVariants.{Nothing, Offered as OfferedSaid, Ended as EndedSaid}
 use Rattle.git_client.specs.declared.phase.Turn.{Turn}
@@ -95,6 +95,8 @@ IsDueIn (sections done) message (Acknowledgments told) =
 IsDueIn (sections done) message (ShallowInfo allowed) = IsInside ShallowInfoSection message × (allowed ≡ allowed_after done message)
 IsDueIn (sections done) message (WantedRefs allowed) = IsInside WantedRefsSection message × (allowed ≡ allowed_after done message)
 IsDueIn (sections done) message Packfile = IsInside PackfileSection message
+IsDueIn informing message SizeLine = is_empty message ≡ true
+IsDueIn informing message Sizes = is_empty message ≡ false
 IsDueIn closing message ResponseEnd = Unit {0}
 IsDueIn part message due = ⊥
 

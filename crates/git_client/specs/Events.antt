@@ -9,14 +9,16 @@ use Rattle.git_pkt.specs.declared.fault.Kind.TheVariants.{RemoteError, RemoteFat
 use Rattle.git_pkt.specs.declared.fault.Kind.TheVariants.{UnexpectedSection, BadLine, BadObjectName, NoBand, BadBand}
 use Rattle.git_msg.specs.Capability.{IsCapability, IsNoCapability}
 use Rattle.git_msg.specs.References.{Ref, IsReferenceLine, IsReferenceFault}
-use Rattle.git_msg.specs.ResponseLines.{Wanted, IsAckLine, IsBoundaryLine, IsBoundaryFault, IsWantedLine, IsWantedFault}
+use Rattle.git_msg.specs.ResponseLines.{Wanted, IsAckLine, IsBoundaryLine, IsBoundaryFault, IsWantedLine, IsWantedFault, IsInfoLine, IsInfoFault}
 use Rattle.git_msg.specs.declared.response_lines.Boundary.TheVariants.{Shallow, Unshallow}
+use Rattle.git_msg.specs.declared.response_lines.Info.{Info}
 use Rattle.git_msg.specs.Texts.{Follows, IsErrorText}
 use Rattle.git_client.specs.declared.events.Ending.{Ending}
 use Rattle.git_client.specs.declared.events.Ending.TheVariants.{FlushOnly, ResponseEnd}
 use Rattle.git_client.specs.declared.sections.Told.{Told}
 use Rattle.git_client.specs.Sections.{section_named, may_begin}
-use Rattle.git_client.specs.Places.{Place, version, capabilities, references, header, acknowledgments, shallow_info, wanted_refs, packfile, response_end}
+use Rattle.git_client.specs.Places.{Place, version, capabilities, references, header, acknowledgments, shallow_info, wanted_refs, packfile}
+use Rattle.git_client.specs.Places.{size_line, sizes, response_end}
 
 -- an event, wherever its bytes lie; of the pack and of the progress each byte is one
 pub data EventValue : Type 0 where
@@ -31,6 +33,7 @@ pub data EventValue : Type 0 where
   wanted_ref : Wanted → EventValue
   pack : ℕ → EventValue
   progress : ℕ → EventValue
+  info : Info → EventValue
   ended : EventValue
 
 -- a text at this place that is no error packet's gives these events
@@ -45,6 +48,8 @@ SaysLine (acknowledgments told) format text (ack id ∷ []) = IsAckLine format t
 SaysLine shallow_info format text (shallow id ∷ []) = IsBoundaryLine format text (Shallow id)
 SaysLine shallow_info format text (unshallow id ∷ []) = IsBoundaryLine format text (Unshallow id)
 SaysLine wanted_refs format text (wanted_ref wanted ∷ []) = IsWantedLine format text wanted
+SaysLine size_line format text [] = text ≡ codes "size"
+SaysLine sizes format text (info told ∷ []) = IsInfoLine format text told
 SaysLine _ format text _ = ⊥
 
 -- the text is no line that may come after the acknowledgments so far: `NAK` comes alone, and nothing after `ready`
@@ -68,6 +73,8 @@ IsLineFault (acknowledgments told) format text kind =
     (IsNotDue told text × (kind ≡ BadLine)) ⊎ (IsBadAck format told text × (kind ≡ BadObjectName))
 IsLineFault shallow_info format text kind = IsBoundaryFault format text kind
 IsLineFault wanted_refs format text kind = IsWantedFault format text kind
+IsLineFault size_line format text kind = (text ≢ codes "size") × (kind ≡ BadLine)
+IsLineFault sizes format text kind = IsInfoFault format text kind
 IsLineFault _ format text kind = ⊥
 
 -- the flush of a response ends it, or the response end after it does
@@ -91,6 +98,8 @@ flush_says ending (capabilities spoken) = if spoken then Ok (offered ∷ []) els
 flush_says ending references = Ok (ended_by ending)
 flush_says ending (acknowledgments told) = if told.ready then Err UnexpectedPacket else Ok (ended_by ending)
 flush_says ending packfile = Ok (ended_by ending)
+flush_says ending size_line = Ok (ended_by ending)
+flush_says ending sizes = Ok (ended_by ending)
 flush_says ending place = Err UnexpectedPacket
 
 -- what a delimiter says

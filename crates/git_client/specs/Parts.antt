@@ -3,7 +3,7 @@ use Rattle.std.specs.Prelude.{ℕ, suc, zero, Bool, true, false, not, List, [], 
 use Rattle.git_names.specs.declared.object_format.Format.{Format}
 use Rattle.git_pkt.specs.Packets.{Pkt, flush, delim, resp_end, payload, flushes}
 use Rattle.git_pkt.specs.Splits.{Given}
-use Rattle.git_msg.specs.Asked.{Asked, ls_refs, fetch}
+use Rattle.git_msg.specs.Asked.{Asked, ls_refs, fetch, object_info}
 use Rattle.git_client.specs.declared.events.Ending.{Ending}
 use Rattle.git_client.specs.declared.events.Ending.TheVariants.{ResponseEnd}
 
@@ -44,12 +44,13 @@ is_end_due ResponseEnd (flush ∷ before) = not (is_zero (flushes before))
 is_end_due _ _ = false
 
 -- the parts of a conversation: the first packet, the rest of the advertisement, the response to ls-refs, the response to
--- fetch, which was asked with `done` or not, and the response end
+-- fetch, which was asked with `done` or not, the response to object-info, and the response end
 pub data Part : Type 0 where
   opening : Part
   advertisement : Part
   listing : Part
   sections : (done : Bool) → Part
+  informing : Part
   closing : Part
 
 -- the part that answers a question
@@ -57,6 +58,7 @@ abbrev pub answer_to : Option Asked → Option Part
 answer_to None = None
 answer_to (Some (ls_refs q)) = Some listing
 answer_to (Some (fetch q)) = Some (sections q.done)
+answer_to (Some (object_info q)) = Some informing
 
 -- the part after so many flushes
 abbrev pub part_after : List Asked → ℕ → Option Part

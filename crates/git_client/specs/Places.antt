@@ -8,11 +8,12 @@ use Rattle.git_client.specs.declared.sections.Section.{Section}
 use Rattle.git_client.specs.declared.sections.Section.TheVariants.{Acknowledgments, ShallowInfo, WantedRefs, Packfile}
 use Rattle.git_client.specs.declared.sections.Allowed.{Allowed}
 use Rattle.git_client.specs.declared.sections.Told.{Told}
-use Rattle.git_client.specs.Parts.{Terms, Part, opening, advertisement, listing, sections, closing, part_of, message_of}
-use Rattle.git_client.specs.Sections.{is_header_due, section_of, lines_of, allowed_after, told_by}
+use Rattle.git_client.specs.Parts.{Terms, Part, opening, advertisement, listing, sections, informing, closing, part_of, message_of}
+use Rattle.git_client.specs.Sections.{is_empty, is_header_due, section_of, lines_of, allowed_after, told_by}
 
 -- the places: the line that begins an advertisement, its other lines, which so far say that the format is spoken or not,
--- references, the header of a section, the lines of each section, and a response end
+-- references, the header of a section, the lines of each section, the line that says what is told of objects, the lines that
+-- tell it, and a response end
 pub data Place : Type 0 where
   version : Place
   capabilities : (spoken : Bool) → Place
@@ -22,6 +23,8 @@ pub data Place : Type 0 where
   shallow_info : Place
   wanted_refs : Place
   packfile : Place
+  size_line : Place
+  sizes : Place
   response_end : Place
 
 -- the place inside a section, after its lines so far
@@ -40,6 +43,7 @@ place_of format (Some advertisement) message = Some (capabilities (is_spoken (no
 place_of format (Some listing) message = Some references
 place_of format (Some (sections done)) message =
     if is_header_due message then Some (header (allowed_after done message)) else place_in (section_of message) (lines_of message)
+place_of format (Some informing) message = if is_empty message then Some size_line else Some sizes
 place_of format (Some closing) message = Some response_end
 
 -- the place after these packets of a conversation

@@ -6,7 +6,7 @@ use Rattle.git_msg.specs.Arguments.{name_of}
 use Rattle.git_msg.specs.Asked.{Asked, command_asked}
 use Rattle.git_msg.specs.declared.arguments.Command.{Command}
 use Rattle.git_msg.specs.References.{Ref, peeled_text}
-use Rattle.git_client.specs.Events.{EventValue, capability, offered, reference, ack, nak, ready, shallow, unshallow, wanted_ref, pack, progress, ended}
+use Rattle.git_client.specs.Events.{EventValue, capability, offered, reference, ack, nak, ready, shallow, unshallow, wanted_ref, pack, progress, info, ended}
 
 -- a text that may be there, after a word that stands before it
 abbrev pub shown_after : List ℕ → Option (List ℕ) → List ℕ
@@ -25,6 +25,11 @@ target_shown target = shown_after (codes " symref-target:") target
 abbrev pub reference_shown : Ref → List ℕ
 reference_shown ref = codes "ref " ++ hex_of ref.id ++ codes " " ++ escaped_of ref.name ++ target_shown ref.target ++ peeled_text ref.peeled ++ codes "\n"
 
+-- the size of an object, or that it is not there
+abbrev pub size_shown : Option ℕ → List ℕ
+size_shown None = codes "-"
+size_shown (Some size) = decimal size
+
 -- the line of an event; the numbers are those of the pack and progress bytes of a response that ends
 abbrev pub line_of : EventValue → ℕ → ℕ → List ℕ
 line_of (capability key value) packed told = codes "capability " ++ escaped_of key ++ value_shown value ++ codes "\n"
@@ -36,6 +41,7 @@ line_of ready packed told = codes "ready\n"
 line_of (shallow id) packed told = codes "shallow " ++ hex_of id ++ codes "\n"
 line_of (unshallow id) packed told = codes "unshallow " ++ hex_of id ++ codes "\n"
 line_of (wanted_ref wanted) packed told = codes "wanted-ref " ++ hex_of wanted.id ++ codes " " ++ escaped_of wanted.name ++ codes "\n"
+line_of (info of) packed told = codes "info " ++ hex_of of.id ++ codes " " ++ size_shown of.size ++ codes "\n"
 line_of (pack byte) packed told = []
 line_of (progress byte) packed told = []
 line_of ended packed told = codes "end " ++ decimal packed ++ codes " " ++ decimal told ++ codes "\n"

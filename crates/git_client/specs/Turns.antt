@@ -1,5 +1,5 @@
 -- What the judge of packets answers by what is due, without the packets before.
-use Rattle.std.specs.Prelude.{◌≡◌, ℕ, ◌+◌, ◌<◌, ◌≤◌, Bool, true, false, List, [], ◌∷◌, length, take, drop, Option, Some, None, Ok, map}
+use Rattle.std.specs.Prelude.{◌≡◌, ℕ, ◌+◌, ◌<◌, ◌≤◌, Bool, true, false, List, [], ◌∷◌, length, take, drop, Option, Some, None, Result, Ok, Err, map}
 use Rattle.std.specs.Prelude.{if◌then◌else◌}
 use Rattle.std.specs.Option.{option_copied}
 use Rattle.git_names.specs.ObjectFormat.{digits_of}
@@ -7,34 +7,39 @@ use Rattle.git_names.specs.ObjectName.{ObjectName}
 use Rattle.git_names.specs.declared.object_format.Format.{Format}
 use Rattle.git_pkt.specs.Packets.{Pkt, flush, delim, resp_end, payload, text_of, body_of}
 use Rattle.git_pkt.specs.declared.fault.Fault.{Fault}
+use Rattle.git_pkt.specs.declared.fault.Kind.{Kind}
 use Rattle.git_msg.specs.Advertisement.{noted_of, is_spoken}
 use Rattle.git_msg.specs.Capability.{IsCapability}
 use Rattle.git_msg.specs.References.{reference_of, reference_at, FitsIn}
 use Rattle.git_msg.specs.ResponseLines.{Wanted, wanted_of}
-use Rattle.git_msg.specs.Asked.{Asked, ls_refs, fetch}
+use Rattle.git_msg.specs.Asked.{Asked, ls_refs, fetch, object_info}
 use Rattle.git_msg.specs.HeldRequest.{asked_of}
 use Rattle.git_msg.specs.WrittenRequest.{left_to_write}
 use Rattle.git_msg.specs.declared.requests.Request.{Request}
 use Rattle.git_msg.specs.declared.capabilities.Capability.{Capability}
 use Rattle.git_msg.specs.declared.offers.Caps.{Caps}
 use Rattle.git_client.specs.Sections.{section_named, next_allowed, told_with, allowed_after}
-use Rattle.git_client.specs.Places.{Place, version, capabilities, references, header, acknowledgments, shallow_info, wanted_refs, packfile, response_end}
-use Rattle.git_client.specs.Events.{EventValue, capability, offered, reference, ack, nak, ready, shallow, unshallow, wanted_ref, pack, progress, ended}
+use Rattle.git_client.specs.Places.{Place, version, capabilities, references, header, acknowledgments, shallow_info, wanted_refs, packfile}
+use Rattle.git_client.specs.Places.{size_line, sizes, response_end}
+use Rattle.git_client.specs.Events.{EventValue, capability, offered, reference, ack, nak, ready, shallow, unshallow, wanted_ref, pack, progress, info, ended}
 use Rattle.git_client.specs.Events.{SaysLine, Gives, band_says}
 use Rattle.git_client.specs.declared.events.Ending.{Ending}
 use Rattle.git_client.specs.declared.events.Ending.TheVariants.{FlushOnly, ResponseEnd as WithResponseEnd}
 use Rattle.git_client.specs.declared.events.Event.{Event}
 use Rattle.git_client.specs.declared.events.Event.TheVariants.{Capability as CapabilityEvent, Offered as OfferedEvent, Reference as ReferenceEvent, Ack as AckEvent, Nak as NakEvent, Ready as ReadyEvent}
-use Rattle.git_client.specs.declared.events.Event.TheVariants.{Shallow as ShallowEvent, Unshallow as UnshallowEvent, WantedRef as WantedRefEvent, Pack as PackEvent, Progress as ProgressEvent, Ended as EndedEvent}
+use Rattle.git_client.specs.declared.events.Event.TheVariants.{Shallow as ShallowEvent, Unshallow as UnshallowEvent, WantedRef as WantedRefEvent, Info as InfoEvent, Pack as PackEvent, Progress as ProgressEvent}
+use Rattle.git_client.specs.declared.events.Event.TheVariants.{Ended as EndedEvent}
 use Rattle.git_client.specs.declared.sections.Section.{Section}
 use Rattle.git_client.specs.declared.sections.Section.TheVariants.{Acknowledgments as AcknowledgmentsSection, ShallowInfo as ShallowInfoSection, WantedRefs as WantedRefsSection, Packfile as PackfileSection}
 use Rattle.git_client.specs.declared.sections.Allowed.{Allowed}
 use Rattle.git_client.specs.declared.phase.Phase.{Phase}
 use Rattle.git_client.specs.declared.phase.Phase.TheVariants.{Hearing, Ready as ReadyPhase, Asking, Leaving, Left, Failed}
 use Rattle.git_client.specs.declared.phase.Due.{Due}
-use Rattle.git_client.specs.declared.phase.Due.TheVariants.{Version, Capabilities, References, Header, Acknowledgments, ShallowInfo, WantedRefs, Packfile, ResponseEnd}
+use Rattle.git_client.specs.declared.phase.Due.TheVariants.{Version, Capabilities, References, Header, Acknowledgments, ShallowInfo, WantedRefs, Packfile, SizeLine, Sizes, ResponseEnd}
+use Rattle.git_client.specs.declared.phase.BandSaid.{BandSaid}
+use Rattle.git_client.specs.declared.phase.BandSaid.TheVariants.{Nothing as NothingOn, Pack as PackOn, Progress as ProgressOn}
 use Rattle.git_client.specs.declared.phase.Said.{Said}
-use Rattle.git_client.specs.declared.phase.Said.TheVariants.{Nothing, Capability as SaidCapability, Offered, Reference, Ack, Nak, Ready, Shallow, Unshallow, WantedRef, Pack, Progress, Ended}
+use Rattle.git_client.specs.declared.phase.Said.TheVariants.{Nothing, Capability as SaidCapability, Offered, Reference, Ack, Nak, Ready, Shallow, Unshallow, WantedRef, Pack, Progress, Ended, Info as SaidInfo}
 use Rattle.git_client.specs.declared.phase.CapabilityPlaces.{CapabilityPlaces}
 use Rattle.git_client.specs.declared.phase.Turn.{Turn}
 
@@ -48,6 +53,8 @@ place_due caps format (Acknowledgments told) = acknowledgments told
 place_due caps format (ShallowInfo allowed) = shallow_info
 place_due caps format (WantedRefs allowed) = wanted_refs
 place_due caps format Packfile = packfile
+place_due caps format SizeLine = size_line
+place_due caps format Sizes = sizes
 place_due caps format ResponseEnd = response_end
 
 -- text lines are due
@@ -75,6 +82,7 @@ line_events Ready text = ready ∷ []
 line_events (Shallow id) text = shallow id ∷ []
 line_events (Unshallow id) text = unshallow id ∷ []
 line_events (WantedRef id) text = wanted_ref (wanted_at id text) ∷ []
+line_events (SaidInfo told) text = info told ∷ []
 line_events Pack text = []
 line_events Progress text = []
 line_events Ended text = ended ∷ []
@@ -132,6 +140,7 @@ abbrev pub due_after_line : Due → List ℕ → Due
 due_after_line Version text = Capabilities
 due_after_line (Header allowed) text = due_after_header allowed (section_named text)
 due_after_line (Acknowledgments told) text = Acknowledgments (told_with told text)
+due_after_line SizeLine text = Sizes
 due_after_line due text = due
 
 -- after the acknowledgments each other section may come
@@ -181,12 +190,21 @@ pub record IsLineTurn (format : Format) (due : Due) (caps : Caps) (text : List �
   pub notes : (line : List ℕ) → text_of line ≡ text → NotesAfter due caps (payload line) turn.caps
   pub next : turn.next ≡ Hearing (due_after_line due text)
 
+-- what is said by a payload of the packfile section
+abbrev pub said_on : BandSaid → Said
+said_on NothingOn = Nothing
+said_on PackOn = Pack
+said_on ProgressOn = Progress
+
 -- what it found of a payload of the packfile section
-pub record IsBandTurn (caps : Caps) (bytes : List ℕ) (turn : Turn) : Type 0 where
-  pub says : band_says bytes ≡ Ok (events_at turn.said bytes)
-  pub fits : Fits turn.said bytes
-  pub notes : turn.caps ≡ caps
-  pub next : turn.next ≡ Hearing Packfile
+pub record IsOnBand (bytes : List ℕ) (on : BandSaid) : Type 0 where
+  pub says : band_says bytes ≡ Ok (events_at (said_on on) bytes)
+  pub fits : Fits (said_on on) bytes
+
+-- the turn that it makes: nothing is noted, and the section goes on
+abbrev pub turn_on : Caps → Result BandSaid Kind → Result Turn Kind
+turn_on caps (Ok on) = Ok (record { said = said_on on; caps = caps; next = Hearing Packfile })
+turn_on caps (Err kind) = Err kind
 
 -- the phase takes packets
 abbrev pub takes_packets : Phase → Bool
@@ -226,6 +244,7 @@ question_in (Some request) = Some (asked_of request)
 abbrev pub first_due : Asked → Due
 first_due (ls_refs q) = References
 first_due (fetch q) = Header (allowed_after q.done [])
+first_due (object_info q) = SizeLine
 
 -- the capability that a borrowed one shows
 abbrev pub capability_value : Capability → EventValue
@@ -242,6 +261,7 @@ values_of ReadyEvent = ready ∷ []
 values_of (ShallowEvent id) = shallow id.now ∷ []
 values_of (UnshallowEvent id) = unshallow id.now ∷ []
 values_of (WantedRefEvent id name) = wanted_ref (wanted_of id.now name.now) ∷ []
+values_of (InfoEvent id size) = info (record { id = id.now; size = size }) ∷ []
 values_of (PackEvent bytes) = map pack bytes.now
 values_of (ProgressEvent bytes) = map progress bytes.now
 values_of EndedEvent = ended ∷ []

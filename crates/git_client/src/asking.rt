@@ -129,5 +129,6 @@ fn response_due<A: Allocator + Copy>(request: &Request<A>) -> Due
     match request {
         Request::LsRefs(_) => Due::References,
         Request::Fetch(fetch) => Due::Header(Allowed::at_head(fetch.done())),
+        Request::ObjectInfo(_) => Due::SizeLine,
     }
 }

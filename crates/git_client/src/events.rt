@@ -48,6 +48,13 @@ pub enum Event<'a> {
         /// Its name.
         name: &'a [u8],
     },
+    /// What the server knows of an object, in the response to `object-info`.
+    Info {
+        /// The object.
+        id: &'a Oid,
+        /// How many bytes it has, if the server has it.
+        size: Option<u64>,
+    },
     /// Bytes of the pack: one at least.
     Pack(&'a [u8]),
     /// Bytes of a text for the user, on the second side band: one at least.

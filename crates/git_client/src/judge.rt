@@ -4,15 +4,15 @@ ghost use Rattle.std.specs.Prelude.{◌≡◌, Err, MatchResult};
 ghost use Rattle.git_names.specs.declared.object_format.Format.{Format};
 ghost use Rattle.git_pkt.specs.Packets.{flush, delim, resp_end, payload as payload_of, seen};
 ghost use Rattle.git_client.specs.Events.{IsLineFault, Refuses, band_says};
-ghost use Rattle.git_client.specs.Turns.{IsBandTurn, IsLineTurn, IsTurn, TakesLines, place_due, turn_after_flush};
+ghost use Rattle.git_client.specs.Turns.{IsLineTurn, IsOnBand, IsTurn, TakesLines, place_due, turn_after_flush};
 ghost use Rattle.git_client.specs.declared.events.Ending.{Ending};
 
 use crate::events::Ending;
 use crate::judge_lines::{
-    judge_acknowledgment, judge_boundary, judge_capability, judge_header, judge_reference,
-    judge_version, judge_wanted,
+    judge_acknowledgment, judge_boundary, judge_capability, judge_header, judge_info,
+    judge_reference, judge_size_line, judge_version, judge_wanted,
 };
-use crate::phase::{Due, Phase, Said, Turn};
+use crate::phase::{BandSaid, Due, Phase, Said, Turn};
 use crate::sections::Allowed;
 use git_msg::{Caps, is_error};
 use git_names::Format;
@@ -42,7 +42,10 @@ fn judge_payload(format: Format, due: Due, caps: Caps, payload: &[u8]) -> Result
         (Refuses format ending (place_due caps format due) (payload_of payload.now)) }
 {
     match due {
-        Due::Packfile => judge_band(caps, payload),
+        Due::Packfile => {
+            let on_band = judge_band(payload)?;
+            Ok(heard(on_band.said(), caps, due))
+        }
         Due::ResponseEnd => Err(Kind::UnexpectedPacket),
         _ => {
             let line = text(payload);
@@ -88,6 +91,14 @@ fn judge_line(format: Format, due: Due, caps: Caps, line: &[u8]) -> Result<Turn,
             let said = judge_wanted(format, line)?;
             Ok(heard(said, caps, due))
         }
+        Due::SizeLine => {
+            judge_size_line(line)?;
+            Ok(heard(Said::Nothing, caps, Due::Sizes))
+        }
+        Due::Sizes => {
+            let said = judge_info(format, line)?;
+            Ok(heard(said, caps, due))
+        }
         Due::Packfile => Err(Kind::UnexpectedPacket),
         Due::ResponseEnd => Err(Kind::UnexpectedPacket),
     }
@@ -103,18 +114,18 @@ fn heard(said: Said, caps: Caps, next: Due) -> Turn
     }
 }
 
-/// A packet of the packfile section: its first byte says what the others are. Where there are none it says nothing.
-fn judge_band(caps: Caps, payload: &[u8]) -> Result<Turn, Kind>
-    ensures turn { MatchResult result (IsBandTurn caps payload.now) (λ kind. band_says payload.now ≡ Err kind) }
+/// What a packet of the packfile section says: its first byte says what the others are. Where there are none it says
+/// nothing.
+pub(crate) fn judge_band(payload: &[u8]) -> Result<BandSaid, Kind>
+    ensures on_band { MatchResult result (IsOnBand payload.now) (λ kind. band_says payload.now ≡ Err kind) }
 {
     let (band, bytes) = split_band(payload)?;
-    let said = match band {
-        Band::Fatal => return Err(Kind::RemoteFatal),
-        _ if bytes.is_empty() => Said::Nothing,
-        Band::Pack => Said::Pack,
-        Band::Progress => Said::Progress,
-    };
-    Ok(heard(said, caps, Due::Packfile))
+    match band {
+        Band::Fatal => Err(Kind::RemoteFatal),
+        _ if bytes.is_empty() => Ok(BandSaid::Nothing),
+        Band::Pack => Ok(BandSaid::Pack),
+        Band::Progress => Ok(BandSaid::Progress),
+    }
 }
 
 fn judge_flush(format: Format, ending: Ending, due: Due, caps: Caps) -> Result<Turn, Kind>
@@ -139,6 +150,8 @@ fn judge_flush(format: Format, ending: Ending, due: Due, caps: Caps) -> Result<T
         Due::ShallowInfo(_) => Err(Kind::UnexpectedPacket),
         Due::WantedRefs(_) => Err(Kind::UnexpectedPacket),
         Due::Packfile => Ok(after_flush(ending, caps)),
+        Due::SizeLine => Ok(after_flush(ending, caps)),
+        Due::Sizes => Ok(after_flush(ending, caps)),
         Due::ResponseEnd => Err(Kind::UnexpectedPacket),
     }
 }

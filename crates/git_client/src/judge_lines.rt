@@ -5,14 +5,14 @@ ghost use Rattle.std.specs.Prelude.{◌≡◌, ◌≢◌, Some, true, codes, Mat
 ghost use Rattle.git_names.specs.declared.object_format.Format.{Format};
 ghost use Rattle.git_msg.specs.Capability.{IsNoCapability};
 ghost use Rattle.git_client.specs.Events.{IsLineFault};
-ghost use Rattle.git_client.specs.Places.{references, acknowledgments, header, shallow_info, wanted_refs};
+ghost use Rattle.git_client.specs.Places.{references, acknowledgments, header, shallow_info, sizes, wanted_refs};
 ghost use Rattle.git_client.specs.Sections.{may_begin, section_named, told_with};
 ghost use Rattle.git_client.specs.Turns.{FindsCapability, Says, due_after_header};
 
 use crate::phase::{CapabilityPlaces, Due, Said};
 use crate::sections::{Allowed, Section, Told, read_header};
 use git_msg::{
-    Boundary, Caps, locate_reference, read_ack, read_boundary, read_capability, read_wanted,
+    Boundary, Caps, locate_reference, read_ack, read_boundary, read_capability, read_info, read_wanted,
 };
 use git_names::Format;
 use git_pkt::Kind;
@@ -102,6 +102,24 @@ pub(crate) fn judge_acknowledgment(
     }
     let id = read_ack(format, line)?;
     Ok((Said::Ack(id), after))
+}
+
+/// The line that says what is told of objects: their sizes.
+pub(crate) fn judge_size_line(line: &[u8]) -> Result<(), Kind>
+    ensures { MatchResult result (λ _. line.now ≡ codes "size") (λ kind. (line.now ≢ codes "size") × (kind ≡ Kind.BadLine)) }
+{
+    if line != b"size".as_slice() {
+        return Err(Kind::BadLine);
+    }
+    Ok(())
+}
+
+/// A line that tells the size of an object.
+pub(crate) fn judge_info(format: Format, line: &[u8]) -> Result<Said, Kind>
+    ensures { MatchResult result (Says sizes format line.now) (IsLineFault sizes format line.now) }
+{
+    let info = read_info(format, line)?;
+    Ok(Said::Info(info))
 }
 
 /// A line of the section `shallow-info`.

@@ -8,7 +8,7 @@ ghost use Rattle.git_pkt.specs.Escape.{escaped_of};
 ghost use Rattle.git_names.specs.ObjectName.{hex_of};
 ghost use Rattle.git_msg.specs.References.{reference_of, peeled_text};
 ghost use Rattle.git_client.specs.Turns.{values_of};
-ghost use Rattle.git_client.specs.Transcript.{lines_of, value_shown, shown_after, reference_shown, asked_line};
+ghost use Rattle.git_client.specs.Transcript.{lines_of, value_shown, shown_after, reference_shown, size_shown, asked_line};
 
 use crate::events::Event;
 use git_msg::{Capability, Command};
@@ -52,6 +52,7 @@ pub fn write_event<W: Write>(
         Event::Shallow(id) => write_named(out, b"shallow ", id),
         Event::Unshallow(id) => write_named(out, b"unshallow ", id),
         Event::WantedRef { id, name } => write_wanted(out, id, name),
+        Event::Info { id, size } => write_info(out, id, *size),
         Event::Pack(_) => Ok(()),
         Event::Progress(_) => Ok(()),
         Event::Ended => write_ended(out, pack, progress),
@@ -175,6 +176,24 @@ fn write_id<W: Write>(out: &mut Told<W>, id: &Oid) -> Result<(), RunFault>
     let mut digits = [0; 64];
     let count = id.write(&mut digits);
     send(out, &digits[..count])
+}
+
+/// Writes the line of an object and its size.
+fn write_info<W: Write>(out: &mut Told<W>, id: &Oid, size: Option<u64>) -> Result<(), RunFault>
+    ensures ok { OnOk result (Appends (W.contents (inner_of out.old)) (W.contents (inner_of out.new)) (codes "info " ++ hex_of id.now ++ codes " " ++ size_shown size ++ codes "\n")) }
+    ensures err { OnErr result (AppendsFront (W.contents (inner_of out.old)) (W.contents (inner_of out.new)) (codes "info " ++ hex_of id.now ++ codes " " ++ size_shown size ++ codes "\n")) }
+    ensures fault { IfErr result (λ fault. fault ≡ RunFault.WriteFault) }
+    ensures failed { has_failed out.new ≡ (has_failed out.old || is_err result) }
+    ensures reads { ReadsNothing out.old out.new }
+{
+    send(out, b"info ")?;
+    write_id(out, id)?;
+    send(out, b" ")?;
+    match size {
+        Some(size) => write_number(out, size)?,
+        None => send(out, b"-")?,
+    }
+    send(out, b"\n")
 }
 
 /// Writes the line of a response's end.

@@ -1,5 +1,5 @@
 -- What the lines of a capability advertisement say, all of them together.
-use Rattle.std.specs.Prelude.{ℕ, ◌==◌, Bool, not, ◌&&◌, ◌||◌, List, [], codes}
+use Rattle.std.specs.Prelude.{ℕ, ◌==◌, Bool, true, not, ◌&&◌, ◌||◌, List, [], codes}
 use Rattle.std.specs.List.{list_any, before_first, after_first}
 use Rattle.std.specs.Str.{bytes_eq}
 use Rattle.git_names.specs.declared.object_format.Format.{Format}
@@ -7,7 +7,7 @@ use Rattle.git_names.specs.declared.object_format.Format.TheVariants.{Sha1, Sha2
 use Rattle.git_pkt.specs.Packets.{Pkt, payload, text_of}
 use Rattle.git_msg.specs.Texts.{spaced_words}
 use Rattle.git_msg.specs.declared.arguments.Command.{Command}
-use Rattle.git_msg.specs.declared.arguments.Command.TheVariants.{LsRefs, Fetch}
+use Rattle.git_msg.specs.declared.arguments.Command.TheVariants.{LsRefs, Fetch, ObjectInfo}
 use Rattle.git_msg.specs.declared.offers.Caps.{Caps}
 use Rattle.git_msg.specs.declared.offers.Offer.{Offer}
 
@@ -60,6 +60,12 @@ is_spoken caps Sha256 = caps.sha256
 abbrev pub offers_command : Caps → Command → Bool
 offers_command caps LsRefs = caps.ls_refs
 offers_command caps Fetch = caps.fetch
+offers_command caps ObjectInfo = caps.object_info
+
+-- requests of this command are in the offer
+abbrev pub takes_command : Offer → Command → Bool
+takes_command offer ObjectInfo = offer.object_info
+takes_command offer command = true
 
 -- what is offered to a side that speaks this format
 abbrev pub noted_offer : Caps → Format → Offer

@@ -8,10 +8,10 @@ use Rattle.git_names.specs.declared.object_format.Format.{Format}
 use Rattle.git_pkt.specs.declared.fault.Kind.{Kind}
 use Rattle.git_pkt.specs.declared.fault.Kind.TheVariants.{UnknownArgument, BadLine, BadNumber, BadObjectName, BadRefName, NotAdvertised}
 use Rattle.git_msg.specs.declared.arguments.Command.{Command}
-use Rattle.git_msg.specs.declared.arguments.Command.TheVariants.{LsRefs, Fetch}
+use Rattle.git_msg.specs.declared.arguments.Command.TheVariants.{LsRefs, Fetch, ObjectInfo}
 use Rattle.git_msg.specs.declared.arguments.Argument.{Argument}
 use Rattle.git_msg.specs.declared.arguments.Argument.TheVariants.{Symrefs, Peel, RefPrefix, Want, Have, IsDone, ThinPack, NoProgress, IncludeTag, OfsDelta}
-use Rattle.git_msg.specs.declared.arguments.Argument.TheVariants.{Shallow, Deepen, DeepenRelative, DeepenSince, DeepenNot, WantRef}
+use Rattle.git_msg.specs.declared.arguments.Argument.TheVariants.{Shallow, Deepen, DeepenRelative, DeepenSince, DeepenNot, WantRef, Size, ObjectId}
 use Rattle.git_msg.specs.declared.offers.Offer.{Offer}
 use Rattle.git_msg.specs.Numbers.{IsNumber}
 use Rattle.git_msg.specs.Texts.{Follows, IsNoneOf, BeginsWithNone}
@@ -34,6 +34,8 @@ pub data Arg : Type 0 where
   deepen_since : ℕ → Arg
   deepen_not : List ℕ → Arg
   want_ref : List ℕ → Arg
+  size : Arg
+  object_id : ObjectName → Arg
 
 -- the argument that a borrowed one shows
 abbrev pub shown : Argument → Arg
@@ -53,11 +55,14 @@ shown DeepenRelative = deepen_relative
 shown (DeepenSince time) = deepen_since time
 shown (DeepenNot revision) = deepen_not revision.now
 shown (WantRef name) = want_ref name.now
+shown Size = size
+shown (ObjectId id) = object_id id
 
 -- the command's key, as it stands after `command=`
 abbrev pub name_of : Command → List ℕ
 name_of LsRefs = codes "ls-refs"
 name_of Fetch = codes "fetch"
+name_of ObjectInfo = codes "object-info"
 
 -- the command that has the argument
 abbrev pub command_with : Arg → Command
@@ -77,6 +82,8 @@ command_with deepen_relative = Fetch
 command_with (deepen_since time) = Fetch
 command_with (deepen_not revision) = Fetch
 command_with (want_ref name) = Fetch
+command_with size = ObjectInfo
+command_with (object_id id) = ObjectInfo
 
 -- the most bytes that a text which is kept may have
 abbrev pub most_text : ℕ
@@ -129,6 +136,8 @@ SaysArgument format text deepen_relative = text ≡ codes "deepen-relative"
 SaysArgument format text (deepen_since time) = Follows (codes "deepen-since ") (λ digits. IsNumberIn IsTime digits time) text
 SaysArgument format text (deepen_not revision) = (text ≡ codes "deepen-not " ++ revision) × IsRevision revision
 SaysArgument format text (want_ref name) = (text ≡ codes "want-ref " ++ name) × IsRefName name
+SaysArgument format text size = text ≡ codes "size"
+SaysArgument format text (object_id id) = Follows (codes "oid ") (λ name. IsObjectName format name id) text
 
 -- the text is this argument of the command
 abbrev pub IsArgument : Command → Format → List ℕ → Arg → Type 0
@@ -149,6 +158,7 @@ IsInRange format (deepen depth) = IsDepth depth
 IsInRange format (deepen_since time) = IsTime time
 IsInRange format (deepen_not revision) = IsRevision revision
 IsInRange format (want_ref name) = IsRefName name
+IsInRange format (object_id id) = IsNameIn format id
 IsInRange format _ = Unit {0}
 
 -- by which name it may not
@@ -161,6 +171,7 @@ IsOutOfRange format (deepen depth) kind = (¬ IsDepth depth) × (kind ≡ BadNum
 IsOutOfRange format (deepen_since time) kind = (¬ IsTime time) × (kind ≡ BadNumber)
 IsOutOfRange format (deepen_not revision) kind = IsNoRevision revision × (kind ≡ BadLine)
 IsOutOfRange format (want_ref name) kind = (¬ IsRefName name) × (kind ≡ BadRefName)
+IsOutOfRange format (object_id id) kind = (id.format ≢ format) × (kind ≡ BadObjectName)
 IsOutOfRange format _ kind = ⊥
 
 -- the argument may stand in a request of the command and the format
@@ -192,12 +203,14 @@ abbrev pub flags_of : Command → List (List ℕ)
 flags_of LsRefs = codes "symrefs" ∷ codes "peel" ∷ []
 flags_of Fetch =
     codes "done" ∷ codes "thin-pack" ∷ codes "no-progress" ∷ codes "include-tag" ∷ codes "ofs-delta" ∷ codes "deepen-relative" ∷ []
+flags_of ObjectInfo = codes "size" ∷ []
 
 -- what stands before a value in the command's other arguments
 abbrev pub keywords_of : Command → List (List ℕ)
 keywords_of LsRefs = codes "ref-prefix " ∷ []
 keywords_of Fetch =
     codes "want " ∷ codes "have " ∷ codes "shallow " ∷ codes "deepen " ∷ codes "deepen-since " ∷ codes "deepen-not " ∷ codes "want-ref " ∷ []
+keywords_of ObjectInfo = codes "oid " ∷ []
 
 -- the rows of the table of arguments
 pub data Row : Type 0 where
@@ -217,6 +230,8 @@ pub data Row : Type 0 where
   of_deepen_since : Row
   of_deepen_not : Row
   of_want_ref : Row
+  of_size : Row
+  of_object_id : Row
   of_none : Row
 
 -- the row that a word stands for
@@ -238,6 +253,8 @@ row_by word =
     else if bytes_eq word (codes "deepen-since") then of_deepen_since
     else if bytes_eq word (codes "deepen-not") then of_deepen_not
     else if bytes_eq word (codes "want-ref") then of_want_ref
+    else if bytes_eq word (codes "size") then of_size
+    else if bytes_eq word (codes "oid") then of_object_id
     else of_none
 
 -- the row of a text, by its first word
@@ -262,6 +279,8 @@ row_in deepen_relative = of_deepen_relative
 row_in (deepen_since time) = of_deepen_since
 row_in (deepen_not revision) = of_deepen_not
 row_in (want_ref name) = of_want_ref
+row_in size = of_size
+row_in (object_id id) = of_object_id
 
 -- by which name a text of this row is refused for its value
 abbrev pub IsRowFault : Command → Format → Row → List ℕ → Kind → Type 0
@@ -273,6 +292,7 @@ IsRowFault Fetch format of_deepen text kind = Follows (codes "deepen ") (IsNoNum
 IsRowFault Fetch format of_deepen_since text kind = Follows (codes "deepen-since ") (IsNoNumberIn IsTime) text × (kind ≡ BadNumber)
 IsRowFault Fetch format of_deepen_not text kind = Follows (codes "deepen-not ") IsNoRevision text × (kind ≡ BadLine)
 IsRowFault Fetch format of_want_ref text kind = Follows (codes "want-ref ") (λ name. ¬ IsRefName name) text × (kind ≡ BadRefName)
+IsRowFault ObjectInfo format of_object_id text kind = Follows (codes "oid ") (IsNoObjectName format) text × (kind ≡ BadObjectName)
 IsRowFault _ format _ text kind = ⊥
 
 -- the text is no argument of the command
@@ -309,6 +329,8 @@ written_text deepen_relative = codes "deepen-relative"
 written_text (deepen_since time) = codes "deepen-since " ++ decimal time
 written_text (deepen_not revision) = codes "deepen-not " ++ revision
 written_text (want_ref name) = codes "want-ref " ++ name
+written_text size = codes "size"
+written_text (object_id id) = codes "oid " ++ hex_of id
 
 -- the argument has a value for which memory is taken
 abbrev pub TakesMemory : Arg → Type 0
@@ -318,4 +340,5 @@ TakesMemory (have id) = Unit {0}
 TakesMemory (shallow id) = Unit {0}
 TakesMemory (deepen_not revision) = Unit {0}
 TakesMemory (want_ref name) = Unit {0}
+TakesMemory (object_id id) = Unit {0}
 TakesMemory _ = ⊥

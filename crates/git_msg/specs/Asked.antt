@@ -5,9 +5,9 @@ use Rattle.git_names.specs.ObjectName.{ObjectName}
 use Rattle.git_names.specs.declared.object_format.Format.{Format}
 use Rattle.git_msg.specs.declared.offers.Offer.{Offer}
 use Rattle.git_msg.specs.declared.arguments.Command.{Command}
-use Rattle.git_msg.specs.declared.arguments.Command.TheVariants.{LsRefs, Fetch}
+use Rattle.git_msg.specs.declared.arguments.Command.TheVariants.{LsRefs, Fetch, ObjectInfo}
 use Rattle.git_msg.specs.Arguments.{Arg, symrefs, peel, ref_prefix, want, have, done, thin_pack, no_progress, include_tag, ofs_delta}
-use Rattle.git_msg.specs.Arguments.{shallow, deepen, deepen_relative, deepen_since, deepen_not, want_ref, IsValue, is_offered, written_text}
+use Rattle.git_msg.specs.Arguments.{shallow, deepen, deepen_relative, deepen_since, deepen_not, want_ref, size, object_id, IsValue, is_offered, written_text}
 use Rattle.git_msg.specs.Texts.{last_of}
 
 abbrev pub is_symrefs : Arg → Bool
@@ -74,6 +74,14 @@ abbrev pub want_ref_in : Arg → Option (List ℕ)
 want_ref_in (want_ref name) = Some name
 want_ref_in _ = None
 
+abbrev pub is_size : Arg → Bool
+is_size size = true
+is_size _ = false
+
+abbrev pub object_id_in : Arg → Option ObjectName
+object_id_in (object_id id) = Some id
+object_id_in _ = None
+
 -- what an ls-refs request asks for: the flags, and the prefixes in their order
 pub record LsRefsAsked : Type 0 where
   pub symrefs : Bool
@@ -96,15 +104,22 @@ pub record FetchAsked : Type 0 where
   pub deepen_nots : List (List ℕ)
   pub want_refs : List (List ℕ)
 
+-- what an object-info request asks for: the sizes of objects, in the order of their lines
+pub record ObjectInfoAsked : Type 0 where
+  pub size : Bool
+  pub oids : List ObjectName
+
 -- what a request asks for
 pub data Asked : Type 0 where
   ls_refs : LsRefsAsked → Asked
   fetch : FetchAsked → Asked
+  object_info : ObjectInfoAsked → Asked
 
 -- the command of a request for this
 abbrev pub command_asked : Asked → Command
 command_asked (ls_refs q) = LsRefs
 command_asked (fetch q) = Fetch
+command_asked (object_info q) = ObjectInfo
 
 -- a request for nothing yet
 abbrev pub nothing_asked : Command → Asked
@@ -124,6 +139,7 @@ nothing_asked Fetch = fetch (record {
   deepen_nots = [];
   want_refs = [];
 })
+nothing_asked ObjectInfo = object_info (record { size = false; oids = [] })
 
 -- what the arguments ask for: each list is the values of its kind in their order, and a flag is set where one sets it
 abbrev pub asked_by : Command → List Arg → Asked
@@ -144,6 +160,7 @@ asked_by Fetch args = fetch (record {
   deepen_nots = filter_map deepen_not_in args;
   want_refs = filter_map want_ref_in args;
 })
+asked_by ObjectInfo args = object_info (record { size = list_any is_size args; oids = filter_map object_id_in args })
 
 -- what ls-refs is asked for with one more argument after the others; that of another command changes nothing
 abbrev pub with_ls_refs : LsRefsAsked → Arg → LsRefsAsked
@@ -169,10 +186,17 @@ with_fetch q (deepen_not revision) = record q { deepen_nots = q.deepen_nots ++ r
 with_fetch q (want_ref name) = record q { want_refs = q.want_refs ++ name ∷ [] }
 with_fetch q _ = q
 
+-- what object-info is asked for with one more argument after the others
+abbrev pub with_object_info : ObjectInfoAsked → Arg → ObjectInfoAsked
+with_object_info q size = record q { size = true }
+with_object_info q (object_id id) = record q { oids = q.oids ++ id ∷ [] }
+with_object_info q _ = q
+
 -- what is asked for with one more argument after the others
 abbrev pub with_argument : Asked → Arg → Asked
 with_argument (ls_refs q) arg = ls_refs (with_ls_refs q arg)
 with_argument (fetch q) arg = fetch (with_fetch q arg)
+with_argument (object_info q) arg = object_info (with_object_info q arg)
 
 -- the flag `symrefs` of an ls-refs request
 abbrev pub symrefs_of : Asked → Bool
@@ -254,6 +278,16 @@ abbrev pub want_refs_of : Asked → List (List ℕ)
 want_refs_of (fetch q) = q.want_refs
 want_refs_of _ = []
 
+-- the flag `size` of an object-info request
+abbrev pub size_of : Asked → Bool
+size_of (object_info q) = q.size
+size_of _ = false
+
+-- the objects of an object-info request
+abbrev pub oids_of : Asked → List ObjectName
+oids_of (object_info q) = q.oids
+oids_of _ = []
+
 -- a fetch request wants something
 abbrev pub HasWants : FetchAsked → Type 0
 HasWants q = 0 < length q.wants + length q.want_refs
@@ -301,6 +335,7 @@ pack_arguments q others =
 abbrev pub arguments_in : Asked → List Arg
 arguments_in (ls_refs q) = where_asked q.peel peel ++ (where_asked q.symrefs symrefs ++ map ref_prefix q.ref_prefixes)
 arguments_in (fetch q) = pack_arguments q (shallow_arguments q (object_arguments q))
+arguments_in (object_info q) = where_asked q.size size ++ map object_id q.oids
 
 -- how many bytes the texts of the lines of these arguments have, as they are written
 abbrev pub bytes_of : List Arg → ℕ

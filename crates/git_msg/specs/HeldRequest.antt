@@ -5,9 +5,9 @@ use Rattle.git_pkt.specs.declared.fault.Kind.{Kind}
 use Rattle.git_pkt.specs.declared.fault.Kind.TheVariants.{TooMuchKept, OutOfMemory}
 use Rattle.git_msg.specs.declared.arguments.Command.{Command}
 use Rattle.git_msg.specs.declared.requests.Request.{Request}
-use Rattle.git_msg.specs.declared.requests.Request.TheVariants.{LsRefs as OfLsRefs, Fetch as OfFetch}
+use Rattle.git_msg.specs.declared.requests.Request.TheVariants.{LsRefs as OfLsRefs, Fetch as OfFetch, ObjectInfo as OfObjectInfo}
 use Rattle.git_msg.specs.Arguments.{Arg, IsValue, IsValueFault, written_text, TakesMemory}
-use Rattle.git_msg.specs.Asked.{Asked, ls_refs, fetch, command_asked}
+use Rattle.git_msg.specs.Asked.{Asked, ls_refs, fetch, object_info, command_asked}
 use Rattle.git_msg.specs.Checks.{Check, check, Refuses, Passes}
 use Rattle.git_msg.specs.Kept.{Kept, kept_as, IsNew, KeepsArgument}
 
@@ -16,6 +16,7 @@ module _ {A : Type 0} where
   abbrev pub holding_of : Request A → Kept Asked
   holding_of (OfLsRefs q) = kept_as ls_refs q
   holding_of (OfFetch q) = kept_as fetch q
+  holding_of (OfObjectInfo q) = kept_as object_info q
 
   -- what the request asks for
   abbrev pub asked_of : Request A → Asked

@@ -1,7 +1,8 @@
 -- What the structs that keep a request hold of what it asks for.
 use Rattle.git_msg.specs.declared.fetch.Fetch.TheInside.{Inside as FetchInside}
 use Rattle.git_msg.specs.declared.ls_refs.LsRefs.TheInside.{Inside as LsRefsInside}
-use Rattle.git_msg.specs.Asked.{LsRefsAsked, FetchAsked}
+use Rattle.git_msg.specs.declared.object_info.ObjectInfo.TheInside.{Inside as ObjectInfoInside}
+use Rattle.git_msg.specs.Asked.{LsRefsAsked, FetchAsked, ObjectInfoAsked}
 
 module _ {A : Type 0} where
   abbrev pub ls_refs_inside : LsRefsInside A → LsRefsAsked
@@ -23,3 +24,6 @@ module _ {A : Type 0} where
     deepen_nots = q.deepen_nots;
     want_refs = q.want_refs;
   }
+
+  abbrev pub object_info_inside : ObjectInfoInside A → ObjectInfoAsked
+  object_info_inside q = record { size = q.size; oids = q.oids.items }

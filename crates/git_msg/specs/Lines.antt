@@ -8,15 +8,16 @@ use Rattle.git_names.specs.declared.object_format.Format.TheVariants.{Sha1, Sha2
 use Rattle.git_pkt.specs.Packets.{Pkt, flush, delim, payload, text_of}
 use Rattle.git_pkt.specs.declared.fault.Kind.{Kind}
 use Rattle.git_pkt.specs.declared.fault.Kind.TheVariants.{BadCapability, UnknownCommand, TwoCommands, NoCommand, NotAdvertised, WrongFormat}
-use Rattle.git_pkt.specs.declared.fault.Kind.TheVariants.{TooMuchKept, UnexpectedPacket, RemoteError, DeepenConflict, NoWants}
+use Rattle.git_pkt.specs.declared.fault.Kind.TheVariants.{TooMuchKept, UnexpectedPacket, RemoteError, DeepenConflict, NoWants, NoSize}
 use Rattle.git_msg.specs.declared.offers.Offer.{Offer}
 use Rattle.git_msg.specs.declared.arguments.Command.{Command}
 use Rattle.git_msg.specs.declared.capability_key.Key.{Key}
 use Rattle.git_msg.specs.declared.capability_key.Key.TheVariants.{CommandKey, AgentKey, ServerOptionKey, ObjectFormatKey, OtherKey}
 use Rattle.git_msg.specs.Texts.{IsErrorText, IsNoneOf}
 use Rattle.git_msg.specs.Capability.{IsCapability, IsNoCapability}
+use Rattle.git_msg.specs.Advertisement.{takes_command}
 use Rattle.git_msg.specs.Arguments.{Arg, name_of, ReadsAs, IsArgumentFault}
-use Rattle.git_msg.specs.Asked.{Asked, ls_refs, fetch, HasWants, asked_by, has_deepen_conflict}
+use Rattle.git_msg.specs.Asked.{Asked, ls_refs, fetch, object_info, HasWants, asked_by, has_deepen_conflict}
 use Rattle.git_msg.specs.Checks.{Check, check, unless, Refuses, Passes}
 
 -- a packet of a request that is not refused: the capability lines, the delimiter, and the arguments with the
@@ -104,10 +105,19 @@ IsAnyCapability text = (word : List ℕ) × (value : Option (List ℕ)) × IsCap
 abbrev pub NamesCommand : Option (List ℕ) → Type 0
 NamesCommand value = (c : Command) × (value ≡ Some (name_of c))
 
+-- a command that the value names is in the offer
+abbrev pub NamesTaken : Offer → Option (List ℕ) → Type 0
+NamesTaken offer value = (c : Command) → value ≡ Some (name_of c) → takes_command offer c ≡ true
+
+-- the value names a command that is not
+abbrev pub NamesUntaken : Offer → Option (List ℕ) → Type 0
+NamesUntaken offer value = (c : Command) × (value ≡ Some (name_of c)) × (takes_command offer c ≡ false)
+
 -- what refuses a capability line, by its key; `first` says that no command line came before
 abbrev pub key_checks : Offer → Bool → Key → Option (List ℕ) → List Check
 key_checks offer first CommandKey value =
-    check (first ≡ true) (first ≡ false) TwoCommands ∷ check (NamesCommand value) (¬ NamesCommand value) UnknownCommand ∷ []
+    check (first ≡ true) (first ≡ false) TwoCommands ∷ check (NamesCommand value) (¬ NamesCommand value) UnknownCommand
+    ∷ check (NamesTaken offer value) (NamesUntaken offer value) NotAdvertised ∷ []
 key_checks offer first AgentKey value = []
 key_checks offer first ServerOptionKey value =
     check (offer.server_option ≡ true) (offer.server_option ≡ false) NotAdvertised ∷ []
@@ -196,6 +206,7 @@ end_checks (ls_refs q) = []
 end_checks (fetch q) =
     check (has_deepen_conflict q ≡ false) (has_deepen_conflict q ≡ true) DeepenConflict
     ∷ check (HasWants q) (¬ HasWants q) NoWants ∷ []
+end_checks (object_info q) = check (q.size ≡ true) (q.size ≡ false) NoSize ∷ []
 
 abbrev pub at_end : List Line → Check
 at_end lines = record {

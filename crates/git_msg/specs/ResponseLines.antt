@@ -1,13 +1,15 @@
--- The lines of fetch's response sections, by gitprotocol-v2(5).
-use Rattle.std.specs.Prelude.{◌≡◌, ◌⊎◌, ℕ, List, ◌∷◌, ◌++◌, codes}
+-- The lines of fetch's response sections and of the response to object-info, by gitprotocol-v2(5).
+use Rattle.std.specs.Prelude.{◌≡◌, ◌≢◌, ◌⊎◌, ℕ, ◌<◌, ◌^◌, List, [], ◌∷◌, ◌++◌, Option, Some, None, codes, decimal}
 use Rattle.git_names.specs.ObjectName.{ObjectName, IsObjectName, IsNoObjectName, hex_of}
 use Rattle.git_names.specs.RefName.{IsRefName, Lacks}
 use Rattle.git_names.specs.declared.object_format.Format.{Format}
 use Rattle.git_pkt.specs.declared.fault.Kind.{Kind}
-use Rattle.git_pkt.specs.declared.fault.Kind.TheVariants.{BadLine, BadObjectName, BadRefName}
+use Rattle.git_pkt.specs.declared.fault.Kind.TheVariants.{BadLine, BadNumber, BadObjectName, BadRefName}
 use Rattle.git_msg.specs.declared.response_lines.Boundary.{Boundary}
 use Rattle.git_msg.specs.declared.response_lines.Boundary.TheVariants.{Shallow, Unshallow}
 use Rattle.git_msg.specs.declared.response_lines.WantedRef.{WantedRef}
+use Rattle.git_msg.specs.declared.response_lines.Info.{Info}
+use Rattle.git_msg.specs.Arguments.{IsNumberIn, IsNoNumberIn}
 use Rattle.git_msg.specs.Texts.{BeginsOtherThan, Follows, IsPartedAt}
 
 -- a reference that was asked for by its name, wherever that lies, and the object that it points to
@@ -64,13 +66,50 @@ pub record IsWantedLine (format : Format) (text : List ℕ) (wanted : Wanted) : 
   pub id_is : IsObjectName format id wanted.id
   pub name_is : IsRefName wanted.name
 
+-- what stands before the first space of the text is no object name
+abbrev pub BeginsWithNoName : Format → List ℕ → Type 0
+BeginsWithNoName format text = (id : List ℕ) × (rest : List ℕ) × IsPartedAt 32 text id rest × IsNoObjectName format id
+
+-- what stands before the first space of the text is an object name, and what stands after that space meets P
+abbrev pub BeginsWithName : Format → (List ℕ → Type 0) → List ℕ → Type 0
+BeginsWithName format P text =
+    (id : List ℕ) × (rest : List ℕ) × IsPartedAt 32 text id rest × ((named : ObjectName) × IsObjectName format id named) × P rest
+
 -- by which name it is refused: for want of a space, and then from left to right
 abbrev pub IsWantedFault : Format → List ℕ → Kind → Type 0
 IsWantedFault format text BadLine = Lacks text 32
-IsWantedFault format text BadObjectName = (id : List ℕ) × (name : List ℕ) × IsPartedAt 32 text id name × IsNoObjectName format id
-IsWantedFault format text BadRefName =
-    (id : List ℕ) × (name : List ℕ) × IsPartedAt 32 text id name × ((named : ObjectName) × IsObjectName format id named) × (¬ IsRefName name)
+IsWantedFault format text BadObjectName = BeginsWithNoName format text
+IsWantedFault format text BadRefName = BeginsWithName format (λ name. ¬ IsRefName name) text
 IsWantedFault format text _ = ⊥
+
+-- a size in bytes: of 64 bits
+abbrev pub IsSize : ℕ → Type 0
+IsSize size = size < 2 ^ 64
+
+-- the text is a size, or nothing, where the object is not there
+abbrev pub IsSizeText : List ℕ → Option ℕ → Type 0
+IsSizeText text None = text ≡ []
+IsSizeText text (Some size) = IsNumberIn IsSize text size
+
+-- the text is neither
+pub record IsNoSizeText (text : List ℕ) : Type 0 where
+  pub some : text ≢ []
+  pub no_number : IsNoNumberIn IsSize text
+
+-- the text is what the server has of an object: its name, a space, and all after the first space, which is its size or nothing
+pub record IsInfoLine (format : Format) (text : List ℕ) (info : Info) : Type 0 where
+  pub id : List ℕ
+  pub size : List ℕ
+  pub spelled : text ≡ id ++ 32 ∷ size
+  pub id_is : IsObjectName format id info.id
+  pub size_is : IsSizeText size info.size
+
+-- by which name it is refused: for want of a space, and then from left to right
+abbrev pub IsInfoFault : Format → List ℕ → Kind → Type 0
+IsInfoFault format text BadLine = Lacks text 32
+IsInfoFault format text BadObjectName = BeginsWithNoName format text
+IsInfoFault format text BadNumber = BeginsWithName format IsNoSizeText text
+IsInfoFault format text _ = ⊥
 
 -- the lines as they are written
 abbrev pub ack_text : ObjectName → List ℕ
@@ -82,3 +121,11 @@ boundary_text (Unshallow id) = codes "unshallow " ++ hex_of id
 
 abbrev pub wanted_text : Wanted → List ℕ
 wanted_text wanted = hex_of wanted.id ++ 32 ∷ wanted.name
+
+-- a size in decimal digits, or nothing
+abbrev pub size_text : Option ℕ → List ℕ
+size_text None = []
+size_text (Some size) = decimal size
+
+abbrev pub info_text : Info → List ℕ
+info_text info = hex_of info.id ++ 32 ∷ size_text info.size

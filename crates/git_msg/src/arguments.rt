@@ -20,6 +20,8 @@ pub enum Command {
     LsRefs,
     /// `fetch`: a pack of the objects that are wanted, as `git clone` asks for it.
     Fetch,
+    /// `object-info`: what is known of objects, without the objects themselves.
+    ObjectInfo,
 }
 
 /// An argument of a request, whose text is lent.
@@ -58,6 +60,10 @@ pub enum Argument<'a> {
     /// `want-ref`: send the object of the reference of this name, whose text is a [`git_names::RefName`]. It is the text
     /// that is lent, since the check has no rule yet for an enum by value of an object name and a struct that borrows.
     WantRef(&'a [u8]),
+    /// `size`: say how many bytes the objects have.
+    Size,
+    /// `oid`: speak of this object.
+    ObjectId(Oid),
 }
 
 // The same argument, taken apart and put together: the check has no rule yet for lending or copying a whole parameter that
@@ -81,6 +87,8 @@ macro_rules! put_together {
             Argument::DeepenSince(time) => Argument::DeepenSince(time),
             Argument::DeepenNot(revision) => Argument::DeepenNot(revision),
             Argument::WantRef(name) => Argument::WantRef(name),
+            Argument::Size => Argument::Size,
+            Argument::ObjectId(id) => Argument::ObjectId(id),
         }
     };
 }
@@ -103,6 +111,7 @@ impl Command {
         match self {
             Command::LsRefs => "ls-refs",
             Command::Fetch => "fetch",
+            Command::ObjectInfo => "object-info",
         }
     }
 }
@@ -122,6 +131,7 @@ pub fn read_argument<'a>(
     match command {
         Command::LsRefs => read_ls_refs(offer, text),
         Command::Fetch => read_fetch(offer, text),
+        Command::ObjectInfo => read_object_info(offer, text),
     }
 }
 
@@ -236,6 +246,20 @@ fn read_fetch_value<'a>(format: Format, text: &'a [u8]) -> Result<Argument<'a>, 
         return Ok(Argument::WantRef(name));
     }
     Err(Kind::UnknownArgument)
+}
+
+fn read_object_info<'a>(offer: &Offer, text: &'a [u8]) -> Result<Argument<'a>, Kind>
+    ensures argument { MatchResult result (λ argument. ReadsAs Command.ObjectInfo offer.now text.now (shown argument))
+        (IsArgumentFault Command.ObjectInfo offer.now text.now) }
+{
+    if is_word(text, b"size") {
+        return Ok(Argument::Size);
+    }
+    let Some(name) = after(text, b"oid ") else {
+        return Err(Kind::UnknownArgument);
+    };
+    let id = read_id(offer.format, name)?;
+    Ok(Argument::ObjectId(id))
 }
 
 /// Whether the feature that the argument needs was offered.

@@ -1,12 +1,12 @@
 //! Requests for objects, `fetch` of gitprotocol-v2(5), as they are kept.
-ghost use Rattle.std.specs.Prelude.{◌≡◌, ◌≢◌, ◌+◌, ◌≤◌, ◌++◌, ◌^◌, ◌<◌, length, map, MatchBool, MatchResult, OnOk, OnErr, IfErr, IfSome, slice_get, OnSome};
+ghost use Rattle.std.specs.Prelude.{◌≡◌, ◌+◌, ◌≤◌, ◌++◌, ◌^◌, ◌<◌, length, map, MatchBool, OnOk, OnErr, IfErr, IfSome, slice_get, OnSome};
 ghost use Rattle.std.specs.Option.{option_copied, option_map};
 ghost use Rattle.git_names.specs.RefName.{IsRefName};
 ghost use Rattle.git_msg.specs.Arguments.{shown, written_text};
 
 use crate::arguments::{Argument, Command, is_depth, is_ref_name, is_revision, is_time};
 use crate::limits::{Budget, Limits};
-use crate::parts::{Texts, keep_id, number_at, past_flag};
+use crate::parts::{Texts, check_id, keep_id, number_at, past_flag};
 use git_names::{Format, Oid};
 use git_pkt::Kind;
 use std::alloc::Allocator;
@@ -46,7 +46,7 @@ impl<A: Allocator + Copy> Model for Fetch<A> {
 }
 
 impl<A: Allocator + Copy> Fetch<A> {
-    ghost use Rattle.git_msg.specs.Arguments.{done, deepen_not, deepen_relative, have, IsNameIn, IsValue, IsValueFault};
+    ghost use Rattle.git_msg.specs.Arguments.{done, deepen_not, deepen_relative, have, IsValue, IsValueFault};
     ghost use Rattle.git_msg.specs.Asked.{HasWants, arguments_in, fetch, has_deepen_conflict, object_arguments, shallow_arguments, where_asked};
     ghost use Rattle.git_msg.specs.Kept.{IsNew, IsUnkept, IsWithin, KeepsArgument, kept_as};
 
@@ -285,7 +285,9 @@ impl<A: Allocator + Copy> Fetch<A> {
         ensures err { IfErr result (IsValueFault Command.Fetch self.now.format (shown argument.now)) }
     {
         match argument {
-            Argument::Want(id) | Argument::Have(id) | Argument::Shallow(id) => self.check_id(id),
+            Argument::Want(id) | Argument::Have(id) | Argument::Shallow(id) => {
+                check_id(self.format, id)
+            }
             Argument::Deepen(depth) if !is_depth(*depth) => Err(Kind::BadNumber),
             Argument::DeepenSince(time) if !is_time(*time) => Err(Kind::BadNumber),
             Argument::DeepenNot(revision) if !is_revision(revision) => Err(Kind::BadLine),
@@ -293,19 +295,10 @@ impl<A: Allocator + Copy> Fetch<A> {
             Argument::Symrefs => Err(Kind::UnknownArgument),
             Argument::Peel => Err(Kind::UnknownArgument),
             Argument::RefPrefix(_) => Err(Kind::UnknownArgument),
+            Argument::Size => Err(Kind::UnknownArgument),
+            Argument::ObjectId(_) => Err(Kind::UnknownArgument),
             _ => Ok(()),
         }
-    }
-
-    // Whether the object name is of the request's format.
-    fn check_id(&self, id: &Oid) -> Result<(), Kind>
-        ensures { MatchResult result (λ _. IsNameIn self.now.format id.now)
-            (λ kind. (id.now.format ≢ self.now.format) × (kind ≡ Kind.BadObjectName)) }
-    {
-        if id.format() != self.format {
-            return Err(Kind::BadObjectName);
-        }
-        Ok(())
     }
 
     /// Keeps an argument whose line has a text of so many bytes.

@@ -46,10 +46,13 @@ fn judge_key(offer: &Offer, first: bool, key: Key, value: Option<&[u8]>) -> Resu
             if !first {
                 return Err(Kind::TwoCommands);
             }
-            match read_command(value) {
-                Some(command) => Ok(Noted::Command(command)),
-                None => Err(Kind::UnknownCommand),
+            let Some(command) = read_command(value) else {
+                return Err(Kind::UnknownCommand);
+            };
+            if !offer.takes(command) {
+                return Err(Kind::NotAdvertised);
             }
+            Ok(Noted::Command(command))
         }
         Key::AgentKey => Ok(Noted::Agent),
         Key::ServerOptionKey => {
@@ -78,6 +81,9 @@ fn read_command(value: Option<&[u8]>) -> Option<Command>
     }
     if is_value(value, b"fetch") {
         return Some(Command::Fetch);
+    }
+    if is_value(value, b"object-info") {
+        return Some(Command::ObjectInfo);
     }
     None
 }

@@ -1,6 +1,6 @@
 //! What follows from the definitions alone: each law is the contract of a function without parameters.
 
-ghost use Rattle.std.specs.Prelude.{◌≡◌, ◌≤◌, ℕ, List, Option, Some, length, map, sum_by};
+ghost use Rattle.std.specs.Prelude.{◌≡◌, ◌≤◌, ℕ, List, Option, Some, true, length, map, sum_by};
 ghost use Rattle.git_names.specs.ObjectName.{ObjectName, IsOid};
 ghost use Rattle.git_names.specs.RefName.{IsRefName};
 ghost use Rattle.git_names.specs.declared.object_format.Format.{Format};
@@ -12,6 +12,8 @@ ghost use Rattle.git_msg.specs.declared.offers.Caps.{Caps};
 ghost use Rattle.git_msg.specs.declared.offers.Offer.{Offer};
 ghost use Rattle.git_msg.specs.declared.requests.Request.{Request};
 ghost use Rattle.git_msg.specs.declared.response_lines.Boundary.{Boundary};
+ghost use Rattle.git_msg.specs.declared.response_lines.Info.{Info};
+ghost use Rattle.git_msg.specs.Advertisement.{takes_command};
 ghost use Rattle.git_msg.specs.Arguments.{Arg, IsArgumentFault, IsNameIn, ReadsAs, written_text};
 ghost use Rattle.git_msg.specs.Asked.{Asked, AreOffered, HasValues, arguments_in, asked_by, command_asked, written_bytes};
 ghost use Rattle.git_msg.specs.Capability.{IsCapability, IsNoCapability};
@@ -21,7 +23,7 @@ ghost use Rattle.git_msg.specs.Lines.{Line, IsFormatMeant, IsLine, HasFault, end
 ghost use Rattle.git_msg.specs.References.{Ref, IsReferenceFault, IsReferenceLine, IsWritable, reference_text};
 ghost use Rattle.git_msg.specs.Requests.{Asks, FirstFault};
 ghost use Rattle.git_msg.specs.ResponseLines.{Wanted, IsAckFault, IsAckLine, IsBoundaryFault, IsBoundaryLine, IsWantedFault, IsWantedLine};
-ghost use Rattle.git_msg.specs.ResponseLines.{ack_text, boundary_text, object_of, wanted_text};
+ghost use Rattle.git_msg.specs.ResponseLines.{IsInfoFault, IsInfoLine, IsSize, ack_text, boundary_text, info_text, object_of, wanted_text};
 ghost use Rattle.git_msg.specs.WrittenRequest.{lines_written};
 
 use crate::limits::Limits;
@@ -82,6 +84,11 @@ pub fn one_wanted()
     ensures { (format : Format) (text : List ℕ) (a b : Wanted) → IsWantedLine format text a → IsWantedLine format text b → a ≡ b }
 {}
 
+/// A text is one line of the response to object-info at most.
+pub fn one_info()
+    ensures { (format : Format) (text : List ℕ) (a b : Info) → IsInfoLine format text a → IsInfoLine format text b → a ≡ b }
+{}
+
 /// A text acknowledges an object or is refused, never both, and it is refused by one name at most.
 pub fn ack_or_fault()
     ensures never_both { (format : Format) (text : List ℕ) (id : ObjectName) (kind : Kind)
@@ -106,6 +113,14 @@ pub fn wanted_or_fault()
         → IsWantedFault format text kind → IsWantedFault format text other → kind ≡ other }
 {}
 
+/// A text is a line of the response to object-info or is refused, never both, and it is refused by one name at most.
+pub fn info_or_fault()
+    ensures never_both { (format : Format) (text : List ℕ) (info : Info) (kind : Kind)
+        → IsInfoLine format text info → IsInfoFault format text kind → ⊥ }
+    ensures one_name { (format : Format) (text : List ℕ) (kind other : Kind)
+        → IsInfoFault format text kind → IsInfoFault format text other → kind ≡ other }
+{}
+
 /// The line that is written of a reference is that reference, where its object name has the format.
 pub fn written_reference_reads_back()
     ensures { (format : Format) (ref : Ref) → IsNameIn format ref.id → ((peeled : ObjectName) → ref.peeled ≡ Some peeled → IsOid peeled)
@@ -126,6 +141,12 @@ pub fn written_boundary_reads_back()
 pub fn written_wanted_reads_back()
     ensures { (format : Format) (wanted : Wanted) → IsNameIn format wanted.id → IsRefName wanted.name
         → IsWantedLine format (wanted_text wanted) wanted }
+{}
+
+/// The line that is written of an object and its size is that of the object and the size, where that has 64 bits.
+pub fn written_info_reads_back()
+    ensures { (format : Format) (info : Info) → IsNameIn format info.id → ((size : ℕ) → info.size ≡ Some size → IsSize size)
+        → IsInfoLine format (info_text info) info }
 {}
 
 // Packets of requests.
@@ -169,13 +190,14 @@ pub fn one_first_fault()
 {}
 
 /// The packets that are written of a request are a request for the same, whatever their offsets: where the format is
-/// that of the reader, each argument may stand in such a request, the reader offers what the arguments need (as `shallow`
-/// for `deepen`: a reader that does not offer it refuses the line), the texts of its lines are within the limit, and nothing
-/// refuses what is asked for at its end, as a fetch without a want is. For SHA-256 the format has to be among what was
-/// advertised.
+/// that of the reader, each argument may stand in such a request, the reader offers the command and what the arguments need
+/// (as `shallow` for `deepen`: a reader that does not offer it refuses the line), the texts of its lines are within the limit,
+/// and nothing refuses what is asked for at its end, as a fetch without a want is. For SHA-256 the format has to be among what
+/// was advertised.
 pub fn written_request_reads_back()
     ensures { (offer : Offer) (limit : ℕ) (caps : Caps) (asked : Asked) (packets : List Given)
-        → IsFormatMeant offer.format caps.object_format → HasValues offer.format asked → AreOffered offer asked
+        → IsFormatMeant offer.format caps.object_format → takes_command offer (command_asked asked) ≡ true
+        → HasValues offer.format asked → AreOffered offer asked
         → written_bytes asked ≤ limit → Passes (end_checks asked)
         → map (λ g. g.packet) packets ≡ lines_written caps.agent caps.object_format offer.format asked
         → Asks offer limit packets asked (written_bytes asked) }

@@ -11,6 +11,7 @@ pub mod laws;
 mod limits;
 mod ls_refs;
 mod numbers;
+mod object_info;
 mod offers;
 mod parts;
 mod reader;
@@ -29,6 +30,7 @@ pub use crate::fetch::Fetch;
 pub use crate::limits::Limits;
 pub use crate::ls_refs::LsRefs;
 pub use crate::numbers::read_number;
+pub use crate::object_info::ObjectInfo;
 pub use crate::offers::{Caps, Offer};
 pub use crate::reader::{RequestReader, Taken};
 pub use crate::reference_lines::{locate_reference, read_reference};
@@ -36,7 +38,8 @@ pub use crate::reference_places::ReferencePlaces;
 pub use crate::references::{Reference, put_reference};
 pub use crate::requests::Request;
 pub use crate::response_lines::{
-    Boundary, WantedRef, put_ack, put_boundary, put_wanted, read_ack, read_boundary, read_wanted,
+    Boundary, Info, WantedRef, put_ack, put_boundary, put_info, put_wanted, read_ack, read_boundary,
+    read_info, read_wanted,
 };
 pub use crate::texts::{after, error_message, is_error, split_at_first};
 pub use crate::writer::RequestWriter;

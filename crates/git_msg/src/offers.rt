@@ -6,7 +6,7 @@ ghost use Rattle.std.specs.List.{list_any};
 ghost use Rattle.std.specs.Str.{bytes_eq};
 ghost use Rattle.git_pkt.specs.Packets.{Pkt, payload, text_of};
 ghost use Rattle.git_msg.specs.Capability.{IsCapability};
-ghost use Rattle.git_msg.specs.Advertisement.{noted_of, noted_offer, noted_with, is_spoken, offers_command};
+ghost use Rattle.git_msg.specs.Advertisement.{noted_of, noted_offer, noted_with, is_spoken, offers_command, takes_command};
 ghost use Rattle.git_msg.specs.Texts.{spaced_words};
 
 use crate::arguments::Command;
@@ -27,6 +27,19 @@ pub struct Offer {
     pub object_info: bool,
     /// The capability `server-option`.
     pub server_option: bool,
+}
+
+impl Offer {
+    /// Whether requests of this command are taken.
+    pub(crate) fn takes(&self, command: Command) -> bool
+        ensures { result ≡ takes_command self.now command }
+    {
+        match command {
+            Command::LsRefs => true,
+            Command::Fetch => true,
+            Command::ObjectInfo => self.object_info,
+        }
+    }
 }
 
 /// What the lines of an advertisement had, of all that this project knows. Keys and words beside these are
@@ -116,6 +129,7 @@ impl Caps {
         match command {
             Command::LsRefs => self.ls_refs,
             Command::Fetch => self.fetch,
+            Command::ObjectInfo => self.object_info,
         }
     }
 

@@ -1,10 +1,10 @@
 //! What kept requests are made of: texts, and the places of their arguments.
-ghost use Rattle.std.specs.Prelude.{◌≡◌, ◌+◌, ◌^◌, ◌<◌, [], ◌∷◌, ◌++◌, ℕ, List, Some, OnOk, OnSome, OnErr, IfErr, MatchOption, MatchResult, length, slice_get};
+ghost use Rattle.std.specs.Prelude.{◌≡◌, ◌≢◌, ◌+◌, ◌^◌, ◌<◌, [], ◌∷◌, ◌++◌, ℕ, List, Some, OnOk, OnSome, OnErr, IfErr, MatchOption, MatchResult, length, slice_get};
 ghost use Rattle.std.specs.Option.{option_copied};
-ghost use Rattle.git_msg.specs.Arguments.{Arg};
+ghost use Rattle.git_msg.specs.Arguments.{Arg, IsNameIn};
 ghost use Rattle.git_msg.specs.Asked.{where_asked, where_given};
 
-use git_names::Oid;
+use git_names::{Format, Oid};
 use git_pkt::Kind;
 use std::alloc::{AllocError, Allocator};
 use std::marker::Model;
@@ -78,6 +78,16 @@ pub(crate) fn keep_id<A: Allocator + Copy>(ids: &mut Vec<Oid, A>, id: Oid) -> Re
 {
     if ids.push(id).is_err() {
         return Err(Kind::OutOfMemory);
+    }
+    Ok(())
+}
+
+/// Whether the object name is of the format.
+pub(crate) fn check_id(format: Format, id: &Oid) -> Result<(), Kind>
+    ensures { MatchResult result (λ _. IsNameIn format id.now) (λ kind. (id.now.format ≢ format) × (kind ≡ Kind.BadObjectName)) }
+{
+    if id.format() != format {
+        return Err(Kind::BadObjectName);
     }
     Ok(())
 }

@@ -100,7 +100,8 @@ fn append_peeled(hold: &mut Hold, peeled: &Option<Oid>)
     }
 }
 
-fn append_id(hold: &mut Hold, id: &Oid)
+/// Appends the digits of an object name.
+pub(crate) fn append_id(hold: &mut Hold, id: &Oid)
     requires { array_vec_len hold.old + digits_of id.now.format ≤ 65520 }
     ensures appended { hold.new.items ≡ hold.old.items ++ hex_of id.now }
     ensures reads_back { IsObjectName id.now.format (hex_of id.now) id.now }

@@ -11,6 +11,7 @@ use crate::fetch::Fetch;
 use crate::limits::Limits;
 use crate::ls_refs::LsRefs;
 use crate::numbers::decimal_length;
+use crate::object_info::ObjectInfo;
 use crate::offers::Offer;
 use git_names::{Format, Oid};
 use git_pkt::Kind;
@@ -23,12 +24,14 @@ pub enum Request<A: Allocator + Copy> {
     LsRefs(LsRefs<A>),
     /// A request for objects.
     Fetch(Fetch<A>),
+    /// A request for what is known of objects.
+    ObjectInfo(ObjectInfo<A>),
 }
 
 impl<A: Allocator + Copy> Request<A> {
     ghost use Rattle.git_msg.specs.Arguments.{IsValue, IsValueFault};
     ghost use Rattle.git_msg.specs.Asked.{arguments_in, symrefs_of, peel_of, ref_prefixes_of, wants_of, haves_of, done_of, thin_pack_of, no_progress_of, include_tag_of, ofs_delta_of, written_bytes, HasValues};
-    ghost use Rattle.git_msg.specs.Asked.{AreOffered, shallows_of, deepen_of, deepen_relative_of, deepen_since_of, deepen_nots_of, want_refs_of};
+    ghost use Rattle.git_msg.specs.Asked.{AreOffered, shallows_of, deepen_of, deepen_relative_of, deepen_since_of, deepen_nots_of, want_refs_of, size_of, oids_of};
     ghost use Rattle.git_msg.specs.Checks.{Passes, Refuses};
     ghost use Rattle.git_msg.specs.Lines.{end_checks};
     ghost use Rattle.git_msg.specs.HeldRequest.{IsEmpty, asked_of, command_of, format_of, kept_of, limit_of, Keeps, add_checks, keep_checks, IsRefused};
@@ -41,6 +44,7 @@ impl<A: Allocator + Copy> Request<A> {
         match command {
             Command::LsRefs => Request::LsRefs(LsRefs::new(alloc, format, limits)),
             Command::Fetch => Request::Fetch(Fetch::new(alloc, format, limits)),
+            Command::ObjectInfo => Request::ObjectInfo(ObjectInfo::new(alloc, format, limits)),
         }
     }
 
@@ -61,7 +65,8 @@ impl<A: Allocator + Copy> Request<A> {
     }
 
     /// Judges what the request asks for, at its end: `DeepenConflict` for a fetch that cuts the history off by a depth and
-    /// by a time or a revision too, and then `NoWants` for one that wants nothing.
+    /// by a time or a revision too, and then `NoWants` for one that wants nothing; `NoSize` for an object-info that does not
+    /// ask for sizes.
     pub fn check_end(&self) -> Result<(), Kind>
         ensures { MatchResult result (λ _. Passes (end_checks (asked_of self.now))) (Refuses (end_checks (asked_of self.now))) }
     {
@@ -73,6 +78,12 @@ impl<A: Allocator + Copy> Request<A> {
                 }
                 if !request.has_wants() {
                     return Err(Kind::NoWants);
+                }
+                Ok(())
+            }
+            Request::ObjectInfo(request) => {
+                if !request.size() {
+                    return Err(Kind::NoSize);
                 }
                 Ok(())
             }
@@ -101,6 +112,7 @@ impl<A: Allocator + Copy> Request<A> {
         match self {
             Request::LsRefs(_) => Command::LsRefs,
             Request::Fetch(_) => Command::Fetch,
+            Request::ObjectInfo(_) => Command::ObjectInfo,
         }
     }
 
@@ -111,6 +123,7 @@ impl<A: Allocator + Copy> Request<A> {
         match self {
             Request::LsRefs(request) => request.format(),
             Request::Fetch(request) => request.format(),
+            Request::ObjectInfo(request) => request.format(),
         }
     }
 
@@ -127,6 +140,7 @@ impl<A: Allocator + Copy> Request<A> {
         match self {
             Request::LsRefs(request) => request.kept(),
             Request::Fetch(request) => request.kept(),
+            Request::ObjectInfo(request) => request.kept(),
         }
     }
 
@@ -137,6 +151,7 @@ impl<A: Allocator + Copy> Request<A> {
         match self {
             Request::LsRefs(request) => request.limits(),
             Request::Fetch(request) => request.limits(),
+            Request::ObjectInfo(request) => request.limits(),
         }
     }
 
@@ -146,7 +161,7 @@ impl<A: Allocator + Copy> Request<A> {
     {
         match self {
             Request::LsRefs(request) => request.symrefs(),
-            Request::Fetch(_) => false,
+            Request::Fetch(_) | Request::ObjectInfo(_) => false,
         }
     }
 
@@ -156,7 +171,7 @@ impl<A: Allocator + Copy> Request<A> {
     {
         match self {
             Request::LsRefs(request) => request.peel(),
-            Request::Fetch(_) => false,
+            Request::Fetch(_) | Request::ObjectInfo(_) => false,
         }
     }
 
@@ -168,7 +183,7 @@ impl<A: Allocator + Copy> Request<A> {
     {
         match self {
             Request::LsRefs(request) => request.ref_prefix(i),
-            Request::Fetch(_) => None,
+            Request::Fetch(_) | Request::ObjectInfo(_) => None,
         }
     }
 
@@ -177,7 +192,7 @@ impl<A: Allocator + Copy> Request<A> {
         ensures { result.now ≡ wants_of (asked_of self.now) }
     {
         match self {
-            Request::LsRefs(_) => &[],
+            Request::LsRefs(_) | Request::ObjectInfo(_) => &[],
             Request::Fetch(request) => request.wants(),
         }
     }
@@ -187,7 +202,7 @@ impl<A: Allocator + Copy> Request<A> {
         ensures { result.now ≡ haves_of (asked_of self.now) }
     {
         match self {
-            Request::LsRefs(_) => &[],
+            Request::LsRefs(_) | Request::ObjectInfo(_) => &[],
             Request::Fetch(request) => request.haves(),
         }
     }
@@ -197,7 +212,7 @@ impl<A: Allocator + Copy> Request<A> {
         ensures { result ≡ done_of (asked_of self.now) }
     {
         match self {
-            Request::LsRefs(_) => false,
+            Request::LsRefs(_) | Request::ObjectInfo(_) => false,
             Request::Fetch(request) => request.done(),
         }
     }
@@ -207,7 +222,7 @@ impl<A: Allocator + Copy> Request<A> {
         ensures { result ≡ thin_pack_of (asked_of self.now) }
     {
         match self {
-            Request::LsRefs(_) => false,
+            Request::LsRefs(_) | Request::ObjectInfo(_) => false,
             Request::Fetch(request) => request.thin_pack(),
         }
     }
@@ -217,7 +232,7 @@ impl<A: Allocator + Copy> Request<A> {
         ensures { result ≡ no_progress_of (asked_of self.now) }
     {
         match self {
-            Request::LsRefs(_) => false,
+            Request::LsRefs(_) | Request::ObjectInfo(_) => false,
             Request::Fetch(request) => request.no_progress(),
         }
     }
@@ -227,7 +242,7 @@ impl<A: Allocator + Copy> Request<A> {
         ensures { result ≡ include_tag_of (asked_of self.now) }
     {
         match self {
-            Request::LsRefs(_) => false,
+            Request::LsRefs(_) | Request::ObjectInfo(_) => false,
             Request::Fetch(request) => request.include_tag(),
         }
     }
@@ -237,7 +252,7 @@ impl<A: Allocator + Copy> Request<A> {
         ensures { result ≡ ofs_delta_of (asked_of self.now) }
     {
         match self {
-            Request::LsRefs(_) => false,
+            Request::LsRefs(_) | Request::ObjectInfo(_) => false,
             Request::Fetch(request) => request.ofs_delta(),
         }
     }
@@ -247,7 +262,7 @@ impl<A: Allocator + Copy> Request<A> {
         ensures { result.now ≡ shallows_of (asked_of self.now) }
     {
         match self {
-            Request::LsRefs(_) => &[],
+            Request::LsRefs(_) | Request::ObjectInfo(_) => &[],
             Request::Fetch(request) => request.shallows(),
         }
     }
@@ -257,7 +272,7 @@ impl<A: Allocator + Copy> Request<A> {
         ensures { result ≡ deepen_of (asked_of self.now) }
     {
         match self {
-            Request::LsRefs(_) => None,
+            Request::LsRefs(_) | Request::ObjectInfo(_) => None,
             Request::Fetch(request) => request.deepen(),
         }
     }
@@ -267,7 +282,7 @@ impl<A: Allocator + Copy> Request<A> {
         ensures { result ≡ deepen_relative_of (asked_of self.now) }
     {
         match self {
-            Request::LsRefs(_) => false,
+            Request::LsRefs(_) | Request::ObjectInfo(_) => false,
             Request::Fetch(request) => request.deepen_relative(),
         }
     }
@@ -277,7 +292,7 @@ impl<A: Allocator + Copy> Request<A> {
         ensures { result ≡ deepen_since_of (asked_of self.now) }
     {
         match self {
-            Request::LsRefs(_) => None,
+            Request::LsRefs(_) | Request::ObjectInfo(_) => None,
             Request::Fetch(request) => request.deepen_since(),
         }
     }
@@ -287,7 +302,7 @@ impl<A: Allocator + Copy> Request<A> {
         ensures { option_copied result ≡ slice_get (deepen_nots_of (asked_of self.now)) i }
     {
         match self {
-            Request::LsRefs(_) => None,
+            Request::LsRefs(_) | Request::ObjectInfo(_) => None,
             Request::Fetch(request) => request.deepen_not(i),
         }
     }
@@ -299,8 +314,28 @@ impl<A: Allocator + Copy> Request<A> {
         ensures name { IfSome result (λ name. IsRefName name.now) }
     {
         match self {
-            Request::LsRefs(_) => None,
+            Request::LsRefs(_) | Request::ObjectInfo(_) => None,
             Request::Fetch(request) => request.want_ref(i),
+        }
+    }
+
+    /// The flag `size` of `object-info`.
+    pub fn size(&self) -> bool
+        ensures { result ≡ size_of (asked_of self.now) }
+    {
+        match self {
+            Request::LsRefs(_) | Request::Fetch(_) => false,
+            Request::ObjectInfo(request) => request.size(),
+        }
+    }
+
+    /// The objects of the `oid` lines of `object-info`, in their order.
+    pub fn oids(&self) -> &[Oid]
+        ensures { result.now ≡ oids_of (asked_of self.now) }
+    {
+        match self {
+            Request::LsRefs(_) | Request::Fetch(_) => &[],
+            Request::ObjectInfo(request) => request.oids(),
         }
     }
 
@@ -313,6 +348,7 @@ impl<A: Allocator + Copy> Request<A> {
         match self {
             Request::LsRefs(request) => request.argument(i),
             Request::Fetch(request) => request.argument(i),
+            Request::ObjectInfo(request) => request.argument(i),
         }
     }
 
@@ -328,6 +364,7 @@ impl<A: Allocator + Copy> Request<A> {
         match self {
             Request::LsRefs(request) => request.keep(argument, text_length),
             Request::Fetch(request) => request.keep(argument, text_length),
+            Request::ObjectInfo(request) => request.keep(argument, text_length),
         }
     }
 
@@ -339,6 +376,7 @@ impl<A: Allocator + Copy> Request<A> {
         match self {
             Request::LsRefs(request) => request.check_value(argument),
             Request::Fetch(request) => request.check_value(argument),
+            Request::ObjectInfo(request) => request.check_value(argument),
         }
     }
 }
@@ -364,6 +402,8 @@ pub(crate) fn written_length(argument: &Argument<'_>) -> usize
         Argument::DeepenSince(time) => number_length(13, *time),
         Argument::DeepenNot(revision) => 11 + revision.len(),
         Argument::WantRef(name) => 9 + name.len(),
+        Argument::Size => 4,
+        Argument::ObjectId(id) => name_length(4, id),
     }
 }
 

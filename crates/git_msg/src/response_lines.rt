@@ -1,17 +1,20 @@
-//! The lines of fetch's response sections: gitprotocol-v2(5).
+//! The lines of fetch's response sections and of the response to object-info: gitprotocol-v2(5).
 
 ghost use Rattle.std.specs.Prelude.{◌≡◌, ◌<◌, MatchResult, length};
 ghost use Rattle.git_names.specs.RefName.{IsRefName};
 ghost use Rattle.git_pkt.specs.Packets.{longest_payload, spelling_of};
 ghost use Rattle.git_msg.specs.ResponseLines.{IsAckFault, IsAckLine, IsBoundaryFault, IsBoundaryLine, IsNamed, IsNamedFault, IsWantedFault, IsWantedLine};
-ghost use Rattle.git_msg.specs.ResponseLines.{ack_text, boundary_text, object_of, shown_wanted, wanted_text};
+ghost use Rattle.git_msg.specs.ResponseLines.{IsInfoFault, IsInfoLine, IsNoSizeText, IsSizeText};
+ghost use Rattle.git_msg.specs.ResponseLines.{ack_text, boundary_text, info_text, object_of, shown_wanted, wanted_text};
 ghost use Rattle.git_msg.specs.WrittenRequest.{text_line};
 
-use crate::references::{Reference, put_reference};
+use crate::numbers::read_number;
+use crate::references::{Reference, append_id, put_reference};
 use crate::texts::{after, split_at_first};
 use crate::writing::put_name_line;
 use git_names::{Format, Oid, RefName};
-use git_pkt::{Hold, Kind};
+use git_pkt::{Hold, Kind, append, begin};
+use itoa::Buffer;
 
 /// A line of a shallow boundary, gitprotocol-v2(5).
 #[derive(Clone, Copy, Debug, PartialEq, Eq)]
@@ -29,6 +32,15 @@ pub struct WantedRef<'a> {
     pub id: Oid,
     /// Its name.
     pub name: &'a [u8],
+}
+
+/// A line of the response to object-info, gitprotocol-v2(5).
+#[derive(Clone, Copy, Debug, PartialEq, Eq)]
+pub struct Info {
+    /// The object.
+    pub id: Oid,
+    /// How many bytes it has, if the server has it.
+    pub size: Option<u64>,
 }
 
 /// Makes the hold the packet of the line that says of an object that both ends have it, with an LF at its end:
@@ -73,6 +85,25 @@ pub fn put_wanted(hold: &mut Hold, wanted: WantedRef<'_>)
     put_reference(hold, reference);
 }
 
+/// Makes the hold the packet of the line that says what is known of an object, with an LF at its end: gitprotocol-v2(5), the
+/// response to object-info.
+pub fn put_info(hold: &mut Hold, info: &Info)
+    ensures written { hold.new.items ≡ spelling_of (text_line (info_text info.now)) }
+    ensures reads_back { IsInfoLine info.now.id.format (info_text info.now) info.now }
+    ensures fits { length (info_text info.now) < longest_payload }
+{
+    let mut buffer = Buffer::new();
+    let size = match info.size {
+        Some(size) => buffer.format(size).as_bytes(),
+        None => b"",
+    };
+    begin(hold, info.id.format().digits() + 1 + size.len() + 1);
+    append_id(hold, &info.id);
+    append(hold, b" ");
+    append(hold, size);
+    append(hold, b"\n");
+}
+
 /// Reads the text of a line that says of an object that both ends have it. A text that does not begin with `ACK ` is
 /// `BadLine`, and else one without an object name after that is `BadObjectName`.
 pub fn read_ack(format: Format, text: &[u8]) -> Result<Oid, Kind>
@@ -104,6 +135,33 @@ pub fn read_wanted(format: Format, text: &[u8]) -> Result<WantedRef<'_>, Kind>
     let id = Oid::read(format, id)?;
     RefName::read(name)?;
     Ok(WantedRef { id, name })
+}
+
+/// Reads the text of a line of the response to object-info: an object name, a space, and all after it, a size or nothing. A
+/// text without a space is `BadLine`; then from left to right `BadObjectName`, and `BadNumber` for what is no decimal number
+/// of 64 bits.
+pub fn read_info(format: Format, text: &[u8]) -> Result<Info, Kind>
+    ensures { MatchResult result (IsInfoLine format text.now) (IsInfoFault format text.now) }
+{
+    let (id, Some(size)) = split_at_first(text, b' ') else {
+        return Err(Kind::BadLine);
+    };
+    let id = Oid::read(format, id)?;
+    let size = read_size(size)?;
+    Ok(Info { id, size })
+}
+
+/// The size, or none where there is no text.
+fn read_size(text: &[u8]) -> Result<Option<u64>, Kind>
+    ensures { MatchResult result (IsSizeText text.now) (λ kind. IsNoSizeText text.now × (kind ≡ Kind.BadNumber)) }
+{
+    if text.is_empty() {
+        return Ok(None);
+    }
+    match read_number(text) {
+        Some(size) => Ok(Some(size)),
+        None => Err(Kind::BadNumber),
+    }
 }
 
 /// Reads a text that has to be the word and then an object name.

@@ -45,6 +45,8 @@ pub(crate) fn put_argument(hold: &mut Hold, argument: Argument<'_>)
         Argument::DeepenSince(time) => put_number_line(hold, b"deepen-since ", time),
         Argument::DeepenNot(revision) => put_line(hold, b"deepen-not ", revision),
         Argument::WantRef(name) => put_line(hold, b"want-ref ", name),
+        Argument::Size => put_line(hold, b"size", b""),
+        Argument::ObjectId(id) => put_name_line(hold, b"oid ", &id),
     }
 }
 

@@ -8,7 +8,7 @@ use Rattle.git_pkt.specs.declared.fault.Kind.{Kind}
 use Rattle.git_pkt.specs.declared.fault.Kind.TheVariants.{NotOurs, UnknownRef}
 use Rattle.git_msg.specs.declared.offers.Offer.{Offer}
 use Rattle.git_msg.specs.Arguments.{Arg, want, want_ref}
-use Rattle.git_msg.specs.Asked.{Asked, ls_refs, fetch}
+use Rattle.git_msg.specs.Asked.{Asked, ls_refs, fetch, object_info}
 use Rattle.git_msg.specs.Lines.{Line, arguments_of, has_delimiter, IsArgumentText}
 use Rattle.git_msg.specs.Requests.{AreLines, IsTold}
 use Rattle.git_server.specs.Repository.{Repository, found_ref}
@@ -35,6 +35,7 @@ AreAdmitted repo lines = All (IsAdmitted repo) (arguments_of lines)
 -- the repository has each object and each reference that is asked for
 abbrev pub HasAsked : Repository → Asked → Type 0
 HasAsked repo (ls_refs q) = Unit {0}
+HasAsked repo (object_info q) = Unit {0}
 HasAsked repo (fetch q) = All (λ id. repo.has id ≡ true) q.wants × All (λ name. found_ref repo.refs name ≢ None) q.want_refs
 
 -- after these lines, the packet is an argument that the repository refuses by this name

@@ -5,7 +5,7 @@ use Rattle.git_msg.specs.declared.offers.Offer.{Offer}
 use Rattle.git_msg.specs.WrittenRequest.{text_line, agent_line, format_line}
 use Rattle.git_server.specs.Answers.{offered_line, fetch_line, advertisement_of}
 use Rattle.git_server.specs.declared.advertisement.AdvertisementLine.{AdvertisementLine}
-use Rattle.git_server.specs.declared.advertisement.AdvertisementLine.TheVariants.{Version, Agent, LsRefs, Fetch, ServerOption, ObjectFormat, End}
+use Rattle.git_server.specs.declared.advertisement.AdvertisementLine.TheVariants.{Version, Agent, LsRefs, Fetch, ServerOption, ObjectFormat, ObjectInfo, End}
 
 -- the packet of a line, for this offer
 abbrev pub advertisement_packet : Offer → AdvertisementLine → Pkt
@@ -15,6 +15,7 @@ advertisement_packet offer LsRefs = text_line (codes "ls-refs")
 advertisement_packet offer Fetch = fetch_line offer
 advertisement_packet offer ServerOption = text_line (codes "server-option")
 advertisement_packet offer ObjectFormat = format_line offer.format
+advertisement_packet offer ObjectInfo = text_line (codes "object-info")
 advertisement_packet offer End = flush
 
 -- the line after it
@@ -24,12 +25,13 @@ advertisement_line_after offer Agent = Some LsRefs
 advertisement_line_after offer LsRefs = Some Fetch
 advertisement_line_after offer Fetch = Some (if offer.server_option then ServerOption else ObjectFormat)
 advertisement_line_after offer ServerOption = Some ObjectFormat
-advertisement_line_after offer ObjectFormat = Some End
+advertisement_line_after offer ObjectFormat = Some (if offer.object_info then ObjectInfo else End)
+advertisement_line_after offer ObjectInfo = Some End
 advertisement_line_after offer End = None
 
 -- the packets from the line of the format on
 abbrev pub format_on : Offer → List Pkt
-format_on offer = advertisement_packet offer ObjectFormat ∷ flush ∷ []
+format_on offer = advertisement_packet offer ObjectFormat ∷ (offered_line offer.object_info (codes "object-info") ++ flush ∷ [])
 
 -- the packets from the line of fetch on
 abbrev pub fetch_on : Offer → List Pkt
@@ -44,6 +46,7 @@ advertisement_from offer LsRefs = advertisement_packet offer LsRefs ∷ fetch_on
 advertisement_from offer Fetch = fetch_on offer
 advertisement_from offer ServerOption = advertisement_packet offer ServerOption ∷ format_on offer
 advertisement_from offer ObjectFormat = format_on offer
+advertisement_from offer ObjectInfo = advertisement_packet offer ObjectInfo ∷ flush ∷ []
 advertisement_from offer End = flush ∷ []
 
 -- the packets after a line

@@ -2,11 +2,11 @@
 use Rattle.std.specs.Prelude.{◌≡◌, ◌<◌, ℕ, Option, Some, None, List, [], ◌∷◌, ◌++◌, drop, length, map}
 use Rattle.git_pkt.specs.Packets.{Pkt, flush}
 use Rattle.git_pkt.specs.declared.reader.PacketReader.{PacketReader}
-use Rattle.git_msg.specs.Asked.{Asked, FetchAsked, LsRefsAsked, ls_refs, fetch}
+use Rattle.git_msg.specs.Asked.{Asked, FetchAsked, LsRefsAsked, ObjectInfoAsked, ls_refs, fetch, object_info}
 use Rattle.git_msg.specs.declared.requests.Request.{Request}
-use Rattle.git_msg.specs.declared.requests.Request.TheVariants.{LsRefs as OfLsRefs, Fetch as OfFetch}
+use Rattle.git_msg.specs.declared.requests.Request.TheVariants.{LsRefs as OfLsRefs, Fetch as OfFetch, ObjectInfo as OfObjectInfo}
 use Rattle.git_server.specs.Repository.{Entry, Repository, RepoState}
-use Rattle.git_server.specs.Answers.{reference_packet, shown_refs}
+use Rattle.git_server.specs.Answers.{info_packet, object_info_answer, reference_packet, shown_refs}
 use Rattle.git_server.specs.Packs.{Manner, whole, broken}
 use Rattle.git_server.specs.WrittenPackets.{Writes}
 use Rattle.git_server.specs.declared.packing.PackPlace.{PackPlace}
@@ -15,7 +15,9 @@ use Rattle.git_server.specs.FetchPlaces.{IsFetchFrom, IsPackfileFrom, first_plac
 use Rattle.git_server.specs.declared.answer.Answered.{Answered}
 use Rattle.git_server.specs.declared.answer.Answered.TheVariants.{Part, Whole, Broken}
 use Rattle.git_server.specs.declared.answer.Answer.{Answer}
-use Rattle.git_server.specs.declared.answer.Answer.TheVariants.{References, Fetching}
+use Rattle.git_server.specs.declared.answer.Answer.TheVariants.{References, Fetching, Sizes}
+use Rattle.git_server.specs.declared.informing.SizesPlace.{SizesPlace}
+use Rattle.git_server.specs.declared.informing.SizesPlace.TheVariants.{Header as SizesHeader, Object}
 
 -- the packets of an answer for references, from the reference at `next` on
 abbrev pub references_from : LsRefsAsked → List Entry → ℕ → List Pkt
@@ -26,31 +28,46 @@ abbrev pub AreReferencesFrom : Manner → LsRefsAsked → List Entry → ℕ →
 AreReferencesFrom whole q refs next later = later ≡ references_from q refs next
 AreReferencesFrom broken q refs next later = ⊥
 
+-- the packets of an answer about objects, from this place on
+abbrev pub sizes_from : ObjectInfoAsked → Repository → SizesPlace → List Pkt
+sizes_from q repo SizesHeader = object_info_answer q repo
+sizes_from q repo (Object next) = map (info_packet repo) (drop next q.oids) ++ flush ∷ []
+
+-- the packets end an answer about objects, which never breaks off, from this place on
+abbrev pub AreSizesFrom : Manner → ObjectInfoAsked → Repository → SizesPlace → List Pkt → Type 0
+AreSizesFrom whole q repo place later = later ≡ sizes_from q repo place
+AreSizesFrom broken q repo place later = ⊥
+
 module _ {A : Type 0} where
   -- what is answered
   abbrev pub asked_in : Answer A → Asked
   asked_in (References request next) = ls_refs request.asked
   asked_in (Fetching request place) = fetch request.asked
+  asked_in (Sizes request place) = object_info request.asked
 
   -- how many bytes the argument lines of the request have
   abbrev pub kept_with : Answer A → ℕ
   kept_with (References request next) = request.kept
   kept_with (Fetching request place) = request.kept
+  kept_with (Sizes request place) = request.kept
 
   -- the answer to a request, of which nothing was given
   abbrev pub answer_to : Request A → Answer A
   answer_to (OfLsRefs request) = References request 0
   answer_to (OfFetch request) = Fetching request (first_place request.asked)
+  answer_to (OfObjectInfo request) = Sizes request SizesHeader
 
   -- from its place on, the packets end the answer
   abbrev pub IsAnswerFrom : Manner → Repository → Answer A → List Pkt → Type 0
   IsAnswerFrom manner repo (References request next) later = AreReferencesFrom manner request.asked repo.refs next later
   IsAnswerFrom manner repo (Fetching request place) later = IsFetchFrom manner repo request.asked place later
+  IsAnswerFrom manner repo (Sizes request place) later = AreSizesFrom manner request.asked repo place later
 
   -- no more packets than these end it
   abbrev pub most_from : Repository → Answer A → ℕ
   most_from repo (References request next) = length (references_from request.asked repo.refs next)
   most_from repo (Fetching request place) = most_fetch repo request.asked place
+  most_from repo (Sizes request place) = length (sizes_from request.asked repo place)
 
 -- the packets from the reference at a place on, or none where the answer ended
 abbrev pub references_after : LsRefsAsked → List Entry → Option ℕ → List Pkt
@@ -62,6 +79,11 @@ pub record AnswersOne (asked : LsRefsAsked) (refs : List Entry) (next : ℕ) (ol
   pub packet : Pkt
   pub owed : references_from asked refs next ≡ packet ∷ references_after asked refs after
   pub writes : Writes old packet new
+
+-- the packets from a place on, or none where the answer ended
+abbrev pub sizes_after : ObjectInfoAsked → Repository → Option SizesPlace → List Pkt
+sizes_after q repo (Some next) = sizes_from q repo next
+sizes_after q repo None = []
 
 -- the packet is the next one of what is owed from a place on, which becomes less by it, or ends with it
 abbrev pub IsNext : {P : Type 0} → (Manner → P → List Pkt → Type 0) → (P → ℕ) → P → Answered → P → Pkt → Type 0

@@ -7,9 +7,11 @@ use Rattle.git_pkt.specs.declared.fault.Fault.{Fault}
 use Rattle.git_pkt.specs.declared.fault.Kind.{Kind}
 use Rattle.git_pkt.specs.declared.fault.Kind.TheVariants.{RemoteError}
 use Rattle.git_msg.specs.declared.offers.Offer.{Offer}
-use Rattle.git_msg.specs.Asked.{Asked, LsRefsAsked, ls_refs, fetch}
+use Rattle.git_names.specs.ObjectName.{ObjectName}
+use Rattle.git_msg.specs.Asked.{Asked, LsRefsAsked, ObjectInfoAsked, ls_refs, fetch, object_info}
 use Rattle.git_msg.specs.WrittenRequest.{text_line, agent_line, format_line}
 use Rattle.git_msg.specs.References.{Ref, reference_text}
+use Rattle.git_msg.specs.ResponseLines.{info_text}
 use Rattle.git_server.specs.Repository.{Entry, Repository}
 use Rattle.git_server.specs.Packs.{Manner, whole, broken}
 use Rattle.git_server.specs.FetchAnswers.{IsFetchAnswer}
@@ -42,7 +44,8 @@ fetch_line offer = text_line (fetch_words offer.shallow offer.ref_in_want)
 abbrev pub advertisement_of : Offer → List Pkt
 advertisement_of offer =
     text_line (codes "version 2") ∷ agent_line ∷ text_line (codes "ls-refs") ∷ fetch_line offer
-    ∷ (offered_line offer.server_option (codes "server-option") ++ format_line offer.format ∷ flush ∷ [])
+    ∷ (offered_line offer.server_option (codes "server-option")
+    ++ format_line offer.format ∷ (offered_line offer.object_info (codes "object-info") ++ flush ∷ []))
 
 abbrev pub is_empty : List (List ℕ) → Bool
 is_empty [] = true
@@ -78,10 +81,24 @@ abbrev pub IsReferencesAnswer : Manner → LsRefsAsked → List Entry → List P
 IsReferencesAnswer whole q refs packets = packets ≡ ls_refs_answer q refs
 IsReferencesAnswer broken q refs packets = ⊥
 
+-- the packet that tells the size of an object, or that it is not there
+abbrev pub info_packet : Repository → ObjectName → Pkt
+info_packet repo id = text_line (info_text (record { id = id; size = repo.object_size id }))
+
+-- the answer to a request for the sizes of objects
+abbrev pub object_info_answer : ObjectInfoAsked → Repository → List Pkt
+object_info_answer q repo = text_line (codes "size") ∷ (map (info_packet repo) q.oids ++ flush ∷ [])
+
+-- the packets are an answer about objects, which never breaks off
+abbrev pub IsObjectInfoAnswer : Manner → ObjectInfoAsked → Repository → List Pkt → Type 0
+IsObjectInfoAnswer whole q repo packets = packets ≡ object_info_answer q repo
+IsObjectInfoAnswer broken q repo packets = ⊥
+
 -- the packets are an answer of the repository to the request, whole or broken off
 abbrev pub IsAnswerAs : Manner → Repository → Asked → List Pkt → Type 0
 IsAnswerAs manner repo (ls_refs q) packets = IsReferencesAnswer manner q repo.refs packets
 IsAnswerAs manner repo (fetch q) packets = IsFetchAnswer manner repo q packets
+IsAnswerAs manner repo (object_info q) packets = IsObjectInfoAnswer manner q repo packets
 
 -- the packets are a whole answer
 abbrev pub IsAnswer : Repository → Asked → List Pkt → Type 0

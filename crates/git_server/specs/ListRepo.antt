@@ -3,7 +3,7 @@ use Rattle.std.specs.Prelude.{filter, length}
 use Rattle.git_server.specs.declared.list_repo.ListRepo.{ListRepo}
 use Rattle.git_server.specs.Repository.{RepoState}
 use Rattle.git_server.specs.Lists.{Lists}
-use Rattle.git_server.specs.Objects.{has_object}
+use Rattle.git_server.specs.Objects.{has_object, size_among}
 use Rattle.git_server.specs.ToldBoundary.{boundary_for, is_enough}
 
 -- the lists that it is made of
@@ -24,6 +24,7 @@ state_of repo = record {
     format = repo.format;
     refs = repo.refs.items;
     has = has_object repo.objects.items;
+    object_size = size_among repo.objects.items;
     is_ready = λ request. is_enough repo.ready_after (length (filter (has_object repo.objects.items) request.haves));
     boundaries = boundary_for repo.boundaries.items;
     pack = λ request. repo.pack.items;

@@ -1,5 +1,5 @@
 -- The order of object names.
-use Rattle.std.specs.Prelude.{◌≡◌, ℕ, Bool, true, List, length}
+use Rattle.std.specs.Prelude.{◌≡◌, ℕ, Bool, true, if◌then◌else◌, List, [], ◌∷◌, Option, Some, None, length}
 use Rattle.std.specs.List.{AllAdjacentBelow, list_any}
 use Rattle.std.specs.Ordering.{nat_cmp, ordering_then, is_lt, is_eq}
 use Rattle.std.specs.Cmp.Lexicographic.{slice_cmp}
@@ -32,6 +32,11 @@ AreRising objects = AllAdjacentBelow (λ a b. precedes a.0 b.0 ≡ true) objects
 -- whether one of the objects has the name: it comes neither before it nor after it
 abbrev pub has_object : List (ObjectName × ℕ) → ObjectName → Bool
 has_object objects id = list_any (λ object. is_eq (object_cmp object.0 id)) objects
+
+-- the size of the first of the objects that has the name
+abbrev pub size_among : List (ObjectName × ℕ) → ObjectName → Option ℕ
+size_among [] id = None
+size_among (object ∷ objects) id = if is_eq (object_cmp object.0 id) then Some object.1 else size_among objects id
 
 -- the object of a line of the boundary
 abbrev pub object_of : Boundary → ObjectName

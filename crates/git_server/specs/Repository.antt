@@ -47,12 +47,13 @@ pub record IsOfFormat (format : Format) (ref : Entry) : Type 0 where
 pub record HasOneFormat (ref : Entry) : Type 0 where
   pub by_peeled : (id : ObjectName) → ref.peeled ≡ Some id → id.format ≡ ref.id.format
 
--- what a repository answers: its format, its references, which objects it has, and for a request whether it is ready to send
--- a pack, the commits at the shallow boundary, and the pack
+-- what a repository answers: its format, its references, which objects it has, how many bytes an object has, and for a request
+-- whether it is ready to send a pack, the commits at the shallow boundary, and the pack
 pub record Repository : Type 0 where
   pub format : Format
   pub refs : List Entry
   pub has : ObjectName → Bool
+  pub object_size : ObjectName → Option ℕ
   pub is_ready : FetchAsked → Bool
   pub boundaries : FetchAsked → List Boundary
   pub pack : FetchAsked → List ℕ

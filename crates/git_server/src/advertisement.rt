@@ -19,6 +19,7 @@ pub(crate) enum AdvertisementLine {
     Fetch,
     ServerOption,
     ObjectFormat,
+    ObjectInfo,
     End,
 }
 
@@ -37,6 +38,7 @@ impl AdvertisementLine {
             AdvertisementLine::ObjectFormat => {
                 write_line(reader, b"object-format=", offer.format.name().as_bytes());
             }
+            AdvertisementLine::ObjectInfo => write_line(reader, b"object-info", b""),
             AdvertisementLine::End => write_packet(reader, Packet::Flush),
         }
     }
@@ -57,7 +59,14 @@ impl AdvertisementLine {
                 }
             }
             AdvertisementLine::ServerOption => Some(AdvertisementLine::ObjectFormat),
-            AdvertisementLine::ObjectFormat => Some(AdvertisementLine::End),
+            AdvertisementLine::ObjectFormat => {
+                if offer.object_info {
+                    Some(AdvertisementLine::ObjectInfo)
+                } else {
+                    Some(AdvertisementLine::End)
+                }
+            }
+            AdvertisementLine::ObjectInfo => Some(AdvertisementLine::End),
             AdvertisementLine::End => None,
         }
     }

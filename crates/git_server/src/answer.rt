@@ -12,10 +12,11 @@ ghost use Rattle.git_server.specs.Repository.{HasOneFormat};
 
 use crate::entry::RefEntry;
 use crate::fetching::{FetchPlace, write_fetch};
+use crate::informing::{SizesPlace, write_sizes};
 use crate::packets::write_packet;
 use crate::repo::Repo;
 use crate::shown::next_shown;
-use git_msg::{Fetch, LsRefs, Reference, Request, put_reference};
+use git_msg::{Fetch, LsRefs, ObjectInfo, Reference, Request, put_reference};
 use git_names::Oid;
 use git_pkt::{Packet, PacketReader};
 use std::alloc::Allocator;
@@ -27,6 +28,8 @@ pub(crate) enum Answer<A: Allocator + Copy> {
     References(LsRefs<A>, usize),
     /// Of a request for objects: from this place on.
     Fetching(Fetch<A>, FetchPlace),
+    /// Of a request for the sizes of objects: from this place on.
+    Sizes(ObjectInfo<A>, SizesPlace),
 }
 
 /// What came of writing a packet of an answer.
@@ -51,6 +54,7 @@ impl<A: Allocator + Copy> Answer<A> {
                 let place = FetchPlace::first(&request);
                 Answer::Fetching(request, place)
             }
+            Request::ObjectInfo(request) => Answer::Sizes(request, SizesPlace::Header),
         }
     }
 
@@ -69,6 +73,13 @@ impl<A: Allocator + Copy> Answer<A> {
                 None => Answered::Whole,
             },
             Answer::Fetching(request, place) => write_fetch(repo, request, place, reader),
+            Answer::Sizes(request, place) => match write_sizes(repo, request, *place, reader) {
+                Some(after) => {
+                    *place = after;
+                    Answered::Part
+                }
+                None => Answered::Whole,
+            },
         }
     }
 }

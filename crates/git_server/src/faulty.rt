@@ -75,6 +75,10 @@ impl<R: Repo> Repo for Faulty<R> {
         self.inner.has(id)
     }
 
+    fn object_size(&self, id: &Oid) -> Option<u64> {
+        self.inner.object_size(id)
+    }
+
     fn is_ready<A: Allocator + Copy>(&self, request: &Fetch<A>) -> bool {
         self.inner.is_ready(request)
     }

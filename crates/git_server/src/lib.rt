@@ -9,6 +9,7 @@ mod bounding;
 mod entry;
 mod faulty;
 mod fetching;
+mod informing;
 pub mod laws;
 mod list_repo;
 mod outcome;

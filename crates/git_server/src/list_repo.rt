@@ -5,7 +5,7 @@ ghost use Rattle.std.specs.List.{HoldsAt};
 ghost use Rattle.std.specs.Ordering.{nat_cmp};
 ghost use Rattle.std.specs.Cmp.Lexicographic.{slice_cmp};
 ghost use Rattle.git_server.specs.Lists.{repo_fault_name};
-ghost use Rattle.git_server.specs.Objects.{object_cmp, object_of, has_object, precedes, AreRising};
+ghost use Rattle.git_server.specs.Objects.{object_cmp, object_of, has_object, precedes, size_among, AreRising};
 ghost use Rattle.git_server.specs.Packs.{IsPackPart};
 ghost use Rattle.git_server.specs.Repository.{IsFound, IsNamed, IsOfFormat, IsRising, comes_before};
 ghost use Rattle.git_server.specs.ToldBoundary.{is_deepened, says_shallow, says_unshallow, told_lines};
@@ -181,6 +181,15 @@ impl Repo for ListRepo {
         stands_among(&self.objects, id)
     }
 
+    fn object_size(&self, id: &Oid) -> Option<u64>
+        ensures answer { result ≡ (state_of self.now).answers.object_size id.now }
+        ensures listed { MatchOption result (All (λ object. object.0 ≢ id.now) (lists_of self.now).objects)
+            (λ size. Any (λ object. object ≡ (id.now, size)) (lists_of self.now).objects) }
+    {
+        let at = find_object(&self.objects, id)?;
+        Some(self.objects[at].1)
+    }
+
     fn is_ready<A: Allocator + Copy>(&self, request: &Fetch<A>) -> bool {
         match self.ready_after {
             Some(least) => are_common(&self.objects, request.haves(), least as usize),
@@ -294,11 +303,11 @@ fn find_name(refs: &[RefEntry], name: &[u8]) -> Option<usize>
     }
 }
 
-// Whether one of the objects has the name.
-fn stands_among(objects: &[(Oid, u64)], id: &Oid) -> bool
+// Where the object of this name stands.
+fn find_object(objects: &[(Oid, u64)], id: &Oid) -> Option<usize>
     requires { AreRising objects.now }
-    ensures value { result ≡ has_object objects.now id.now }
-    ensures among { IsTrue result ↔ Any (λ object. object.0 ≡ id.now) objects.now }
+    ensures { MatchOption result (All (λ object. object.0 ≢ id.now) objects.now)
+        (λ at. (at < length objects.now) × HoldsAt (λ object. object.0 ≡ id.now) objects.now at) }
 {
     let searched = objects.binary_search_by(
         |object: &(Oid, u64)| -> Ordering
@@ -306,9 +315,18 @@ fn stands_among(objects: &[(Oid, u64)], id: &Oid) -> bool
         { object.0.cmp(id) },
     );
     match searched {
-        Ok(_) => true,
-        Err(_) => false,
+        Ok(at) => Some(at),
+        Err(_) => None,
     }
+}
+
+// Whether one of the objects has the name.
+fn stands_among(objects: &[(Oid, u64)], id: &Oid) -> bool
+    requires { AreRising objects.now }
+    ensures value { result ≡ has_object objects.now id.now }
+    ensures among { IsTrue result ↔ Any (λ object. object.0 ≡ id.now) objects.now }
+{
+    find_object(objects, id).is_some()
 }
 
 // Whether at least so many of the names are of one of the objects; a repeated name counts each time. It looks no further

@@ -47,6 +47,10 @@ pub trait Repo {
     fn has(&self, id: &Oid) -> bool
         ensures { result ≡ (state self.now).answers.has id.now };
 
+    /// How many bytes the object of this name has; none where it has no such object.
+    fn object_size(&self, id: &Oid) -> Option<u64>
+        ensures { result ≡ (state self.now).answers.object_size id.now };
+
     /// Whether it is ready to send a pack for the request: of what the client has, enough is common to make one.
     /// The answer to a request that negotiates then says `ready`, gitprotocol-v2(5), and the pack follows.
     fn is_ready<A: Allocator + Copy>(&self, request: &Fetch<A>) -> bool

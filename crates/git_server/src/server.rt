@@ -77,7 +77,6 @@ impl<R: Repo, A: Allocator + Copy> Server<R, A> {
     /// arguments, in memory from `alloc`, and gives the advertisement of the offer first where `advertise` is set.
     pub fn new(alloc: A, repo: R, offer: Offer, limits: Limits, advertise: bool) -> Server<R, A>
         requires format { offer.format ≡ (R.state repo).answers.format }
-        requires no_object_info { offer.object_info ≡ false }
         ensures running { Running R.state (record { offer = offer; limit = limits.args; advertise = advertise; repo = (R.state repo).answers; failures = (R.state repo).failures }) [] false [] result }
         ensures repo { repo_of result ≡ repo }
     {

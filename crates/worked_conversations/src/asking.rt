@@ -22,7 +22,7 @@ pub struct Asking {
 // The argument that a text is, of whichever command.
 fn argument_of(format: Format, text: &[u8]) -> Option<Argument<'_>> {
     let offer = offer(format, true);
-    for command in [Command::LsRefs, Command::Fetch] {
+    for command in [Command::LsRefs, Command::Fetch, Command::ObjectInfo] {
         if let Ok(argument) = read_argument(command, &offer, text) {
             return Some(argument);
         }

@@ -73,10 +73,13 @@ impl<'a> Words<'a> {
     }
 
     fn command(self) -> Command {
-        match self.has("fetch") {
-            true => Command::Fetch,
-            false => Command::LsRefs,
+        if self.has("fetch") {
+            return Command::Fetch;
         }
+        if self.has("object-info") {
+            return Command::ObjectInfo;
+        }
+        Command::LsRefs
     }
 
     // The number after this word, if it stands there.
@@ -106,7 +109,7 @@ impl<'a> Words<'a> {
         }))
     }
 
-    // Whether the features of `fetch` are offered.
+    // Whether the features of `fetch` and the command `object-info` are offered.
     fn features(self) -> bool {
         !self.has("no-features")
     }

@@ -23,6 +23,7 @@ impl Question {
         let command = match name {
             "ls-refs" => Command::LsRefs,
             "fetch" => Command::Fetch,
+            "object-info" => Command::ObjectInfo,
             _ => return Err(Trouble::BadCase("no command to ask")),
         };
         let Some(format) = Format::read(format.as_bytes()) else {

@@ -1,6 +1,6 @@
 //! How the ends of all cases are set up, and what no case comes to.
 
-ghost use Rattle.std.specs.Prelude.{◌≡◌, false};
+ghost use Rattle.std.specs.Prelude.{◌≡◌};
 
 use git_msg::{Limits, Offer};
 use git_names::Format;
@@ -17,16 +17,15 @@ pub const LAST_POSITION: u64 = 9_223_372_036_854_775_807;
 /// The most bytes that the texts of a request's arguments may have.
 pub const MOST_KEPT: u32 = 1_073_741_824;
 
-/// All that is offered so far, in this format, but the features of `fetch` where they are left out.
+/// All that may be offered, in this format, but the features of `fetch` and the command `object-info` where they are left out.
 pub fn offer(format: Format, features: bool) -> Offer
     ensures format { result.format ≡ format }
-    ensures no_object_info { result.object_info ≡ false }
 {
     Offer {
         format,
         shallow: features,
         ref_in_want: features,
-        object_info: false,
+        object_info: features,
         server_option: true,
     }
 }

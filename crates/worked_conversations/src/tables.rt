@@ -181,6 +181,8 @@ fn say_argument(
         Argument::DeepenSince(time) => say_number(alloc, lines, "deepen-since", time),
         Argument::DeepenNot(revision) => say(alloc, lines, "deepen-not", Said::Bytes(revision)),
         Argument::WantRef(name) => say(alloc, lines, "want-ref", Said::Bytes(name)),
+        Argument::Size => say(alloc, lines, "size", Said::Nothing),
+        Argument::ObjectId(id) => say_object(alloc, lines, "oid", id),
     }
 }
 

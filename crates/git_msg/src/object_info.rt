@@ -1,0 +1,130 @@
+//! Requests for what is known of objects, `object-info` of gitprotocol-v2(5), as they are kept.
+ghost use Rattle.std.specs.Prelude.{◌≡◌, ◌+◌, ◌≤◌, length, OnOk, OnErr, IfErr, slice_get};
+ghost use Rattle.std.specs.Option.{option_map};
+ghost use Rattle.git_msg.specs.Arguments.{shown, written_text};
+
+use crate::arguments::{Argument, Command};
+use crate::limits::{Budget, Limits};
+use crate::parts::{check_id, keep_id, past_flag};
+use git_names::{Format, Oid};
+use git_pkt::Kind;
+use std::alloc::Allocator;
+use std::marker::Model;
+
+/// A request for what is known of objects, `object-info` of gitprotocol-v2(5).
+#[derive(Drop)]
+pub struct ObjectInfo<A: Allocator + Copy> {
+    format: Format,
+    budget: Budget,
+    size: bool,
+    oids: Vec<Oid, A>,
+}
+
+impl<A: Allocator + Copy> Model for ObjectInfo<A> {
+    ghost use Rattle.git_msg.specs.Asked.{ObjectInfoAsked, object_info};
+    ghost use Rattle.git_msg.specs.Kept.{Kept, IsCounted};
+
+    ghost Value = { Kept ObjectInfoAsked };
+
+    ghost use Rattle.git_msg.specs.Insides.{object_info_inside};
+
+    ghost view = { λ q. record { format = q.format; asked = object_info_inside q; kept = q.budget.kept; limit = q.budget.limit } };
+
+    ghost invariant = { λ q. IsCounted q.format (object_info (object_info_inside q)) q.budget.kept };
+}
+
+impl<A: Allocator + Copy> ObjectInfo<A> {
+    ghost use Rattle.git_msg.specs.Arguments.{IsValue, IsValueFault};
+    ghost use Rattle.git_msg.specs.Asked.{arguments_in, object_info};
+    ghost use Rattle.git_msg.specs.Kept.{IsNew, IsUnkept, IsWithin, KeepsArgument, kept_as};
+
+    /// Whether the sizes of the objects are asked for.
+    pub fn size(&self) -> bool
+        ensures { result ≡ self.now.asked.size }
+    {
+        self.size
+    }
+
+    /// The objects that are asked about, in the order of their lines.
+    pub fn oids(&self) -> &[Oid]
+        ensures { result.now ≡ self.now.asked.oids }
+    {
+        &self.oids
+    }
+
+    pub(crate) fn new(alloc: A, format: Format, limits: Limits) -> ObjectInfo<A>
+        ensures { IsNew Command.ObjectInfo format limits.args (kept_as object_info result) }
+    {
+        ObjectInfo {
+            format,
+            budget: Budget::new(limits),
+            size: false,
+            oids: Vec::new(alloc),
+        }
+    }
+
+    pub(crate) fn format(&self) -> Format
+        ensures { result ≡ self.now.format }
+    {
+        self.format
+    }
+
+    pub(crate) fn limits(&self) -> Limits
+        ensures { result.args ≡ self.now.limit }
+    {
+        self.budget.limits()
+    }
+
+    pub(crate) fn kept(&self) -> u32
+        ensures value { result ≡ self.now.kept }
+        ensures within { IsWithin (kept_as object_info self.now) }
+    {
+        self.budget.kept()
+    }
+
+    /// The argument at place `i`, in the order in which they are written.
+    pub(crate) fn argument(&self, i: usize) -> Option<Argument<'_>>
+        ensures value { option_map shown result ≡ slice_get (arguments_in (object_info self.now.asked)) i }
+        ensures within { IsWithin (kept_as object_info self.now) }
+    {
+        let Some(i) = past_flag(self.size, i) else {
+            return Some(Argument::Size);
+        };
+        match self.oids.get(i) {
+            Some(id) => Some(Argument::ObjectId(*id)),
+            None => None,
+        }
+    }
+
+    /// Whether the argument may stand in a request of this command and format.
+    pub(crate) fn check_value(&self, argument: &Argument<'_>) -> Result<(), Kind>
+        ensures ok { OnOk result (IsValue Command.ObjectInfo self.now.format (shown argument.now)) }
+        ensures err { IfErr result (IsValueFault Command.ObjectInfo self.now.format (shown argument.now)) }
+    {
+        match argument {
+            Argument::Size => Ok(()),
+            Argument::ObjectId(id) => check_id(self.format, id),
+            _ => Err(Kind::UnknownArgument),
+        }
+    }
+
+    /// Keeps an argument whose line has a text of so many bytes.
+    pub(crate) fn keep(&mut self, argument: &Argument<'_>, text_length: usize) -> Result<(), Kind>
+        requires value { IsValue Command.ObjectInfo self.old.format (shown argument.now) }
+        requires counted { length (written_text (shown argument.now)) ≤ text_length }
+        ensures kept { OnOk result (KeepsArgument (kept_as object_info self.old) (shown argument.now) text_length (kept_as object_info self.new)) }
+        ensures fits { OnOk result (self.old.kept + text_length ≤ self.old.limit) }
+        ensures unchanged { OnErr result (self.new ≡ self.old) }
+        ensures refused { IfErr result (IsUnkept (kept_as object_info self.old) (shown argument.now) text_length) }
+    {
+        let mut budget = self.budget;
+        budget.charge(text_length)?;
+        match argument {
+            Argument::Size => self.size = true,
+            Argument::ObjectId(id) => keep_id(&mut self.oids, *id)?,
+            _ => unreachable!(),
+        }
+        self.budget = budget;
+        Ok(())
+    }
+}
