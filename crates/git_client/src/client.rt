@@ -1,6 +1,6 @@
 //! The client: it asks, reads what a server says in pieces of any size, and hands out events.
 
-ghost use Rattle.std.specs.Prelude.{◌≡◌, ◌≢◌, ◌+◌, ◌-◌, ◌≤◌, ◌<◌, ◌↔◌, IsTrue, ℕ, suc, List, [], ◌∷◌, None, true, false, length, take, drop, MatchOption};
+ghost use Rattle.std.specs.Prelude.{◌≡◌, ◌≢◌, ◌+◌, ◌-◌, ◌≤◌, ◌<◌, ◌↔◌, IsTrue, ℕ, suc, List, [], ◌∷◌, None, Err, true, false, length, take, drop, MatchOption};
 ghost use Rattle.std.specs.Option.{ForSome};
 ghost use Rattle.std.specs.Borrow.{sem};
 ghost use Rattle.git_msg.specs.HeldRequest.{format_of as request_format};
@@ -278,11 +278,7 @@ impl<A: Allocator + Copy> Client<A> {
                     _ => Outcome::Event,
                 }
             }
-            Err(kind) => {
-                let fault = Fault { kind, offset };
-                self.phase = Phase::Failed(fault);
-                Outcome::Failed(fault)
-            }
+            Err(kind) => self.fail(kind, offset),
         }
     }
 
@@ -301,12 +297,18 @@ impl<A: Allocator + Copy> Client<A> {
                     _ => Outcome::Event,
                 }
             }
-            Err(kind) => {
-                let fault = Fault { kind, offset };
-                self.phase = Phase::Failed(fault);
-                Outcome::Failed(fault)
-            }
+            Err(kind) => self.fail(kind, offset),
         }
+    }
+
+    /// Ends the conversation: the packet at this offset is refused.
+    fn fail(&mut self, kind: Kind, offset: u64) -> Outcome
+        requires said { is_asking (phase_of self.old) ≡ false }
+        ensures { Settles self.old (Err kind) offset result self.new }
+    {
+        let fault = Fault { kind, offset };
+        self.phase = Phase::Failed(fault);
+        Outcome::Failed(fault)
     }
 
     /// The event of what the last packet said.
