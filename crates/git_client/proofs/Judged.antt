@@ -8,7 +8,7 @@ use Rattle.git_msg.specs.Advertisement.{noted_of, is_spoken}
 use Rattle.git_msg.specs.Asked.{Asked}
 use Rattle.git_msg.specs.declared.offers.Caps.{Caps}
 use Rattle.git_client.specs.Parts.{Terms, terms_of, Part, sections, closing, advertisement_of, message_of, is_end_due, is_zero, part_after}
-use Rattle.git_client.specs.Places.{version, capabilities, header, acknowledgments, place_in, place_of, place_after}
+use Rattle.git_client.specs.Places.{version, capabilities, header, acknowledgments, size_line, sizes, place_in, place_of, place_after}
 use Rattle.git_client.specs.Events.{EventValue, Gives, Refuses, SaysLine}
 use Rattle.git_client.specs.Conversation.{GivesAt, RefusesAt}
 use Rattle.git_client.specs.Sections.{section_named, lines_of, may_begin, told_by, told_with}
@@ -21,7 +21,7 @@ use Rattle.git_client.specs.declared.events.Ending.{Ending}
 use Rattle.git_client.specs.declared.events.Ending.TheVariants.{FlushOnly, ResponseEnd as WithResponseEnd}
 use Rattle.git_client.specs.declared.phase.Due.{Due}
 use Rattle.git_client.specs.declared.phase.Due.TheVariants.{Version, Capabilities, References, Header, Acknowledgments, ShallowInfo, WantedRefs}
-use Rattle.git_client.specs.declared.phase.Due.TheVariants.{Packfile, ResponseEnd}
+use Rattle.git_client.specs.declared.phase.Due.TheVariants.{Packfile, SizeLine, Sizes, ResponseEnd}
 use Rattle.git_client.specs.declared.phase.Turn.{Turn}
 use Rattle.git_client.proofs.PartSteps.{is_early, next_part, part_due, awaits_where, goes_on, no_flush, Stands, stands, no_end, GoesInto, due_after}
 use Rattle.git_client.proofs.Sequences.{advertisement_more}
@@ -43,6 +43,8 @@ place_where format done message (Acknowledgments told) caps notes (inside, told_
 place_where format done message (ShallowInfo allowed) caps notes (inside, is) = place_inside format done message _ inside
 place_where format done message (WantedRefs allowed) caps notes (inside, is) = place_inside format done message _ inside
 place_where format done message Packfile caps notes inside = place_inside format done message _ inside
+place_where format done message SizeLine caps notes is = ap (λ (b : Bool). cond b (Some size_line) (Some sizes)) is
+place_where format done message Sizes caps notes is = ap (λ (b : Bool). cond b (Some size_line) (Some sizes)) is
 place_where format done message ResponseEnd caps notes is = refl
 
 -- the packets before tell the place where something is due
@@ -79,6 +81,8 @@ line_due format ending caps done message (ShallowInfo allowed) line events (insi
 line_due format ending caps done message (WantedRefs allowed) line events (inside, is) gives =
     (inside_more _ message line inside, is ∙ sym (allowed_stays done (payload line) message inside.inside))
 line_due format ending caps done message Packfile line events inside gives = inside_more _ message line inside
+line_due format ending caps done message SizeLine line events is gives = refl
+line_due format ending caps done message Sizes line events is gives = refl
 line_due format ending caps done message ResponseEnd line events is gives = absurd gives
 
 delimiter_due : (format : Format) (ending : Ending) (caps : Caps) (done : Bool) (message : List Pkt) (due : Due) (events : List EventValue)
@@ -134,6 +138,8 @@ flush_due t asked before Capabilities caps events is s gives = record {
 flush_due t asked before References caps events is s gives = response_flush t asked before References is s refl refl
 flush_due t asked before (Acknowledgments told) caps events is s gives = response_flush t asked before (Acknowledgments told) is s refl refl
 flush_due t asked before Packfile caps events is s gives = response_flush t asked before Packfile is s refl refl
+flush_due t asked before SizeLine caps events is s gives = response_flush t asked before SizeLine is s refl refl
+flush_due t asked before Sizes caps events is s gives = response_flush t asked before Sizes is s refl refl
 flush_due t asked before due caps events is s gives = absurd (cc)
 
 end_due : (t : Terms) (asked : List Asked) (before : List Pkt) (due : Due) (caps : Caps) (events : List EventValue) → IsDue t asked before due

@@ -2,15 +2,15 @@
 use Rattle.std.proofs.Common.{arith, ◌≡◌, ℕ, suc, zero, Bool, true, List, [], ◌∷◌, Option, Some, None, ◌≢◌, false, ap, cond, refl, sym, ◌∙◌, subst}
 use Rattle.std.specs.Prelude.{slice_get}
 use Rattle.git_pkt.specs.Packets.{Pkt, flush, resp_end, flushes}
-use Rattle.git_msg.specs.Asked.{Asked, ls_refs, fetch}
-use Rattle.git_client.specs.Parts.{Terms, Part, opening, advertisement, listing, sections, closing, answer_to, part_after, part_of, is_end_due}
+use Rattle.git_msg.specs.Asked.{Asked, ls_refs, fetch, object_info}
+use Rattle.git_client.specs.Parts.{Terms, Part, opening, advertisement, listing, sections, informing, closing, answer_to, part_after, part_of, is_end_due}
 use Rattle.git_client.specs.Parts.{is_zero, message_of}
 use Rattle.git_client.specs.Client.{IsDue, IsDueIn, awaits_end}
 use Rattle.git_client.specs.declared.events.Ending.{Ending}
 use Rattle.git_client.specs.declared.events.Ending.TheVariants.{FlushOnly, ResponseEnd as WithResponseEnd}
 use Rattle.git_client.specs.declared.phase.Due.{Due}
 use Rattle.git_client.specs.declared.phase.Due.TheVariants.{Version, Capabilities, References, Header, Acknowledgments, ShallowInfo, WantedRefs}
-use Rattle.git_client.specs.declared.phase.Due.TheVariants.{Packfile, ResponseEnd}
+use Rattle.git_client.specs.declared.phase.Due.TheVariants.{Packfile, SizeLine, Sizes, ResponseEnd}
 use Rattle.git_client.proofs.Sequences.{advertisement_more}
 
 -- the part before the first flush
@@ -38,6 +38,8 @@ abbrev pub part_due : Bool → Due → Part
 part_due done Version = opening
 part_due done Capabilities = advertisement
 part_due done References = listing
+part_due done SizeLine = informing
+part_due done Sizes = informing
 part_due done ResponseEnd = closing
 part_due done due = sections done
 
@@ -50,6 +52,8 @@ part_is (sections done) message (Acknowledgments told) is = (done, refl)
 part_is (sections done) message (ShallowInfo allowed) is = (done, refl)
 part_is (sections done) message (WantedRefs allowed) is = (done, refl)
 part_is (sections done) message Packfile is = (done, refl)
+part_is informing message SizeLine is = (false, refl)
+part_is informing message Sizes is = (false, refl)
 part_is closing message ResponseEnd is = (false, refl)
 part_is part message due is = absurd is
 
@@ -73,6 +77,8 @@ answers asked k (Some (ls_refs q)) part found is =
     let same : listing ≡ part = cc in subst (GoesOn asked (suc k)) same (record { stays = ap answer_to found; early = refl })
 answers asked k (Some (fetch q)) part found is =
     let same : sections q.done ≡ part = cc in subst (GoesOn asked (suc k)) same (record { stays = ap answer_to found; early = refl })
+answers asked k (Some (object_info q)) part found is =
+    let same : informing ≡ part = cc in subst (GoesOn asked (suc k)) same (record { stays = ap answer_to found; early = refl })
 
 goes_on_after : (asked : List Asked) (n : ℕ) (part : Part) → part_after asked n ≡ Some part → GoesOn asked n part
 goes_on_after asked zero part is =

@@ -7,18 +7,20 @@ use Rattle.git_pkt.specs.declared.fault.Kind.{Kind}
 use Rattle.git_pkt.specs.declared.fault.Kind.TheVariants.{RemoteFatal, BadBand, BadObjectName}
 use Rattle.git_msg.specs.Capability.{IsCapability}
 use Rattle.git_msg.specs.References.{Ref, IsReferenceLine}
-use Rattle.git_msg.specs.ResponseLines.{Wanted, IsAckLine, IsBoundaryLine, IsWantedLine}
+use Rattle.git_msg.specs.ResponseLines.{Wanted, IsAckLine, IsBoundaryLine, IsInfoLine, IsWantedLine}
+use Rattle.git_msg.specs.declared.response_lines.Info.{Info}
 use Rattle.git_msg.specs.declared.response_lines.Boundary.{Boundary}
 use Rattle.git_msg.specs.declared.response_lines.Boundary.TheVariants.{Shallow, Unshallow}
 use Rattle.git_msg.proofs.Keys.{one_capability}
 use Rattle.git_msg.proofs.ReferenceLaws.{one_reference}
 use Rattle.git_msg.proofs.ReferenceFaults.{reference_or_fault, one_reference_fault}
-use Rattle.git_msg.proofs.ResponseLines.{one_ack, one_boundary, one_wanted}
-use Rattle.git_msg.proofs.ResponseFaults.{ack_or_fault, boundary_or_fault, wanted_or_fault, one_boundary_fault, one_wanted_fault}
+use Rattle.git_msg.proofs.ResponseLines.{one_ack, one_boundary, one_info, one_wanted}
+use Rattle.git_msg.proofs.ResponseFaults.{ack_or_fault, boundary_or_fault, info_or_fault, wanted_or_fault, one_boundary_fault, one_info_fault, one_wanted_fault}
 use Rattle.git_client.specs.declared.sections.Told.{Told}
 use Rattle.git_client.specs.Sections.{section_named, may_begin}
-use Rattle.git_client.specs.Places.{Place, version, capabilities, references, header, acknowledgments, shallow_info, wanted_refs, packfile, response_end}
-use Rattle.git_client.specs.Events.{EventValue, capability, reference, ack, nak, ready, shallow, unshallow, wanted_ref, pack, progress}
+use Rattle.git_client.specs.Places.{Place, version, capabilities, references, header, acknowledgments, shallow_info, wanted_refs, packfile}
+use Rattle.git_client.specs.Places.{size_line, sizes, response_end}
+use Rattle.git_client.specs.Events.{EventValue, capability, reference, ack, nak, ready, shallow, unshallow, wanted_ref, pack, progress, info}
 use Rattle.git_client.specs.Packs.{on_first_band}
 use Rattle.git_client.specs.Events.{SaysLine, IsLineFault, IsNotDue, IsBadAck, band_says, turns_of, pack_bytes}
 
@@ -43,6 +45,8 @@ ReadsLine (header allowed) format text events = (may_begin allowed (section_name
 ReadsLine (acknowledgments told) format text events = IsAcknowledging format told text events
 ReadsLine shallow_info format text events = (line : Boundary) × IsBoundaryLine format text line × (events ≡ boundary_event line ∷ [])
 ReadsLine wanted_refs format text events = (wanted : Wanted) × IsWantedLine format text wanted × (events ≡ wanted_ref wanted ∷ [])
+ReadsLine size_line format text events = (text ≡ codes "size") × (events ≡ [])
+ReadsLine sizes format text events = (told : Info) × IsInfoLine format text told × (events ≡ info told ∷ [])
 ReadsLine _ format text events = ⊥
 
 pub line_read : (place : Place) (format : Format) (text : List ℕ) (events : List EventValue) → SaysLine place format text events
@@ -57,6 +61,8 @@ line_read (acknowledgments told) format text (ack id ∷ []) says = inr (inr (id
 line_read shallow_info format text (shallow id ∷ []) says = (Shallow id, says, refl)
 line_read shallow_info format text (unshallow id ∷ []) says = (Unshallow id, says, refl)
 line_read wanted_refs format text (wanted_ref wanted ∷ []) says = (wanted, says, refl)
+line_read size_line format text [] says = (says, refl)
+line_read sizes format text (info told ∷ []) says = (told, says, refl)
 line_read place format text events says = absurd says
 
 same_heads : (text a b : List ℕ) → text ≡ a → text ≡ b → slice_index a 0 ≡ slice_index b 0
@@ -102,6 +108,9 @@ one_reading shallow_info format text events others h k =
     h.2 ∙ ap (λ (line : Boundary). boundary_event line ∷ []) (one_boundary format text h.0 k.0 h.1 k.1) ∙ sym k.2
 one_reading wanted_refs format text events others h k =
     h.2 ∙ ap (λ (wanted : Wanted). wanted_ref wanted ∷ []) (one_wanted format text h.0 k.0 h.1 k.1) ∙ sym k.2
+one_reading size_line format text events others h k = h.1 ∙ sym k.1
+one_reading sizes format text events others h k =
+    h.2 ∙ ap (λ (told : Info). info told ∷ []) (one_info format text h.0 k.0 h.1 k.1) ∙ sym k.2
 one_reading packfile format text events others h k = absurd h
 one_reading response_end format text events others h k = absurd h
 
@@ -132,6 +141,8 @@ read_or_refused (acknowledgments told) format text events kind h (inl bad) = due
 read_or_refused (acknowledgments told) format text events kind h (inr bad) = named_or_not format told text events h bad.0
 read_or_refused shallow_info format text events kind h bad = boundary_or_fault format text h.0 kind h.1 bad
 read_or_refused wanted_refs format text events kind h bad = wanted_or_fault format text h.0 kind h.1 bad
+read_or_refused size_line format text events kind h bad = bad.0 h.0
+read_or_refused sizes format text events kind h bad = info_or_fault format text h.0 kind h.1 bad
 read_or_refused packfile format text events kind h bad = bad
 read_or_refused response_end format text events kind h bad = bad
 
@@ -156,6 +167,8 @@ one_line_fault (acknowledgments told) format text kind other (inr h) (inl k) = a
 one_line_fault (acknowledgments told) format text kind other (inr h) (inr k) = h.1 ∙ sym k.1
 one_line_fault shallow_info format text kind other h k = one_boundary_fault format text kind other h k
 one_line_fault wanted_refs format text kind other h k = one_wanted_fault format text kind other h k
+one_line_fault size_line format text kind other h k = h.1 ∙ sym k.1
+one_line_fault sizes format text kind other h k = one_info_fault format text kind other h k
 one_line_fault packfile format text kind other h k = absurd h
 one_line_fault response_end format text kind other h k = absurd h
 
@@ -181,6 +194,8 @@ of_read (acknowledgments told) format text events (inr (inl h)) = of_line (ready
 of_read (acknowledgments told) format text events (inr (inr h)) = of_line (ack h.0 ∷ []) events h.3 refl refl
 of_read shallow_info format text events (line, is, e) = of_boundary line events e
 of_read wanted_refs format text events (wanted, is, e) = of_line (wanted_ref wanted ∷ []) events e refl refl
+of_read size_line format text events (is, e) = of_line [] events e refl refl
+of_read sizes format text events (told, is, e) = of_line (info told ∷ []) events e refl refl
 of_read packfile format text events h = absurd h
 of_read response_end format text events h = absurd h
 

@@ -4,14 +4,15 @@ use Rattle.std.proofs.Common.{Option, Some, None, Result, Ok, Err, refl, ap, sub
 use Rattle.git_names.specs.declared.object_format.Format.{Format}
 use Rattle.git_pkt.specs.Packets.{Pkt, flush, delim, resp_end, payload, flushes, text_of}
 use Rattle.git_pkt.specs.declared.fault.Kind.{Kind}
-use Rattle.git_msg.specs.Asked.{Asked, ls_refs, fetch}
+use Rattle.git_msg.specs.Asked.{Asked, ls_refs, fetch, object_info}
 use Rattle.git_client.specs.declared.events.Ending.{Ending}
 use Rattle.git_client.specs.declared.events.Ending.TheVariants.{FlushOnly, ResponseEnd}
 use Rattle.git_client.specs.declared.sections.Section.{Section}
 use Rattle.git_client.specs.declared.sections.Section.TheVariants.{Acknowledgments}
 use Rattle.git_client.specs.declared.sections.Allowed.{Allowed}
 use Rattle.git_client.specs.Parts.{Terms, closing, is_zero, message_of, is_end_due, answer_to, part_after}
-use Rattle.git_client.specs.Places.{Place, version, capabilities, references, header, acknowledgments, shallow_info, wanted_refs, packfile, response_end}
+use Rattle.git_client.specs.Places.{Place, version, capabilities, references, header, acknowledgments, shallow_info, wanted_refs, packfile}
+use Rattle.git_client.specs.Places.{size_line, sizes, response_end}
 use Rattle.git_client.specs.Places.{place_in, place_of, place_after}
 use Rattle.git_client.specs.Events.{EventValue, offered, Gives, GivesLine, ended_by, flush_says, delimiter_says, response_end_says, turns_of, pack_bytes}
 use Rattle.git_client.specs.Packs.{pack_in}
@@ -37,11 +38,16 @@ in_sections : (at_header : Bool) (allowed : Allowed) (section : Option Section) 
 in_sections true allowed section lines place k h = moved _ place (suc k) false h ((k, refl), refl)
 in_sections false allowed section lines place k h = in_section section lines place k h
 
+in_sizes : (at_first : Bool) (place : Place) (k : ℕ) → cond at_first (Some size_line) (Some sizes) ≡ Some place → ComesAfter place (suc k) false
+in_sizes true place k h = moved _ place (suc k) false h ((k, refl), refl)
+in_sizes false place k h = moved _ place (suc k) false h ((k, refl), refl)
+
 in_answer : (format : Format) (question : Option Asked) (message : List Pkt) (place : Place) (k : ℕ)
     → place_of format (answer_to question) message ≡ Some place → ComesAfter place (suc k) false
 in_answer format None message place k h = absurd (cc)
 in_answer format (Some (ls_refs q)) message place k h = moved _ place (suc k) false h ((k, refl), refl)
 in_answer format (Some (fetch q)) message place k h = in_sections _ _ _ _ place k h
+in_answer format (Some (object_info q)) message place k h = in_sizes _ place k h
 
 in_part : (format : Format) (asked : List Asked) (due : Bool) (n : ℕ) (message : List Pkt) (place : Place)
     → place_of format (cond due (Some closing) (part_after asked n)) message ≡ Some place → ComesAfter place n due
@@ -128,6 +134,8 @@ flush_adds ending references before now ((k, some), due) says = response_adds en
 flush_adds ending (acknowledgments told) before now ((k, some), due) says =
     response_adds ending before now k (said_unless told.ready _ _ now says) some due
 flush_adds ending packfile before now ((k, some), due) says = response_adds ending before now k (said_by _ _ now refl says) some due
+flush_adds ending size_line before now ((k, some), due) says = response_adds ending before now k (said_by _ _ now refl says) some due
+flush_adds ending sizes before now ((k, some), due) says = response_adds ending before now k (said_by _ _ now refl says) some due
 flush_adds ending _ before now after says = absurd (cc)
 
 no_end_after : (ending : Ending) (before : List Pkt) → (is_end_due ending (delim ∷ before) ≡ false) × (is_end_due ending (resp_end ∷ before) ≡ false)

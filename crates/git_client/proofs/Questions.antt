@@ -12,14 +12,14 @@ use Rattle.git_pkt.specs.LentHold.{with_hold, with_hold_by}
 use Rattle.git_pkt.specs.declared.fault.Fault.{Fault}
 use Rattle.git_pkt.specs.declared.reader.PacketReader.{PacketReader}
 use Rattle.git_pkt.proofs.ReaderMoves.{rest_of_shut}
-use Rattle.git_msg.specs.Asked.{Asked, ls_refs, fetch}
+use Rattle.git_msg.specs.Asked.{Asked, ls_refs, fetch, object_info}
 use Rattle.git_msg.specs.HeldRequest.{asked_of, format_of as request_format}
 use Rattle.git_msg.specs.WrittenRequest.{lines_written, written_of, left_to_write, PutsFirst}
 use Rattle.git_msg.specs.declared.offers.Caps.{Caps}
 use Rattle.git_msg.specs.declared.requests.Request.{Request}
 use Rattle.git_msg.specs.declared.writer.RequestWriter.{RequestWriter}
-use Rattle.git_client.specs.Parts.{Terms, listing, sections, closing, nearest, answer_to, part_after, part_of}
-use Rattle.git_client.specs.Sections.{is_header_due, allowed_after}
+use Rattle.git_client.specs.Parts.{Terms, listing, sections, informing, closing, nearest, answer_to, part_after, part_of}
+use Rattle.git_client.specs.Sections.{is_empty, is_header_due, allowed_after}
 use Rattle.git_client.specs.Turns.{fault_in, is_ready, has_left_in, left_in, question_in, first_due}
 use Rattle.git_client.specs.Client.{History, Converses, AsksOn, SaysOn, GivesOne, Puts, StandsIn, Goes, Behind, AreWhole, IsAsked, IsDue}
 use Rattle.git_client.specs.Client.{questions_of, said_of, spelled, format_of, ending_of, caps_of, phase_of, reader_of, request_of, has_left, left_to_say}
@@ -60,6 +60,14 @@ due_asked t earlier (fetch q) before whole =
       counts = omega (arith, whole.all_flushes, length-append earlier (fetch q ∷ []));
       same_lines = λ none. absurd (omega (arith, none, whole.all_flushes));
       is_due = (ap is_header_due whole.no_message, ap (allowed_after q.done) (sym whole.no_message));
+    }
+due_asked t earlier (object_info q) before whole =
+    record {
+      part = informing;
+      is_part = part_asked t earlier (object_info q) before whole;
+      counts = omega (arith, whole.all_flushes, length-append earlier (object_info q ∷ []));
+      same_lines = λ none. absurd (omega (arith, none, whole.all_flushes));
+      is_due = ap is_empty whole.no_message;
     }
 
 pub due_said : (t : Terms) (asked : List Asked) (before : List Pkt) (question : Asked) → IsAsked t asked before (Some question)

@@ -5,13 +5,14 @@ use Rattle.git_names.specs.declared.object_format.Format.{Format}
 use Rattle.git_pkt.specs.Packets.{Pkt, flush, delim, resp_end, payload, text_of}
 use Rattle.git_pkt.specs.declared.fault.Kind.{Kind}
 use Rattle.git_pkt.specs.declared.fault.Kind.TheVariants.{RemoteFatal, NotVersion2, BadCapability, WrongFormat, UnexpectedPacket}
-use Rattle.git_pkt.specs.declared.fault.Kind.TheVariants.{UnexpectedSection, BadLine, BadObjectName, BadRefName, NoBand, BadBand}
+use Rattle.git_pkt.specs.declared.fault.Kind.TheVariants.{UnexpectedSection, BadLine, BadNumber, BadObjectName, BadRefName, NoBand, BadBand}
 use Rattle.git_msg.specs.Checks.{Refuses as RefusesBy}
 use Rattle.git_msg.specs.References.{reference_checks, attribute_checks, IsAttributeFault}
-use Rattle.git_msg.specs.ResponseLines.{IsBoundaryFault, IsWantedFault}
+use Rattle.git_msg.specs.ResponseLines.{IsBoundaryFault, IsInfoFault, IsWantedFault}
 use Rattle.git_msg.specs.Texts.{spaced_words}
 use Rattle.git_client.specs.declared.events.Ending.{Ending}
-use Rattle.git_client.specs.Places.{Place, version, capabilities, references, header, acknowledgments, shallow_info, wanted_refs, packfile, response_end}
+use Rattle.git_client.specs.Places.{Place, version, capabilities, references, header, acknowledgments, shallow_info, wanted_refs, packfile}
+use Rattle.git_client.specs.Places.{size_line, sizes, response_end}
 use Rattle.git_client.specs.Events.{EventValue, Refuses, RefusesLine, IsLineFault, band_says, flush_says, delimiter_says, response_end_says, pack, progress}
 use Rattle.git_client.specs.Client.{IsMessage}
 
@@ -23,6 +24,7 @@ is_own WrongFormat = true
 is_own UnexpectedPacket = true
 is_own UnexpectedSection = true
 is_own BadLine = true
+is_own BadNumber = true
 is_own BadObjectName = true
 is_own BadRefName = true
 is_own NoBand = true
@@ -55,6 +57,8 @@ flush_own ending (capabilities spoken) kind e = own_if spoken _ WrongFormat kind
 flush_own ending references kind e = absurd (cc)
 flush_own ending (acknowledgments told) kind e = own_unless told.ready _ UnexpectedPacket kind e refl
 flush_own ending packfile kind e = absurd (cc)
+flush_own ending size_line kind e = absurd (cc)
+flush_own ending sizes kind e = absurd (cc)
 flush_own ending _ kind e = own _ UnexpectedPacket kind refl e refl
 
 delimiter_own : (place : Place) (kind : Kind) → delimiter_says place ≡ Err kind → is_own kind ≡ true
@@ -100,6 +104,12 @@ wanted_own format text BadObjectName r = refl
 wanted_own format text BadRefName r = refl
 wanted_own format text _ r = absurd r
 
+info_own : (format : Format) (text : List ℕ) (kind : Kind) → IsInfoFault format text kind → is_own kind ≡ true
+info_own format text BadLine r = refl
+info_own format text BadObjectName r = refl
+info_own format text BadNumber r = refl
+info_own format text _ r = absurd r
+
 line_own : (place : Place) (format : Format) (text : List ℕ) (kind : Kind) → IsLineFault place format text kind → is_own kind ≡ true
 line_own version format text kind r = ap is_own r.1
 line_own (capabilities spoken) format text kind r = ap is_own r.1
@@ -109,6 +119,8 @@ line_own (acknowledgments told) format text kind (inl r) = ap is_own r.1
 line_own (acknowledgments told) format text kind (inr r) = ap is_own r.1
 line_own shallow_info format text kind r = boundary_own format text kind r
 line_own wanted_refs format text kind r = wanted_own format text kind r
+line_own size_line format text kind r = ap is_own r.1
+line_own sizes format text kind r = info_own format text kind r
 line_own _ format text kind r = absurd r
 
 abbrev Why : Pkt → Kind → Type 0

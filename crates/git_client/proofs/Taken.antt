@@ -20,7 +20,7 @@ use Rattle.git_client.specs.declared.events.Ending.TheVariants.{FlushOnly, Respo
 use Rattle.git_client.specs.declared.phase.Phase.{Phase}
 use Rattle.git_client.specs.declared.phase.Phase.TheVariants.{Hearing, Ready, Failed}
 use Rattle.git_client.specs.declared.phase.Due.{Due}
-use Rattle.git_client.specs.declared.phase.Due.TheVariants.{Capabilities, References, Acknowledgments, Packfile}
+use Rattle.git_client.specs.declared.phase.Due.TheVariants.{Capabilities, References, Acknowledgments, Packfile, SizeLine, Sizes}
 use Rattle.git_client.specs.declared.phase.Said.{Said}
 use Rattle.git_client.specs.declared.phase.Said.TheVariants.{Nothing, Pack, Progress, Offered, Ended}
 use Rattle.git_client.specs.declared.phase.Turn.{Turn}
@@ -62,6 +62,8 @@ flush_turn format ending caps Capabilities events g = ap turns_of (said_if (is_s
 flush_turn format ending caps References events g = ended_turn ending events (said_by _ _ events refl g)
 flush_turn format ending caps (Acknowledgments told) events g = ended_turn ending events (said_unless told.ready _ _ events g)
 flush_turn format ending caps Packfile events g = ended_turn ending events (said_by _ _ events refl g)
+flush_turn format ending caps SizeLine events g = ended_turn ending events (said_by _ _ events refl g)
+flush_turn format ending caps Sizes events g = ended_turn ending events (said_by _ _ events refl g)
 flush_turn format ending caps _ events g = absurd (cc)
 
 delimiter_turn : (place : Place) (events : List EventValue) → delimiter_says place ≡ Ok events → turns_of events ≡ 0

@@ -189,11 +189,22 @@ fn write_info<W: Write>(out: &mut Told<W>, id: &Oid, size: Option<u64>) -> Resul
     send(out, b"info ")?;
     write_id(out, id)?;
     send(out, b" ")?;
-    match size {
-        Some(size) => write_number(out, size)?,
-        None => send(out, b"-")?,
-    }
+    write_size(out, size)?;
     send(out, b"\n")
+}
+
+/// Writes a size, or a dash where there is none.
+fn write_size<W: Write>(out: &mut Told<W>, size: Option<u64>) -> Result<(), RunFault>
+    ensures ok { OnOk result (Appends (W.contents (inner_of out.old)) (W.contents (inner_of out.new)) (size_shown size)) }
+    ensures err { OnErr result (AppendsFront (W.contents (inner_of out.old)) (W.contents (inner_of out.new)) (size_shown size)) }
+    ensures fault { IfErr result (λ fault. fault ≡ RunFault.WriteFault) }
+    ensures failed { has_failed out.new ≡ (has_failed out.old || is_err result) }
+    ensures reads { ReadsNothing out.old out.new }
+{
+    match size {
+        Some(size) => write_number(out, size),
+        None => send(out, b"-"),
+    }
 }
 
 /// Writes the line of a response's end.

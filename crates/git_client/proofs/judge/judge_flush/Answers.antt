@@ -8,7 +8,7 @@ use Rattle.git_client.specs.Turns.{IsTurn, NotesAfter, phase_after, phase_after_
 use Rattle.git_client.specs.declared.events.Ending.{Ending}
 use Rattle.git_client.specs.declared.events.Ending.TheVariants.{FlushOnly, ResponseEnd}
 use Rattle.git_client.specs.declared.phase.Due.{Due}
-use Rattle.git_client.specs.declared.phase.Due.TheVariants.{Acknowledgments, Packfile, References}
+use Rattle.git_client.specs.declared.phase.Due.TheVariants.{Acknowledgments, Packfile, References, SizeLine, Sizes}
 use Rattle.git_client.specs.declared.phase.Turn.{Turn}
 use Rattle.git_client.proofs.judge.judge_flush.Goals as goal
 
@@ -35,4 +35,14 @@ returns-else-told c = record {
 pub returns-in-Packfile : goal.returns-in-Packfile
 returns-in-Packfile c = record {
   turn = ends_response c.args.format c.args.ending c.args.due Packfile c.args.caps _ c.in-Packfile.is c.after_flush-in-Packfile.ensures refl refl refl;
+}
+
+pub returns-in-SizeLine : goal.returns-in-SizeLine
+returns-in-SizeLine c = record {
+  turn = ends_response c.args.format c.args.ending c.args.due SizeLine c.args.caps _ c.in-SizeLine.is c.after_flush-in-SizeLine.ensures refl refl refl;
+}
+
+pub returns-in-Sizes : goal.returns-in-Sizes
+returns-in-Sizes c = record {
+  turn = ends_response c.args.format c.args.ending c.args.due Sizes c.args.caps _ c.in-Sizes.is c.after_flush-in-Sizes.ensures refl refl refl;
 }
