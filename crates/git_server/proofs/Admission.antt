@@ -11,7 +11,7 @@ use Rattle.git_pkt.specs.declared.fault.Kind.{Kind}
 use Rattle.git_pkt.specs.declared.fault.Kind.TheVariants.{NotOurs, TooMuchKept, UnknownRef}
 use Rattle.git_msg.specs.declared.offers.Offer.{Offer}
 use Rattle.git_msg.specs.declared.arguments.Command.{Command}
-use Rattle.git_msg.specs.declared.arguments.Command.TheVariants.{LsRefs, Fetch}
+use Rattle.git_msg.specs.declared.arguments.Command.TheVariants.{LsRefs, Fetch, ObjectInfo}
 use Rattle.git_msg.specs.Arguments.{Arg, want, want_ref}
 use Rattle.git_msg.specs.Asked.{Asked, asked_by, want_in, want_ref_in}
 use Rattle.git_msg.specs.Lines.{Line, argument_in, arguments_of, HasFault, HasFaultIn, IsArgumentText, IsLine, IsLineIn}
@@ -68,6 +68,7 @@ refs_found repo (arg ∷ args) h = refs_found repo args (All-tail (IsAdmitted re
 -- a request of admitted arguments asks for objects and references that the repository has
 asked_had : (repo : Repository) (c : Command) (args : List Arg) → All (IsAdmitted repo) args → HasAsked repo (asked_by c args)
 asked_had repo LsRefs args h = tt
+asked_had repo ObjectInfo args h = tt
 asked_had repo Fetch args h = (wants_had repo args h, refs_found repo args h)
 
 module _ (offer : Offer) (limit : ℕ) (repo : Repository) where

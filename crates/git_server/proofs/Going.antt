@@ -18,8 +18,8 @@ use Rattle.git_msg.specs.RequestReader.{Takes, offer_of, limit_in, kept_so_far}
 use Rattle.git_msg.specs.declared.offers.Offer.{Offer}
 use Rattle.git_msg.specs.declared.reader.RequestReader.{RequestReader}
 use Rattle.git_msg.specs.declared.requests.Request.{Request}
-use Rattle.git_msg.specs.declared.requests.Request.TheVariants.{LsRefs as OfLsRefs, Fetch as OfFetch}
-use Rattle.git_server.specs.declared.answer.Answer.TheVariants.{References, Fetching}
+use Rattle.git_msg.specs.declared.requests.Request.TheVariants.{LsRefs as OfLsRefs, Fetch as OfFetch, ObjectInfo as OfObjectInfo}
+use Rattle.git_server.specs.declared.answer.Answer.TheVariants.{References, Fetching, Sizes}
 use Rattle.git_server.specs.Repository.{Repository, RepoState}
 use Rattle.git_server.specs.Admission.{IsToldFor}
 use Rattle.git_server.specs.Packs.{Manner, whole, broken}
@@ -28,7 +28,7 @@ use Rattle.git_server.specs.Answers.{AllFit, IsAnswerAs, error_packet, spelled}
 use Rattle.git_server.specs.AdvertisementLines.{advertisement_from}
 use Rattle.git_server.specs.Sessions.{Begins, IsTail, IsTailBy, Setting, IsRequest, IsSent, IsAnswering, IsEnding, IsRefused, EndsBy}
 use Rattle.git_server.specs.Phases.{FlushIsAt, LeftIn, MayBreak, Owes, kept_in, outcome_in, reads_in, phase_after, refused_by}
-use Rattle.git_server.specs.AnsweredRequest.{IsAnswerFrom, answer_to, kept_with, references_from}
+use Rattle.git_server.specs.AnsweredRequest.{IsAnswerFrom, answer_to, kept_with, references_from, sizes_from}
 use Rattle.git_server.specs.Brought.{Brings, IsBrought, IsWithin}
 use Rattle.git_server.specs.Server.{IsPackLost, Running, Serves, StandsBy, outcome_of, wants_input}
 use Rattle.git_server.specs.ServerCalls.{Goes, ReadsFor, StopsInTime}
@@ -52,11 +52,14 @@ whole_answer : {A : Type 0} (manner : Manner) (repo : Repository) (request : Req
     → IsAnswerFrom manner repo (answer_to request) later → IsAnswerAs manner repo (asked_of request) later
 whole_answer whole repo (OfLsRefs request) later h = h
 whole_answer broken repo (OfLsRefs request) later h = h
+whole_answer whole repo (OfObjectInfo request) later h = h
+whole_answer broken repo (OfObjectInfo request) later h = h
 whole_answer manner repo (OfFetch request) later h = whole_fetch manner repo request.asked (negotiates request.asked) later h
 
 kept_to_answer : {A : Type 0} (request : Request A) → kept_with (answer_to request) ≡ kept_of request
 kept_to_answer (OfLsRefs request) = refl
 kept_to_answer (OfFetch request) = refl
+kept_to_answer (OfObjectInfo request) = refl
 
 pub refused_outcome_by : (A : Type 0) (kind : Kind) (fault : Fault) → outcome_in {A = A} (refused_by kind fault) ≡ Some (Refused fault)
 refused_outcome_by A RemoteError fault = refl
@@ -121,6 +124,7 @@ pub owes_some : {A : Type 0} (offer : Offer) (repo : Repository) (phase : Phase 
 owes_some offer repo (Advertising line) = (advertisement_from offer line, refl)
 owes_some offer repo (Answering (References request next) offset) = (references_from request.asked repo.refs next, refl)
 owes_some offer repo (Answering (Fetching request place) offset) = some_fetch repo request.asked place
+owes_some offer repo (Answering (Sizes request place) offset) = (sizes_from request.asked repo place, refl)
 owes_some offer repo (Refusing fault) = (error_packet fault ∷ [], refl)
 owes_some offer repo Between = ([], refl)
 owes_some offer repo Within = ([], refl)

@@ -9,18 +9,25 @@ use Rattle.git_pkt.proofs.Written.{spells_written}
 use Rattle.git_pkt.specs.Splits.{Given}
 use Rattle.git_pkt.proofs.Streams.{one_split}
 use Rattle.git_msg.specs.declared.offers.Offer.{Offer}
-use Rattle.git_msg.specs.Asked.{Asked, ls_refs, fetch}
+use Rattle.git_msg.specs.Asked.{Asked, ObjectInfoAsked, ls_refs, fetch, object_info}
+use Rattle.git_msg.specs.References.{reference_text}
+use Rattle.git_msg.specs.ResponseLines.{info_text}
+use Rattle.git_msg.specs.WrittenRequest.{text_line}
+use Rattle.git_names.specs.ObjectName.{ObjectName}
 use Rattle.git_msg.specs.WholeRequests.{AreRequests}
 use Rattle.git_msg.proofs.WholeRequests.{NoFlush, NoRequest, none_without_flush, one_list_of_requests}
 use Rattle.git_server.specs.Repository.{Entry, Repository, RepoState}
-use Rattle.git_server.specs.Answers.{AllFit, offered_line, reference_packet, shown_refs, spelled, IsAnswer}
+use Rattle.git_server.specs.AnsweredRequest.{sizes_from}
+use Rattle.git_server.specs.Answers.{AllFit, offered_line, shown_line, shown_refs, spelled, IsAnswer}
 use Rattle.git_server.specs.AdvertisementLines.{format_on, advertisement_from}
-use Rattle.git_server.specs.declared.advertisement.AdvertisementLine.TheVariants.{Version, Agent, LsRefs, Fetch, ServerOption, ObjectFormat, End}
+use Rattle.git_server.specs.declared.advertisement.AdvertisementLine.TheVariants.{Version, Agent, LsRefs, Fetch, ServerOption, ObjectFormat, ObjectInfo, End}
 use Rattle.git_server.specs.Sessions.{Setting, IsRequest, AreAnswers, IsAnswered, advertised}
 use Rattle.git_server.specs.Phases.{outcome_in, Owes, reads_in}
 use Rattle.git_server.specs.Server.{Running, outcome_of, wants_input}
 use Rattle.git_server.specs.declared.advertisement.AdvertisementLine.{AdvertisementLine}
-use Rattle.git_server.specs.declared.answer.Answer.TheVariants.{References, Fetching}
+use Rattle.git_server.specs.declared.answer.Answer.TheVariants.{References, Fetching, Sizes}
+use Rattle.git_server.specs.declared.informing.SizesPlace.{SizesPlace}
+use Rattle.git_server.specs.declared.informing.SizesPlace.TheVariants.{Header as SizesHeader, Object}
 use Rattle.git_server.specs.declared.server.Phase.{Phase}
 use Rattle.git_server.specs.declared.server.Phase.TheVariants.{Advertising, Between, Within, Answering, Refusing, Ended}
 use Rattle.git_server.specs.declared.server.Server.{Server}
@@ -39,16 +46,29 @@ module _ (s : Setting) where
       → AreRequests (IsRequest s) packets asked left → AreRequests (IsRequest s) packets others rest → (asked ≡ others) × (left ≡ rest)
   one_list = one_list_of_requests s.offer s.limit (IsRequest s) (λ front q is. (is.0, is.1))
 
-lines_have_none : (symrefs peel : Bool) (refs : List Entry) → flushes (map (reference_packet symrefs peel) refs) ≡ 0
-lines_have_none symrefs peel [] = refl
-lines_have_none symrefs peel (r ∷ rs) = lines_have_none symrefs peel rs
+-- lines and a flush after them are one flush
+lines_have_none : {X : Type 0} (text : X → List ℕ) (xs : List X) → flushes (map (λ x. text_line (text x)) xs) ≡ 0
+lines_have_none text [] = refl
+lines_have_none text (x ∷ xs) = lines_have_none text xs
 
-ends_once : (symrefs peel : Bool) (refs : List Entry) → flushes (map (reference_packet symrefs peel) refs ++ flush ∷ []) ≡ 1
-ends_once symrefs peel refs = omega (arith, flushes-append (map (reference_packet symrefs peel) refs) (flush ∷ []), lines_have_none symrefs peel refs)
+ends_once : {X : Type 0} (text : X → List ℕ) (xs : List X) → flushes (map (λ x. text_line (text x)) xs ++ flush ∷ []) ≡ 1
+ends_once text xs = omega (arith, flushes-append (map (λ x. text_line (text x)) xs) (flush ∷ []), lines_have_none text xs)
+
+refs_end : (symrefs peel : Bool) (refs : List Entry) → flushes (map (λ entry. text_line (reference_text (shown_line symrefs peel entry))) refs ++ flush ∷ []) ≡ 1
+refs_end symrefs peel refs = ends_once (λ entry. reference_text (shown_line symrefs peel entry)) refs
+
+infos_end : (repo : Repository) (ids : List ObjectName)
+    → flushes (map (λ id. text_line (info_text (record { id = id; size = repo.object_size id }))) ids ++ flush ∷ []) ≡ 1
+infos_end repo ids = ends_once (λ id. info_text (record { id = id; size = repo.object_size id })) ids
+
+sizes_end : (q : ObjectInfoAsked) (repo : Repository) (place : SizesPlace) → flushes (sizes_from q repo place) ≡ 1
+sizes_end q repo SizesHeader = infos_end repo q.oids
+sizes_end q repo (Object next) = infos_end repo (drop next q.oids)
 
 -- an answer has one flush
 answer_ends : (repo : Repository) (q : Asked) (answer : List Pkt) → IsAnswer repo q answer → flushes answer ≡ 1
-answer_ends repo (ls_refs q) answer h = ap flushes h ∙ ends_once q.symrefs q.peel (shown_refs q.ref_prefixes repo.refs)
+answer_ends repo (ls_refs q) answer h = ap flushes h ∙ refs_end q.symrefs q.peel (shown_refs q.ref_prefixes repo.refs)
+answer_ends repo (object_info q) answer h = ap flushes h ∙ sizes_end q repo SizesHeader
 answer_ends repo (fetch q) answer h = fetch_ends_once repo q answer h
 
 answers_end : (repo : Repository) (asked : List Asked) (packets : List Pkt) → AreAnswers repo asked packets → flushes packets ≡ length asked
@@ -68,14 +88,19 @@ one_spelling (p ∷ ps) (q ∷ qs) h k e =
     ap (λ (x : Pkt). x ∷ ps) same.packet ∙ ap (λ (xs : List Pkt). q ∷ xs) (one_spelling ps qs h.1 k.1 same.rest)
 
 -- where something is owed, a flush is
+info_owes : (b : Bool) → flushes (offered_line b (codes "object-info") ++ flush ∷ []) ≡ 1
+info_owes true = refl
+info_owes false = refl
+
 option_owes : (offer : Offer) (b : Bool) → flushes (offered_line b (codes "server-option") ++ format_on offer) ≡ 1
-option_owes offer true = refl
-option_owes offer false = refl
+option_owes offer true = info_owes offer.object_info
+option_owes offer false = info_owes offer.object_info
 
 line_owes : (offer : Offer) (line : AdvertisementLine) → flushes (advertisement_from offer line) ≡ 1
 line_owes offer End = refl
-line_owes offer ObjectFormat = refl
-line_owes offer ServerOption = refl
+line_owes offer ObjectInfo = refl
+line_owes offer ObjectFormat = info_owes offer.object_info
+line_owes offer ServerOption = info_owes offer.object_info
 line_owes offer Fetch = option_owes offer offer.server_option
 line_owes offer LsRefs = option_owes offer offer.server_option
 line_owes offer Agent = option_owes offer offer.server_option
@@ -88,9 +113,11 @@ owes_flush offer repo Within owed none owes zero = refl
 owes_flush offer repo (Advertising line) owed none owes zero = absurd (omega (arith, zero, ap flushes owes, line_owes offer line))
 owes_flush offer repo (Answering (References request next) offset) owed none owes zero =
     let q = request.asked in
-    absurd (omega (arith, zero, ap flushes owes, ends_once q.symrefs q.peel (shown_refs q.ref_prefixes (drop next repo.refs))))
+    absurd (omega (arith, zero, ap flushes owes, refs_end q.symrefs q.peel (shown_refs q.ref_prefixes (drop next repo.refs))))
 owes_flush offer repo (Answering (Fetching request place) offset) owed none owes zero =
     absurd (omega (arith, zero, fetch_ends_later repo request.asked place owed owes))
+owes_flush offer repo (Answering (Sizes request place) offset) owed none owes zero =
+    absurd (omega (arith, zero, ap flushes owes, sizes_end request.asked repo place))
 owes_flush offer repo (Refusing fault) owed none owes zero = absurd (cc)
 owes_flush offer repo (Ended outcome) owed none owes zero = absurd (cc)
 

@@ -7,14 +7,15 @@ use Rattle.git_pkt.specs.declared.fault.Fault.{Fault}
 use Rattle.git_msg.specs.declared.offers.Offer.{Offer}
 use Rattle.git_server.specs.Repository.{Repository}
 use Rattle.git_server.specs.AnsweredRequest.{IsNext, IsAnswerFrom, most_from}
-use Rattle.git_server.specs.Answers.{offered_line, error_packet, reference_packet, shown_refs}
+use Rattle.git_server.specs.Answers.{offered_line, error_packet, info_packet, reference_packet, shown_refs}
 use Rattle.git_server.specs.Packs.{whole, broken}
 use Rattle.git_server.specs.AdvertisementLines.{format_on, advertisement_packet, advertisement_line_after, advertisement_from, advertisement_after}
 use Rattle.git_server.specs.Phases.{FlushIsAt, LeftIn, MayBreak, advertising_phase, kept_in, outcome_in, Owes, most_owed}
 use Rattle.git_server.specs.declared.advertisement.AdvertisementLine.{AdvertisementLine}
-use Rattle.git_server.specs.declared.advertisement.AdvertisementLine.TheVariants.{Version, Agent, LsRefs, Fetch, ServerOption, ObjectFormat, End}
+use Rattle.git_server.specs.declared.advertisement.AdvertisementLine.TheVariants.{Version, Agent, LsRefs, Fetch, ServerOption, ObjectFormat, ObjectInfo, End}
 use Rattle.git_server.specs.declared.answer.Answer.{Answer}
-use Rattle.git_server.specs.declared.answer.Answer.TheVariants.{References, Fetching}
+use Rattle.git_server.specs.declared.answer.Answer.TheVariants.{References, Fetching, Sizes}
+use Rattle.git_server.specs.declared.informing.SizesPlace.TheVariants.{Header as SizesHeader, Object}
 use Rattle.git_server.specs.declared.answer.Answered.TheVariants.{Part}
 use Rattle.git_server.specs.declared.outcome.Outcome.TheVariants.{Refused}
 use Rattle.git_server.specs.declared.server.Phase.{Phase}
@@ -26,6 +27,11 @@ option_lines : (offer : Offer) (b : Bool)
 option_lines offer true = refl
 option_lines offer false = refl
 
+info_lines : (offer : Offer) (b : Bool)
+    → offered_line b (codes "object-info") ++ flush ∷ [] ≡ advertisement_from offer (if b then ObjectInfo else End)
+info_lines offer true = refl
+info_lines offer false = refl
+
 pub one_line : (offer : Offer) (line : AdvertisementLine)
     → advertisement_from offer line ≡ advertisement_packet offer line ∷ advertisement_after offer (advertisement_line_after offer line)
 one_line offer Version = refl
@@ -33,7 +39,8 @@ one_line offer Agent = refl
 one_line offer LsRefs = refl
 one_line offer Fetch = ap (λ (l : List Pkt). advertisement_packet offer Fetch ∷ l) (option_lines offer offer.server_option)
 one_line offer ServerOption = refl
-one_line offer ObjectFormat = refl
+one_line offer ObjectFormat = ap (λ (l : List Pkt). advertisement_packet offer ObjectFormat ∷ l) (info_lines offer offer.object_info)
+one_line offer ObjectInfo = refl
 one_line offer End = refl
 
 some_packets : (packets : List Pkt) → 0 < length (packets ++ flush ∷ [])
@@ -85,6 +92,8 @@ module _ {A : Type 0} where
   some_left repo (References request next) = some_packets (map (reference_packet request.asked.symrefs request.asked.peel)
       (shown_refs request.asked.ref_prefixes (drop next repo.refs)))
   some_left repo (Fetching request place) = some_of_fetch repo request.asked place
+  some_left repo (Sizes request SizesHeader) = omega arith
+  some_left repo (Sizes request (Object next)) = some_packets (map (info_packet repo) (drop next request.asked.oids))
 
   module _ (offer : Offer) (repo : Repository) (old : Phase A) (answer : Answer A) (offset : ℕ) (packet : Pkt) (was : old ≡ Answering answer offset) where
     -- one packet of an answer, and more of it
