@@ -38,8 +38,8 @@ pub use crate::reference_places::ReferencePlaces;
 pub use crate::references::{Reference, put_reference};
 pub use crate::requests::Request;
 pub use crate::response_lines::{
-    Boundary, Info, WantedRef, put_ack, put_boundary, put_info, put_wanted, read_ack, read_boundary,
-    read_info, read_wanted,
+    Boundary, Info, WantedRef, put_ack, put_boundary, put_info, put_wanted, read_ack,
+    read_boundary, read_info, read_wanted,
 };
 pub use crate::texts::{after, error_message, is_error, split_at_first};
 pub use crate::writer::RequestWriter;
