@@ -1,17 +1,21 @@
--- A line of a response section is taken or refused, not both, and refused by one name.
-use Rattle.std.proofs.Common.{◌≡◌, ℕ, List, refl, sym, ◌∙◌, subst, codes, inl, inr}
+-- A line of a response section, or of the response to object-info, is taken or refused, not both, and refused by one name.
+use Rattle.std.proofs.Common.{◌≡◌, ℕ, Option, Some, None, List, ◌∷◌, [], refl, sym, ◌∙◌, subst, codes, inl, inr}
 use Rattle.std.proofs.lemmas.List.{append_cancel_left}
 use Rattle.git_names.specs.ObjectName.{ObjectName, IsObjectName, IsNoObjectName}
-use Rattle.git_names.specs.RefName.{IsRefName}
+use Rattle.git_names.specs.RefName.{IsRefName, Lacks}
 use Rattle.git_names.specs.declared.object_format.Format.{Format}
 use Rattle.git_pkt.specs.declared.fault.Kind.{Kind}
-use Rattle.git_pkt.specs.declared.fault.Kind.TheVariants.{BadLine, BadObjectName, BadRefName}
+use Rattle.git_pkt.specs.declared.fault.Kind.TheVariants.{BadLine, BadNumber, BadObjectName, BadRefName}
 use Rattle.git_msg.specs.declared.response_lines.Boundary.{Boundary}
 use Rattle.git_msg.specs.declared.response_lines.Boundary.TheVariants.{Shallow, Unshallow}
-use Rattle.git_msg.specs.Texts.{Follows, IsPartedAt}
+use Rattle.git_msg.specs.declared.response_lines.Info.{Info}
+use Rattle.git_msg.specs.Checks.{Check, Passes, Refuses, unless}
+use Rattle.git_msg.specs.Texts.{Follows}
 use Rattle.git_msg.specs.ResponseLines.{Wanted, IsNamed, IsNamedFault, IsAckLine, IsAckFault, IsBoundaryLine, IsBoundaryFault, IsWantedLine, IsWantedFault}
+use Rattle.git_msg.specs.ResponseLines.{BeginsWithName, BeginsWithNoName, IsInfoLine, IsInfoFault, IsNoSizeText, IsSizeText}
+use Rattle.git_msg.proofs.CheckLaws.{AllFair, IsFair, fair_check, one_name, passes_or_refuses}
 use Rattle.git_msg.proofs.ReferenceLines.{digits_lack_space}
-use Rattle.git_msg.proofs.ResponseLines.{not_both}
+use Rattle.git_msg.proofs.ResponseLines.{BeginsWith, info_begins, not_both, wanted_begins}
 use Rattle.git_msg.proofs.TextParts.{one_parting, parted_has_byte}
 
 -- after one word stands one text
@@ -75,38 +79,102 @@ one_boundary_fault format text BadObjectName other h (inr k) = absurd k
 one_boundary_fault format text kind other (inl h) k = absurd h
 one_boundary_fault format text kind other (inr h) k = absurd h
 
-wanted_parts : (format : Format) (text : List ℕ) (wanted : Wanted) → (h : IsWantedLine format text wanted) → IsPartedAt 32 text h.id wanted.name
-wanted_parts format text wanted h = record { spelled = h.spelled; first = digits_lack_space format h.id wanted.id h.id_is }
+-- the checks of a line that is to be an object name, a space, and a value, where a value that meets P is refused by this name
+abbrev line_checks : Format → (List ℕ → Type 0) → Kind → List ℕ → List Check
+line_checks format P by_value text =
+    unless (Lacks text 32) BadLine ∷ unless (BeginsWithNoName format text) BadObjectName ∷ unless (BeginsWithName format P text) by_value ∷ []
+
+fair_unless : (Q : Type 0) (name : Kind) → IsFair (unless Q name)
+fair_unless Q name = fair_check (¬ Q) Q name (λ p q. p q)
+
+fair_line : (format : Format) (P : List ℕ → Type 0) (by_value : Kind) (text : List ℕ) → AllFair (line_checks format P by_value text)
+unfolding AllFair
+fair_line format P by_value text = (
+  fair_unless (Lacks text 32) BadLine,
+  (fair_unless (BeginsWithNoName format text) BadObjectName, (fair_unless (BeginsWithName format P text) by_value, tt)),
+)
+
+-- what begins with a name has a space, and no other name before it
+has_space : (format : Format) (P : List ℕ → Type 0) (text : List ℕ) → BeginsWithName format P text → ¬ Lacks text 32
+has_space format P text h lacks = parted_has_byte 32 text h.0 h.1 h.2 lacks
+
+named_or_none : (format : Format) (P : List ℕ → Type 0) (text : List ℕ) → BeginsWithName format P text → ¬ BeginsWithNoName format text
+named_or_none format P text h k =
+    let same = one_parting 32 text h.0 k.0 h.1 k.1 h.2 k.2 in
+    k.3 h.3.0 (subst (λ (id : List ℕ). IsObjectName format id h.3.0) same.0 h.3.1)
+
+-- a line with a name passes the checks, unless its value is refused
+line_passes : (format : Format) (P : List ℕ → Type 0) (by_value : Kind) (text : List ℕ) (named : ObjectName) (value : List ℕ)
+    → BeginsWith format text named value → ¬ P value → Passes (line_checks format P by_value text)
+line_passes format P by_value text named value h good =
+    let is : BeginsWithName format (λ rest. rest ≡ value) text =
+    (h.digits, value, record { spelled = h.spelled; first = digits_lack_space format h.digits named h.named_is }, (named, h.named_is), refl) in (
+      has_space format (λ rest. rest ≡ value) text is,
+      (
+        named_or_none format (λ rest. rest ≡ value) text is,
+        ((λ bad. good (subst (λ (rest : List ℕ). P rest) (one_parting 32 text bad.0 is.0 bad.1 value bad.2 is.2).1 bad.4)), tt),
+      ),
+    )
+
+line_or_fault : (format : Format) (P : List ℕ → Type 0) (by_value : Kind) (text : List ℕ) (named : ObjectName) (value : List ℕ) (kind : Kind)
+    → BeginsWith format text named value → ¬ P value → Refuses (line_checks format P by_value text) kind → ⊥
+line_or_fault format P by_value text named value kind h good fault =
+    passes_or_refuses (line_checks format P by_value text) (fair_line format P by_value text) kind
+    (line_passes format P by_value text named value h good) fault
+
+one_line_fault : (format : Format) (P : List ℕ → Type 0) (by_value : Kind) (text : List ℕ) (kind other : Kind)
+    → Refuses (line_checks format P by_value text) kind → Refuses (line_checks format P by_value text) other → kind ≡ other
+one_line_fault format P by_value text kind other h k =
+    one_name (line_checks format P by_value text) (fair_line format P by_value text) kind other h k
+
+by_its_name : (format : Format) (P : List ℕ → Type 0) (by_value : Kind) (text : List ℕ) → BeginsWithNoName format text
+    → Refuses (line_checks format P by_value text) BadObjectName
+by_its_name format P by_value text h = inr ((λ lacks. parted_has_byte 32 text h.0 h.1 h.2 lacks), inl (h, refl))
+
+by_its_value : (format : Format) (P : List ℕ → Type 0) (by_value : Kind) (text : List ℕ) → BeginsWithName format P text
+    → Refuses (line_checks format P by_value text) by_value
+by_its_value format P by_value text h = inr (has_space format P text h, inr (named_or_none format P text h, inl (h, refl)))
+
+-- a reference that was asked for, after its object
+abbrev wanted_checks : Format → List ℕ → List Check
+wanted_checks format text = line_checks format (λ name. ¬ IsRefName name) BadRefName text
+
+wanted_refusal : (format : Format) (text : List ℕ) (kind : Kind) → IsWantedFault format text kind → Refuses (wanted_checks format text) kind
+wanted_refusal format text BadLine h = inl (h, refl)
+wanted_refusal format text BadObjectName h = by_its_name format (λ name. ¬ IsRefName name) BadRefName text h
+wanted_refusal format text BadRefName h = by_its_value format (λ name. ¬ IsRefName name) BadRefName text h
+wanted_refusal format text kind h = absurd h
 
 pub wanted_or_fault : (format : Format) (text : List ℕ) (wanted : Wanted) (kind : Kind) → IsWantedLine format text wanted
     → IsWantedFault format text kind → ⊥
-wanted_or_fault format text wanted BadLine h fault = parted_has_byte 32 text h.id wanted.name (wanted_parts format text wanted h) fault
-wanted_or_fault format text wanted BadObjectName h fault =
-    let same = one_parting 32 text h.id fault.0 wanted.name fault.1 (wanted_parts format text wanted h) fault.2 in
-    fault.3 wanted.id (subst (λ (id : List ℕ). IsObjectName format id wanted.id) same.0 h.id_is)
-wanted_or_fault format text wanted BadRefName h fault =
-    let same = one_parting 32 text h.id fault.0 wanted.name fault.1 (wanted_parts format text wanted h) fault.2 in
-    fault.4 (subst (λ (name : List ℕ). IsRefName name) same.1 h.name_is)
-wanted_or_fault format text wanted kind h fault = fault
-
--- an object name is none
-id_or_none : (format : Format) (text : List ℕ) → IsWantedFault format text BadObjectName → IsWantedFault format text BadRefName → ⊥
-id_or_none format text h k =
-    let same = one_parting 32 text k.0 h.0 k.1 h.1 k.2 h.2 in
-    h.3 k.3.0 (subst (λ (id : List ℕ). IsObjectName format id k.3.0) same.0 k.3.1)
+wanted_or_fault format text wanted kind h fault =
+    line_or_fault format (λ name. ¬ IsRefName name) BadRefName text wanted.id wanted.name kind (wanted_begins format text wanted h) (λ bad. bad h.name_is)
+    (wanted_refusal format text kind fault)
 
 pub one_wanted_fault : (format : Format) (text : List ℕ) (kind other : Kind) → IsWantedFault format text kind → IsWantedFault format text other
     → kind ≡ other
-one_wanted_fault format text BadLine BadLine h k = refl
-one_wanted_fault format text BadObjectName BadObjectName h k = refl
-one_wanted_fault format text BadRefName BadRefName h k = refl
-one_wanted_fault format text BadLine BadObjectName h k = absurd (parted_has_byte 32 text k.0 k.1 k.2 h)
-one_wanted_fault format text BadLine BadRefName h k = absurd (parted_has_byte 32 text k.0 k.1 k.2 h)
-one_wanted_fault format text BadObjectName BadLine h k = absurd (parted_has_byte 32 text h.0 h.1 h.2 k)
-one_wanted_fault format text BadRefName BadLine h k = absurd (parted_has_byte 32 text h.0 h.1 h.2 k)
-one_wanted_fault format text BadObjectName BadRefName h k = absurd (id_or_none format text h k)
-one_wanted_fault format text BadRefName BadObjectName h k = absurd (id_or_none format text k h)
-one_wanted_fault format text BadLine other h k = absurd k
-one_wanted_fault format text BadObjectName other h k = absurd k
-one_wanted_fault format text BadRefName other h k = absurd k
-one_wanted_fault format text kind other h k = absurd h
+one_wanted_fault format text kind other h k =
+    one_line_fault format (λ name. ¬ IsRefName name) BadRefName text kind other (wanted_refusal format text kind h) (wanted_refusal format text other k)
+
+-- a size, or nothing, after its object
+abbrev info_checks : Format → List ℕ → List Check
+info_checks format text = line_checks format IsNoSizeText BadNumber text
+
+info_refusal : (format : Format) (text : List ℕ) (kind : Kind) → IsInfoFault format text kind → Refuses (info_checks format text) kind
+info_refusal format text BadLine h = inl (h, refl)
+info_refusal format text BadObjectName h = by_its_name format IsNoSizeText BadNumber text h
+info_refusal format text BadNumber h = by_its_value format IsNoSizeText BadNumber text h
+info_refusal format text kind h = absurd h
+
+size_or_none : (text : List ℕ) (size : Option ℕ) → IsSizeText text size → ¬ IsNoSizeText text
+size_or_none text None h bad = bad.some h
+size_or_none text (Some size) h bad = bad.no_number size h
+
+pub info_or_fault : (format : Format) (text : List ℕ) (info : Info) (kind : Kind) → IsInfoLine format text info → IsInfoFault format text kind → ⊥
+info_or_fault format text info kind h fault =
+    line_or_fault format IsNoSizeText BadNumber text info.id h.size kind (info_begins format text info h) (size_or_none h.size info.size h.size_is)
+    (info_refusal format text kind fault)
+
+pub one_info_fault : (format : Format) (text : List ℕ) (kind other : Kind) → IsInfoFault format text kind → IsInfoFault format text other → kind ≡ other
+one_info_fault format text kind other h k =
+    one_line_fault format IsNoSizeText BadNumber text kind other (info_refusal format text kind h) (info_refusal format text other k)

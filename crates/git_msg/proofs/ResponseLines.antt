@@ -1,5 +1,6 @@
--- The lines of fetch's response sections: a text is one of them at most, and what is written reads back.
-use Rattle.std.proofs.Common.{arith, ◌≡◌, ℕ, List, ◌∷◌, ◌++◌, refl, ap, sym, ◌∙◌, subst, drop, slice_index, codes}
+-- The lines of fetch's response sections and of the response to object-info: a text is one of them at most, and what is
+-- written reads back.
+use Rattle.std.proofs.Common.{arith, ◌≡◌, ℕ, Option, Some, None, List, ◌∷◌, ◌++◌, refl, ap, sym, ◌∙◌, subst, drop, slice_index, codes}
 use Rattle.std.proofs.lemmas.List.{append_cancel_left}
 use Rattle.git_names.specs.ObjectName.{ObjectName, IsObjectName, hex_of}
 use Rattle.git_names.specs.RefName.{IsRefName}
@@ -8,8 +9,11 @@ use Rattle.git_names.proofs.ObjectNames.{one_object_name}
 use Rattle.git_pkt.proofs.Spelling.{append_cancel_length}
 use Rattle.git_msg.specs.declared.response_lines.Boundary.{Boundary}
 use Rattle.git_msg.specs.declared.response_lines.Boundary.TheVariants.{Shallow, Unshallow}
+use Rattle.git_msg.specs.declared.response_lines.Info.{Info}
 use Rattle.git_msg.specs.Arguments.{IsNameIn}
 use Rattle.git_msg.specs.ResponseLines.{Wanted, wanted_of, object_of, IsNamed, IsAckLine, IsBoundaryLine, IsWantedLine, ack_text, boundary_text, wanted_text}
+use Rattle.git_msg.specs.ResponseLines.{IsInfoLine, IsSize, IsSizeText, info_text, size_text}
+use Rattle.git_msg.proofs.DigitValues.{decimal_reads_back, one_number}
 use Rattle.git_msg.proofs.WrittenNames.{hex_of-reads_back}
 
 -- after a word stands one object name
@@ -45,18 +49,71 @@ pub boundary_reads_back : (format : Format) (line : Boundary) → IsNameIn forma
 boundary_reads_back format (Shallow id) h = named_reads_back (codes "shallow ") format id h
 boundary_reads_back format (Unshallow id) h = named_reads_back (codes "unshallow ") format id h
 
+-- the text is the digits of an object name, a space, and a value
+pub record BeginsWith (format : Format) (text : List ℕ) (named : ObjectName) (value : List ℕ) : Type 0 where
+  pub digits : List ℕ
+  pub spelled : text ≡ digits ++ 32 ∷ value
+  pub named_is : IsObjectName format digits named
+
+-- in one way
+one_beginning : (format : Format) (text : List ℕ) (a b : ObjectName) (value other : List ℕ) → BeginsWith format text a value
+    → BeginsWith format text b other → (a ≡ b) × (value ≡ other)
+one_beginning format text a b value other h k =
+    let both = append_cancel_length h.digits k.digits (32 ∷ value) (32 ∷ other) (h.named_is.count ∙ sym k.named_is.count) (sym h.spelled ∙ k.spelled) in
+    let there : IsObjectName format k.digits a = subst (λ (name : List ℕ). IsObjectName format name a) both.0 h.named_is in
+    (one_object_name format k.digits a b there k.named_is, ap (λ (rest : List ℕ). drop 1 rest) both.1)
+
+-- what is written of an object, a space, and any value
+beginning_reads_back : (format : Format) (id : ObjectName) (value : List ℕ) → IsNameIn format id → BeginsWith format (hex_of id ++ 32 ∷ value) id value
+beginning_reads_back format id value h = record { digits = hex_of id; spelled = refl; named_is = hex_of-reads_back format id h }
+
+pub wanted_begins : (format : Format) (text : List ℕ) (wanted : Wanted) → IsWantedLine format text wanted
+    → BeginsWith format text wanted.id wanted.name
+wanted_begins format text wanted h = record { digits = h.id; spelled = h.spelled; named_is = h.id_is }
+
 pub one_wanted : (format : Format) (text : List ℕ) (a b : Wanted) → IsWantedLine format text a → IsWantedLine format text b → a ≡ b
 one_wanted format text a b h k =
-    let both = append_cancel_length h.id k.id (32 ∷ a.name) (32 ∷ b.name) (h.id_is.count ∙ sym k.id_is.count) (sym h.spelled ∙ k.spelled) in
-    let there : IsObjectName format k.id a.id = subst (λ (name : List ℕ). IsObjectName format name a.id) both.0 h.id_is in
-    ap (λ (id : ObjectName). wanted_of id a.name) (one_object_name format k.id a.id b.id there k.id_is)
-    ∙ ap (λ (rest : List ℕ). wanted_of b.id (drop 1 rest)) both.1
+    let both = one_beginning format text a.id b.id a.name b.name (wanted_begins format text a h) (wanted_begins format text b k) in
+    ap (λ (id : ObjectName). wanted_of id a.name) both.0 ∙ ap (λ (name : List ℕ). wanted_of b.id name) both.1
 
 pub wanted_reads_back : (format : Format) (wanted : Wanted) → IsNameIn format wanted.id → IsRefName wanted.name
     → IsWantedLine format (wanted_text wanted) wanted
-wanted_reads_back format wanted h name = record {
-  id = hex_of wanted.id;
-  spelled = refl;
-  id_is = hex_of-reads_back format wanted.id h;
-  name_is = name;
-}
+wanted_reads_back format wanted h name =
+    let begins = beginning_reads_back format wanted.id wanted.name h in
+    record { id = begins.digits; spelled = begins.spelled; id_is = begins.named_is; name_is = name }
+
+-- a text is one size, or nothing
+one_size : (text : List ℕ) (a b : Option ℕ) → IsSizeText text a → IsSizeText text b → a ≡ b
+one_size text None None h k = refl
+one_size text None (Some b) h k = absurd (k.is_number.some h)
+one_size text (Some a) None h k = absurd (h.is_number.some k)
+one_size text (Some a) (Some b) h k = ap Some (one_number text a b h.is_number k.is_number)
+
+-- what is written of it is that size
+size_reads_back : (size : Option ℕ) → ((bytes : ℕ) → size ≡ Some bytes → IsSize bytes) → IsSizeText (size_text size) size
+size_reads_back None fits = refl
+size_reads_back (Some bytes) fits = record { is_number = decimal_reads_back bytes (fits bytes refl); in_range = fits bytes refl }
+
+pub info_begins : (format : Format) (text : List ℕ) (info : Info) → (h : IsInfoLine format text info) → BeginsWith format text info.id h.size
+info_begins format text info h = record { digits = h.id; spelled = h.spelled; named_is = h.id_is }
+
+abbrev info_of : ObjectName → Option ℕ → Info
+info_of id size = record { id = id; size = size }
+
+pub one_info : (format : Format) (text : List ℕ) (a b : Info) → IsInfoLine format text a → IsInfoLine format text b → a ≡ b
+one_info format text a b h k =
+    let both = one_beginning format text a.id b.id h.size k.size (info_begins format text a h) (info_begins format text b k) in
+    let sizes = one_size k.size a.size b.size (subst (λ (text : List ℕ). IsSizeText text a.size) both.1 h.size_is) k.size_is in
+    ap (λ (id : ObjectName). info_of id a.size) both.0 ∙ ap (λ (size : Option ℕ). info_of b.id size) sizes
+
+pub info_reads_back : (format : Format) (info : Info) → IsNameIn format info.id → ((size : ℕ) → info.size ≡ Some size → IsSize size)
+    → IsInfoLine format (info_text info) info
+info_reads_back format info h fits =
+    let begins = beginning_reads_back format info.id (size_text info.size) h in
+    record {
+      id = begins.digits;
+      size = size_text info.size;
+      spelled = begins.spelled;
+      id_is = begins.named_is;
+      size_is = size_reads_back info.size fits;
+    }
