@@ -4,19 +4,20 @@ use Rattle.std.proofs.Common.{append_assoc, append-nil}
 use Rattle.std.specs.List.{list_any, filter_map}
 use Rattle.std.proofs.lemmas.List.Sums.{fold-append}
 use Rattle.git_msg.specs.declared.arguments.Command.{Command}
-use Rattle.git_msg.specs.declared.arguments.Command.TheVariants.{LsRefs, Fetch}
+use Rattle.git_msg.specs.declared.arguments.Command.TheVariants.{LsRefs, Fetch, ObjectInfo}
 use Rattle.git_msg.specs.Texts.{last_of}
 use Rattle.git_msg.specs.Arguments.{Arg, symrefs, peel, ref_prefix, want, have, done, thin_pack, no_progress, include_tag, ofs_delta}
-use Rattle.git_msg.specs.Arguments.{shallow, deepen, deepen_relative, deepen_since, deepen_not, want_ref}
-use Rattle.git_msg.specs.Asked.{Asked, ls_refs, fetch, LsRefsAsked, FetchAsked, is_symrefs, is_peel, prefix_in}
+use Rattle.git_msg.specs.Arguments.{shallow, deepen, deepen_relative, deepen_since, deepen_not, want_ref, size, object_id}
+use Rattle.git_msg.specs.Asked.{Asked, ls_refs, fetch, object_info, LsRefsAsked, FetchAsked, ObjectInfoAsked, is_symrefs, is_peel, prefix_in}
 use Rattle.git_msg.specs.Asked.{want_in, have_in, is_done, is_thin_pack, is_no_progress, is_include_tag, is_ofs_delta}
-use Rattle.git_msg.specs.Asked.{shallow_in, deepen_in, is_deepen_relative, deepen_since_in, deepen_not_in, want_ref_in}
+use Rattle.git_msg.specs.Asked.{shallow_in, deepen_in, is_deepen_relative, deepen_since_in, deepen_not_in, want_ref_in, is_size, object_id_in}
 use Rattle.git_msg.specs.Asked.{command_asked, nothing_asked, asked_by, with_argument, where_asked, where_given}
 use Rattle.git_msg.specs.Asked.{pack_arguments, shallow_arguments, object_arguments, arguments_in}
 
 pub same_command : (asked : Asked) (arg : Arg) → command_asked (with_argument asked arg) ≡ command_asked asked
 same_command (ls_refs q) arg = refl
 same_command (fetch q) arg = refl
+same_command (object_info q) arg = refl
 
 -- of two values the later, where it is given
 later : {X : Type 0} → Option X → Option X → Option X
@@ -58,6 +59,7 @@ followed (fetch q) (fetch r) = fetch (record {
   deepen_nots = q.deepen_nots ++ r.deepen_nots;
   want_refs = q.want_refs ++ r.want_refs;
 })
+followed (object_info q) (object_info r) = object_info (record { size = q.size || r.size; oids = q.oids ++ r.oids })
 followed asked other = asked
 
 or_false : (b : Bool) → (b || false) ≡ b
@@ -85,6 +87,7 @@ nothing_follows (fetch q) =
       append-nil q.deepen_nots,
       append-nil q.want_refs,
     ) refl
+nothing_follows (object_info q) = rw (or_false q.size, append-nil q.oids) refl
 
 one_follows : (asked : Asked) (arg : Arg) (args : List Arg)
     → followed (with_argument asked arg) (asked_by (command_asked asked) args) ≡ followed asked (asked_by (command_asked asked) (arg ∷ args))
@@ -105,8 +108,11 @@ one_follows (fetch q) deepen_relative args = rw (or_true q.deepen_relative (list
 one_follows (fetch q) (deepen_since time) args = rw (value_before q.deepen_since time (filter_map deepen_since_in args)) refl
 one_follows (fetch q) (deepen_not revision) args = rw (append_assoc q.deepen_nots (revision ∷ []) (filter_map deepen_not_in args)) refl
 one_follows (fetch q) (want_ref name) args = rw (append_assoc q.want_refs (name ∷ []) (filter_map want_ref_in args)) refl
+one_follows (object_info q) size args = rw (or_true q.size (list_any is_size args)) refl
+one_follows (object_info q) (object_id id) args = rw (append_assoc q.oids (id ∷ []) (filter_map object_id_in args)) refl
 one_follows (ls_refs q) arg args = refl
 one_follows (fetch q) arg args = refl
+one_follows (object_info q) arg args = refl
 
 all_follow : (asked : Asked) (args : List Arg) → fold with_argument asked args ≡ followed asked (asked_by (command_asked asked) args)
 all_follow asked [] = sym (nothing_follows asked)
@@ -122,6 +128,7 @@ asked_in_turn LsRefs args = all_follow (nothing_asked LsRefs) args
 asked_in_turn Fetch args =
     all_follow (nothing_asked Fetch) args
     ∙ rw (none_before (last_of (filter_map deepen_in args)), none_before (last_of (filter_map deepen_since_in args))) refl
+asked_in_turn ObjectInfo args = all_follow (nothing_asked ObjectInfo) args
 
 pub asked_snoc : (c : Command) (args : List Arg) (arg : Arg) → asked_by c (args ++ arg ∷ []) ≡ with_argument (asked_by c args) arg
 asked_snoc c args arg =
@@ -237,6 +244,11 @@ in_turn (ls_refs q) =
     (flag_then (λ b. ls_refs (record peeled { symrefs = b })) symrefs q.symrefs _ (ls_refs q) refl
     (list_added (λ (ps : List (List ℕ)). ls_refs (record flags { ref_prefixes = ps })) ref_prefix [] q.ref_prefixes (λ ps p. refl)))
 in_turn (fetch q) = pack_then q _ (fetch q) (shallow_then q _ (fetch q) (objects_then q))
+in_turn (object_info q) =
+    let none : ObjectInfoAsked = record { size = false; oids = [] } in
+    let sized : ObjectInfoAsked = record none { size = q.size } in
+    flag_then (λ b. object_info (record none { size = b })) size q.size _ (object_info q) refl
+    (list_added (λ ids. object_info (record sized { oids = ids })) object_id [] q.oids (λ ids id. refl))
 
 -- the arguments of a request ask for it
 pub arguments_in_order : (asked : Asked) → asked_by (command_asked asked) (arguments_in asked) ≡ asked

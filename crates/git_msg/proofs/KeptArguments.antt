@@ -14,8 +14,8 @@ use Rattle.git_msg.specs.declared.reader.Part.{Part}
 use Rattle.git_msg.specs.declared.reader.Part.TheVariants.{Arguments, Waiting, Failed}
 use Rattle.git_msg.specs.declared.reader.RequestReader.{RequestReader}
 use Rattle.git_msg.specs.Arguments.{Arg, symrefs, peel, ref_prefix, want, have, done, thin_pack, no_progress, include_tag, ofs_delta}
-use Rattle.git_msg.specs.Arguments.{shallow, deepen, deepen_relative, deepen_since, deepen_not, want_ref, SaysArgument, IsDepth, IsTime, IsNumberIn}
-use Rattle.git_msg.specs.Arguments.{IsArgument, IsOutOfRange, IsValueFault, written_text, TakesMemory}
+use Rattle.git_msg.specs.Arguments.{shallow, deepen, deepen_relative, deepen_since, deepen_not, want_ref, size, object_id}
+use Rattle.git_msg.specs.Arguments.{SaysArgument, IsDepth, IsTime, IsNumberIn, IsArgument, IsOutOfRange, IsValueFault, written_text, TakesMemory}
 use Rattle.git_msg.specs.Texts.{Follows}
 use Rattle.git_msg.specs.Asked.{asked_by, with_argument}
 use Rattle.git_msg.specs.Checks.{Passes}
@@ -101,6 +101,8 @@ as_written format text (deepen_since time) h =
     let small = h.holds.in_range in number_line (codes "deepen-since ") IsTime text time (omega arith) h
 as_written format text (deepen_not revision) h = let e = ap length h.0 in omega arith
 as_written format text (want_ref name) h = let e = ap length h.0 in omega arith
+as_written format text size h = let e = ap length h in omega arith
+as_written format text (object_id id) h = name_line (codes "oid ") format text id h
 
 counted : {A : Type 0} (packets : List Given) (offset long : ℕ) (arg : Arg) (r : RequestReader A)
     → WaitsBehind packets offset long arg r → max long (length (written_text arg)) ≡ long
@@ -188,6 +190,7 @@ range_or_fault format text (deepen depth) kind h fault = fault.0 h.holds.in_rang
 range_or_fault format text (deepen_since time) kind h fault = fault.0 h.holds.in_range
 range_or_fault format text (deepen_not revision) kind h fault = revision_or_none revision h.1 fault.0
 range_or_fault format text (want_ref name) kind h fault = fault.0 h.1
+range_or_fault format text (object_id id) kind h fault = fault.0 h.holds.of_format
 range_or_fault format text arg kind h fault = fault
 
 value_or_fault : (c : Command) (format : Format) (text : List ℕ) (arg : Arg) (kind : Kind) → IsArgument c format text arg → IsValueFault c format arg kind → ⊥

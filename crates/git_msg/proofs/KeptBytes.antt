@@ -15,12 +15,12 @@ use Rattle.git_pkt.specs.Packets.{longest_payload}
 use Rattle.git_pkt.proofs.FaultTexts.{decimal_fits}
 use Rattle.git_msg.specs.declared.arguments.Argument.{Argument}
 use Rattle.git_msg.specs.declared.arguments.Command.{Command}
-use Rattle.git_msg.specs.declared.arguments.Command.TheVariants.{LsRefs, Fetch}
+use Rattle.git_msg.specs.declared.arguments.Command.TheVariants.{LsRefs, Fetch, ObjectInfo}
 use Rattle.git_msg.specs.Arguments.{Arg, symrefs, peel, ref_prefix, want, have, done, thin_pack, no_progress, include_tag, ofs_delta, shown, command_with}
-use Rattle.git_msg.specs.Arguments.{shallow, deepen, deepen_relative, deepen_since, deepen_not, want_ref}
+use Rattle.git_msg.specs.Arguments.{shallow, deepen, deepen_relative, deepen_since, deepen_not, want_ref, size, object_id}
 use Rattle.git_msg.specs.Arguments.{most_text, IsInRange, IsValue, written_text}
-use Rattle.git_msg.specs.Asked.{Asked, LsRefsAsked, FetchAsked, ls_refs, fetch, command_asked, with_ls_refs}
-use Rattle.git_msg.specs.Asked.{with_fetch, with_argument, where_asked, where_given, pack_arguments, shallow_arguments, object_arguments}
+use Rattle.git_msg.specs.Asked.{Asked, LsRefsAsked, FetchAsked, ObjectInfoAsked, ls_refs, fetch, object_info, command_asked, with_ls_refs}
+use Rattle.git_msg.specs.Asked.{with_fetch, with_object_info, with_argument, where_asked, where_given, pack_arguments, shallow_arguments, object_arguments}
 use Rattle.git_msg.specs.Asked.{arguments_in, bytes_of}
 use Rattle.git_msg.specs.Kept.{Kept, IsCounted, IsWithin}
 use Rattle.git_msg.proofs.ArgumentsInOrder.{same_command}
@@ -135,9 +135,16 @@ adds_fetch q done of =
     (adds_after (map want_ref q.want_refs) _ done _ (adds_after (map have q.haves) _ done _ (adds_last_flag q.done done))))
 adds_fetch q arg of = absurd (cc)
 
+adds_object_info : (q : ObjectInfoAsked) (arg : Arg) → command_with arg ≡ ObjectInfo
+    → Adds (arguments_in (object_info q)) arg (arguments_in (object_info (with_object_info q arg)))
+adds_object_info q size of = adds_flag q.size size (map object_id q.oids)
+adds_object_info q (object_id id) of = adds_after (where_asked q.size size) _ (object_id id) _ (adds_last object_id q.oids id)
+adds_object_info q arg of = absurd (cc)
+
 adds : (asked : Asked) (arg : Arg) → command_with arg ≡ command_asked asked → Adds (arguments_in asked) arg (arguments_in (with_argument asked arg))
 adds (ls_refs q) arg of = adds_ls_refs q arg of
 adds (fetch q) arg of = adds_fetch q arg of
+adds (object_info q) arg of = adds_object_info q arg of
 
 -- then no more is written than its text
 added_bytes : (old : List Arg) (arg : Arg) (new : List Arg) → Adds old arg new → bytes_of new ≤ bytes_of old + length (written_text arg)
@@ -195,6 +202,8 @@ has_text deepen_relative = omega arith
 has_text (deepen_since time) = omega (arith, length-append (codes "deepen-since ") (decimal time))
 has_text (deepen_not revision) = omega (arith, length-append (codes "deepen-not ") revision)
 has_text (want_ref name) = omega (arith, length-append (codes "want-ref ") name)
+has_text size = omega arith
+has_text (object_id id) = omega (arith, length-append (codes "oid ") (hex_of id))
 
 count_at_most : (args : List Arg) → length args ≤ bytes_of args
 count_at_most [] = omega arith
@@ -220,6 +229,8 @@ value_fits format (deepen_since time) value =
     omega (arith, decimal_fits time (omega (arith, value)), length-append (codes "deepen-since ") (decimal time))
 value_fits format (deepen_not revision) value = omega (arith, value.1, length-append (codes "deepen-not ") revision)
 value_fits format (want_ref name) value = omega (arith, value.at_most, length-append (codes "want-ref ") name)
+value_fits format size value = omega arith
+value_fits format (object_id id) value = omega (arith, hex_of-at_most format id value, length-append (codes "oid ") (hex_of id))
 
 -- so what is kept has few arguments, and each of them fits
 pub place_bound : (q : Kept Asked) (i : ℕ) (result : Option Argument) → IsWithin q → option_map shown result ≡ slice_get (arguments_in q.asked) i

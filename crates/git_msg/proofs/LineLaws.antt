@@ -8,20 +8,22 @@ use Rattle.git_pkt.specs.Packets.{Pkt, flush, delim, resp_end, payload, text_of}
 use Rattle.git_pkt.specs.Splits.{Given}
 use Rattle.git_pkt.specs.declared.fault.Kind.{Kind}
 use Rattle.git_pkt.specs.declared.fault.Kind.TheVariants.{BadCapability, UnknownCommand, TwoCommands, NoCommand}
-use Rattle.git_pkt.specs.declared.fault.Kind.TheVariants.{NotAdvertised, WrongFormat, TooMuchKept, RemoteError, DeepenConflict, NoWants}
+use Rattle.git_pkt.specs.declared.fault.Kind.TheVariants.{NotAdvertised, WrongFormat, TooMuchKept, RemoteError, DeepenConflict, NoWants, NoSize}
 use Rattle.git_msg.specs.declared.offers.Offer.{Offer}
 use Rattle.git_msg.specs.declared.arguments.Command.{Command}
-use Rattle.git_msg.specs.declared.arguments.Command.TheVariants.{LsRefs, Fetch}
+use Rattle.git_msg.specs.declared.arguments.Command.TheVariants.{LsRefs, Fetch, ObjectInfo}
 use Rattle.git_msg.specs.declared.capability_key.Key.{Key}
 use Rattle.git_msg.specs.declared.capability_key.Key.TheVariants.{CommandKey, AgentKey, ServerOptionKey, ObjectFormatKey, OtherKey}
 use Rattle.git_msg.specs.Texts.{IsErrorText}
 use Rattle.git_msg.specs.Capability.{IsNoCapability}
+use Rattle.git_msg.specs.Advertisement.{takes_command}
 use Rattle.git_msg.specs.Arguments.{Arg, IsArgument, ReadsAs, name_of}
-use Rattle.git_msg.specs.Asked.{Asked, ls_refs, fetch, HasWants, asked_by, has_deepen_conflict}
+use Rattle.git_msg.specs.Asked.{Asked, ls_refs, fetch, object_info, HasWants, asked_by, has_deepen_conflict}
 use Rattle.git_msg.specs.Checks.{Refuses, Passes}
 use Rattle.git_msg.specs.Lines.{Line, command, agent, server_option, object_format, delimiter, argument, argument_in}
 use Rattle.git_msg.specs.Lines.{is_none, commands_of, arguments_of, kept_in}
-use Rattle.git_msg.specs.Lines.{has_format, has_delimiter, IsWordOf, HasKey, IsAnyCapability, NamesCommand, key_checks, by_key, capability_checks}
+use Rattle.git_msg.specs.Lines.{has_format, has_delimiter, IsWordOf, HasKey, IsAnyCapability, NamesCommand}
+use Rattle.git_msg.specs.Lines.{NamesTaken, NamesUntaken, key_checks, by_key, capability_checks}
 use Rattle.git_msg.specs.Lines.{IsLineOf, IsCapabilityLine, IsFormatMeant, IsOtherFormatMeant, part_checks, argument_checks, IsArgumentLine}
 use Rattle.git_msg.specs.Lines.{IsArgumentText, IsArgumentRefused, end_checks, at_end, flush_checks_in, IsLine, IsLineIn, HasFault, HasFaultIn}
 use Rattle.git_msg.specs.Requests.{AreLines, Asks}
@@ -42,7 +44,14 @@ fair_keys : (offer : Offer) (first : Bool) (key : Key) (value : Option (List ℕ
 unfolding AllFair
 fair_keys offer first CommandKey value = (
   fair_check (first ≡ true) (first ≡ false) TwoCommands (λ p q. true_false first p q),
-  (fair_check (NamesCommand value) (¬ NamesCommand value) UnknownCommand (λ p q. q p), tt),
+  (
+    fair_check (NamesCommand value) (¬ NamesCommand value) UnknownCommand (λ p q. q p),
+    (
+      fair_check (NamesTaken offer value) (NamesUntaken offer value) NotAdvertised
+          (λ p q. true_false (takes_command offer q.0) (p q.0 q.1) q.2),
+      tt,
+    ),
+  ),
 )
 fair_keys offer first AgentKey value = tt
 fair_keys offer first ServerOptionKey value =
@@ -108,6 +117,7 @@ fair_end_checks (fetch q) = (
   fair_check (has_deepen_conflict q ≡ false) (has_deepen_conflict q ≡ true) DeepenConflict (λ p r. true_false (has_deepen_conflict q) r p),
   (fair_check (HasWants q) (¬ HasWants q) NoWants (λ p r. r p), tt),
 )
+fair_end_checks (object_info q) = (fair_check (q.size ≡ true) (q.size ≡ false) NoSize (λ p r. true_false q.size p r), tt)
 
 fair_at_end : (lines : List Line) → IsFair (at_end lines)
 fair_at_end lines = record {
@@ -174,11 +184,21 @@ line_or_fault offer limit before packet line kind h r = line_or_fault_in (has_de
 one_command : (c d : Command) → name_of c ≡ name_of d → c ≡ d
 one_command LsRefs LsRefs h = refl
 one_command Fetch Fetch h = refl
+one_command ObjectInfo ObjectInfo h = refl
 one_command LsRefs Fetch h = absurd (let long = ap length h in omega arith)
+one_command LsRefs ObjectInfo h = absurd (let long = ap length h in omega arith)
 one_command Fetch LsRefs h = absurd (let long = ap length h in omega arith)
+one_command Fetch ObjectInfo h = absurd (let long = ap length h in omega arith)
+one_command ObjectInfo LsRefs h = absurd (let long = ap length h in omega arith)
+one_command ObjectInfo Fetch h = absurd (let long = ap length h in omega arith)
 
 named : (value : Option (List ℕ)) (c d : Command) → value ≡ Some (name_of c) → value ≡ Some (name_of d) → c ≡ d
 named value c d h k = one_command c d (let same = sym h ∙ k in cc)
+
+-- so where that one is in the offer, no other is asked for
+pub names_taken : (offer : Offer) (value : Option (List ℕ)) (c : Command)
+    → value ≡ Some (name_of c) → takes_command offer c ≡ true → NamesTaken offer value
+names_taken offer value c is taken d other = subst (λ (x : Command). takes_command offer x ≡ true) (named value c d is other) taken
 
 -- a capability is one line
 one_line_of : (key : Key) (value : Option (List ℕ)) (line other : Line) → IsLineOf key value line → IsLineOf key value other → line ≡ other

@@ -8,12 +8,12 @@ use Rattle.git_pkt.specs.declared.fault.Kind.{Kind}
 use Rattle.git_pkt.specs.declared.fault.Kind.TheVariants.{NotOurs, PackSource, StreamTooLong, TooMuchKept}
 use Rattle.git_msg.specs.declared.offers.Offer.{Offer}
 use Rattle.git_msg.specs.declared.arguments.Command.{Command}
-use Rattle.git_msg.specs.declared.arguments.Command.TheVariants.{LsRefs, Fetch}
+use Rattle.git_msg.specs.declared.arguments.Command.TheVariants.{LsRefs, Fetch, ObjectInfo}
 use Rattle.git_msg.specs.declared.capability_key.Key.{Key}
 use Rattle.git_msg.specs.declared.capability_key.Key.TheVariants.{CommandKey, AgentKey, ServerOptionKey, ObjectFormatKey, OtherKey}
-use Rattle.git_msg.specs.Arguments.{Row, of_ref_prefix, of_want, of_have, of_shallow, of_deepen, of_deepen_since, of_deepen_not, of_want_ref}
+use Rattle.git_msg.specs.Arguments.{Row, of_ref_prefix, of_want, of_have, of_shallow, of_deepen, of_deepen_since, of_deepen_not, of_want_ref, of_object_id}
 use Rattle.git_msg.specs.Arguments.{IsArgumentFault, IsRowFault}
-use Rattle.git_msg.specs.Asked.{Asked, ls_refs, fetch}
+use Rattle.git_msg.specs.Asked.{Asked, ls_refs, fetch, object_info}
 use Rattle.git_msg.specs.Checks.{Check, Refuses}
 use Rattle.git_msg.specs.Lines.{Line, argument_checks, capability_checks, commands_of, end_checks, flush_checks_in, has_delimiter, has_format, by_key}
 use Rattle.git_msg.specs.Lines.{is_none, kept_in, key_checks, part_checks, text_checks, HasFault, HasFaultIn}
@@ -50,7 +50,8 @@ quiet kind (c ∷ cs) all (inr r) = quiet kind cs all.1 r.1
 module _ (kind : Kind) (strange : NotByItself kind) where
   quiet_keys : (offer : Offer) (first : Bool) (key : Key) (value : Option (List ℕ)) → AllQuiet kind (key_checks offer first key value)
   unfolding AllQuiet
-  quiet_keys offer first CommandKey value = ((λ r. subst NotByItself r.1 strange), ((λ r. subst NotByItself r.1 strange), tt))
+  quiet_keys offer first CommandKey value =
+      ((λ r. subst NotByItself r.1 strange), ((λ r. subst NotByItself r.1 strange), ((λ r. subst NotByItself r.1 strange), tt)))
   quiet_keys offer first AgentKey value = tt
   quiet_keys offer first ServerOptionKey value = ((λ r. subst NotByItself r.1 strange), tt)
   quiet_keys offer first ObjectFormatKey value = ((λ r. subst NotByItself r.1 strange), tt)
@@ -75,6 +76,7 @@ module _ (kind : Kind) (strange : NotByItself kind) where
   quiet_row Fetch format of_deepen_since text fault = subst NotByItself fault.1 strange
   quiet_row Fetch format of_deepen_not text fault = subst NotByItself fault.1 strange
   quiet_row Fetch format of_want_ref text fault = subst NotByItself fault.1 strange
+  quiet_row ObjectInfo format of_object_id text fault = subst NotByItself fault.1 strange
   quiet_row c format row text fault = fault
 
   quiet_value : (c : Command) (offer : Offer) (text : List ℕ) → IsArgumentFault c offer text kind → ⊥
@@ -90,6 +92,7 @@ module _ (kind : Kind) (strange : NotByItself kind) where
   unfolding AllQuiet
   quiet_end (ls_refs q) = tt
   quiet_end (fetch q) = ((λ r. subst NotByItself r.1 strange), ((λ r. subst NotByItself r.1 strange), tt))
+  quiet_end (object_info q) = ((λ r. subst NotByItself r.1 strange), tt)
 
   quiet_flush : (part : Bool) (offer : Offer) (lines : List Line) → AllQuiet kind (flush_checks_in part offer lines)
   unfolding AllQuiet

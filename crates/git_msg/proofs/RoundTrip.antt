@@ -16,13 +16,14 @@ use Rattle.git_pkt.specs.Packets.{Pkt, flush, delim, text_of}
 use Rattle.git_pkt.specs.Splits.{Given}
 use Rattle.git_msg.specs.declared.offers.Offer.{Offer}
 use Rattle.git_msg.specs.declared.arguments.Command.{Command}
-use Rattle.git_msg.specs.declared.arguments.Command.TheVariants.{LsRefs, Fetch}
+use Rattle.git_msg.specs.declared.arguments.Command.TheVariants.{LsRefs, Fetch, ObjectInfo}
 use Rattle.git_msg.specs.declared.capability_key.Key.TheVariants.{CommandKey, AgentKey, ObjectFormatKey}
 use Rattle.git_msg.specs.Texts.{Follows, IsErrorText}
 use Rattle.git_msg.specs.Arguments.{Arg, symrefs, peel, ref_prefix, want, have, done, thin_pack, no_progress, include_tag, ofs_delta}
-use Rattle.git_msg.specs.Arguments.{shallow, deepen, deepen_relative, deepen_since, deepen_not, want_ref, SaysArgument, IsDepth, IsTime, IsNumberIn}
-use Rattle.git_msg.specs.Arguments.{IsInRange, IsNameIn, IsValue, is_offered, name_of, written_text}
+use Rattle.git_msg.specs.Arguments.{shallow, deepen, deepen_relative, deepen_since, deepen_not, want_ref, size, object_id}
+use Rattle.git_msg.specs.Arguments.{SaysArgument, IsDepth, IsTime, IsNumberIn, IsInRange, IsNameIn, IsValue, is_offered, name_of, written_text}
 use Rattle.git_msg.specs.Capability.{is_value}
+use Rattle.git_msg.specs.Advertisement.{takes_command}
 use Rattle.git_msg.specs.Asked.{Asked, command_asked, asked_by, arguments_in, bytes_of, written_bytes, HasValues, AreOffered}
 use Rattle.git_msg.specs.Lines.{Line, command, agent, object_format, delimiter, argument, is_none, is_delimiter, command_in, argument_in, commands_of}
 use Rattle.git_msg.specs.Lines.{arguments_of, kept_in, has_format, has_delimiter, long_of, end_checks, flush_checks_in, IsCapabilityLine}
@@ -34,6 +35,7 @@ use Rattle.git_msg.specs.WrittenRequest.{text_line, where_set, agent_line, forma
 use Rattle.git_msg.proofs.ArgumentsInOrder.{arguments_in_order}
 use Rattle.git_msg.proofs.DigitValues.{decimal_reads_back}
 use Rattle.git_msg.proofs.WrittenNames.{hex_of-reads_back}
+use Rattle.git_msg.proofs.LineLaws.{names_taken}
 use Rattle.git_msg.proofs.LineLists.{commands_snoc, delimiter_snoc, format_snoc, kept_snoc, argument_is_line, capability_is_line}
 
 chosen : (a b : Bool) (x y : List ℕ) → a ≡ true → b ≡ true → (if a && b then x else y) ≡ x
@@ -140,6 +142,8 @@ written_clean deepen_relative = not_error (codes "deepen-relative") (λ e. omega
 written_clean (deepen_since time) = not_error (codes "deepen-since " ++ decimal time) (λ e. omega arith)
 written_clean (deepen_not revision) = not_error (codes "deepen-not " ++ revision) (λ e. omega arith)
 written_clean (want_ref name) = not_error (codes "want-ref " ++ name) (λ e. omega arith)
+written_clean size = not_error (codes "size") (λ e. omega arith)
+written_clean (object_id id) = not_error (codes "oid " ++ hex_of id) (λ e. omega arith)
 
 name_says : (word : List ℕ) (format : Format) (id : ObjectName) → IsNameIn format id
     → Follows word (λ name. IsObjectName format name id) (word ++ hex_of id)
@@ -168,6 +172,8 @@ written_says format deepen_relative value = refl
 written_says format (deepen_since time) value = number_says (codes "deepen-since ") IsTime time (omega (arith, value)) value
 written_says format (deepen_not revision) value = (refl, value)
 written_says format (want_ref name) value = (refl, value)
+written_says format size value = refl
+written_says format (object_id id) value = name_says (codes "oid ") format id value
 
 argument_reads : (c : Command) (offer : Offer) (arg : Arg) → IsValue c offer.format arg → is_offered offer arg ≡ true
     → IsText c offer (written_text arg) arg
@@ -245,19 +251,22 @@ capability_written offer limit before text line in_front is =
     capability_is_line offer limit before (text ++ 10 ∷ []) line in_front
     (subst (λ (t : List ℕ). IsCapabilityLine offer (is_none (commands_of before)) t line) (sym (text_of_line text)) is)
 
-command_line : (offer : Offer) (c : Command) → IsTrue (is_value (name_of c)) → IsCapabilityLine offer true (codes "command=" ++ name_of c) (command c)
-command_line offer c fits = record {
+command_line : (offer : Offer) (c : Command) → IsTrue (is_value (name_of c)) → takes_command offer c ≡ true
+    → IsCapabilityLine offer true (codes "command=" ++ name_of c) (command c)
+command_line offer c fits taken = record {
   no_error = not_error (codes "command=" ++ name_of c) (λ e. omega arith);
   key = CommandKey;
   value = Some (name_of c);
   has_key = record { word = codes "command"; is_capability = (refl, refl, fits); is_word = refl };
-  allowed = (refl, ((c, refl), tt));
+  allowed = (refl, ((c, refl), (names_taken offer (Some (name_of c)) c refl taken, tt)));
   line_is = refl;
 }
 
-command_written : (offer : Offer) (c : Command) → IsCapabilityLine offer true (codes "command=" ++ name_of c) (command c)
-command_written offer LsRefs = command_line offer LsRefs refl
-command_written offer Fetch = command_line offer Fetch refl
+command_written : (offer : Offer) (c : Command) → takes_command offer c ≡ true
+    → IsCapabilityLine offer true (codes "command=" ++ name_of c) (command c)
+command_written offer LsRefs taken = command_line offer LsRefs refl taken
+command_written offer Fetch taken = command_line offer Fetch refl taken
+command_written offer ObjectInfo taken = command_line offer ObjectInfo refl taken
 
 agent_written : (offer : Offer) → IsCapabilityLine offer false (codes "agent=git2/1") agent
 agent_written offer = record {
@@ -344,16 +353,16 @@ agent_finish offer limit c false says_format args gs meant texts fits h =
 
 -- all packets of a request for these arguments
 lines_finish : (offer : Offer) (limit : ℕ) (c : Command) (says_agent says_format : Bool) (args : List Arg) (gs : List Given)
-    → IsFormatMeant offer.format says_format → AreTexts c offer args → bytes_of args ≤ limit
+    → IsFormatMeant offer.format says_format → takes_command offer c ≡ true → AreTexts c offer args → bytes_of args ≤ limit
     → packets_of gs ≡ text_line (codes "command=" ++ name_of c)
     ∷ where_set says_agent agent_line (where_set says_format (format_line offer.format) (delim ∷ argument_lines args))
     → Finishes offer limit [] gs (lines_read says_agent says_format c args)
 unfolding lines_read
-lines_finish offer limit c says_agent says_format args gs meant texts fits h =
+lines_finish offer limit c says_agent says_format args gs meant taken texts fits h =
     cons_line offer limit [] gs (text_line (codes "command=" ++ name_of c))
     (where_set says_agent agent_line (where_set says_format (format_line offer.format) (delim ∷ argument_lines args))) (command c)
     (where_said says_agent agent (where_said says_format object_format (delimiter ∷ map written_line args))) h
-    (capability_written offer limit [] (codes "command=" ++ name_of c) (command c) refl (command_written offer c))
+    (capability_written offer limit [] (codes "command=" ++ name_of c) (command c) refl (command_written offer c taken))
     (λ gs1 h1. agent_finish offer limit c says_agent says_format args gs1 meant texts fits h1)
 
 -- what lines say
@@ -415,14 +424,15 @@ lines_say says_agent says_format c args =
 
 -- what is written of a request is a request for the same
 pub reads_back : (offer : Offer) (limit : ℕ) (says_agent says_format : Bool) (asked : Asked) (gs : List Given) → IsFormatMeant offer.format says_format
-    → HasValues offer.format asked → AreOffered offer asked → written_bytes asked ≤ limit → Passes (end_checks asked)
+    → takes_command offer (command_asked asked) ≡ true → HasValues offer.format asked → AreOffered offer asked
+    → written_bytes asked ≤ limit → Passes (end_checks asked)
     → packets_of gs ≡ lines_written says_agent says_format offer.format asked → Asks offer limit gs asked (written_bytes asked)
-reads_back offer limit says_agent says_format asked gs meant values offered fits passes h =
+reads_back offer limit says_agent says_format asked gs meant taken values offered fits passes h =
     let c = command_asked asked in
     let args = arguments_in asked in
     let lines = lines_read says_agent says_format c args in
     let texts : AreTexts c offer args = λ k d within. argument_reads c offer _ (values k d within) (offered k d within) in
-    let f = lines_finish offer limit c says_agent says_format args gs meant texts fits h in
+    let f = lines_finish offer limit c says_agent says_format args gs meant taken texts fits h in
     let says = lines_say says_agent says_format c args in
     let asks : asked ≡ asked_by c (arguments_of lines) = sym (ap (asked_by c) says.says_arguments ∙ arguments_in_order asked) in
     let checks : Passes (flush_checks_in true offer lines) =

@@ -11,14 +11,14 @@ use Rattle.git_names.proofs.ObjectNames.{one_object_name}
 use Rattle.git_pkt.specs.declared.fault.Kind.{Kind}
 use Rattle.git_msg.specs.declared.offers.Offer.{Offer}
 use Rattle.git_msg.specs.declared.arguments.Command.{Command}
-use Rattle.git_msg.specs.declared.arguments.Command.TheVariants.{LsRefs, Fetch}
+use Rattle.git_msg.specs.declared.arguments.Command.TheVariants.{LsRefs, Fetch, ObjectInfo}
 use Rattle.git_msg.specs.declared.capability_key.Key.{Key}
 use Rattle.git_msg.specs.declared.capability_key.Key.TheVariants.{CommandKey, AgentKey, ServerOptionKey, ObjectFormatKey, OtherKey}
 use Rattle.git_msg.specs.Arguments.{Arg, symrefs, peel, ref_prefix, want, have, done, thin_pack, no_progress, include_tag, ofs_delta, shallow, deepen}
-use Rattle.git_msg.specs.Arguments.{deepen_relative, deepen_since, deepen_not, want_ref, Row, of_ref_prefix, of_want, of_have, of_shallow, of_deepen}
-use Rattle.git_msg.specs.Arguments.{of_deepen_since, of_deepen_not, of_want_ref, row_of, row_in, command_with, most_text, IsDepth, IsTime, IsNumberIn}
-use Rattle.git_msg.specs.Arguments.{IsNoNumberIn, IsRevision, IsNoRevision, SaysArgument, IsArgument, is_offered, ReadsAs, IsNoArgument, IsUnoffered}
-use Rattle.git_msg.specs.Arguments.{IsArgumentFault, IsRowFault}
+use Rattle.git_msg.specs.Arguments.{deepen_relative, deepen_since, deepen_not, want_ref, size, object_id}
+use Rattle.git_msg.specs.Arguments.{Row, of_ref_prefix, of_want, of_have, of_shallow, of_deepen, of_deepen_since, of_deepen_not, of_want_ref, of_object_id}
+use Rattle.git_msg.specs.Arguments.{row_of, row_in, command_with, most_text, IsDepth, IsTime, IsNumberIn, IsNoNumberIn, IsRevision, IsNoRevision}
+use Rattle.git_msg.specs.Arguments.{SaysArgument, IsArgument, is_offered, ReadsAs, IsNoArgument, IsUnoffered, IsArgumentFault, IsRowFault}
 use Rattle.git_msg.specs.Texts.{Follows}
 use Rattle.git_msg.specs.Lines.{IsWordOf, key_by}
 use Rattle.git_msg.proofs.DigitValues.{one_number}
@@ -63,6 +63,8 @@ in_row format text deepen_relative h = ap row_of h
 in_row format text (deepen_since time) h = ap row_of h.spelled
 in_row format text (deepen_not revision) h = ap row_of h.0
 in_row format text (want_ref name) h = ap row_of h.0
+in_row format text size h = ap row_of h
+in_row format text (object_id id) h = ap row_of h.spelled
 
 same_row : (format : Format) (text : List ℕ) (a b : Arg) → SaysArgument format text a → SaysArgument format text b → row_in a ≡ row_in b
 same_row format text a b h k = sym (in_row format text a h) ∙ in_row format text b k
@@ -109,6 +111,8 @@ says_one format text deepen_relative deepen_relative h k = refl
 says_one format text (deepen_since m) (deepen_since n) h k = ap deepen_since (one_number_in (codes "deepen-since ") text IsTime m n h k)
 says_one format text (deepen_not p) (deepen_not q) h k = ap deepen_not (one_value (codes "deepen-not ") text p q h.0 k.0)
 says_one format text (want_ref p) (want_ref q) h k = ap want_ref (one_value (codes "want-ref ") text p q h.0 k.0)
+says_one format text size size h k = refl
+says_one format text (object_id m) (object_id n) h k = ap object_id (one_name (codes "oid ") format text m n h k)
 says_one format text a b h k = absurd (let same = same_row format text a b h k in cc)
 
 -- an argument's text is one argument
@@ -125,6 +129,7 @@ fault_in_row Fetch format of_deepen text kind h = ap row_of h.0.spelled
 fault_in_row Fetch format of_deepen_since text kind h = ap row_of h.0.spelled
 fault_in_row Fetch format of_deepen_not text kind h = ap row_of h.0.spelled
 fault_in_row Fetch format of_want_ref text kind h = ap row_of h.0.spelled
+fault_in_row ObjectInfo format of_object_id text kind h = ap row_of h.0.spelled
 fault_in_row c format row text kind h = absurd h
 
 -- an object name is not refused for its value
@@ -156,6 +161,7 @@ row_or_fault Fetch format text (deepen_since time) kind h k = number_or_fault (c
 row_or_fault Fetch format text (deepen_not revision) kind h k =
     revision_or_none k.0.value (text_holds (codes "deepen-not ") text revision IsRevision _ h k.0) k.0.holds
 row_or_fault Fetch format text (want_ref name) kind h k = k.0.holds (text_holds (codes "want-ref ") text name IsRefName _ h k.0)
+row_or_fault ObjectInfo format text (object_id id) kind h k = name_or_fault (codes "oid ") format text id h k.0
 row_or_fault c format text a kind h k = k
 
 by_row : (c : Command) (format : Format) (text : List ℕ) (a : Arg) (kind : Kind) (row : Row) → SaysArgument format text a
@@ -182,6 +188,8 @@ none_or_argument Fetch format text (deepen depth) u of h = u.1.1.1.1.0 h.value h
 none_or_argument Fetch format text (deepen_since time) u of h = u.1.1.1.1.1.0 h.value h.spelled
 none_or_argument Fetch format text (deepen_not revision) u of h = u.1.1.1.1.1.1.0 revision h.0
 none_or_argument Fetch format text (want_ref name) u of h = u.1.1.1.1.1.1.1.0 name h.0
+none_or_argument ObjectInfo format text size u of h = u.0.0 h
+none_or_argument ObjectInfo format text (object_id id) u of h = u.1.0 h.value h.spelled
 none_or_argument c format text a u of h = absurd (cc)
 
 -- what is refused for its value is no other text
@@ -194,6 +202,7 @@ none_or_row Fetch format of_deepen text kind u h = u.1.1.1.1.0 h.0.value h.0.spe
 none_or_row Fetch format of_deepen_since text kind u h = u.1.1.1.1.1.0 h.0.value h.0.spelled
 none_or_row Fetch format of_deepen_not text kind u h = u.1.1.1.1.1.1.0 h.0.value h.0.spelled
 none_or_row Fetch format of_want_ref text kind u h = u.1.1.1.1.1.1.1.0 h.0.value h.0.spelled
+none_or_row ObjectInfo format of_object_id text kind u h = u.1.0 h.0.value h.0.spelled
 none_or_row c format row text kind u h = h
 
 -- a row refuses by one name
@@ -207,6 +216,7 @@ one_row_fault Fetch format of_deepen text kind other h k = h.1 ∙ sym k.1
 one_row_fault Fetch format of_deepen_since text kind other h k = h.1 ∙ sym k.1
 one_row_fault Fetch format of_deepen_not text kind other h k = h.1 ∙ sym k.1
 one_row_fault Fetch format of_want_ref text kind other h k = h.1 ∙ sym k.1
+one_row_fault ObjectInfo format of_object_id text kind other h k = h.1 ∙ sym k.1
 one_row_fault c format row text kind other h k = absurd h
 
 rows_agree : (c : Command) (format : Format) (row next : Row) (text : List ℕ) (kind other : Kind) → IsRowFault c format row text kind

@@ -7,7 +7,7 @@ use Rattle.git_pkt.specs.Packets.{flush, delim, payload, text_of}
 use Rattle.git_pkt.specs.declared.fault.Kind.{Kind}
 use Rattle.git_msg.specs.declared.offers.Offer.{Offer}
 use Rattle.git_msg.specs.declared.arguments.Command.{Command}
-use Rattle.git_msg.specs.declared.arguments.Command.TheVariants.{LsRefs, Fetch}
+use Rattle.git_msg.specs.declared.arguments.Command.TheVariants.{LsRefs, Fetch, ObjectInfo}
 use Rattle.git_msg.specs.declared.capability_key.Key.{Key}
 use Rattle.git_msg.specs.declared.capability_key.Key.TheVariants.{CommandKey, AgentKey, ServerOptionKey, ObjectFormatKey, OtherKey}
 use Rattle.git_msg.specs.declared.requests.Request.{Request}
@@ -80,6 +80,7 @@ stands_ready part h = rw h (refl, refl)
 pub nothing_asked_by : (c : Command) → nothing_asked c ≡ asked_by c []
 nothing_asked_by LsRefs = refl
 nothing_asked_by Fetch = refl
+nothing_asked_by ObjectInfo = refl
 
 -- an argument's text that is refused
 text_refused : (c : Command) (offer : Offer) (limit kept : ℕ) (text : List ℕ) (kind : Kind)

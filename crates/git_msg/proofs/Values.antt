@@ -5,7 +5,7 @@ use Rattle.git_pkt.specs.declared.fault.Kind.{Kind}
 use Rattle.git_pkt.specs.declared.fault.Kind.TheVariants.{TooMuchKept}
 use Rattle.git_msg.specs.declared.arguments.Command.{Command}
 use Rattle.git_msg.specs.declared.requests.Request.{Request}
-use Rattle.git_msg.specs.Arguments.{Arg, ref_prefix, want, have, shallow, deepen, deepen_since, deepen_not, want_ref, IsInRange, IsOutOfRange}
+use Rattle.git_msg.specs.Arguments.{Arg, ref_prefix, want, have, shallow, deepen, deepen_since, deepen_not, want_ref, object_id, IsInRange, IsOutOfRange}
 use Rattle.git_msg.specs.Arguments.{IsValue, IsValueFault, written_text}
 use Rattle.git_msg.specs.Checks.{Passes, Refuses}
 use Rattle.git_msg.specs.HeldRequest.{add_checks, kept_of, limit_of, command_of, format_of}
@@ -21,6 +21,7 @@ range_apart format (deepen depth) kind h fault = fault.0 h
 range_apart format (deepen_since time) kind h fault = fault.0 h
 range_apart format (deepen_not revision) kind h fault = revision_or_none revision h fault.0
 range_apart format (want_ref name) kind h fault = fault.0 h
+range_apart format (object_id id) kind h fault = fault.0 h.of_format
 range_apart format arg kind h fault = fault
 
 range_single : (format : Format) (arg : Arg) (kind other : Kind) → IsOutOfRange format arg kind → IsOutOfRange format arg other → kind ≡ other
@@ -32,6 +33,7 @@ range_single format (deepen depth) kind other h k = h.1 ∙ sym k.1
 range_single format (deepen_since time) kind other h k = h.1 ∙ sym k.1
 range_single format (deepen_not revision) kind other h k = h.1 ∙ sym k.1
 range_single format (want_ref name) kind other h k = h.1 ∙ sym k.1
+range_single format (object_id id) kind other h k = h.1 ∙ sym k.1
 range_single format arg kind other h k = absurd h
 
 value_apart : (c : Command) (format : Format) (arg : Arg) (kind : Kind) → IsValue c format arg → IsValueFault c format arg kind → ⊥

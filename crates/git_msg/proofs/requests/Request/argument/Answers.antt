@@ -13,3 +13,11 @@ returns-in-Fetch-clause-bound g c =
 
 pub returns-in-Fetch-clause-fits : goal.returns-in-Fetch-clause-fits
 returns-in-Fetch-clause-fits g c = line_fits _ c.args.i c.argument-in-Fetch.result c.argument-in-Fetch.ensures.within c.argument-in-Fetch.ensures.value
+
+pub returns-in-ObjectInfo-clause-bound : goal.returns-in-ObjectInfo-clause-bound
+returns-in-ObjectInfo-clause-bound g c =
+    place_bound _ c.args.i c.argument-in-ObjectInfo.result c.argument-in-ObjectInfo.ensures.within c.argument-in-ObjectInfo.ensures.value
+
+pub returns-in-ObjectInfo-clause-fits : goal.returns-in-ObjectInfo-clause-fits
+returns-in-ObjectInfo-clause-fits g c =
+    line_fits _ c.args.i c.argument-in-ObjectInfo.result c.argument-in-ObjectInfo.ensures.within c.argument-in-ObjectInfo.ensures.value
