@@ -2,7 +2,9 @@ pub mod Adjacent
 pub mod Admission
 pub mod EachSoFar
 pub mod NameOrder
+pub mod FirstOfKey
 pub mod FoundReference
+pub mod FoundObject
 pub mod BoundaryLines
 pub mod Prefixes
 pub mod TakenArguments

@@ -1,19 +1,18 @@
 -- Elements that rise by a key, searched by halves, and the orders of the keys: names and object names.
-use Rattle.std.proofs.Common.{◌≡◌, ◌≢◌, ◌↔◌, ℕ, ◌<◌, true, false, List, All, Any, length, refl, sym, ap, ◌∙◌, subst, arith, inl, inr}
+use Rattle.std.proofs.Common.{◌≡◌, ◌≢◌, ◌↔◌, ℕ, true, false, List, All, length, refl, sym, ap, ◌∙◌, subst, arith, inl, inr}
 use Rattle.std.specs.Cmp.{IsTotalOrder}
-use Rattle.std.specs.List.{AllAdjacentBelow, HoldsAt}
+use Rattle.std.specs.List.{AllAdjacentBelow}
 use Rattle.std.specs.List.Sorted.{IsNonDecreasingBy, IsPartitionPoint}
 use Rattle.std.specs.Ordering.{is_lt, is_eq, ordering_index, ordering_reverse}
 use Rattle.std.specs.declared.cmp.Ordering.{Ordering}
 use Rattle.std.specs.declared.cmp.Ordering.TheVariants.{Less, Equal, Greater}
 use Rattle.std.proofs.lemmas.Bool.{cases_lt}
 use Rattle.std.proofs.lemmas.Cmp.{nat_list_cmp_total, on_total, then_total, tied_itself}
-use Rattle.std.proofs.lemmas.List.Folds.{Any-from_list_any, list_any-from_Any, list_any_at, list_any_none}
 use Rattle.std.proofs.lemmas.List.Sorted.{searchable_from_sorted}
 use Rattle.git_names.specs.declared.object_format.Format.{Format}
 use Rattle.git_names.specs.declared.object_format.Format.TheVariants.{Sha1, Sha256}
 use Rattle.git_names.specs.ObjectName.{ObjectName}
-use Rattle.git_server.specs.Objects.{format_cmp, has_object, object_cmp}
+use Rattle.git_server.specs.Objects.{format_cmp, object_cmp}
 use Rattle.git_server.specs.SameObjects.{is_tied, same_object}
 
 module _ {X K : Type 0} {R : K → K → Ordering} (total : IsTotalOrder R) (key : X → K) where
@@ -69,26 +68,9 @@ format_total = record { antisymm = back; trans = low; congr = tied }
 pub object_total : IsTotalOrder object_cmp
 object_total = then_total (on_total (λ (id : ObjectName). id.format) format_total) (on_total (λ (id : ObjectName). id.bytes) nat_list_cmp_total)
 
-not_tied : (o : Ordering) → o ≢ Equal → is_eq o ≡ false
-not_tied Less h = refl
-not_tied Equal h = absurd (h refl)
-not_tied Greater h = refl
-
-module _ (objects : List (ObjectName × ℕ)) (id : ObjectName) where
-  -- the test finds the name just where it stands
-  pub has_means : has_object objects id ≡ true ↔ Any (λ object. object.0 ≡ id) objects
-  has_means = (
-    (λ h. let at = Any-from_list_any (λ (object : ObjectName × ℕ). is_eq (object_cmp object.0 id)) objects h in
-        (at.0, at.1, at.2, at.3, same_object _ _ (is_tied _ at.4))),
-    (λ at. list_any-from_Any (λ (object : ObjectName × ℕ). is_eq (object_cmp object.0 id)) objects
-        (at.0, at.1, at.2, at.3, subst (λ (o : ObjectName). is_eq (object_cmp o id) ≡ true) (sym at.4) (ap is_eq (tied_itself object_total id)))),
-  )
-
-  pub has_at : (at : ℕ) → at < length objects → HoldsAt (λ object. object_cmp object.0 id ≡ Equal) objects at → has_object objects id ≡ true
-  has_at at within tied =
-      list_any_at (λ (object : ObjectName × ℕ). is_eq (object_cmp object.0 id)) objects at (id, 0) within (ap is_eq (tied (id, 0)))
-
-  pub has_none : All (λ object. object.0 ≢ id) objects → has_object objects id ≡ false
-  has_none none =
-      list_any_none (λ (object : ObjectName × ℕ). is_eq (object_cmp object.0 id)) objects
-      (λ k d below. not_tied _ (λ tied. none k d below (same_object _ _ tied)))
+-- the test of two object names
+pub is_same : (a b : ObjectName) → is_eq (object_cmp a b) ≡ true ↔ a ≡ b
+is_same a b = (
+  (λ tied. same_object a b (is_tied _ tied)),
+  (λ same. subst (λ (o : ObjectName). is_eq (object_cmp o b) ≡ true) (sym same) (ap is_eq (tied_itself object_total b))),
+)
