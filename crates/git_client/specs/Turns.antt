@@ -1,5 +1,5 @@
 -- What the judge of packets answers by what is due, without the packets before.
-use Rattle.std.specs.Prelude.{◌≡◌, ℕ, ◌+◌, ◌<◌, ◌≤◌, Bool, true, false, List, [], ◌∷◌, length, take, drop, Option, Some, None, Ok, map}
+use Rattle.std.specs.Prelude.{◌≡◌, ℕ, ◌+◌, ◌<◌, ◌≤◌, Bool, true, false, List, [], ◌∷◌, length, take, drop, Option, Some, None, Result, Ok, Err, map}
 use Rattle.std.specs.Prelude.{if◌then◌else◌}
 use Rattle.std.specs.Option.{option_copied}
 use Rattle.git_names.specs.ObjectFormat.{digits_of}
@@ -7,6 +7,7 @@ use Rattle.git_names.specs.ObjectName.{ObjectName}
 use Rattle.git_names.specs.declared.object_format.Format.{Format}
 use Rattle.git_pkt.specs.Packets.{Pkt, flush, delim, resp_end, payload, text_of, body_of}
 use Rattle.git_pkt.specs.declared.fault.Fault.{Fault}
+use Rattle.git_pkt.specs.declared.fault.Kind.{Kind}
 use Rattle.git_msg.specs.Advertisement.{noted_of, is_spoken}
 use Rattle.git_msg.specs.Capability.{IsCapability}
 use Rattle.git_msg.specs.References.{reference_of, reference_at, FitsIn}
@@ -33,6 +34,8 @@ use Rattle.git_client.specs.declared.phase.Phase.{Phase}
 use Rattle.git_client.specs.declared.phase.Phase.TheVariants.{Hearing, Ready as ReadyPhase, Asking, Leaving, Left, Failed}
 use Rattle.git_client.specs.declared.phase.Due.{Due}
 use Rattle.git_client.specs.declared.phase.Due.TheVariants.{Version, Capabilities, References, Header, Acknowledgments, ShallowInfo, WantedRefs, Packfile, ResponseEnd}
+use Rattle.git_client.specs.declared.phase.BandSaid.{BandSaid}
+use Rattle.git_client.specs.declared.phase.BandSaid.TheVariants.{Nothing as NothingOn, Pack as PackOn, Progress as ProgressOn}
 use Rattle.git_client.specs.declared.phase.Said.{Said}
 use Rattle.git_client.specs.declared.phase.Said.TheVariants.{Nothing, Capability as SaidCapability, Offered, Reference, Ack, Nak, Ready, Shallow, Unshallow, WantedRef, Pack, Progress, Ended}
 use Rattle.git_client.specs.declared.phase.CapabilityPlaces.{CapabilityPlaces}
@@ -181,12 +184,21 @@ pub record IsLineTurn (format : Format) (due : Due) (caps : Caps) (text : List �
   pub notes : (line : List ℕ) → text_of line ≡ text → NotesAfter due caps (payload line) turn.caps
   pub next : turn.next ≡ Hearing (due_after_line due text)
 
+-- what is said by a payload of the packfile section
+abbrev pub said_on : BandSaid → Said
+said_on NothingOn = Nothing
+said_on PackOn = Pack
+said_on ProgressOn = Progress
+
 -- what it found of a payload of the packfile section
-pub record IsBandTurn (caps : Caps) (bytes : List ℕ) (turn : Turn) : Type 0 where
-  pub says : band_says bytes ≡ Ok (events_at turn.said bytes)
-  pub fits : Fits turn.said bytes
-  pub notes : turn.caps ≡ caps
-  pub next : turn.next ≡ Hearing Packfile
+pub record IsOnBand (bytes : List ℕ) (on : BandSaid) : Type 0 where
+  pub says : band_says bytes ≡ Ok (events_at (said_on on) bytes)
+  pub fits : Fits (said_on on) bytes
+
+-- the turn that it makes: nothing is noted, and the section goes on
+abbrev pub turn_on : Caps → Result BandSaid Kind → Result Turn Kind
+turn_on caps (Ok on) = Ok (record { said = said_on on; caps = caps; next = Hearing Packfile })
+turn_on caps (Err kind) = Err kind
 
 -- the phase takes packets
 abbrev pub takes_packets : Phase → Bool

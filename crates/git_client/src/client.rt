@@ -1,6 +1,6 @@
 //! The client: it asks, reads what a server says in pieces of any size, and hands out events.
 
-ghost use Rattle.std.specs.Prelude.{◌≡◌, ◌≢◌, ◌+◌, ◌-◌, ◌≤◌, ◌<◌, ◌↔◌, IsTrue, ℕ, suc, List, [], ◌∷◌, None, true, false, length, take, drop, MatchOption};
+ghost use Rattle.std.specs.Prelude.{◌≡◌, ◌≢◌, ◌+◌, ◌-◌, ◌≤◌, ◌<◌, ◌↔◌, IsTrue, ℕ, suc, List, [], ◌∷◌, None, Err, true, false, length, take, drop, MatchOption};
 ghost use Rattle.std.specs.Option.{ForSome};
 ghost use Rattle.std.specs.Borrow.{sem};
 ghost use Rattle.git_msg.specs.HeldRequest.{format_of as request_format};
@@ -9,7 +9,7 @@ ghost use Rattle.git_names.specs.declared.object_format.Format.{Format};
 ghost use Rattle.git_pkt.specs.Splits.{Given, Splits};
 ghost use Rattle.git_pkt.specs.PacketReader.{fault_of as reader_fault_of, held_of, is_open};
 ghost use Rattle.git_client.specs.Parts.{Terms, terms_of};
-ghost use Rattle.git_client.specs.Turns.{takes_packets, fault_in, is_asking, left_in, Fits, LiesIn, events_at, value_at, values_of, capability_value, wanted_at};
+ghost use Rattle.git_client.specs.Turns.{takes_packets, fault_in, is_asking, left_in, Fits, LiesIn, events_at, value_at, values_of, capability_value, turn_on, wanted_at};
 ghost use Rattle.git_client.specs.Events.{turns_of, capability, reference, wanted_ref};
 ghost use Rattle.git_names.specs.ObjectFormat.{digits_of};
 ghost use Rattle.git_msg.specs.References.{FitsIn, reference_at};
@@ -17,11 +17,11 @@ ghost use Rattle.git_client.specs.Conversation.{HasNoted};
 ghost use Rattle.git_client.specs.declared.events.Ending.{Ending};
 
 use crate::events::{Ending, Event, Heard, HeardGot};
-use crate::judge::judge;
-use crate::phase::{CapabilityPlaces, Due, Phase, Said, Turn};
+use crate::judge::{judge, judge_band};
+use crate::phase::{BandSaid, CapabilityPlaces, Due, Phase, Said, Turn};
 use git_msg::{Capability, Caps, ReferencePlaces, Request, error_message};
 use git_names::{Format, Oid};
-use git_pkt::{Fault, Got, Kind, PacketReader, text};
+use git_pkt::{Fault, Got, Kind, Packet, PacketReader, text};
 use std::alloc::Allocator;
 
 /// What some bytes of a piece came to.
@@ -245,8 +245,16 @@ impl<A: Allocator + Copy> Client<A> {
                 }
             }
             Got::Packet(packet, offset) => {
-                let judged = judge(format, ending, due, caps, packet);
-                let outcome = self.settle(judged, offset);
+                let outcome = match (due, packet) {
+                    (Due::Packfile, Packet::Payload(payload)) => {
+                        let judged = judge_band(payload);
+                        self.settle_band(judged, offset)
+                    }
+                    (due, packet) => {
+                        let judged = judge(format, ending, due, caps, packet);
+                        self.settle(judged, offset)
+                    }
+                };
                 Advance { used, outcome }
             }
         }
@@ -270,12 +278,37 @@ impl<A: Allocator + Copy> Client<A> {
                     _ => Outcome::Event,
                 }
             }
-            Err(kind) => {
-                let fault = Fault { kind, offset };
-                self.phase = Phase::Failed(fault);
-                Outcome::Failed(fault)
-            }
+            Err(kind) => self.fail(kind, offset),
         }
+    }
+
+    /// Goes on after a packet of the packfile section that was judged: the section goes on, and nothing is noted.
+    fn settle_band(&mut self, judged: Result<BandSaid, Kind>, offset: u64) -> Outcome
+        requires whole { is_open (reader_of self.old) ≡ false }
+        requires sound { reader_fault_of (reader_of self.old) ≡ None }
+        requires hears { phase_of self.old ≡ Phase.Hearing Due.Packfile }
+        ensures { Settles self.old (turn_on (caps_of self.old) judged) offset result self.new }
+    {
+        match judged {
+            Ok(on_band) => {
+                self.said = on_band.said();
+                match on_band {
+                    BandSaid::Nothing => Outcome::More,
+                    _ => Outcome::Event,
+                }
+            }
+            Err(kind) => self.fail(kind, offset),
+        }
+    }
+
+    /// Ends the conversation: the packet at this offset is refused.
+    fn fail(&mut self, kind: Kind, offset: u64) -> Outcome
+        requires said { is_asking (phase_of self.old) ≡ false }
+        ensures { Settles self.old (Err kind) offset result self.new }
+    {
+        let fault = Fault { kind, offset };
+        self.phase = Phase::Failed(fault);
+        Outcome::Failed(fault)
     }
 
     /// The event of what the last packet said.

@@ -4,7 +4,7 @@ ghost use Rattle.std.specs.Prelude.{◌≡◌, Err, MatchResult};
 ghost use Rattle.git_names.specs.declared.object_format.Format.{Format};
 ghost use Rattle.git_pkt.specs.Packets.{flush, delim, resp_end, payload as payload_of, seen};
 ghost use Rattle.git_client.specs.Events.{IsLineFault, Refuses, band_says};
-ghost use Rattle.git_client.specs.Turns.{IsBandTurn, IsLineTurn, IsTurn, TakesLines, place_due, turn_after_flush};
+ghost use Rattle.git_client.specs.Turns.{IsLineTurn, IsOnBand, IsTurn, TakesLines, place_due, turn_after_flush};
 ghost use Rattle.git_client.specs.declared.events.Ending.{Ending};
 
 use crate::events::Ending;
@@ -12,7 +12,7 @@ use crate::judge_lines::{
     judge_acknowledgment, judge_boundary, judge_capability, judge_header, judge_reference,
     judge_version, judge_wanted,
 };
-use crate::phase::{Due, Phase, Said, Turn};
+use crate::phase::{BandSaid, Due, Phase, Said, Turn};
 use crate::sections::Allowed;
 use git_msg::{Caps, is_error};
 use git_names::Format;
@@ -42,7 +42,10 @@ fn judge_payload(format: Format, due: Due, caps: Caps, payload: &[u8]) -> Result
         (Refuses format ending (place_due caps format due) (payload_of payload.now)) }
 {
     match due {
-        Due::Packfile => judge_band(caps, payload),
+        Due::Packfile => {
+            let on_band = judge_band(payload)?;
+            Ok(heard(on_band.said(), caps, due))
+        }
         Due::ResponseEnd => Err(Kind::UnexpectedPacket),
         _ => {
             let line = text(payload);
@@ -103,18 +106,18 @@ fn heard(said: Said, caps: Caps, next: Due) -> Turn
     }
 }
 
-/// A packet of the packfile section: its first byte says what the others are. Where there are none it says nothing.
-fn judge_band(caps: Caps, payload: &[u8]) -> Result<Turn, Kind>
-    ensures turn { MatchResult result (IsBandTurn caps payload.now) (λ kind. band_says payload.now ≡ Err kind) }
+/// What a packet of the packfile section says: its first byte says what the others are. Where there are none it says
+/// nothing.
+pub(crate) fn judge_band(payload: &[u8]) -> Result<BandSaid, Kind>
+    ensures on_band { MatchResult result (IsOnBand payload.now) (λ kind. band_says payload.now ≡ Err kind) }
 {
     let (band, bytes) = split_band(payload)?;
-    let said = match band {
-        Band::Fatal => return Err(Kind::RemoteFatal),
-        _ if bytes.is_empty() => Said::Nothing,
-        Band::Pack => Said::Pack,
-        Band::Progress => Said::Progress,
-    };
-    Ok(heard(said, caps, Due::Packfile))
+    match band {
+        Band::Fatal => Err(Kind::RemoteFatal),
+        _ if bytes.is_empty() => Ok(BandSaid::Nothing),
+        Band::Pack => Ok(BandSaid::Pack),
+        Band::Progress => Ok(BandSaid::Progress),
+    }
 }
 
 fn judge_flush(format: Format, ending: Ending, due: Due, caps: Caps) -> Result<Turn, Kind>

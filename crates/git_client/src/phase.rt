@@ -1,5 +1,8 @@
 //! Where a conversation stands, and what a packet says there.
 
+ghost use Rattle.std.specs.Prelude.{◌≡◌};
+ghost use Rattle.git_client.specs.Turns.{said_on};
+
 use crate::sections::{Allowed, Told};
 use git_msg::{Caps, ReferencePlaces, RequestWriter};
 use git_names::Oid;
@@ -59,6 +62,27 @@ pub(crate) enum Said {
     Pack,
     Progress,
     Ended,
+}
+
+/// What a packet of the packfile section says: bytes of the band, where it has some. A pack has many such packets, so this
+/// is a byte and not a whole [`Said`].
+#[derive(Clone, Copy, Debug)]
+pub(crate) enum BandSaid {
+    Nothing,
+    Pack,
+    Progress,
+}
+
+impl BandSaid {
+    pub(crate) fn said(self) -> Said
+        ensures { result ≡ said_on self }
+    {
+        match self {
+            BandSaid::Nothing => Said::Nothing,
+            BandSaid::Pack => Said::Pack,
+            BandSaid::Progress => Said::Progress,
+        }
+    }
 }
 
 /// Where the parts of a capability line lie in its text: the key at its head, and the value after one `=`.
