@@ -2,18 +2,22 @@
 use Rattle.std.proofs.Common.{◌≡◌, ◌⊎◌, inl, inr, ℕ, ◌<◌, true, false, List, [], ◌∷◌, take, drop, map}
 use Rattle.std.proofs.Common.{Some, None, Result, Ok, Err, MatchResult, refl, ap, sym, ◌∙◌, subst}
 use Rattle.git_names.specs.declared.object_format.Format.{Format}
-use Rattle.git_pkt.specs.Packets.{Pkt, Spells, flush, delim, resp_end, payload, text_of, body_of}
+use Rattle.git_pkt.specs.Packets.{Pkt, Spells, flush, delim, resp_end, payload, seen, text_of, body_of}
 use Rattle.git_pkt.specs.Splits.{Given}
-use Rattle.git_pkt.specs.PacketReader.{ReadsOn, ShownByFeed, held_of, is_open, fault_of as reader_fault_of}
+use Rattle.git_pkt.specs.PacketReader.{Feeds, ReadsOn, ShownByFeed, Tells, given_by, held_of, is_open, fault_of as reader_fault_of}
 use Rattle.git_pkt.specs.declared.fault.Fault.{Fault}
 use Rattle.git_pkt.specs.declared.fault.Kind.{Kind}
+use Rattle.git_pkt.specs.declared.packet.Packet.{Packet}
+use Rattle.git_pkt.specs.declared.reader.Fed.{Fed}
+use Rattle.git_pkt.specs.declared.reader.Got.{Got}
+use Rattle.git_pkt.specs.declared.reader.Got.TheVariants.{Packet as PacketGot}
 use Rattle.git_pkt.specs.declared.reader.PacketReader.{PacketReader}
 use Rattle.git_msg.specs.Advertisement.{is_spoken}
 use Rattle.git_msg.specs.declared.offers.Caps.{Caps}
 use Rattle.git_client.specs.Places.{Place, acknowledgments, shallow_info, wanted_refs, packfile, response_end}
-use Rattle.git_client.specs.Events.{EventValue, pack, progress, Gives, Refuses, turns_of, ended_by, delimiter_says, response_end_says}
-use Rattle.git_client.specs.Turns.{fault_in, is_ready, takes_packets, place_due, phase_after, phase_after_response, events_at, Fits, IsTurn}
-use Rattle.git_client.specs.Client.{Comes, Takes, LeavesStep, StandsAfter, phase_judged, caps_judged, said_judged, outcome_judged, outcome_said, IsMessage}
+use Rattle.git_client.specs.Events.{EventValue, pack, progress, Gives, Refuses, turns_of, band_says, ended_by, delimiter_says, response_end_says}
+use Rattle.git_client.specs.Turns.{fault_in, is_ready, takes_packets, place_due, phase_after, phase_after_response, events_at, turn_on, Fits, IsOnBand, IsTurn}
+use Rattle.git_client.specs.Client.{Comes, Settles, Takes, LeavesStep, StandsAfter, phase_judged, caps_judged, said_judged, outcome_judged, outcome_said, IsMessage}
 use Rattle.git_client.specs.Client.{format_of, ending_of, caps_of, phase_of, reader_of, said_last}
 use Rattle.git_client.specs.declared.events.Ending.{Ending}
 use Rattle.git_client.specs.declared.events.Ending.TheVariants.{FlushOnly, ResponseEnd as WithResponseEnd}
@@ -21,10 +25,12 @@ use Rattle.git_client.specs.declared.phase.Phase.{Phase}
 use Rattle.git_client.specs.declared.phase.Phase.TheVariants.{Hearing, Ready, Failed}
 use Rattle.git_client.specs.declared.phase.Due.{Due}
 use Rattle.git_client.specs.declared.phase.Due.TheVariants.{Capabilities, References, Acknowledgments, Packfile, SizeLine, Sizes}
+use Rattle.git_client.specs.declared.phase.BandSaid.{BandSaid}
 use Rattle.git_client.specs.declared.phase.Said.{Said}
 use Rattle.git_client.specs.declared.phase.Said.TheVariants.{Nothing, Pack, Progress, Offered, Ended}
 use Rattle.git_client.specs.declared.phase.Turn.{Turn}
 use Rattle.git_client.specs.declared.client.Client.{Client}
+use Rattle.git_client.specs.declared.client.Outcome.{Outcome}
 use Rattle.git_client.specs.declared.client.Outcome.TheVariants.{Failed as FailedNow}
 use Rattle.git_client.proofs.PlaceLines.{line_is, band_is}
 use Rattle.git_client.proofs.PlacePackets.{one_if, said_by, said_if, said_unless}
@@ -118,6 +124,13 @@ shown_by_packet p f used piece (inr own) = record {
   one_more = λ e. let never = sym own ∙ ap is_own e in absurd (cc);
 }
 
+-- what was found of a payload of the packfile section was found of the packet that has it
+pub band_judged : (format : Format) (ending : Ending) (due : Due) (caps : Caps) (p : Pkt) (bytes : List ℕ) (judged : Result BandSaid Kind)
+    → due ≡ Packfile → p ≡ payload bytes → MatchResult judged (IsOnBand bytes) (λ (kind : Kind). band_says bytes ≡ Err kind)
+    → MatchResult (turn_on caps judged) (IsTurn format ending due caps p) (Refuses format ending (place_due caps format due) p)
+band_judged format ending due caps p bytes (Ok on) is has found = rw (is, has) (record { gives = found.says; fits = found.fits; notes = refl; next = refl })
+band_judged format ending due caps p bytes (Err kind) is has found = rw (is, has) found
+
 module _ {A : Type 0} where
   -- what was said comes, with its bytes in the hold
   comes : (said : Said) (body : List ℕ) (new : Client A) → said_last new ≡ said → drop 4 (held_of (reader_of new)) ≡ body → Fits said body
@@ -167,7 +180,7 @@ module _ {A : Type 0} where
       }
 
   -- the reader has read a packet, and what was done after it left the reader alone
-  pub packet_read : (old new : Client A) (due : Due) (u : List ℕ) (g : Given) (reader : PacketReader) → phase_of old ≡ Hearing due
+  packet_read : (old new : Client A) (due : Due) (u : List ℕ) (g : Given) (reader : PacketReader) → phase_of old ≡ Hearing due
       → ReadsOn (reader_of old) u (g ∷ []) reader → reader_fault_of reader ≡ None → is_open reader ≡ false → Spells g.packet (held_of reader)
       → reader_of new ≡ reader → format_of new ≡ format_of old → ending_of new ≡ ending_of old → HearsPacket old new due u g
   packet_read old new due u g reader hearing reads sound shut held same format ending = record {
@@ -183,7 +196,7 @@ module _ {A : Type 0} where
   }
 
   -- a packet was judged and settled
-  pub taken : (old new : Client A) (due : Due) (piece : List ℕ) (used : ℕ) (g : Given) (judged : Result Turn Kind)
+  taken : (old new : Client A) (due : Due) (piece : List ℕ) (used : ℕ) (g : Given) (judged : Result Turn Kind)
       → HearsPacket old new due (take used piece) g → 0 < used
       → MatchResult judged (IsTurn (format_of old) (ending_of old) due (caps_of old) g.packet)
       (Refuses (format_of old) (ending_of old) (place_due (caps_of old) (format_of old) due) g.packet)
@@ -191,6 +204,27 @@ module _ {A : Type 0} where
       → Takes old piece (record { used = used; outcome = outcome_judged g.offset judged }) new
   taken old new due piece used g (Ok turn) b some judged now caps said = taken_well old new due piece used g turn b some judged now caps said
   taken old new due piece used g (Err kind) b some judged now caps said = taken_badly old new due piece used g kind b judged now caps
+
+  -- the reader gave a packet, which was judged and settled
+  pub settled : (old read new : Client A) (due : Due) (piece : List ℕ) (fed : Fed) (packet : Packet) (offset : ℕ) (judged : Result Turn Kind)
+      (outcome : Outcome) → phase_of old ≡ Hearing due → Feeds (reader_of old) piece fed (reader_of read) → fed.got ≡ PacketGot packet offset
+      → MatchResult judged (IsTurn (format_of old) (ending_of old) due (caps_of old) (seen packet))
+      (Refuses (format_of old) (ending_of old) (place_due (caps_of old) (format_of old) due) (seen packet))
+      → format_of read ≡ format_of old → ending_of read ≡ ending_of old → caps_of read ≡ caps_of old → said_last read ≡ said_last old
+      → Settles read judged offset outcome new → Takes old piece (record { used = fed.used; outcome = outcome }) new
+  settled old read new due piece fed packet offset judged outcome hearing feeds got found format ending caps said settles =
+      let u = take fed.used piece in
+      let g : Given = record { packet = seen packet; offset = offset } in
+      let tells : Tells (PacketGot packet offset) fed.used piece (reader_of read) =
+      subst (λ (got : Got). Tells got fed.used piece (reader_of read)) got feeds.tells in
+      let reads : ReadsOn (reader_of old) u (g ∷ []) (reader_of read) =
+      subst (λ (got : Got). ReadsOn (reader_of old) u (given_by got) (reader_of read)) got feeds.reads in
+      let hears : HearsPacket old new due u g =
+      packet_read old new due u g (reader_of read) hearing reads tells.1 tells.2 tells.3 settles.reader (settles.format ∙ format)
+      (settles.ending ∙ ending) in
+      subst (λ (outcome : Outcome). Takes old piece (record { used = fed.used; outcome = outcome }) new) (sym settles.tells)
+      (taken old new due piece fed.used g judged hears tells.0 found settles.phase (settles.caps ∙ ap (λ (c : Caps). caps_judged c judged) caps)
+      (settles.said ∙ ap (λ (s : Said). said_judged s judged) said))
 
   -- bytes that the reader refuses
   pub taken_failed : (old new : Client A) (due : Due) (piece : List ℕ) (used : ℕ) (f : Fault) → HearsBytes old new due (take used piece) []

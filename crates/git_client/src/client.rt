@@ -244,19 +244,18 @@ impl<A: Allocator + Copy> Client<A> {
                     outcome: Outcome::Failed(fault),
                 }
             }
-            Got::Packet(packet, offset) => {
-                let outcome = match (due, packet) {
-                    (Due::Packfile, Packet::Payload(payload)) => {
-                        let judged = judge_band(payload);
-                        self.settle_band(judged, offset)
-                    }
-                    (due, packet) => {
-                        let judged = judge(format, ending, due, caps, packet);
-                        self.settle(judged, offset)
-                    }
-                };
-                Advance { used, outcome }
-            }
+            Got::Packet(packet, offset) => match (due, packet) {
+                (Due::Packfile, Packet::Payload(payload)) => {
+                    let judged = judge_band(payload);
+                    let outcome = self.settle_band(judged, offset);
+                    Advance { used, outcome }
+                }
+                _ => {
+                    let judged = judge(format, ending, due, caps, packet);
+                    let outcome = self.settle(judged, offset);
+                    Advance { used, outcome }
+                }
+            },
         }
     }
 

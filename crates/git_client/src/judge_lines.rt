@@ -12,7 +12,8 @@ ghost use Rattle.git_client.specs.Turns.{FindsCapability, Says, due_after_header
 use crate::phase::{CapabilityPlaces, Due, Said};
 use crate::sections::{Allowed, Section, Told, read_header};
 use git_msg::{
-    Boundary, Caps, locate_reference, read_ack, read_boundary, read_capability, read_info, read_wanted,
+    Boundary, Caps, locate_reference, read_ack, read_boundary, read_capability, read_info,
+    read_wanted,
 };
 use git_names::Format;
 use git_pkt::Kind;

@@ -1,4 +1,5 @@
 use Rattle.std.proofs.Common.{◌≡◌, ◌≢◌, ℕ, List, Result, Ok, Err, MatchResult, inr, refl, subst}
+use Rattle.std.proofs.lemmas.Bool.{iff_false}
 use Rattle.git_names.specs.declared.object_format.Format.{Format}
 use Rattle.git_pkt.specs.Packets.{payload, text_of}
 use Rattle.git_pkt.specs.declared.fault.Kind.{Kind}
@@ -56,7 +57,7 @@ pub returns-else-is_error : goal.returns-else-is_error
 returns-else-is_error c =
     let takes : TakesLines c.args.due = takes_lines c.args.due c.in_default.not-Packfile c.in_default.not-ResponseEnd in
     let line = c.text-line.ensures in
-    let no_error : ¬ IsErrorText (text_of c.args.payload.now) = rw (← line) (λ error. absurd (cc (c.is_error.ensures.error.1 error))) in
+    let no_error : ¬ IsErrorText (text_of c.args.payload.now) = rw (← line) (iff_false c.is_error.ensures.error c.if-is_error.false) in
     record {
       turn = λ ending. line_judged c.args.format ending c.args.due c.args.caps c.args.payload.now _ takes no_error (rw (← line) c.judge_line.ensures.turn);
     }

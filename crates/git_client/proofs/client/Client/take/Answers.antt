@@ -1,36 +1,29 @@
 use Rattle.std.proofs.Common.{◌≡◌, Some, [], ◌∷◌, ap, refl, sym, subst, take}
 use Rattle.git_pkt.specs.Packets.{seen}
-use Rattle.git_pkt.specs.Splits.{Given}
 use Rattle.git_pkt.specs.PacketReader.{ReadsOn, Tells, given_by, fault_of as reader_fault_of}
 use Rattle.git_pkt.specs.declared.reader.Got.{Got}
-use Rattle.git_pkt.specs.declared.reader.Got.TheVariants.{Packet}
-use Rattle.git_client.specs.Turns.{fault_in}
-use Rattle.git_client.specs.Client.{Takes, reader_of}
-use Rattle.git_client.specs.declared.client.Outcome.{Outcome}
-use Rattle.git_client.proofs.Carries.{HearsBytes, HearsPacket}
-use Rattle.git_client.proofs.Taken.{packet_read, taken, taken_failed}
+use Rattle.git_client.specs.Turns.{fault_in, turn_on}
+use Rattle.git_client.specs.Client.{caps_of, ending_of, format_of, reader_of}
+use Rattle.git_client.proofs.Carries.{HearsBytes}
+use Rattle.git_client.proofs.Taken.{band_judged, settled, taken_failed}
 use Rattle.git_client.proofs.client.Client.take.Goals as goal
 
-pub returns-in-Packet-clause-takes : goal.returns-in-Packet-clause-takes
-returns-in-Packet-clause-takes g c =
+pub returns-in-Packfile-Payload-clause-takes : goal.returns-in-Packfile-Payload-clause-takes
+returns-in-Packfile-Payload-clause-takes g c =
     let old = c.args.self.now in
-    let new = c.settle-outcome.new.self in
-    let piece = c.args.piece.now in
-    let used = c.feed-fed.result.used in
-    let reader = c.feed-fed.follows.lender-at-none in
-    let feeds = c.feed-fed.follows.holds-at-none in
-    let settles = c.settle-outcome.ensures in
-    let given : Given = record { packet = seen c.in-Packet.packet; offset = c.in-Packet.offset } in
-    let tells : Tells (Packet c.in-Packet.packet c.in-Packet.offset) used piece reader =
-    subst (λ (got : Got). Tells got used piece reader) c.in-Packet.is feeds.tells in
-    let reads : ReadsOn (reader_of old) (take used piece) (given ∷ []) reader =
-    subst (λ (got : Got). ReadsOn (reader_of old) (take used piece) (given_by got) reader) c.in-Packet.is feeds.reads in
-    let packet : HearsPacket old new c.in-Hearing.due (take used piece) given =
-    packet_read old new c.in-Hearing.due (take used piece) given reader c.in-Hearing.is reads tells.1 tells.2 tells.3 settles.reader settles.format
-    settles.ending in
-    subst (λ (outcome : Outcome). Takes old piece (record { used = used; outcome = outcome }) new) (sym settles.tells)
-    (taken old new c.in-Hearing.due piece used given c.judge-judged.result packet tells.0 c.judge-judged.ensures.turn settles.phase settles.caps
-    settles.said)
+    let due = c.in-Hearing.due in
+    let packet = c.in-Packet.packet in
+    let section = c.in-Packfile-Payload in
+    settled old _ c.settle_band-outcome.new.self due c.args.piece.now c.feed-fed.result packet c.in-Packet.offset
+    (turn_on (caps_of old) c.judge_band-judged.result) c.settle_band-outcome.result c.in-Hearing.is c.feed-fed.follows.holds-at-none c.in-Packet.is
+    (band_judged (format_of old) (ending_of old) due (caps_of old) (seen packet) section.payload.now c.judge_band-judged.result section.is-0
+    (ap seen section.is-1) c.judge_band-judged.ensures.on_band) refl refl refl refl c.settle_band-outcome.ensures
+
+pub returns-in_default-2-clause-takes : goal.returns-in_default-2-clause-takes
+returns-in_default-2-clause-takes g c =
+    settled c.args.self.now _ c.settle-outcome.new.self c.in-Hearing.due c.args.piece.now c.feed-fed.result c.in-Packet.packet c.in-Packet.offset
+    c.judge-judged.result c.settle-outcome.result c.in-Hearing.is c.feed-fed.follows.holds-at-none c.in-Packet.is c.judge-judged.ensures.turn refl refl
+    refl refl c.settle-outcome.ensures
 
 pub returns-in-Failed-clause-takes : goal.returns-in-Failed-clause-takes
 returns-in-Failed-clause-takes g c =
