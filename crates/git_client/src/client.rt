@@ -227,9 +227,6 @@ impl<A: Allocator + Copy> Client<A> {
         let Phase::Hearing(due) = self.phase else {
             unreachable!()
         };
-        let format = self.format;
-        let ending = self.ending;
-        let caps = self.caps;
         let fed = self.reader.feed(piece);
         let used = fed.used;
         match fed.got {
@@ -251,7 +248,7 @@ impl<A: Allocator + Copy> Client<A> {
                     Advance { used, outcome }
                 }
                 _ => {
-                    let judged = judge(format, ending, due, caps, packet);
+                    let judged = judge(self.format, self.ending, due, self.caps, packet);
                     let outcome = self.settle(judged, offset);
                     Advance { used, outcome }
                 }
@@ -289,6 +286,8 @@ impl<A: Allocator + Copy> Client<A> {
         ensures { Settles self.old (turn_on (caps_of self.old) judged) offset result self.new }
     {
         match judged {
+            // In a pack one such packet follows another: what is said stays, and no `Said` is written over it.
+            Ok(BandSaid::Pack) if matches!(self.said, Said::Pack) => Outcome::Event,
             Ok(on_band) => {
                 self.said = on_band.said();
                 match on_band {

@@ -1,4 +1,4 @@
-use Rattle.std.proofs.Common.{◌≡◌, Some, [], ◌∷◌, ap, refl, sym, subst, take}
+use Rattle.std.proofs.Common.{◌≡◌, Some, [], ap, refl, subst, take}
 use Rattle.git_pkt.specs.Packets.{seen}
 use Rattle.git_pkt.specs.PacketReader.{ReadsOn, Tells, given_by, fault_of as reader_fault_of}
 use Rattle.git_pkt.specs.declared.reader.Got.{Got}
