@@ -344,7 +344,7 @@ case_show_tells_an_input_that_cannot_be_read() {
 
 # capabilities FORMAT: what `check` shows of an advertisement before its end.
 capabilities() {
-    printf 'capability %s\n' agent=git2/1 ls-refs "fetch=shallow ref-in-want" server-option "object-format=$1"
+    printf 'capability %s\n' agent=git2/1 ls-refs "fetch=shallow ref-in-want" server-option "object-format=$1" object-info
 }
 
 case_check_ends_well() {
