@@ -17,8 +17,8 @@ use Rattle.git_msg.specs.declared.offers.Caps.{Caps}
 use Rattle.git_client.specs.Places.{Place, acknowledgments, shallow_info, wanted_refs, packfile, response_end}
 use Rattle.git_client.specs.Events.{EventValue, pack, progress, Gives, Refuses, turns_of, band_says, ended_by, delimiter_says, response_end_says}
 use Rattle.git_client.specs.Turns.{fault_in, is_ready, takes_packets, place_due, phase_after, phase_after_response, events_at, turn_on, Fits, IsOnBand, IsTurn}
-use Rattle.git_client.specs.Client.{Comes, Settles, Takes, LeavesStep, StandsAfter, phase_judged, caps_judged, said_judged, outcome_judged, outcome_said, IsMessage}
-use Rattle.git_client.specs.Client.{format_of, ending_of, caps_of, phase_of, reader_of, said_last}
+use Rattle.git_client.specs.Client.{Comes, Takes, LeavesStep, StandsAfter, phase_judged, caps_judged, said_judged, outcome_judged, outcome_said, IsMessage}
+use Rattle.git_client.specs.Client.{Settles, format_of, ending_of, caps_of, phase_of, reader_of, said_last}
 use Rattle.git_client.specs.declared.events.Ending.{Ending}
 use Rattle.git_client.specs.declared.events.Ending.TheVariants.{FlushOnly, ResponseEnd as WithResponseEnd}
 use Rattle.git_client.specs.declared.phase.Phase.{Phase}
