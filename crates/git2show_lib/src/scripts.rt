@@ -15,8 +15,9 @@ use std::alloc::Global;
 /// A request is a line that names its command (`ls-refs`, `fetch` or `object-info`) and then a line for each of its
 /// arguments, as gitprotocol-v2(5) spells them and as one who offers everything reads them. An empty line or the end of
 /// the text ends it, and further empty lines are passed over. Lines are parted by LF, which the last may lack. The first
-/// line that is none of these, or whose argument has no room within the limit, is `Bad`. What is judged at the end of a
-/// request, as that a fetch wants nothing, is not judged here.
+/// line that is none of these, or whose argument has no room within the limit, is `Bad`. `OutOfMemory` is told at a line
+/// that may stand there, of a command or of an argument that takes memory. What is judged at the end of a request, as that
+/// a fetch wants nothing, is not judged here.
 pub fn read_script(
     alloc: Global,
     text: &[u8],
