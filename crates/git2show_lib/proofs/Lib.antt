@@ -7,3 +7,7 @@ pub mod Rising
 pub mod Drafting
 pub mod Reading
 pub mod TextLaws
+pub mod ScriptLists
+pub mod Scripting
+pub mod ScriptReading
+pub mod ScriptLaws

@@ -63,7 +63,7 @@ say_more format (l ∷ ls) (s ∷ ss) line next h is = (h.0, say_more format ls 
 say_more format [] (s ∷ ss) line next h is = absurd h
 say_more format (l ∷ ls) [] line next h is = absurd h
 
-length_more : (lines : List (List ℕ)) (line : List ℕ) → length (lines ++ line ∷ []) ≡ length lines + 1
+pub length_more : (lines : List (List ℕ)) (line : List ℕ) → length (lines ++ line ∷ []) ≡ length lines + 1
 length_more lines line = grind (arith, common_steps)
 
 pub stepped : (text : List ℕ) (format : Format) (old new : Lists) (line : ℕ) (left this : List ℕ) (next : Option (List ℕ)) (says : Said)
@@ -149,7 +149,7 @@ whole_text text pack format lists made line h is = record {
   lists_are = is ∙ ap (λ (l : Lists). with_pack l pack) h.holds.lists_are ∙ ap (λ (f : Format). lists_said f h.said pack) h.format_is;
 }
 
-cut_shorter : (text : List ℕ) → length (text_of text) ≤ length text
+pub cut_shorter : (text : List ℕ) → length (text_of text) ≤ length text
 cut_shorter text = elim (text_loses_a_line_end text) [
   | inl same ↦ omega (arith, ap length same)
   | inr less ↦ omega (arith, ap length less, length-append (text_of text) (10 ∷ []))

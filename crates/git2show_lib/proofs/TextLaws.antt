@@ -143,7 +143,7 @@ repository_or_bad text pack lists number h (inl bad) =
 repository_or_bad text pack lists number h (inr bad) = begins_or_bad h.format (lines_of text) h.said number h.begins bad
 
 -- of two cuts of one list, the earlier lies in the front of the later
-earlier_in : (a : List (List ℕ)) (x : List ℕ) (xs b : List (List ℕ)) (y : List ℕ) (ys : List (List ℕ)) → a ++ x ∷ xs ≡ b ++ y ∷ ys → length a < length b
+pub earlier_in : (a : List (List ℕ)) (x : List ℕ) (xs b : List (List ℕ)) (y : List ℕ) (ys : List (List ℕ)) → a ++ x ∷ xs ≡ b ++ y ∷ ys → length a < length b
     → (rest : List (List ℕ)) × (b ≡ a ++ x ∷ rest)
 earlier_in [] x xs [] y ys e l = absurd (omega (arith, l))
 earlier_in [] x xs (c ∷ b) y ys e l = (b, ap (λ (z : List ℕ). z ∷ b) (sym (same_heads x c xs (b ++ y ∷ ys) e).0))

@@ -8,3 +8,7 @@ pub mod RepositoryText
 pub mod DraftLists
 pub mod Drafts
 pub mod RepositoryFaults
+pub mod Scripts
+pub mod HeldScripts
+pub mod ScriptLines
+pub mod ScriptFaults

@@ -8,9 +8,13 @@ mod reports;
 mod repository_lines;
 mod repository_text;
 pub mod repository_text_laws;
+pub mod script_laws;
+mod script_lines;
+mod scripts;
 mod showing;
 
 pub use checking::{CheckFault, check};
 pub use reports::{ProgramFault, report};
 pub use repository_text::{TextFault, read_repo};
+pub use scripts::read_script;
 pub use showing::show;

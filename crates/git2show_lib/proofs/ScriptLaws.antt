@@ -1,0 +1,141 @@
+-- A text is one script, or has one first bad line.
+use Rattle.std.proofs.Common.{arith, ◌≡◌, ℕ, ◌<◌, List, [], ◌∷◌, ◌++◌, refl, ap, sym, ◌∙◌, subst, length, inl, inr}
+use Rattle.std.proofs.lemmas.Bool.{cases_lt}
+use Rattle.git_pkt.specs.declared.fault.Kind.TheVariants.{UnknownArgument}
+use Rattle.git_msg.specs.declared.offers.Offer.{Offer}
+use Rattle.git_msg.specs.declared.arguments.Command.{Command}
+use Rattle.git_msg.specs.declared.arguments.Command.TheVariants.{LsRefs, Fetch, ObjectInfo}
+use Rattle.git_msg.specs.Arguments.{Arg, IsNoArgument, ReadsAs, name_of}
+use Rattle.git_msg.specs.Asked.{Asked}
+use Rattle.git_msg.proofs.Rows.{argument_or_fault, one_argument}
+use Rattle.git2show_lib.specs.RepositoryLines.{lines_of}
+use Rattle.git2show_lib.specs.Scripts.{ScriptLine, blank, command, argument, FollowAll, HasBadScriptLine, IsScript, MayFollow}
+use Rattle.git2show_lib.specs.Scripts.{nearest, requests_in}
+use Rattle.git2show_lib.proofs.TextLaws.{earlier_in}
+
+one_command : (c d : Command) → name_of c ≡ name_of d → c ≡ d
+one_command LsRefs LsRefs e = refl
+one_command Fetch Fetch e = refl
+one_command ObjectInfo ObjectInfo e = refl
+one_command LsRefs Fetch e = let h : length (name_of LsRefs) ≡ length (name_of Fetch) = ap (λ (t : List ℕ). length t) e in absurd (omega (arith, h))
+one_command LsRefs ObjectInfo e = let h : length (name_of LsRefs) ≡ length (name_of ObjectInfo) = ap (λ (t : List ℕ). length t) e in absurd (omega (arith, h))
+one_command Fetch LsRefs e = let h : length (name_of Fetch) ≡ length (name_of LsRefs) = ap (λ (t : List ℕ). length t) e in absurd (omega (arith, h))
+one_command Fetch ObjectInfo e = let h : length (name_of Fetch) ≡ length (name_of ObjectInfo) = ap (λ (t : List ℕ). length t) e in absurd (omega (arith, h))
+one_command ObjectInfo LsRefs e = let h : length (name_of ObjectInfo) ≡ length (name_of LsRefs) = ap (λ (t : List ℕ). length t) e in absurd (omega (arith, h))
+one_command ObjectInfo Fetch e = let h : length (name_of ObjectInfo) ≡ length (name_of Fetch) = ap (λ (t : List ℕ). length t) e in absurd (omega (arith, h))
+
+-- an empty text names no command
+no_command : (c : Command) → name_of c ≡ [] → ⊥
+no_command LsRefs e = cc
+no_command Fetch e = cc
+no_command ObjectInfo e = cc
+
+-- and is no argument
+nothing : (c : Command) → IsNoArgument c []
+nothing LsRefs = (((λ e. cc), ((λ e. cc), tt)), ((λ rest e. cc), tt))
+nothing Fetch = (
+  ((λ e. cc), ((λ e. cc), ((λ e. cc), ((λ e. cc), ((λ e. cc), ((λ e. cc), tt)))))),
+  ((λ rest e. cc), ((λ rest e. cc), ((λ rest e. cc), ((λ rest e. cc), ((λ rest e. cc), ((λ rest e. cc), ((λ rest e. cc), tt))))))),
+)
+nothing ObjectInfo = (((λ e. cc), tt), ((λ rest e. cc), tt))
+
+no_argument : (c : Command) (offer : Offer) (arg : Arg) → ReadsAs c offer [] arg → ⊥
+no_argument c offer arg h = argument_or_fault c offer [] arg UnknownArgument h (inl (nothing c, refl))
+
+-- a text is one line at most after those before it
+one_line : (offer : Offer) (limit : ℕ) (before : List ScriptLine) (text : List ℕ) (a b : ScriptLine) → MayFollow offer limit before text a
+    → MayFollow offer limit before text b → a ≡ b
+one_line offer limit before text blank blank h k = refl
+one_line offer limit before text blank (command c) h k = absurd (no_command c (sym k.1 ∙ h))
+one_line offer limit before text blank (argument arg) h k =
+    absurd (no_argument k.of offer arg (subst (λ (t : List ℕ). ReadsAs k.of offer t arg) h k.reads))
+one_line offer limit before text (command c) blank h k = absurd (no_command c (sym h.1 ∙ k))
+one_line offer limit before text (command c) (command d) h k = ap command (one_command c d (sym h.1 ∙ k.1))
+one_line offer limit before text (command c) (argument arg) h k = let none = h.0 in let some = k.is_open in absurd (cc)
+one_line offer limit before text (argument arg) blank h k =
+    absurd (no_argument h.of offer arg (subst (λ (t : List ℕ). ReadsAs h.of offer t arg) k h.reads))
+one_line offer limit before text (argument arg) (command c) h k = let none = k.0 in let some = h.is_open in absurd (cc)
+one_line offer limit before text (argument a) (argument b) h k =
+    let first = h.is_open in
+    let second = k.is_open in
+    let same : h.of ≡ k.of = cc in
+    let reads = subst (λ (c : Command). ReadsAs c offer text a) same h.reads in
+    ap argument (one_argument k.of offer.format text a b reads.is_argument k.reads.is_argument)
+
+-- so texts are one list of lines
+one_list : (offer : Offer) (limit : ℕ) (before : List ScriptLine) (texts : List (List ℕ)) (a b : List ScriptLine) → FollowAll offer limit before texts a
+    → FollowAll offer limit before texts b → a ≡ b
+one_list offer limit before [] [] [] h k = refl
+one_list offer limit before (t ∷ ts) (x ∷ xs) (y ∷ ys) h k =
+    let same = one_line offer limit before t x y h.0 k.0 in
+    ap (λ (l : ScriptLine). l ∷ xs) same
+    ∙ ap (λ (ls : List ScriptLine). y ∷ ls) (one_list offer limit (y ∷ before) ts xs ys
+    (subst (λ (l : ScriptLine). FollowAll offer limit (l ∷ before) ts xs) same h.1) k.1)
+one_list offer limit before [] [] (y ∷ ys) h k = absurd k
+one_list offer limit before [] (x ∷ xs) b h k = absurd h
+one_list offer limit before (t ∷ ts) [] b h k = absurd h
+one_list offer limit before (t ∷ ts) (x ∷ xs) [] h k = absurd k
+
+pub one_script : (offer : Offer) (limit : ℕ) (text : List ℕ) (asked other : List Asked) → IsScript offer limit text asked
+    → IsScript offer limit text other → asked ≡ other
+one_script offer limit text asked other h k =
+    h.asked_is ∙ ap requests_in (one_list offer limit [] (lines_of text) h.lines k.lines h.follow k.follow) ∙ sym k.asked_is
+
+-- lines, cut after the first of their texts
+record Split (offer : Offer) (limit : ℕ) (before : List ScriptLine) (texts : List (List ℕ)) (text : List ℕ) : Type 0 where
+  front : List ScriptLine
+  next : ScriptLine
+  follow : FollowAll offer limit before texts front
+  may_follow : MayFollow offer limit (nearest front before) text next
+
+split_at : (offer : Offer) (limit : ℕ) (before : List ScriptLine) (texts : List (List ℕ)) (text : List ℕ) (others : List (List ℕ)) (lines : List ScriptLine)
+    → FollowAll offer limit before (texts ++ text ∷ others) lines → Split offer limit before texts text
+split_at offer limit before [] text others (line ∷ lines) h = record { front = []; next = line; follow = tt; may_follow = h.0 }
+split_at offer limit before (t ∷ ts) text others (line ∷ lines) h =
+    let more = split_at offer limit (line ∷ before) ts text others lines h.1 in
+    record { front = line ∷ more.front; next = more.next; follow = (h.0, more.follow); may_follow = more.may_follow }
+split_at offer limit before [] text others [] h = absurd h
+split_at offer limit before (t ∷ ts) text others [] h = absurd h
+
+-- texts that are lines have no bad one among them
+lines_or_bad : (offer : Offer) (limit : ℕ) (texts : List (List ℕ)) (lines : List ScriptLine) (number : ℕ) → FollowAll offer limit [] texts lines
+    → HasBadScriptLine offer limit texts number → ⊥
+lines_or_bad offer limit texts lines number h bad =
+    let split = split_at offer limit [] bad.before bad.bad bad.others lines (subst (λ (ts : List (List ℕ)). FollowAll offer limit [] ts lines) bad.whole h) in
+    let same = one_list offer limit [] bad.before split.front bad.lines split.follow bad.follow in
+    bad.refused split.next (subst (λ (ls : List ScriptLine). MayFollow offer limit (nearest ls []) bad.bad split.next) same split.may_follow)
+
+pub script_or_bad : (offer : Offer) (limit : ℕ) (text : List ℕ) (asked : List Asked) (number : ℕ) → IsScript offer limit text asked
+    → HasBadScriptLine offer limit (lines_of text) number → ⊥
+script_or_bad offer limit text asked number h bad = lines_or_bad offer limit (lines_of text) h.lines number h.follow bad
+
+not_earlier : (offer : Offer) (limit : ℕ) (texts : List (List ℕ)) (n m : ℕ) → HasBadScriptLine offer limit texts n → HasBadScriptLine offer limit texts m
+    → n < m → ⊥
+not_earlier offer limit texts n m h k low =
+    let at = h.at_number in
+    let there = k.at_number in
+    let inside = earlier_in h.before h.bad h.others k.before k.bad k.others (sym h.whole ∙ k.whole) (omega (arith, at, there, low)) in
+    lines_or_bad offer limit k.before k.lines n k.follow (record {
+      before = h.before;
+      bad = h.bad;
+      others = inside.0;
+      whole = inside.1;
+      at_number = h.at_number;
+      lines = h.lines;
+      follow = h.follow;
+      refused = h.refused;
+    })
+
+one_bad : (offer : Offer) (limit : ℕ) (texts : List (List ℕ)) (n m : ℕ) → HasBadScriptLine offer limit texts n → HasBadScriptLine offer limit texts m → n ≡ m
+one_bad offer limit texts n m h k =
+    elim (cases_lt n m) [
+      | inl low ↦ absurd (not_earlier offer limit texts n m h k low)
+      | inr high ↦ elim (cases_lt m n) [
+        | inl below ↦ absurd (not_earlier offer limit texts m n k h below)
+        | inr above ↦ omega (arith, high, above)
+      ]
+    ]
+
+pub one_bad_line : (offer : Offer) (limit : ℕ) (text : List ℕ) (number other : ℕ) → HasBadScriptLine offer limit (lines_of text) number
+    → HasBadScriptLine offer limit (lines_of text) other → number ≡ other
+one_bad_line offer limit text = one_bad offer limit (lines_of text)

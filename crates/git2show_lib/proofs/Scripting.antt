@@ -1,0 +1,302 @@
+-- What one more line adds to what is held of a script.
+use Rattle.std.proofs.Common.{arith, ◌≡◌, ℕ, ◌+◌, ◌-◌, ◌==◌, Bool, true, false, Result, Ok, Err, List}
+use Rattle.std.proofs.Common.{[], ◌∷◌, ◌++◌, Some, None, refl, ap, sym, ◌∙◌, subst, length, map, get_or, set}
+use Rattle.std.proofs.Common.{append_assoc, length-append}
+use Rattle.std.specs.Prelude.{MatchResult}
+use Rattle.std.proofs.Math.Seq.{get_or-append_seam}
+use Rattle.std.proofs.lemmas.Bool.Decides.{nat_tests}
+use Rattle.std.proofs.lemmas.List.{map-append, set_at}
+use Rattle.std.proofs.lemmas.List.Elements.{All-nil, All-pop, All-push}
+use Rattle.git_names.specs.declared.object_format.Format.{Format}
+use Rattle.git_pkt.specs.declared.fault.Kind.{Kind}
+use Rattle.git_msg.specs.declared.offers.Offer.{Offer}
+use Rattle.git_msg.specs.declared.arguments.Command.{Command}
+use Rattle.git_msg.specs.declared.arguments.Command.TheVariants.{LsRefs, Fetch, ObjectInfo}
+use Rattle.git_msg.specs.declared.requests.Request.{Request}
+use Rattle.git_msg.specs.Arguments.{Arg, ref_prefix, want, have, shallow, deepen, deepen_since, deepen_not, want_ref, object_id}
+use Rattle.git_msg.specs.Arguments.{IsArgumentFault, IsInRange, ReadsAs, SaysArgument, name_of, written_text}
+use Rattle.git_msg.specs.Asked.{Asked, asked_by, nothing_asked, with_argument}
+use Rattle.git_msg.specs.Checks.{Passes, Refuses}
+use Rattle.git_msg.specs.HeldRequest.{IsEmpty, Keeps, add_checks, asked_of, command_of, format_of, limit_of}
+use Rattle.git_msg.proofs.ArgumentsInOrder.{asked_snoc}
+use Rattle.git_msg.proofs.Rows.{argument_or_fault, one_argument}
+use Rattle.git_msg.proofs.Values.{added_or_refused}
+use Rattle.git_msg.proofs.WrittenNames.{named_in}
+use Rattle.git2show_lib.specs.Scripts.{ScriptLine, blank, command, argument, MayFollow, kept_after, nearest, open_after, requests_in}
+use Rattle.git2show_lib.specs.HeldScripts.{Held, AddsArgument, Begins, FitsIn, GoesOn, HasOpen, Holds, IsBeginFault, IsLineFault, IsOpenAs, TakesLine}
+use Rattle.git2show_lib.specs.HeldScripts.{nothing_held, with_requests}
+use Rattle.git2show_lib.specs.declared.drafts.LineFault.{LineFault}
+use Rattle.git2show_lib.specs.declared.drafts.LineFault.TheVariants.{Refused, OutOfMemory}
+use Rattle.git2show_lib.proofs.ScriptLists.{Cut, cut_of, nearest_more, requests_blank, requests_cut, requests_of_cut}
+
+-- an argument that a text says may stand in a request
+in_range : (format : Format) (text : List ℕ) (arg : Arg) → SaysArgument format text arg → IsInRange format arg
+in_range format text (ref_prefix prefix) h = h.1
+in_range format text (want id) h = named_in format h.value id h.holds
+in_range format text (have id) h = named_in format h.value id h.holds
+in_range format text (shallow id) h = named_in format h.value id h.holds
+in_range format text (deepen depth) h = h.holds.in_range
+in_range format text (deepen_since time) h = h.holds.in_range
+in_range format text (deepen_not revision) h = h.1
+in_range format text (want_ref name) h = h.1
+in_range format text (object_id id) h = named_in format h.value id h.holds
+in_range format text arg h = tt
+
+module _ {X : Type 0} where
+  pub last_item : (items others : List X) (last d : X) → items ≡ others ++ last ∷ [] → get_or items (length items - 1) d ≡ last
+  last_item items others last d is =
+      let long : length items - 1 ≡ length others = omega (arith, ap length is, length-append others (last ∷ [])) in
+      rw long (rw is (get_or-append_seam others last [] d))
+
+  pub last_set : (items others : List X) (last x : X) → items ≡ others ++ last ∷ [] → set items (length items - 1) x ≡ others ++ x ∷ []
+  last_set items others last x is =
+      let long : length items - 1 ≡ length others = omega (arith, ap length is, length-append others (last ∷ [])) in
+      rw long (rw is (set_at others last [] x (length others) refl))
+
+  -- lists that end in one element are equal in their parts
+  same_ends : (xs ys : List X) (x y : X) → xs ++ x ∷ [] ≡ ys ++ y ∷ [] → (xs ≡ ys) × (x ≡ y)
+  same_ends [] [] x y e = (refl, cc)
+  same_ends (a ∷ xs) (b ∷ ys) x y e =
+      let tails : xs ++ x ∷ [] ≡ ys ++ y ∷ [] = cc in
+      let heads : a ≡ b = cc in
+      let more = same_ends xs ys x y tails in
+      (ap (λ (z : X). z ∷ xs) heads ∙ ap (λ (zs : List X). b ∷ zs) more.0, more.1)
+  same_ends [] (b ∷ []) x y e = absurd (cc)
+  same_ends [] (b ∷ c ∷ ys) x y e = absurd (cc)
+  same_ends (a ∷ []) [] x y e = absurd (cc)
+  same_ends (a ∷ c ∷ xs) [] x y e = absurd (cc)
+
+open_more : (lines : List ScriptLine) (line : ScriptLine) → open_after (nearest (lines ++ line ∷ []) []) ≡ open_after (line ∷ nearest lines [])
+open_more lines line = ap open_after (nearest_more lines [] line)
+
+kept_more : (lines : List ScriptLine) (line : ScriptLine) → kept_after (nearest (lines ++ line ∷ []) []) ≡ kept_after (line ∷ nearest lines [])
+kept_more lines line = ap kept_after (nearest_more lines [] line)
+
+nothing_yet : (c : Command) → nothing_asked c ≡ asked_by c []
+nothing_yet LsRefs = refl
+nothing_yet Fetch = refl
+nothing_yet ObjectInfo = refl
+
+module _ {A : Type 0} where
+  -- an argument that fits passes the checks
+  fits_passes : (offer : Offer) (last : Request A) (text : List ℕ) (arg : Arg) → format_of last ≡ offer.format → FitsIn offer last text arg
+      → Passes (add_checks last arg)
+  fits_passes offer last text arg format h =
+      let range = in_range offer.format text arg h.reads.is_argument.1 in
+      ((h.reads.is_argument.0, subst (λ (f : Format). IsInRange f arg) (sym format) range), (h.fits, tt))
+
+  -- where the checks refuse the argument that a text is, no argument that fits is this text
+  pub none_fits : (offer : Offer) (last : Request A) (text : List ℕ) (arg : Arg) (kind : Kind) → format_of last ≡ offer.format
+      → ReadsAs (command_of last) offer text arg → Refuses (add_checks last arg) kind → (other : Arg) → FitsIn offer last text other → ⊥
+  none_fits offer last text arg kind format reads refuses other fits =
+      let same = one_argument (command_of last) offer.format text other arg fits.reads.is_argument reads.is_argument in
+      added_or_refused last arg kind (fits_passes offer last text arg format (subst (FitsIn offer last text) same fits)) refuses
+
+  pub fits_of_passes : (offer : Offer) (last : Request A) (text : List ℕ) (arg : Arg) → ReadsAs (command_of last) offer text arg
+      → Passes (add_checks last arg) → FitsIn offer last text arg
+  fits_of_passes offer last text arg reads passes = record { reads = reads; fits = passes.1.0 }
+
+  pub holds_nothing : (offer : Offer) (limit : ℕ) → Holds {A = A} [] (nothing_held offer limit)
+  holds_nothing offer limit = record { asked = refl; of_format = All-nil _; of_limit = All-nil _; open_as = refl }
+
+  -- an empty line
+  pub takes_blank : (old : Held A) (text : List ℕ) → text ≡ [] → TakesLine old text (with_requests old old.requests false)
+  takes_blank old text empty lines h = record {
+    line = blank;
+    may_follow = empty;
+    holds = record {
+      asked = h.asked ∙ sym (requests_blank lines);
+      of_format = h.of_format;
+      of_limit = h.of_limit;
+      open_as = open_more lines blank;
+    };
+    same_offer = refl;
+    same_limit = refl;
+  }
+
+  none_open : (lines : List ScriptLine) (held : Held A) → held.is_open ≡ false → Holds lines held → open_after (nearest lines []) ≡ None
+  none_open lines held shut h = subst (λ (is_open : Bool). IsOpenAs is_open lines held.requests) shut h.open_as
+
+  the_open : (lines : List ScriptLine) (held : Held A) → held.is_open ≡ true → Holds lines held → HasOpen lines held.requests
+  the_open lines held opened h = subst (λ (is_open : Bool). IsOpenAs is_open lines held.requests) opened h.open_as
+
+  -- a command, where no request is open
+  begun : (old : Held A) (text : List ℕ) (of : Command) (request : Request A) → old.is_open ≡ false → text ≡ name_of of
+      → IsEmpty of old.offer.format old.limit request → TakesLine old text (with_requests old (old.requests ++ request ∷ []) true)
+  begun old text of request shut spelled empty lines h = record {
+    line = command of;
+    may_follow = (none_open lines old shut h, spelled);
+    holds = record {
+      asked = map-append asked_of old.requests (request ∷ [])
+          ∙ ap (λ (qs : List Asked). qs ++ asked_of request ∷ []) h.asked
+          ∙ ap (λ (q : Asked). requests_in lines ++ q ∷ []) (empty.asked ∙ nothing_yet of)
+          ∙ sym (requests_cut lines of []);
+      of_format = All-push (λ (q : Request A). format_of q ≡ old.offer.format) old.requests request h.of_format empty.format_is;
+      of_limit = All-push (λ (q : Request A). limit_of q ≡ old.limit) old.requests request h.of_limit empty.limit_is;
+      open_as = record {
+        others = old.requests;
+        last = request;
+        requests_are = refl;
+        open_is = open_more lines (command of) ∙ ap (λ (c : Command). Some c) (sym empty.command_is);
+        kept_is = kept_more lines (command of) ∙ sym empty.kept;
+      };
+    };
+    same_offer = refl;
+    same_limit = refl;
+  }
+
+  pub takes_command : (old new : Held A) (text : List ℕ) → old.is_open ≡ false → Begins old text new → TakesLine old text new
+  takes_command old new text shut b = subst (TakesLine old text) (sym b.new_is) (begun old text b.of b.request shut b.spelled b.is_empty)
+
+  -- why a command is not taken
+  command_refused : (old : Held A) (text : List ℕ) → old.is_open ≡ false → (text ≡ [] → ⊥) → IsBeginFault text Refused → IsLineFault old text Refused
+  command_refused old text shut some none lines h blank may = some may
+  command_refused old text shut some none lines h (command c) may = none c may.1
+  command_refused old text shut some none lines h (argument arg) may =
+      let shut_is = none_open lines old shut h in let open_is = may.is_open in absurd (cc)
+
+  pub command_fault : (old : Held A) (text : List ℕ) (fault : LineFault) → old.is_open ≡ false → (text ≡ [] → ⊥) → IsBeginFault text fault
+      → IsLineFault old text fault
+  command_fault old text Refused shut some none = command_refused old text shut some none
+  command_fault old text OutOfMemory shut some is = λ lines h. (command is.0, (none_open lines old shut h, is.1), tt)
+
+  -- the last request has the format and the limit of them all
+  last_format : (lines : List ScriptLine) (held : Held A) (h : Holds lines held) (o : HasOpen lines held.requests) → format_of o.last ≡ held.offer.format
+  last_format lines held h o =
+      (All-pop (λ (q : Request A). format_of q ≡ held.offer.format) held.requests o.others (Some o.last) o.requests_are h.of_format).1
+
+  last_limit : (lines : List ScriptLine) (held : Held A) (h : Holds lines held) (o : HasOpen lines held.requests) → limit_of o.last ≡ held.limit
+  last_limit lines held h o =
+      (All-pop (λ (q : Request A). limit_of q ≡ held.limit) held.requests o.others (Some o.last) o.requests_are h.of_limit).1
+
+  -- an argument that fits into the open request may follow, and no other
+  may_follow : (lines : List ScriptLine) (held : Held A) (text : List ℕ) (arg : Arg) (h : Holds lines held) (o : HasOpen lines held.requests)
+      → FitsIn held.offer o.last text arg → MayFollow held.offer held.limit (nearest lines []) text (argument arg)
+  may_follow lines held text arg h o fits_in = record {
+    of = command_of o.last;
+    is_open = o.open_is;
+    reads = fits_in.reads;
+    fits = omega (arith, fits_in.fits, o.kept_is, last_limit lines held h o);
+  }
+
+  fits_of_may_follow : (lines : List ScriptLine) (held : Held A) (text : List ℕ) (arg : Arg) (h : Holds lines held) (o : HasOpen lines held.requests)
+      → MayFollow held.offer held.limit (nearest lines []) text (argument arg) → FitsIn held.offer o.last text arg
+  fits_of_may_follow lines held text arg h o may =
+      let open_is = o.open_is in
+      let may_open = may.is_open in
+      let same : may.of ≡ command_of o.last = cc in
+      record {
+        reads = subst (λ (c : Command). ReadsAs c held.offer text arg) same may.reads;
+        fits = omega (arith, may.fits, o.kept_is, last_limit lines held h o);
+      }
+
+  -- what the lines say with an argument more
+  asked_more : (lines : List ScriptLine) (held : Held A) (arg : Arg) (request : Request A) (h : Holds lines held) (o : HasOpen lines held.requests)
+      → asked_of request ≡ with_argument (asked_of o.last) arg → map asked_of (o.others ++ request ∷ []) ≡ requests_in (lines ++ argument arg ∷ [])
+  asked_more lines held arg request h o asked =
+      let c = command_of o.last in
+      let cut : Cut lines c = cut_of lines c o.open_is in
+      let same = same_ends (map asked_of o.others) (requests_in cut.front) (asked_of o.last) (asked_by c cut.args)
+      (sym (map-append asked_of o.others (o.last ∷ [])) ∙ ap (map asked_of) (sym o.requests_are) ∙ h.asked ∙ requests_of_cut lines c cut) in
+      let more : Cut (lines ++ argument arg ∷ []) c = record {
+        front = cut.front;
+        args = cut.args ++ arg ∷ [];
+        whole = ap (λ (ls : List ScriptLine). ls ++ argument arg ∷ []) cut.whole
+            ∙ append_assoc cut.front (command c ∷ map argument cut.args) (argument arg ∷ [])
+            ∙ ap (λ (ls : List ScriptLine). cut.front ++ command c ∷ ls) (sym (map-append argument cut.args (arg ∷ [])));
+      } in
+      map-append asked_of o.others (request ∷ [])
+      ∙ ap (λ (qs : List Asked). qs ++ asked_of request ∷ []) same.0
+      ∙ ap (λ (q : Asked). requests_in cut.front ++ q ∷ [])
+      (asked ∙ ap (λ (q : Asked). with_argument q arg) same.1 ∙ sym (asked_snoc c cut.args arg))
+      ∙ sym (requests_of_cut (lines ++ argument arg ∷ []) c more)
+
+  -- an argument, where a request is open
+  added : (lines : List ScriptLine) (old : Held A) (text : List ℕ) (h : Holds lines old) (o : HasOpen lines old.requests) (arg : Arg) (request : Request A)
+      → FitsIn old.offer o.last text arg → Keeps o.last arg (length (written_text arg)) request
+      → GoesOn lines old text (with_requests old (o.others ++ request ∷ []) true)
+  added lines old text h o arg request fits_in keeps =
+      let formats = All-pop (λ (q : Request A). format_of q ≡ old.offer.format) old.requests o.others (Some o.last) o.requests_are h.of_format in
+      let limits = All-pop (λ (q : Request A). limit_of q ≡ old.limit) old.requests o.others (Some o.last) o.requests_are h.of_limit in
+      record {
+        line = argument arg;
+        may_follow = may_follow lines old text arg h o fits_in;
+        holds = record {
+          asked = asked_more lines old arg request h o keeps.asked;
+          of_format = All-push (λ (q : Request A). format_of q ≡ old.offer.format) o.others request formats.0 (keeps.format ∙ formats.1);
+          of_limit = All-push (λ (q : Request A). limit_of q ≡ old.limit) o.others request limits.0 (keeps.limit ∙ limits.1);
+          open_as = record {
+            others = o.others;
+            last = request;
+            requests_are = refl;
+            open_is = open_more lines (argument arg) ∙ o.open_is ∙ ap (λ (c : Command). Some c) (sym keeps.command);
+            kept_is = kept_more lines (argument arg) ∙ ap (λ (n : ℕ). n + length (written_text arg)) o.kept_is ∙ sym keeps.kept;
+          };
+        };
+        same_offer = refl;
+        same_limit = refl;
+      }
+
+  pub takes_argument : (old new : Held A) (text : List ℕ) → old.is_open ≡ true → AddsArgument old text new (Ok tt) → TakesLine old text new
+  takes_argument old new text opened adds lines h =
+      let o = the_open lines old opened h in
+      let a = adds o.others o.last o.requests_are (last_format lines old h o) opened in
+      subst (GoesOn lines old text) (sym a.new_is) (added lines old text h o a.arg a.request a.fits_in a.keeps)
+
+  -- why an argument is not taken
+  argument_refused : (old new : Held A) (text : List ℕ) → old.is_open ≡ true → (text ≡ [] → ⊥) → AddsArgument old text new (Err Refused)
+      → IsLineFault old text Refused
+  argument_refused old new text opened some adds lines h blank may = some may
+  argument_refused old new text opened some adds lines h (command c) may =
+      let o = the_open lines old opened h in let open_is = o.open_is in let shut_is = may.0 in absurd (cc)
+  argument_refused old new text opened some adds lines h (argument arg) may =
+      let o = the_open lines old opened h in
+      adds o.others o.last o.requests_are (last_format lines old h o) opened arg (fits_of_may_follow lines old text arg h o may)
+
+  pub argument_fault : (old new : Held A) (text : List ℕ) (fault : LineFault) → old.is_open ≡ true → (text ≡ [] → ⊥) → AddsArgument old text new (Err fault)
+      → IsLineFault old text fault
+  argument_fault old new text Refused opened some adds = argument_refused old new text opened some adds
+  argument_fault old new text OutOfMemory opened some adds = λ lines h.
+      let o = the_open lines old opened h in
+      let a = adds o.others o.last o.requests_are (last_format lines old h o) opened in
+      (argument a.0, may_follow lines old text a.0 h o a.1, a.2)
+
+  -- the request that is lent for writing is the last
+  pub last_now : (items others : List (Request A)) (last now : Request A) (n : ℕ) → n ≡ length items → now ≡ get_or items (n - 1) now
+      → items ≡ others ++ last ∷ [] → now ≡ last
+  last_now items others last now n long at is =
+      at ∙ ap (λ (k : ℕ). get_or items (k - 1) now) long ∙ last_item items others last now is
+
+  pub same_held : (old : Held A) (others : List (Request A)) (last request : Request A) (n : ℕ) → n ≡ length old.requests
+      → old.requests ≡ others ++ last ∷ [] → old.is_open ≡ true
+      → with_requests old (set old.requests (n - 1) request) old.is_open ≡ with_requests old (others ++ request ∷ []) true
+  same_held old others last request n long is opened =
+      ap (λ (k : ℕ). with_requests old (set old.requests (k - 1) request) old.is_open) long
+      ∙ ap (λ (qs : List (Request A)). with_requests old qs old.is_open) (last_set old.requests others last request is)
+      ∙ ap (with_requests old (others ++ request ∷ [])) opened
+
+  -- a text that is no argument of the request is none that fits
+  pub none_reads : (offer : Offer) (last : Request A) (text : List ℕ) (kind : Kind) → IsArgumentFault (command_of last) offer text kind → (arg : Arg)
+      → FitsIn offer last text arg → ⊥
+  none_reads offer last text kind fault arg fits = argument_or_fault (command_of last) offer text arg kind fits.reads fault
+
+  -- the answers of the parts, as answers of the whole
+  pub said_command : (old new : Held A) (text : List ℕ) (result : Result (Unit {0}) LineFault) → old.is_open ≡ false → (text ≡ [] → ⊥)
+      → MatchResult result (λ _. Begins old text new) (IsBeginFault text) → MatchResult result (λ _. TakesLine old text new) (IsLineFault old text)
+  said_command old new text (Ok u) shut some h = takes_command old new text shut h
+  said_command old new text (Err fault) shut some h = command_fault old text fault shut some h
+
+  pub said_argument : (old new : Held A) (text : List ℕ) (result : Result (Unit {0}) LineFault) → old.is_open ≡ true → (text ≡ [] → ⊥)
+      → AddsArgument old text new result → MatchResult result (λ _. TakesLine old text new) (IsLineFault old text)
+  said_argument old new text (Ok u) opened some h = takes_argument old new text opened h
+  said_argument old new text (Err fault) opened some h = argument_fault old new text fault opened some h
+
+is_zero : (n : ℕ) → (n == 0) ≡ true → n ≡ 0
+is_zero n e = grind (arith, nat_tests)
+
+pub no_bytes : (text : List ℕ) → (length text == 0) ≡ true → text ≡ []
+no_bytes [] e = refl
+no_bytes (x ∷ text) e = let long = is_zero (length (x ∷ text)) e in absurd (omega arith)
+
+pub some_bytes : (text : List ℕ) → (length text == 0) ≡ false → text ≡ [] → ⊥
+some_bytes text e none = let long : length text ≡ 0 = ap length none in grind (arith, nat_tests)

@@ -1,0 +1,23 @@
+use Rattle.std.proofs.Common.{length}
+use Rattle.std.specs.Option.{option_copied}
+use Rattle.git2show_lib.specs.Scripts.{everything}
+use Rattle.git2show_lib.specs.ScriptLines.{held}
+use Rattle.git2show_lib.proofs.Reading.{room_behind}
+use Rattle.git2show_lib.proofs.ScriptReading.{room_at_all, started, stepped}
+use Rattle.git2show_lib.proofs.scripts.read_script.Goals as goal
+
+pub lines-init : goal.lines-init
+lines-init c = record {
+  reading = started c.args.text.now c.text.result.now (everything c.args.format) c.args.limits.args (held c.new-script.result) c.text.ensures
+      c.new-script.ensures;
+  room = room_at_all c.args.text.now c.text.result.now c.text.ensures;
+}
+
+pub lines-preserved : goal.lines-preserved
+lines-preserved c =
+    let h = rw c.in-Some.is at c.lines.invariant in
+    record {
+      reading = stepped c.args.text.now c.in-Some.left.now c.split_at_first.result.0.now (everything c.args.format) c.args.limits.args (held c.lines.script)
+          (held c.take.new.self) c.lines.line (option_copied c.split_at_first.result.1) h.reading c.split_at_first.ensures.parts c.in-Ok.ensures;
+      room = room_behind (length c.args.text.now) c.lines.line c.in-Some.left.now c.split_at_first.result.1 h.room c.split_at_first.ensures.shorter;
+    }

@@ -1,0 +1,106 @@
+-- What the text of a script says, requests one after another, and which of its lines is refused.
+use Rattle.std.specs.Prelude.{◌≡◌, ℕ, ◌+◌, ◌≤◌, true, List, [], ◌∷◌, ◌++◌, Option, Some, None, length}
+use Rattle.git_names.specs.declared.object_format.Format.{Format}
+use Rattle.git_msg.specs.declared.offers.Offer.{Offer}
+use Rattle.git_msg.specs.declared.arguments.Command.{Command}
+use Rattle.git_msg.specs.Arguments.{Arg, ReadsAs, TakesMemory as TakesMemoryFor, name_of, written_text}
+use Rattle.git_msg.specs.Asked.{Asked, asked_by}
+use Rattle.git2show_lib.specs.RepositoryLines.{lines_of}
+
+-- what a line is: an empty one, which ends a request; a command, which begins one; an argument of the request that is open
+pub data ScriptLine : Type 0 where
+  blank : ScriptLine
+  command : Command → ScriptLine
+  argument : Arg → ScriptLine
+
+-- what is offered by one who offers everything
+abbrev pub everything : Format → Offer
+everything format = record { format = format; shallow = true; ref_in_want = true; object_info = true; server_option = true }
+
+-- the command of the request that is open after these lines, the nearest first
+abbrev pub open_after : List ScriptLine → Option Command
+open_after [] = None
+open_after (blank ∷ before) = None
+open_after (command c ∷ before) = Some c
+open_after (argument arg ∷ before) = open_after before
+
+-- how many bytes the texts of its arguments have, as they are written
+abbrev pub kept_after : List ScriptLine → ℕ
+kept_after [] = 0
+kept_after (blank ∷ before) = 0
+kept_after (command c ∷ before) = 0
+kept_after (argument arg ∷ before) = kept_after before + length (written_text arg)
+
+-- the text is this argument of the request that is open, and the limit has room for it
+pub record IsArgumentAfter (offer : Offer) (limit : ℕ) (before : List ScriptLine) (text : List ℕ) (arg : Arg) : Type 0 where
+  pub of : Command
+  pub is_open : open_after before ≡ Some of
+  pub reads : ReadsAs of offer text arg
+  pub fits : kept_after (argument arg ∷ before) ≤ limit
+
+-- the text is this line, which may stand after those before it, the nearest first
+abbrev pub MayFollow : Offer → ℕ → List ScriptLine → List ℕ → ScriptLine → Type 0
+MayFollow offer limit before text blank = text ≡ []
+MayFollow offer limit before text (command c) = (open_after before ≡ None) × (text ≡ name_of c)
+MayFollow offer limit before text (argument arg) = IsArgumentAfter offer limit before text arg
+
+-- the texts are these lines, each of which may stand after those before it
+abbrev pub FollowAll : Offer → ℕ → List ScriptLine → List (List ℕ) → List ScriptLine → Type 0
+FollowAll offer limit before [] [] = Unit {0}
+FollowAll offer limit before (text ∷ texts) (line ∷ lines) =
+    MayFollow offer limit before text line × FollowAll offer limit (line ∷ before) texts lines
+FollowAll offer limit before _ _ = ⊥
+
+-- the lines of a list, the last one first, and then those that were there before
+abbrev pub nearest : List ScriptLine → List ScriptLine → List ScriptLine
+nearest [] before = before
+nearest (line ∷ lines) before = nearest lines (line ∷ before)
+
+-- the arguments up to the first line that is none
+abbrev pub arguments_upto : List ScriptLine → List Arg
+arguments_upto [] = []
+arguments_upto (blank ∷ lines) = []
+arguments_upto (command c ∷ lines) = []
+arguments_upto (argument arg ∷ lines) = arg ∷ arguments_upto lines
+
+-- the requests that the lines say, in their order
+abbrev pub requests_in : List ScriptLine → List Asked
+requests_in [] = []
+requests_in (blank ∷ lines) = requests_in lines
+requests_in (command c ∷ lines) = asked_by c (arguments_upto lines) ∷ requests_in lines
+requests_in (argument arg ∷ lines) = requests_in lines
+
+-- the lines of the text say these requests
+pub record IsScript (offer : Offer) (limit : ℕ) (text : List ℕ) (asked : List Asked) : Type 0 where
+  pub lines : List ScriptLine
+  pub follow : FollowAll offer limit [] (lines_of text) lines
+  pub asked_is : asked ≡ requests_in lines
+
+-- the lines before this one may stand, and after them it is none that may
+pub record HasBadScriptLine (offer : Offer) (limit : ℕ) (texts : List (List ℕ)) (number : ℕ) : Type 0 where
+  pub before : List (List ℕ)
+  pub bad : List ℕ
+  pub others : List (List ℕ)
+  pub whole : texts ≡ before ++ bad ∷ others
+  pub at_number : number ≡ length before + 1
+  pub lines : List ScriptLine
+  pub follow : FollowAll offer limit [] before lines
+  pub refused : (line : ScriptLine) → ¬ MayFollow offer limit (nearest lines []) bad line
+
+-- the line is kept in memory: a command, for its request, and some arguments
+abbrev pub TakesMemory : ScriptLine → Type 0
+TakesMemory blank = ⊥
+TakesMemory (command c) = Unit {0}
+TakesMemory (argument arg) = TakesMemoryFor arg
+
+-- memory ran out at a line that takes some, and that may stand after the lines before it
+pub record WantsScriptMemory (offer : Offer) (limit : ℕ) (texts : List (List ℕ)) : Type 0 where
+  pub before : List (List ℕ)
+  pub at : List ℕ
+  pub others : List (List ℕ)
+  pub whole : texts ≡ before ++ at ∷ others
+  pub lines : List ScriptLine
+  pub follow : FollowAll offer limit [] before lines
+  pub line : ScriptLine
+  pub may_follow : MayFollow offer limit (nearest lines []) at line
+  pub takes_memory : TakesMemory line

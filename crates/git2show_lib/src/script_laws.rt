@@ -1,0 +1,25 @@
+//! What follows from the definitions of a script's text alone.
+
+ghost use Rattle.std.specs.Prelude.{◌≡◌, ℕ, List};
+ghost use Rattle.git_msg.specs.declared.offers.Offer.{Offer};
+ghost use Rattle.git_msg.specs.Asked.{Asked};
+ghost use Rattle.git2show_lib.specs.RepositoryLines.{lines_of};
+ghost use Rattle.git2show_lib.specs.Scripts.{HasBadScriptLine, IsScript};
+
+/// A text is one script at most.
+pub fn one_script()
+    ensures { (offer : Offer) (limit : ℕ) (text : List ℕ) (asked other : List Asked) → IsScript offer limit text asked
+        → IsScript offer limit text other → asked ≡ other }
+{}
+
+/// A text with a bad line is no script.
+pub fn script_or_bad()
+    ensures { (offer : Offer) (limit : ℕ) (text : List ℕ) (asked : List Asked) (number : ℕ) → IsScript offer limit text asked
+        → HasBadScriptLine offer limit (lines_of text) number → ⊥ }
+{}
+
+/// A text has one first bad line at most.
+pub fn one_bad_script_line()
+    ensures { (offer : Offer) (limit : ℕ) (text : List ℕ) (number other : ℕ) → HasBadScriptLine offer limit (lines_of text) number
+        → HasBadScriptLine offer limit (lines_of text) other → number ≡ other }
+{}

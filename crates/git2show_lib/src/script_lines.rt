@@ -1,0 +1,115 @@
+//! The lines of a script, and what they said so far.
+
+ghost use Rattle.std.specs.Prelude.{◌≡◌, MatchOption, MatchResult};
+ghost use Rattle.git_msg.specs.Arguments.{name_of};
+ghost use Rattle.git_msg.specs.declared.arguments.Command.{Command};
+ghost use Rattle.git2show_lib.specs.Scripts.{everything};
+ghost use Rattle.git2show_lib.specs.HeldScripts.{AddsArgument, Begins, IsBeginFault, IsLineFault, TakesLine, nothing_held};
+
+use crate::drafts::LineFault;
+use git_msg::{Command, Limits, Offer, Request, read_argument};
+use git_names::Format;
+use git_pkt::Kind;
+use std::alloc::Global;
+
+/// What the lines said so far.
+#[derive(Drop)]
+pub(crate) struct Script {
+    offer: Offer,
+    limits: Limits,
+    requests: Vec<Request<Global>>,
+    // Whether the last of them is open: no empty line came after it.
+    is_open: bool,
+}
+
+impl Script {
+    ghost use Rattle.git2show_lib.specs.ScriptLines.{held};
+
+    /// Nothing yet.
+    pub(crate) fn new(alloc: Global, format: Format, limits: Limits) -> Script
+        ensures { held result ≡ nothing_held (everything format) limits.args }
+    {
+        let offer = Offer {
+            format,
+            shallow: true,
+            ref_in_want: true,
+            object_info: true,
+            server_option: true,
+        };
+        Script {
+            offer,
+            limits,
+            requests: Vec::new(alloc),
+            is_open: false,
+        }
+    }
+
+    /// Takes a line, or answers that it may not stand after the lines before it.
+    pub(crate) fn take(&mut self, alloc: Global, text: &[u8]) -> Result<(), LineFault>
+        ensures { MatchResult result (λ _. TakesLine (held self.old) text.now (held self.new)) (IsLineFault (held self.old) text.now) }
+    {
+        if text.is_empty() {
+            self.is_open = false;
+            return Ok(());
+        }
+        if self.is_open {
+            return self.add(text);
+        }
+        self.begin(alloc, text)
+    }
+
+    // Begins a request of the command that the text names.
+    fn begin(&mut self, alloc: Global, text: &[u8]) -> Result<(), LineFault>
+        ensures { MatchResult result (λ _. Begins (held self.old) text.now (held self.new)) (IsBeginFault text.now) }
+    {
+        let Some(command) = read_command(text) else {
+            return Err(LineFault::Refused);
+        };
+        let request = Request::new(alloc, command, self.offer.format, self.limits);
+        match self.requests.push(request) {
+            Ok(()) => {
+                self.is_open = true;
+                Ok(())
+            }
+            Err(_) => Err(LineFault::OutOfMemory),
+        }
+    }
+
+    // Adds the argument that the text is to the last request.
+    fn add(&mut self, text: &[u8]) -> Result<(), LineFault>
+        ensures { AddsArgument (held self.old) text.now (held self.new) result }
+    {
+        let Some(request) = self.requests.last_mut() else {
+            return Err(LineFault::Refused);
+        };
+        let Ok(argument) = read_argument(request.command(), &self.offer, text) else {
+            return Err(LineFault::Refused);
+        };
+        match request.add(argument) {
+            Ok(()) => Ok(()),
+            Err(kind) => match kind {
+                Kind::OutOfMemory => Err(LineFault::OutOfMemory),
+                _ => Err(LineFault::Refused),
+            },
+        }
+    }
+
+    /// The requests that the lines said.
+    pub(crate) fn finish(self) -> Vec<Request<Global>>
+        ensures { result.items ≡ (held self).requests }
+    {
+        self.requests
+    }
+}
+
+/// The command that the text names.
+fn read_command(text: &[u8]) -> Option<Command>
+    ensures { MatchOption result ((command : Command) → ¬ (text.now ≡ name_of command)) (λ command. text.now ≡ name_of command) }
+{
+    match text {
+        b"ls-refs" => Some(Command::LsRefs),
+        b"fetch" => Some(Command::Fetch),
+        b"object-info" => Some(Command::ObjectInfo),
+        _ => None,
+    }
+}

@@ -1,0 +1,44 @@
+//! Scripts: what a client is to ask, read from a text.
+
+ghost use Rattle.std.specs.Prelude.{MatchResult};
+ghost use Rattle.git2show_lib.specs.ScriptFaults.{IsScriptFault, IsWholeScript};
+
+use crate::drafts::LineFault;
+use crate::repository_text::TextFault;
+use crate::script_lines::Script;
+use git_msg::{Limits, Request, split_at_first};
+use git_names::Format;
+use std::alloc::Global;
+
+/// Reads the text of a script: the requests that a client is to ask, one after another.
+///
+/// A request is a line that names its command (`ls-refs`, `fetch` or `object-info`) and then a line for each of its
+/// arguments, as gitprotocol-v2(5) spells them and as one who offers everything reads them. An empty line or the end of
+/// the text ends it, and further empty lines are passed over. Lines are parted by LF, which the last may lack. The first
+/// line that is none of these, or whose argument has no room within the limit, is `Bad`. `OutOfMemory` is told at a line
+/// that may stand there, of a command or of an argument that takes memory. What is judged at the end of a request, as that
+/// a fetch wants nothing, is not judged here.
+pub fn read_script(
+    alloc: Global,
+    text: &[u8],
+    format: Format,
+    limits: Limits,
+) -> Result<Vec<Request<Global>>, TextFault>
+    ensures { MatchResult result (λ requests. IsWholeScript format limits.args text.now requests.items)
+        (IsScriptFault format limits.args text.now) }
+{
+    let mut script = Script::new(alloc, format, limits);
+    let mut rest = Some(git_pkt::text(text));
+    let mut line: u64 = 0;
+    'lines: while let Some(left) = rest {
+        line += 1;
+        let (this, next) = split_at_first(left, b'\n');
+        match script.take(alloc, this) {
+            Ok(()) => {}
+            Err(LineFault::Refused) => return Err(TextFault::Bad { line }),
+            Err(LineFault::OutOfMemory) => return Err(TextFault::OutOfMemory),
+        }
+        rest = next;
+    }
+    Ok(script.finish())
+}
