@@ -136,6 +136,7 @@ fn table_of(words: Words<'_>) -> Option<Table> {
         "arguments" => Some(Table::Arguments(words.command(), format, words.features())),
         "reference-lines" => Some(Table::ReferenceLines(format)),
         "repository-texts" => Some(Table::RepositoryTexts),
+        "scripts" => Some(Table::Scripts(format, words.limit().ok()?)),
         "lists" => Some(Table::Lists(format)),
         _ => None,
     }

@@ -156,7 +156,8 @@ fn append_request(
         }
     }
     append_objects(alloc, lines, "have", request.haves())?;
-    append_flags(lines, &[(request.done(), "done")])
+    append_flags(lines, &[(request.done(), "done"), (request.size(), "size")])?;
+    append_objects(alloc, lines, "oid", request.oids())
 }
 
 // Appends the line of what a packet brought. Answers whether it was the last.

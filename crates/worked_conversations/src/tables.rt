@@ -3,14 +3,15 @@
 use crate::clients::append_noted;
 use crate::escapes::escaped;
 use crate::lists::made;
+use crate::questions::shown;
 use crate::script::{Script, Step};
-use crate::setup::offer;
+use crate::setup::{limits, offer};
 use crate::trouble::Trouble;
 use git_msg::{Argument, Caps, Command, read_argument, read_capability, read_reference};
 use git_names::{Format, Oid, RefName};
 use git_pkt::{Hold, Packet, put, text};
 use git_server::Repo;
-use git2show_lib::{TextFault, read_repo};
+use git2show_lib::{TextFault, read_repo, read_script};
 use std::alloc::{AllocError, Global};
 
 /// What is done with each text.
@@ -27,6 +28,8 @@ pub enum Table {
     Arguments(Command, Format, bool),
     ReferenceLines(Format),
     RepositoryTexts,
+    /// It is a script, whose requests have this limit.
+    Scripts(Format, u32),
     /// It is lists that may make a repository.
     Lists(Format),
 }
@@ -235,6 +238,28 @@ fn say_repository(alloc: Global, lines: &mut Vec<u8>, text: &[u8]) -> Result<(),
     Ok(())
 }
 
+// Appends the packets of each request of a script, as they are written to one who advertised all that may be named.
+fn say_script(
+    alloc: Global,
+    lines: &mut Vec<u8>,
+    (format, limit): (Format, u32),
+    text: &[u8],
+) -> Result<(), Trouble> {
+    let requests = match read_script(alloc, text, format, limits(limit)) {
+        Ok(requests) => requests,
+        Err(TextFault::OutOfMemory) => return Err(Trouble::OutOfMemory),
+        Err(fault) => {
+            let fault = format!(in alloc; "{fault}")?;
+            say(alloc, lines, fault.as_str(), Said::Nothing)?;
+            return Ok(());
+        }
+    };
+    for request in requests.as_slice() {
+        lines.extend_from_slice(shown(alloc, request)?.as_slice())?;
+    }
+    Ok(())
+}
+
 impl Table {
     // The lines that tell of a text.
     fn told(self, alloc: Global, text: &[u8]) -> Result<Vec<u8>, Trouble> {
@@ -250,6 +275,7 @@ impl Table {
             }
             Table::ReferenceLines(format) => say_reference(alloc, &mut lines, format, text)?,
             Table::RepositoryTexts => say_repository(alloc, &mut lines, text)?,
+            Table::Scripts(format, limit) => say_script(alloc, &mut lines, (format, limit), text)?,
             Table::Lists(format) => {
                 let text = str::from_utf8(text).map_err(|_| Trouble::BadCase("no text"))?;
                 let made = made(alloc, format, text)?;
