@@ -227,4 +227,5 @@ def main(wanted):
     return 1 if bad or len(found) != len(edits) else 0
 
 
-sys.exit(main(sys.argv[1:]))
+if __name__ == "__main__":
+    sys.exit(main(sys.argv[1:]))
