@@ -19,7 +19,8 @@ use Rattle.git_msg.specs.Texts.{IsErrorOf}
 use Rattle.git_msg.specs.WrittenRequest.{lines_written, written_of}
 use Rattle.git_msg.specs.declared.offers.Caps.{Caps}
 use Rattle.git_msg.specs.declared.requests.Request.{Request}
-use Rattle.git_client.specs.Parts.{Terms, Part, opening, advertisement, listing, sections, informing, closing, nearest, advertisement_of, message_of, is_end_due, part_of}
+use Rattle.git_client.specs.Parts.{Terms, Part, opening, advertisement, listing, sections, informing, closing}
+use Rattle.git_client.specs.Parts.{nearest, advertisement_of, message_of, is_end_due, part_of}
 use Rattle.git_client.specs.Sections.{is_empty, is_header_due, section_of, lines_of, allowed_after, told_by}
 use Rattle.git_client.specs.Events.{EventValue}
 use Rattle.git_client.specs.Conversation.{GiveAll, RefusesAt, HasDue}
@@ -29,7 +30,8 @@ use Rattle.git_client.specs.declared.sections.Section.TheVariants.{Acknowledgmen
 use Rattle.git_client.specs.declared.phase.Phase.{Phase}
 use Rattle.git_client.specs.declared.phase.Phase.TheVariants.{Hearing, Asking, Failed as FailedPhase}
 use Rattle.git_client.specs.declared.phase.Due.{Due}
-use Rattle.git_client.specs.declared.phase.Due.TheVariants.{Version, Capabilities, References, Header, Acknowledgments, ShallowInfo, WantedRefs, Packfile, SizeLine, Sizes, ResponseEnd}
+use Rattle.git_client.specs.declared.phase.Due.TheVariants.{Version, Capabilities, References, Header, Acknowledgments, ShallowInfo, WantedRefs}
+use Rattle.git_client.specs.declared.phase.Due.TheVariants.{Packfile, SizeLine, Sizes, ResponseEnd}
 use Rattle.git_client.specs.declared.phase.Said.{Said}
 use Rattle.git_client.specs.declared.phase.Said.TheVariants.{Nothing, Offered as OfferedSaid, Ended as EndedSaid}
 use Rattle.git_client.specs.declared.phase.Turn.{Turn}

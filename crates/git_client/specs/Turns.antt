@@ -27,19 +27,21 @@ use Rattle.git_client.specs.declared.events.Ending.{Ending}
 use Rattle.git_client.specs.declared.events.Ending.TheVariants.{FlushOnly, ResponseEnd as WithResponseEnd}
 use Rattle.git_client.specs.declared.events.Event.{Event}
 use Rattle.git_client.specs.declared.events.Event.TheVariants.{Capability as CapabilityEvent, Offered as OfferedEvent, Reference as ReferenceEvent, Ack as AckEvent, Nak as NakEvent, Ready as ReadyEvent}
-use Rattle.git_client.specs.declared.events.Event.TheVariants.{Shallow as ShallowEvent, Unshallow as UnshallowEvent, WantedRef as WantedRefEvent, Info as InfoEvent, Pack as PackEvent, Progress as ProgressEvent}
-use Rattle.git_client.specs.declared.events.Event.TheVariants.{Ended as EndedEvent}
+use Rattle.git_client.specs.declared.events.Event.TheVariants.{Shallow as ShallowEvent, Unshallow as UnshallowEvent, WantedRef as WantedRefEvent}
+use Rattle.git_client.specs.declared.events.Event.TheVariants.{Info as InfoEvent, Pack as PackEvent, Progress as ProgressEvent, Ended as EndedEvent}
 use Rattle.git_client.specs.declared.sections.Section.{Section}
 use Rattle.git_client.specs.declared.sections.Section.TheVariants.{Acknowledgments as AcknowledgmentsSection, ShallowInfo as ShallowInfoSection, WantedRefs as WantedRefsSection, Packfile as PackfileSection}
 use Rattle.git_client.specs.declared.sections.Allowed.{Allowed}
 use Rattle.git_client.specs.declared.phase.Phase.{Phase}
 use Rattle.git_client.specs.declared.phase.Phase.TheVariants.{Hearing, Ready as ReadyPhase, Asking, Leaving, Left, Failed}
 use Rattle.git_client.specs.declared.phase.Due.{Due}
-use Rattle.git_client.specs.declared.phase.Due.TheVariants.{Version, Capabilities, References, Header, Acknowledgments, ShallowInfo, WantedRefs, Packfile, SizeLine, Sizes, ResponseEnd}
+use Rattle.git_client.specs.declared.phase.Due.TheVariants.{Version, Capabilities, References, Header, Acknowledgments, ShallowInfo, WantedRefs}
+use Rattle.git_client.specs.declared.phase.Due.TheVariants.{Packfile, SizeLine, Sizes, ResponseEnd}
 use Rattle.git_client.specs.declared.phase.BandSaid.{BandSaid}
 use Rattle.git_client.specs.declared.phase.BandSaid.TheVariants.{Nothing as NothingOn, Pack as PackOn, Progress as ProgressOn}
 use Rattle.git_client.specs.declared.phase.Said.{Said}
-use Rattle.git_client.specs.declared.phase.Said.TheVariants.{Nothing, Capability as SaidCapability, Offered, Reference, Ack, Nak, Ready, Shallow, Unshallow, WantedRef, Pack, Progress, Ended, Info as SaidInfo}
+use Rattle.git_client.specs.declared.phase.Said.TheVariants.{Nothing, Capability as SaidCapability, Offered, Reference, Ack, Nak, Ready}
+use Rattle.git_client.specs.declared.phase.Said.TheVariants.{Shallow, Unshallow, WantedRef, Info as SaidInfo, Pack, Progress, Ended}
 use Rattle.git_client.specs.declared.phase.CapabilityPlaces.{CapabilityPlaces}
 use Rattle.git_client.specs.declared.phase.Turn.{Turn}
 

@@ -54,7 +54,8 @@ lines_have_none text (x ∷ xs) = lines_have_none text xs
 ends_once : {X : Type 0} (text : X → List ℕ) (xs : List X) → flushes (map (λ x. text_line (text x)) xs ++ flush ∷ []) ≡ 1
 ends_once text xs = omega (arith, flushes-append (map (λ x. text_line (text x)) xs) (flush ∷ []), lines_have_none text xs)
 
-refs_end : (symrefs peel : Bool) (refs : List Entry) → flushes (map (λ entry. text_line (reference_text (shown_line symrefs peel entry))) refs ++ flush ∷ []) ≡ 1
+refs_end : (symrefs peel : Bool) (refs : List Entry)
+    → flushes (map (λ entry. text_line (reference_text (shown_line symrefs peel entry))) refs ++ flush ∷ []) ≡ 1
 refs_end symrefs peel refs = ends_once (λ entry. reference_text (shown_line symrefs peel entry)) refs
 
 infos_end : (repo : Repository) (ids : List ObjectName)
