@@ -4,7 +4,7 @@
 #     bench/run.sh [BENCH_PACKETS [GIT2SHOW [BENCH_NAMES [BENCH_CLIENT]]]]
 #
 # The arguments are the paths of the Rattle programs; without them, where `rt run` leaves them in this repository.
-# `bench/run.sh --c-only` measures the C programs and Git alone; without a git the rows `serve` and `fetch` are left out. The streams
+# `bench/run.sh --c-only` measures the C programs and Git alone; without a git the rows `serve`, `check` and `fetch` are left out. The streams
 # lie in a new folder of /tmp (or of $BENCH_FOLDER), which is removed at the end, and take 5 GB. Times are wall-clock
 # seconds, the best of five runs that alternate; a ratio is C's time by ours, so 1.00 is as fast as C and more is faster.
 set -eu -o pipefail
@@ -36,7 +36,7 @@ if [ -z "$c_only" ]; then
 fi
 
 mkdir -p "$out"
-for program in packets show names client generate ask bands; do
+for program in packets show names client generate ask bands check; do
     ${CC:-gcc} -O3 -Wall -Wextra -o "$out/$program" "$top/bench/$program.c"
 done
 
@@ -124,6 +124,8 @@ print(resource.getrusage(resource.RUSAGE_CHILDREN).ru_maxrss)' "$@"
 
 # shellcheck source=bench/serve.sh
 source "$top/bench/serve.sh"
+# shellcheck source=bench/check.sh
+source "$top/bench/check.sh"
 # shellcheck source=bench/fetch.sh
 source "$top/bench/fetch.sh"
 has_git=$(command -v git || true)
@@ -141,6 +143,7 @@ measure 'show, 65,515 binary, 250 MB' binary "$out/show" "$our_show" show
 head -c 100000000 /dev/zero > "$streams/names" # its size alone counts: about the bytes of the names read and written
 measure 'names, 1,000,000 of each kind' names "$out/names" "$our_names"
 [ -z "$has_git" ] || measure_serve
+[ -z "$has_git" ] || measure_check
 [ -z "$has_git" ] || measure_fetch
 echo
 if [ -z "$c_only" ]; then
@@ -153,8 +156,9 @@ if [ -z "$c_only" ]; then
     echo "Peak resident set on 10 GB from a pipe: git2show show $our_peak KiB."
 fi
 if [ -z "$has_git" ]; then
-    echo "There is no git here: the rows 'serve' and 'fetch' are left out."
+    echo "There is no git here: the rows 'serve', 'check' and 'fetch' are left out."
 elif [ -z "$c_only" ]; then
     tell_serve
+    tell_check
     tell_fetch
 fi

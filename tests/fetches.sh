@@ -217,8 +217,22 @@ case_git_fetches_the_rest_of_a_history() {
 }
 
 # stateless: a helper of Git that gives each request to a server of its own, as a web server does. Git calls it for addresses
-# `stateless::NAME`.
+# `stateless::NAME`. What `advertise` and `answer` are stands in the file `stateless-server`.
 write_stateless() {
+    cat > bin/stateless-server << 'EOF'
+serve() {
+    git2show serve --repo "$name.repo" --pack "$name.pack"
+}
+
+advertise() {
+    serve < /dev/null
+}
+
+# Our server says its advertisement first, whatever it is asked.
+answer() {
+    serve | tail -c +$((skip + 1))
+}
+EOF
     cat > bin/git-remote-stateless << 'EOF'
 #!/bin/bash
 # Speaks the part of gitremote-helpers(7) that connects without a state.
@@ -226,10 +240,7 @@ set -eu
 name=$2
 here=$(mktemp -d)
 trap 'rm -rf "$here"' EXIT
-
-serve() {
-    git2show serve --repo "$name.repo" --pack "$name.pack"
-}
+. "${0%/*}/stateless-server"
 
 # take: copies a request to a file, up to its flush. Fails where none comes.
 take() {
@@ -255,11 +266,11 @@ while read -r line; do
     esac
 done
 echo
-serve < /dev/null > "$here/advertisement"
+advertise > "$here/advertisement"
 cat "$here/advertisement"
 skip=$(wc -c < "$here/advertisement")
 while take; do
-    serve < "$here/request" | tail -c +$((skip + 1))
+    answer < "$here/request"
     printf 0002
 done
 EOF

@@ -1,6 +1,6 @@
 #!/usr/bin/env bash
 # Tests the built program `git2show` from outside: as the real Git calls it (real_git.sh, clones.sh and fetches.sh), and by hand
-# (program.sh).
+# (program.sh); our client, as it asks the real Git (asking.sh); and what both ends of the real Git say, as `check` judges it (recorded.sh).
 #
 #     tests/run.sh [PROGRAM]
 #
@@ -24,21 +24,25 @@ install_git() {
     timeout 600 apt-get update >&2 && timeout 600 apt-get install -y git < /dev/null >&2
 }
 
-# `rt` has no word that builds a program and does not run it, so the run is one that reads nothing and ends at once.
-build() {
-    (cd "$top/crates/git2show" && timeout 3600 "${RT:-rt}" run -- --version < /dev/null >&2)
-}
-
 is_current() {
     [ -x "$1" ] && [ -z "$(find "$top"/crates/*/src -name '*.rt' -newer "$1" -print -quit)" ]
+}
+
+# built CRATE: prints where the crate's program lies. `rt` has no word that builds a program and does not run it, so the run is
+# one that ends at once, well or not.
+built() {
+    local it=$top/crates/$1/out/$1
+    is_current "$it" || (cd "$top/crates/$1" && timeout 3600 "${RT:-rt}" run -- --version < /dev/null >&2) || true
+    is_current "$it" || stop "the program $1 could not be built"
+    echo "$it"
 }
 
 if [ $# -gt 0 ]; then
     program=$(realpath -m "$1")
 else
-    program=$top/crates/git2show/out/git2show
-    is_current "$program" || build || stop "the program could not be built"
+    program=$(built git2show)
 fi
+fetcher=$(built example_fetch)
 [ -x "$program" ] || stop "no program $program"
 command -v git > /dev/null || install_git || stop "no git, and it could not be installed"
 
@@ -61,6 +65,8 @@ export PATH=$room/bin:$PATH
 . "$top/tests/real_git.sh"
 . "$top/tests/clones.sh"
 . "$top/tests/fetches.sh"
+. "$top/tests/asking.sh"
+. "$top/tests/recorded.sh"
 . "$top/tests/program.sh"
 
 git --version

@@ -52,16 +52,18 @@ fn command<'a>(alloc: Global) -> Result<Command<'a>, AllocError> {
 /// What the words after `check` may be.
 fn check_command<'a>(alloc: Global) -> Result<Command<'a>, AllocError> {
     Command::new(alloc, "check")
-        .about("Reads a recorded advertisement as a client does, and prints its events")
+        .about(
+            "Judges a recorded conversation, and prints its transcript: what was asked, and what came",
+        )
         .arg(
             Arg::new(alloc, "REQUESTS")
                 .required(true)
-                .help("File of what the client sent: so far nothing, or a flush"),
+                .help("File of what the client sent"),
         )?
         .arg(
-            Arg::new(alloc, "RESPONSES").required(true).help(
-                "File of what the server sent: so far its advertisement alone",
-            ),
+            Arg::new(alloc, "RESPONSES")
+                .required(true)
+                .help("File of what the server sent, its advertisement first"),
         )?
         .arg(
             Arg::new(alloc, "format")
@@ -75,7 +77,9 @@ fn check_command<'a>(alloc: Global) -> Result<Command<'a>, AllocError> {
             Arg::new(alloc, "stateless")
                 .long("stateless")
                 .action(ArgAction::SetTrue)
-                .help("Each response ends with a response-end packet (no response is read yet)"),
+                .help(
+                    "Each response ends with a response-end packet, as where each has its own connection",
+                ),
         )
 }
 
@@ -130,6 +134,7 @@ fn run_check(rt: &HostRuntime, matches: &ArgMatches<'_>) -> Result<(), ProgramFa
     let mut piece = [0; PIECE];
     let mut other_piece = [0; PIECE];
     Ok(check(
+        rt.alloc(),
         &mut requests,
         &mut responses,
         format,

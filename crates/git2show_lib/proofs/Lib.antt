@@ -1,7 +1,6 @@
+pub mod CheckRuns
 pub mod Sendings
 pub mod Printing
-pub mod Transcribing
-pub mod Asking
 pub mod Saying
 pub mod Rising
 pub mod Drafting
@@ -11,3 +10,7 @@ pub mod ScriptLists
 pub mod Scripting
 pub mod ScriptReading
 pub mod ScriptLaws
+pub mod RequestsRead
+pub mod Hearing
+pub mod HearingAnswers
+pub mod HearingSessions

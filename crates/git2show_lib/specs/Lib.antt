@@ -2,6 +2,8 @@ pub mod PacketLines
 pub mod LineBuffer
 pub mod ShownStream
 pub mod Reports
+pub mod CheckFaults
+pub mod CheckSteps
 pub mod CheckedStreams
 pub mod RepositoryLines
 pub mod RepositoryText
@@ -12,3 +14,4 @@ pub mod Scripts
 pub mod HeldScripts
 pub mod ScriptLines
 pub mod ScriptFaults
+pub mod ToldAnswers

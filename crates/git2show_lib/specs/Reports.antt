@@ -2,7 +2,7 @@
 use Rattle.std.specs.Prelude.{ℕ, List, [], ◌∷◌, ◌++◌, codes, decimal}
 use Rattle.git_pkt.specs.FaultNames.{fault_text, run_fault_text}
 use Rattle.git2show_lib.specs.declared.reports.ProgramFault.{ProgramFault}
-use Rattle.git2show_lib.specs.declared.reports.ProgramFault.TheVariants.{Run, Check, Repo, File, OutOfMemory}
+use Rattle.git2show_lib.specs.declared.reports.ProgramFault.TheVariants.{Run, Check, Repo, Script, File, OutOfMemory}
 use Rattle.git2show_lib.specs.declared.checking.CheckFault.{CheckFault}
 use Rattle.git2show_lib.specs.declared.checking.CheckFault.TheVariants.{Requests, Responses, ReadFault, WriteFault, ReadLimit}
 
@@ -18,6 +18,7 @@ abbrev pub program_fault_text : ProgramFault → List ℕ
 program_fault_text (Run fault) = run_fault_text fault
 program_fault_text (Check fault) = check_fault_text fault
 program_fault_text (Repo line) = codes "BadRepo at " ++ decimal line
+program_fault_text (Script line) = codes "BadScript at " ++ decimal line
 program_fault_text File = codes "File"
 program_fault_text OutOfMemory = codes "OutOfMemory"
 

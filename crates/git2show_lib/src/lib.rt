@@ -1,13 +1,16 @@
 //! What the program `git2show` does, over any reader and writer.
 #![tactic(auto)]
 
+pub mod answer_laws;
 mod checking;
 mod drafts;
+mod left_over;
 mod lines;
 mod reports;
 mod repository_lines;
 mod repository_text;
 pub mod repository_text_laws;
+mod requests_read;
 pub mod script_laws;
 mod script_lines;
 mod scripts;

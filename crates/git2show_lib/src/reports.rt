@@ -31,6 +31,9 @@ pub enum ProgramFault {
     /// A repository's text is bad from this line on, counted from 1.
     #[error("BadRepo at {0}")]
     Repo(u64),
+    /// A script is bad from this line on, counted from 1.
+    #[error("BadScript at {0}")]
+    Script(u64),
     /// A file cannot be opened, or cannot be read whole where it is read whole.
     #[error("File")]
     File,
@@ -68,21 +71,23 @@ fn write_line(fault: &ProgramFault, out: &mut [u8]) -> usize
         ProgramFault::Run(RunFault::WriteFault) => put_at(out, at, b"WriteFault"),
         ProgramFault::Run(RunFault::ReadLimit) => put_at(out, at, b"ReadLimit"),
         ProgramFault::Check(fault) => put_check_fault(out, at, fault),
-        ProgramFault::Repo(line) => put_bad_repo(out, at, *line),
+        ProgramFault::Repo(line) => put_bad_line(out, at, b"BadRepo at ", *line),
+        ProgramFault::Script(line) => put_bad_line(out, at, b"BadScript at ", *line),
         ProgramFault::File => put_at(out, at, b"File"),
         ProgramFault::OutOfMemory => put_at(out, at, b"OutOfMemory"),
     };
     put_at(out, at, b"\n")
 }
 
-/// Puts at a place that a line of a repository's text is bad, and answers where that ends.
-fn put_bad_repo(out: &mut [u8], at: usize, line: u64) -> usize
-    requires { at + 31 ≤ length out.old }
-    ensures within { result ≤ at + 31 }
-    ensures put { take result out.new ≡ take at out.old ++ codes "BadRepo at " ++ decimal line }
+/// Puts at a place which line of a text is bad, after the words for it, and answers where that ends.
+fn put_bad_line(out: &mut [u8], at: usize, words: &[u8], line: u64) -> usize
+    requires words { length words.now ≤ 13 }
+    requires room { at + 33 ≤ length out.old }
+    ensures within { result ≤ at + 33 }
+    ensures put { take result out.new ≡ take at out.old ++ words.now ++ decimal line }
 {
     let mut digits = Buffer::new();
-    let at = put_at(out, at, b"BadRepo at ");
+    let at = put_at(out, at, words);
     put_at(out, at, digits.format(line).as_bytes())
 }
 

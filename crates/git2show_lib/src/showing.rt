@@ -1,11 +1,12 @@
 //! Packets shown as lines.
 
-ghost use Rattle.std.specs.Prelude.{◌≡◌, ◌<◌, ◌≤◌, [], ◌||◌, ⊤, Bool, None, Err, false, length, IsTrue, OnOk, OnErr, IfErr, IfOk, is_err};
+ghost use Rattle.std.specs.Prelude.{◌≡◌, ◌<◌, ◌≤◌, [], ◌∷◌, ◌||◌, None, false, length, IsTrue, OnOk, OnErr, IfErr, IfOk, is_err};
 ghost use Rattle.std.specs.Io.KnownBytes.{IsAtEnd};
 ghost use Rattle.git_pkt.specs.Told.{inner_of, reads_of, has_failed, has_ended, IsNew};
-ghost use Rattle.git_pkt.specs.Engine.{EndsExchange, FailsAs, Gives, GivesUntil, HasRead, IsShownBy, IsSpent};
+ghost use Rattle.git_pkt.specs.Engine.{FailsAs, IsShownBy, IsSpent};
+ghost use Rattle.git_pkt.specs.Streams.{flow, is_broken, Moves};
 ghost use Rattle.git_pkt.specs.PacketReader.{fault_of};
-ghost use Rattle.git2show_lib.specs.ShownStream.{Shows, ShowsSoFar, PrintsPiece, PrintsInto};
+ghost use Rattle.git2show_lib.specs.ShownStream.{Shows, ShowsPiece, PrintsPiece, WritesFront};
 
 use crate::lines::Lines;
 use git_pkt::{Fault, Got, PacketReader, RunFault, Told, receive};
@@ -32,9 +33,9 @@ pub fn show<R: Read, W: Write>(
     ensures end { OnOk result (IsAtEnd (R.remaining (inner_of reader.new))) }
     ensures fault { IfErr result (IsShownBy (IsTrue (has_failed reader.new)) (IsTrue (has_failed writer.new)) (IsSpent reader.new turns)) }
     ensures told { FailsAs result (has_failed reader.new) (has_failed writer.new) }
-    ensures brought { IfErr result (IsShownBy ⊤ ⊤ (HasRead turns (R.remaining (inner_of reader.old)) (R.remaining (inner_of reader.new)))) }
-    ensures shown { EndsExchange (Shows result (has_ended reader.new)) (R.remaining (inner_of reader.old)) (R.remaining (inner_of reader.new))
-        (W.contents (inner_of writer.old)) (W.contents (inner_of writer.new)) result }
+    ensures shown { Moves (is_broken result) (Shows result (has_ended reader.new) turns)
+        (flow (R.remaining (inner_of reader.old)) (R.remaining (inner_of reader.new)) ∷ [])
+        (flow (W.contents (inner_of writer.old)) (W.contents (inner_of writer.new)) ∷ []) }
 {
     let mut packets = PacketReader::new();
     let mut lines = Lines::new();
@@ -58,12 +59,9 @@ fn show_piece<W: Write>(
     requires sound { fault_of packets.old ≡ None }
     requires empty { lines.old ≡ [] }
     requires sound_writer { has_failed writer.old ≡ false }
-    ensures ok { OnOk result (Gives (ShowsSoFar packets.old) (ShowsSoFar packets.new) piece.now
-        (W.contents (inner_of writer.old)) (W.contents (inner_of writer.new))) }
-    ensures goes_on { OnOk result (fault_of packets.new ≡ None) }
+    ensures shown { ShowsPiece result packets.old packets.new piece.now
+        (flow (W.contents (inner_of writer.old)) (W.contents (inner_of writer.new))) }
     ensures sent { OnOk result (lines.new ≡ []) }
-    ensures err { IfErr result (λ fault. (ended : Bool) → GivesUntil (ShowsSoFar packets.old) (Shows (Err fault) ended) piece.now
-        (W.contents (inner_of writer.old)) (W.contents (inner_of writer.new)) fault) }
     ensures told { FailsAs result false (has_failed writer.new) }
     ensures fault { IfErr result (IsShownBy ⊥ (IsTrue (has_failed writer.new)) ⊥) }
 {
@@ -84,10 +82,10 @@ fn print_piece<W: Write>(
 ) -> Result<Option<Fault>, RunFault>
     requires sound { fault_of packets.old ≡ None }
     requires empty { lines.old ≡ [] }
-    ensures ok { IfOk result (λ stopped. PrintsPiece stopped packets.old piece.now
-        (W.contents (inner_of writer.old)) (W.contents (inner_of writer.new)) lines.new packets.new) }
-    ensures err { OnErr result (PrintsInto packets.old piece.now
-        (W.contents (inner_of writer.old)) (W.contents (inner_of writer.new)) packets.new) }
+    ensures ok { IfOk result (λ stopped. PrintsPiece stopped packets.old packets.new piece.now lines.new
+        (flow (W.contents (inner_of writer.old)) (W.contents (inner_of writer.new)))) }
+    ensures front { OnErr result (WritesFront packets.old packets.new piece.now
+        (flow (W.contents (inner_of writer.old)) (W.contents (inner_of writer.new)))) }
     ensures fault { IfErr result (λ fault. fault ≡ RunFault.WriteFault) }
     ensures failed { has_failed writer.new ≡ (has_failed writer.old || is_err result) }
 {

@@ -5,6 +5,8 @@
 #[cfg(test)]
 mod checking;
 #[cfg(test)]
+mod conversing;
+#[cfg(test)]
 mod escapes;
 #[cfg(test)]
 mod faults;

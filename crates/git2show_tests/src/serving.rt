@@ -12,9 +12,9 @@ use test_streams::{Sink, Stream};
 
 // A writer that passes bytes on when it is flushed.
 #[derive(Drop)]
-struct Held {
-    waiting: Vec<u8>,
-    passed: Vec<u8>,
+pub(crate) struct Held {
+    pub(crate) waiting: Vec<u8>,
+    pub(crate) passed: Vec<u8>,
 }
 
 impl Write for Held {
@@ -79,11 +79,11 @@ fn all_is_flushed_where_the_reads_are_spent(rt: HostRuntime) -> Result<(), Fail>
 
 // Gives a piece at a read, and notes how many bytes had been flushed by then.
 #[derive(Drop)]
-struct Asking<'a> {
-    pieces: &'a [&'a [u8]],
-    next: usize,
-    flushed: &'a Cell<usize>,
-    seen: Vec<usize>,
+pub(crate) struct Asking<'a> {
+    pub(crate) pieces: &'a [&'a [u8]],
+    pub(crate) next: usize,
+    pub(crate) flushed: &'a Cell<usize>,
+    pub(crate) seen: Vec<usize>,
 }
 
 impl<'a> Read for Asking<'a> {
@@ -101,9 +101,9 @@ impl<'a> Read for Asking<'a> {
 
 // Counts the bytes that its flushes passed on.
 #[derive(Drop)]
-struct Counted<'a> {
-    waiting: usize,
-    flushed: &'a Cell<usize>,
+pub(crate) struct Counted<'a> {
+    pub(crate) waiting: usize,
+    pub(crate) flushed: &'a Cell<usize>,
 }
 
 impl<'a> Write for Counted<'a> {

@@ -58,12 +58,12 @@ goes_quietly : (phase : Phase) → goes_on phase ≡ true → is_quiet phase ≡
 goes_quietly (Failed fault) e = refl
 goes_quietly phase e = e
 
-not_left : (phase : Phase) → is_quiet phase ≡ true → has_left_in phase ≡ false
+pub not_left : (phase : Phase) → is_quiet phase ≡ true → has_left_in phase ≡ false
 not_left Leaving e = absurd (cc)
 not_left Left e = absurd (cc)
 not_left phase e = refl
 
-owes_nothing : {A : Type 0} (phase : Phase) (request : Option (Request A)) → is_quiet phase ≡ true → left_in phase request ≡ []
+pub owes_nothing : {A : Type 0} (phase : Phase) (request : Option (Request A)) → is_quiet phase ≡ true → left_in phase request ≡ []
 owes_nothing (Asking writer) request e = absurd (cc)
 owes_nothing Leaving request e = absurd (cc)
 owes_nothing phase request e = refl
@@ -78,7 +78,8 @@ on_terms : (P : Format → Ending → Type 0) (format : Format) (ending : Ending
     → P t.format t.ending
 on_terms P format ending t same_format same_ending h = subst (P t.format) same_ending (subst (λ (f : Format). P f ending) same_format h)
 
-some_place : (t : Terms) (asked : List Asked) (before : List Pkt) (due : Due) → IsDue t asked before due → HasDue t asked before
+-- where something is due, it has a place
+pub some_place : (t : Terms) (asked : List Asked) (before : List Pkt) (due : Due) → IsDue t asked before due → HasDue t asked before
 some_place t asked before due d = (_, place_is t asked before due (noted_of (advertisement_of before)) d refl)
 
 none_of : (asked : List Asked) → length asked ≡ 0 → asked ≡ []

@@ -6,14 +6,16 @@ use Rattle.git_pkt.proofs.KnownRest.{sound_rest}
 use Rattle.git_msg.specs.Asked.{Asked}
 use Rattle.git_client.specs.Parts.{Terms, nearest}
 use Rattle.git_client.specs.Events.{EventValue}
-use Rattle.git_client.specs.Conversation.{GiveAll, Sounds, HasEvents, HasNoted, GoesWell, IsConversation}
-use Rattle.git_client.specs.Turns.{is_ready, fault_in, question_in}
-use Rattle.git_client.specs.Client.{History, Converses, StandsIn, Goes, AreWhole, fault_of, can_ask, bytes_used, phase_of, reader_of, caps_of, request_of}
-use Rattle.git_client.specs.Client.{left_to_say, said_of, spelled}
+use Rattle.git_client.specs.Conversation.{GiveAll, Sounds, HasEvents, HasNoted, HasDue, GoesWell, GoesOn, IsConversation}
+use Rattle.git_client.specs.Turns.{is_ready, takes_packets, fault_in, question_in}
+use Rattle.git_client.specs.Client.{History, Converses, StandsIn, Goes, AreWhole, fault_of, can_ask, wants_input, bytes_used, phase_of, reader_of}
+use Rattle.git_client.specs.Client.{caps_of, request_of, left_to_say, said_of, spelled}
 use Rattle.git_client.specs.declared.phase.Phase.{Phase}
-use Rattle.git_client.specs.declared.phase.Phase.TheVariants.{Ready, Failed}
+use Rattle.git_client.specs.declared.phase.Phase.TheVariants.{Hearing, Ready, Failed}
 use Rattle.git_client.specs.declared.client.Client.{Client}
 use Rattle.git_client.proofs.Sequences.{gives_more}
+use Rattle.git_client.proofs.Phases.{sound_where_due}
+use Rattle.git_client.proofs.Carries.{some_place}
 
 module _ (t : Terms) (asked : List Asked) (clean given : List Given) (rest : List ℕ) (end : ℕ) (question : Option Asked) (reader : PacketReader) where
   -- a phase without a fault
@@ -27,6 +29,11 @@ module _ (t : Terms) (asked : List Asked) (clean given : List Given) (rest : Lis
       → Goes t asked clean given rest question Ready reader
   ready_in Ready e h = h
   ready_in phase e h = absurd (cc)
+
+  -- where bytes of the server are due, a place comes after the packets
+  due_in : (phase : Phase) → takes_packets phase ≡ true → StandsIn phase t asked clean given rest end question reader → HasDue t asked (nearest clean [])
+  due_in (Hearing due) e h = some_place t asked (nearest clean []) due h.behind
+  due_in phase e h = absurd (cc)
 
 abbrev pub all_clean : (t : Terms) (asked : List Asked) (bytes : List ℕ) (clean given : List Given) (rest : List ℕ) (events : List EventValue)
     → Splits 0 bytes given rest → GiveAll t asked [] clean events → given ≡ clean → Sounds t asked bytes clean events
@@ -74,6 +81,22 @@ module _ {A : Type 0} (t : Terms) (h : History) (client : Client A) (c : Convers
         splits = c.reads.splits;
         sound = all_gives goes.cut;
         still_open = (sound_rest (reader_of client) 0 h.used c.given c.rest goes.sound c.reads).1;
+      }
+
+  -- where bytes of the server are due, nothing of those that came has a fault, and more is due after them
+  pub awaits_more : wants_input client ≡ true → GoesOn t h.asked h.used h.events
+  awaits_more waits =
+      let question = question_in (request_of client) in
+      let sound = sound_where_due (phase_of client) waits in
+      let goes = goes_in t h.asked c.clean c.given c.rest (length h.used) question (reader_of client) (phase_of client) sound c.stands in
+      let due = due_in t h.asked c.clean c.given c.rest (length h.used) question (reader_of client) (phase_of client) waits c.stands in
+      record {
+        given = c.given;
+        rest = c.rest;
+        splits = c.reads.splits;
+        sound = all_gives goes.cut;
+        still_open = (sound_rest (reader_of client) 0 h.used c.given c.rest goes.sound c.reads).1;
+        due = subst (λ (gs : List Given). HasDue t h.asked (nearest gs [])) (sym goes.cut) due;
       }
 
   pub is_whole : can_ask client ≡ true → IsConversation t h.asked h.used h.events

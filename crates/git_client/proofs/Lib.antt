@@ -18,3 +18,11 @@ pub mod Faults
 pub mod OneFault
 pub mod Packs
 pub mod EventsHeard
+pub mod Phases
+pub mod Alongs
+pub mod EventCounts
+pub mod Telling
+pub mod HearingSteps
+pub mod SayingSteps
+pub mod HearingBytes
+pub mod ClientRuns

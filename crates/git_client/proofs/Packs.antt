@@ -16,7 +16,7 @@ use Rattle.git_client.proofs.PlacePackets.{comes_after, packet_adds}
 use Rattle.git_client.proofs.Determined.{same_sounds}
 use Rattle.git_client.proofs.EventsHeard.{all_clean}
 
-pack_bytes-append : (events later : List EventValue) → pack_bytes (events ++ later) ≡ pack_bytes events ++ pack_bytes later
+pub pack_bytes-append : (events later : List EventValue) → pack_bytes (events ++ later) ≡ pack_bytes events ++ pack_bytes later
 pack_bytes-append [] later = refl
 pack_bytes-append (pack byte ∷ events) later = ap (λ (l : List ℕ). byte ∷ l) (pack_bytes-append events later)
 pack_bytes-append (event ∷ events) later = pack_bytes-append events later

@@ -114,6 +114,15 @@ pub record GoesWell (t : Terms) (asked : List Asked) (bytes : List ℕ) (events 
   pub sound : GiveAll t asked [] given events
   pub still_open : IsOpen rest
 
+-- nothing of the bytes has a fault so far, and more is due after them
+pub record GoesOn (t : Terms) (asked : List Asked) (bytes : List ℕ) (events : List EventValue) : Type 0 where
+  pub given : List Given
+  pub rest : List ℕ
+  pub splits : Splits 0 bytes given rest
+  pub sound : GiveAll t asked [] given events
+  pub still_open : IsOpen rest
+  pub due : HasDue t asked (nearest given [])
+
 -- the bytes are just a whole advertisement and a whole response to each question, of which no packet has a fault, and
 -- these are their events
 pub record IsConversation (t : Terms) (asked : List Asked) (bytes : List ℕ) (events : List EventValue) : Type 0 where

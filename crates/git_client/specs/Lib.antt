@@ -7,3 +7,5 @@ pub mod Packs
 pub mod Turns
 pub mod Client
 pub mod Transcript
+pub mod Runs
+pub mod RunSteps

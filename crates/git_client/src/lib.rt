@@ -3,7 +3,9 @@
 
 mod asking;
 mod client;
+mod conversing;
 mod events;
+mod hearing;
 mod judge;
 mod judge_lines;
 pub mod laws;
@@ -12,5 +14,7 @@ mod sections;
 mod transcript;
 
 pub use crate::client::Client;
+pub use crate::conversing::{ask_next, converse};
 pub use crate::events::{Ending, Event, Heard, HeardGot, Sent};
+pub use crate::hearing::{Window, hear};
 pub use crate::transcript::{write_asked, write_event};

@@ -28,3 +28,6 @@ pub mod WholeRequests
 pub mod ResponseLines
 pub mod ResponseFaults
 pub mod OfferedArguments
+pub mod StreamSteps
+pub mod StreamEnds
+pub mod StreamReadings

@@ -5,7 +5,7 @@ use Rattle.git_pkt.specs.Packets.{Pkt, flush, delim, resp_end, payload, text_of}
 use Rattle.git_pkt.specs.Splits.{Given}
 use Rattle.git_pkt.specs.declared.fault.Fault.{Fault}
 use Rattle.git_pkt.specs.declared.fault.Kind.{Kind}
-use Rattle.git_pkt.specs.declared.fault.Kind.TheVariants.{NotOurs, PackSource, StreamTooLong, TooMuchKept}
+use Rattle.git_pkt.specs.declared.fault.Kind.TheVariants.{NotOurs, PackSource, StreamTooLong, TooMuchKept, Truncated}
 use Rattle.git_msg.specs.declared.offers.Offer.{Offer}
 use Rattle.git_msg.specs.declared.arguments.Command.{Command}
 use Rattle.git_msg.specs.declared.arguments.Command.TheVariants.{LsRefs, Fetch, ObjectInfo}
@@ -23,6 +23,7 @@ use Rattle.git_msg.specs.Requests.{IsTold}
 abbrev pub NotByItself : Kind → Type 0
 NotByItself TooMuchKept = Unit {0}
 NotByItself StreamTooLong = Unit {0}
+NotByItself Truncated = Unit {0}
 NotByItself NotOurs = Unit {0}
 NotByItself PackSource = Unit {0}
 NotByItself _ = ⊥

@@ -18,3 +18,6 @@ pub mod ResponseLines
 pub mod Texts
 pub mod WholeRequests
 pub mod WrittenRequest
+pub mod StreamStages
+pub mod RequestStreams
+pub mod RequestStreamSteps

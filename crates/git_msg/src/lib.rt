@@ -20,6 +20,7 @@ mod reference_places;
 mod references;
 mod requests;
 mod response_lines;
+mod streams;
 mod texts;
 mod writer;
 mod writing;
@@ -41,6 +42,7 @@ pub use crate::response_lines::{
     Boundary, Info, WantedRef, put_ack, put_boundary, put_info, put_wanted, read_ack,
     read_boundary, read_info, read_wanted,
 };
+pub use crate::streams::{ReadGot, ReadRequest, RequestStream};
 pub use crate::texts::{after, error_message, is_error, split_at_first};
 pub use crate::writer::RequestWriter;
 pub use crate::writing::put_line;

@@ -12,4 +12,5 @@ pub mod FaultNames
 pub mod NameFaults
 pub mod Told
 pub mod Engine
+pub mod Streams
 pub mod Bands

@@ -1,34 +1,35 @@
 -- A run of a server, one call after another.
-use Rattle.std.proofs.Common.{arith, ◌≡◌, ◌≢◌, ◌⊎◌, ℕ, ◌+◌, ◌-◌, ◌<◌, ◌≤◌, length, length-append, length-drop, take, drop, take-append-drop, IsSome}
-use Rattle.std.proofs.Common.{IfErr, OnErr, IsErrAnd, Result, inl, inr, Bool, true, false, List, [], ◌∷◌, ◌++◌, Option, Some, None, refl, sym, ap}
+use Rattle.std.proofs.Common.{arith, ◌≡◌, ◌≢◌, ℕ, ◌+◌, ◌-◌, ◌<◌, ◌≤◌, length, length-append, length-drop, take, drop, take-append-drop}
+use Rattle.std.proofs.Common.{OnErr, IsErrAnd, Result, Ok, Err, Bool, true, false, List, [], ◌∷◌, ◌++◌, Option, Some, None, refl, sym, ap}
 use Rattle.std.proofs.Common.{◌∙◌, append_assoc, append-nil, subst}
-use Rattle.std.specs.Io.KnownBytes.{Appends, Consumes, Keeps}
-use Rattle.std.proofs.KnownBytes.{Appends-kept, Appends-nil, Appends-trans, Consumes-nil, Consumes-trans}
-use Rattle.git_pkt.specs.Engine.{Exchanges}
-use Rattle.git_pkt.specs.Told.{AppendsFront}
-use Rattle.git_pkt.proofs.EngineLemmas.{AppendsFront-after, Exchanges-flush, Exchanges-more, Exchanges-nothing}
+use Rattle.std.specs.Io.KnownBytes.{Consumes, Keeps}
+use Rattle.std.proofs.KnownBytes.{Consumes-nil}
+use Rattle.git_pkt.specs.Streams.{Flow, flow, WrittenAs, Moves, is_broken}
+use Rattle.git_pkt.proofs.EngineLemmas.{written_nothing, written_then, written_flushed, at_fault, brings_more}
+use Rattle.git_pkt.proofs.EngineLemmas.{Moved, moved_nothing, moved_flushed, moved_unread, moved_on, moves}
 use Rattle.git_server.specs.Repository.{RepoState}
 use Rattle.git_server.specs.Sessions.{Setting}
 use Rattle.git_server.specs.Server.{Running, outcome_of, wants_input}
 use Rattle.git_server.specs.ServerCalls.{Closes, EndsAs, Goes, IsAfterPull, OwesNow, Pulls, StopsInTime, TellsPulled, given_by}
-use Rattle.git_server.specs.Runs.{IsBroken, IsRun, Standing, Waits, WritesAll, WritesFront, WritesItsEnd, WritesOn}
+use Rattle.git_server.specs.Runs.{EndsRun, Served, Waits, WritesAll, WritesItsEnd, WritesOn, WritesPart}
 use Rattle.git_server.specs.declared.outcome.Outcome.{Outcome}
 use Rattle.git_server.specs.declared.outcome.Outcome.TheVariants.{Refused}
 use Rattle.git_server.specs.declared.server.Pulled.{Pulled}
 use Rattle.git_server.specs.declared.server.Pulled.TheVariants.{Packet, Finished}
 use Rattle.git_server.specs.declared.server.Server.{Server}
 use Rattle.git_pkt.proofs.Pieces.{left_of, take_joined}
-use Rattle.git_server.proofs.Going.{goes_join, goes_nowhere, no_outcome}
-use Rattle.git_server.proofs.Outcomes.{ended_stays, too_long_before}
+use Rattle.git_server.proofs.Going.{goes_join, no_outcome}
+use Rattle.git_server.proofs.Outcomes.{too_long_before}
 use Rattle.git_server.proofs.SessionLaws.{all_answered, every_moment}
 use Rattle.git_server.proofs.TooLong.{ends_too_long}
 use Rattle.std.proofs.lemmas.List.{length-take}
-use Rattle.std.proofs.lemmas.Result.{err_from_is_err_and}
 use Rattle.git_pkt.specs.declared.fault.Fault.{Fault}
 use Rattle.git_pkt.specs.declared.fault.Kind.TheVariants.{StreamTooLong}
 use Rattle.git_pkt.specs.declared.fault.RunFault.{RunFault}
+use Rattle.git_pkt.specs.declared.fault.RunFault.TheVariants.{ReadFault, WriteFault, ReadLimit}
 use denote.Ref.{Bor}
 
+-- bytes of which none are left have no front and no back
 front_of_nothing : (front back : List ℕ) → [] ≡ front ++ back → front ≡ []
 front_of_nothing [] back is = refl
 front_of_nothing (x ∷ xs) back is = absurd (cc)
@@ -37,57 +38,42 @@ back_of_nothing : (front back : List ℕ) → [] ≡ front ++ back → back ≡ 
 back_of_nothing [] back is = sym is
 back_of_nothing (x ∷ xs) back is = absurd (cc)
 
-some_not_none : (o : Option Outcome) → IsSome o → o ≡ None → ⊥
-some_not_none None some is = absurd (cc)
-some_not_none (Some outcome) some is = cc
+module _ {R A : Type 0} (state : R → RepoState) where
+  -- what was used whole is a front of itself
+  pub all_in_part : (broken : Bool) (old new : Server R A) (bytes : List ℕ) (writer : Flow) → WritesOn broken state old new bytes writer
+      → WritesPart broken state old new bytes writer
+  all_in_part broken old new bytes writer writes = record { used = bytes; unused = []; parts = sym (append-nil bytes); writes = writes }
 
-module _ {R A : Type 0} (state : R → RepoState) (old middle new : Server R A) where
-  module _ (held_before held held_after : Option (List ℕ)) where
-    -- what a call gave was written after what was written before
-    pub writes_more : (u v h : List ℕ) → WritesOn state u held_before held old middle → Appends held held_after h
-        → Goes state v h middle new → WritesOn state (u ++ v) held_before held_after old new
-    writes_more u v h so_far written goes =
+  module _ (old middle new : Server R A) (held_before held held_after : Option (List ℕ)) where
+    -- what a call gave was written after what was written before, as far as that went
+    writes_more : (broken : Bool) (u v h : List ℕ) → WritesOn false state old middle u (flow held_before held)
+        → WrittenAs broken (flow held held_after) h → Goes state v h middle new → WritesOn broken state old new (u ++ v) (flow held_before held_after)
+    writes_more broken u v h so_far written goes =
         record {
           given = so_far.given ++ h;
-          written = Appends-trans held_before held held_after so_far.given h so_far.written written;
+          written = written_then broken held_before held held_after so_far.given h so_far.written written;
           goes = goes_join state old middle new u v so_far.given h so_far.goes goes;
         }
 
-  -- a packet was pulled and written
-  pub writes_packet : (held_before held held_after : Option (List ℕ)) (pulled : Pulled) (bytes : Bor (List ℕ))
-      → WritesOn state [] held_before held old middle → Pulls state middle pulled new
-      → pulled ≡ Packet bytes → Appends held held_after bytes.now → WritesOn state [] held_before held_after old new
-  writes_packet held_before held held_after pulled bytes so_far pulls is written =
-      writes_more held_before held held_after [] [] bytes.now so_far written (subst (λ (p : Pulled). Goes state [] (given_by p) middle new) is pulls.goes)
-
-  -- a packet was pulled, and a front of it written
-  pub writes_front : (held_before held held_after : Option (List ℕ)) (pulled : Pulled) (bytes : Bor (List ℕ))
-      → WritesOn state [] held_before held old middle → Pulls state middle pulled new
-      → pulled ≡ Packet bytes → AppendsFront held held_after bytes.now → WritesFront state [] held_before held_after old new
-  writes_front held_before held held_after pulled bytes so_far pulls is front =
-      record {
-        used = [];
-        unused = [];
-        given = so_far.given ++ bytes.now;
-        parts = refl;
-        written = AppendsFront-after held_before held held_after so_far.given bytes.now so_far.written front;
-        goes = goes_join state old middle new [] [] so_far.given bytes.now so_far.goes
-            (subst (λ (p : Pulled). Goes state [] (given_by p) middle new) is pulls.goes);
-      }
+    -- a packet was pulled, and written as far as that went
+    pub writes_packet : (broken : Bool) (pulled : Pulled) (bytes : Bor (List ℕ)) → WritesOn false state old middle [] (flow held_before held)
+        → Pulls state middle pulled new → pulled ≡ Packet bytes → WrittenAs broken (flow held held_after) bytes.now
+        → WritesOn broken state old new [] (flow held_before held_after)
+    writes_packet broken pulled bytes so_far pulls is written =
+        writes_more broken [] [] bytes.now so_far written (subst (λ (p : Pulled). Goes state [] (given_by p) middle new) is pulls.goes)
 
   -- the end was pulled
-  pub writes_end : (held_before held : Option (List ℕ)) (pulled : Pulled) (outcome : Outcome)
-      → WritesOn state [] held_before held old middle → Pulls state middle pulled new
-      → pulled ≡ Finished outcome → IsAfterPull (outcome_of old) (outcome_of middle) → WritesItsEnd state [] held_before held old new outcome
-  writes_end held_before held pulled outcome so_far pulls is after =
+  pub writes_end : (old middle new : Server R A) (writer : Flow) (pulled : Pulled) (outcome : Outcome) → WritesOn false state old middle [] writer
+      → Pulls state middle pulled new → pulled ≡ Finished outcome → IsAfterPull (outcome_of old) (outcome_of middle)
+      → WritesItsEnd state old new [] writer outcome
+  writes_end old middle new writer pulled outcome so_far pulls is after =
       let tells : TellsPulled state middle (Finished outcome) new = subst (λ (p : Pulled). TellsPulled state middle p new) is pulls.tells in
       record {
-        used = [];
-        unused = [];
-        given = so_far.given;
-        parts = refl;
-        written = so_far.written;
-        goes = subst (Goes state [] so_far.given old) (sym tells.2) so_far.goes;
+        part = all_in_part false old new [] writer (record {
+          given = so_far.given;
+          written = so_far.written;
+          goes = subst (Goes state [] so_far.given old) (sym tells.2) so_far.goes;
+        });
         ends = ap outcome_of tells.2 ∙ tells.0;
         owes = subst (λ (server : Server R A). OwesNow state server []) (sym tells.2) tells.1;
         session = subst (λ (server : Server R A). EndsAs state server outcome) (sym tells.2) tells.3;
@@ -99,267 +85,259 @@ module _ {R A : Type 0} (state : R → RepoState) (old middle new : Server R A) 
 
 module _ {R A : Type 0} (state : R → RepoState) (old middle fed new : Server R A)
     (held_before held held_after : Option (List ℕ)) (bytes : List ℕ) (done used : ℕ) (within : done ≤ length bytes)
-    (so_far : WritesOn state (take done bytes) held_before held old middle)
+    (so_far : WritesOn false state old middle (take done bytes) (flow held_before held))
     (feeds : Goes state (take used (take (length bytes - done) (drop done bytes))) [] middle fed) where
-  fed_so_far : WritesOn state (take (done + used) bytes) held_before held old fed
+  fed_so_far : WritesOn false state old fed (take (done + used) bytes) (flow held_before held)
   fed_so_far =
-      subst (λ (l : List ℕ). WritesOn state l held_before held old fed) (take_joined bytes done used within)
-      (writes_more state old middle fed held_before held held (take done bytes)
-      (take used (take (length bytes - done) (drop done bytes))) [] so_far (Appends-nil held) feeds)
+      subst (λ (l : List ℕ). WritesOn false state old fed l (flow held_before held)) (take_joined bytes done used within)
+      (writes_more state old middle fed held_before held held false (take done bytes)
+      (take used (take (length bytes - done) (drop done bytes))) [] so_far (written_nothing held) feeds)
 
-  -- a part of a piece was used, and all that is owed for it was written
-  pub writes_piece : WritesAll state [] held held_after fed new → WritesOn state (take (done + used) bytes) held_before held_after old new
-  writes_piece all =
-      subst (λ (l : List ℕ). WritesOn state l held_before held_after old new) (append-nil (take (done + used) bytes))
-      (writes_more state old fed new held_before held held_after (take (done + used) bytes) [] all.given fed_so_far all.written all.goes)
+  -- a part of a piece was used, and what is owed for it was written, as far as that went
+  fed_on : (broken : Bool) → WritesOn broken state fed new [] (flow held held_after)
+      → WritesOn broken state old new (take (done + used) bytes) (flow held_before held_after)
+  fed_on broken writes =
+      subst (λ (l : List ℕ). WritesOn broken state old new l (flow held_before held_after)) (append-nil (take (done + used) bytes))
+      (writes_more state old fed new held_before held held_after broken (take (done + used) bytes) [] writes.given fed_so_far writes.written writes.goes)
+
+  pub writes_piece : WritesAll state fed new [] (flow held held_after) → WritesOn false state old new (take (done + used) bytes) (flow held_before held_after)
+  writes_piece all = fed_on false all.writes
+
+  -- that part is a front of the piece
+  pub writes_piece_part : (broken : Bool) → WritesPart broken state fed new [] (flow held held_after)
+      → WritesPart broken state old new bytes (flow held_before held_after)
+  writes_piece_part broken part =
+      let nothing : part.used ≡ [] = front_of_nothing part.used part.unused part.parts in
+      record {
+        used = take (done + used) bytes;
+        unused = drop (done + used) bytes;
+        parts = sym (take-append-drop (done + used) bytes);
+        writes = fed_on broken (subst (λ (l : List ℕ). WritesOn broken state fed new l (flow held held_after)) nothing part.writes);
+      }
 
   -- a part of a piece was used, and with it the session ended
-  pub writes_piece_end : (outcome : Outcome) → WritesItsEnd state [] held held_after fed new outcome → wants_input middle ≡ true
+  pub writes_piece_end : (outcome : Outcome) → WritesItsEnd state fed new [] (flow held held_after) outcome → wants_input middle ≡ true
       → StopsInTime state middle used (take (length bytes - done) (drop done bytes)) (outcome_of fed) → IsAfterPull (outcome_of fed) (outcome_of new)
-      → WritesItsEnd state bytes held_before held_after old new outcome
-  writes_piece_end outcome end wants in_time after =
-      let nothing : end.used ≡ [] = front_of_nothing end.used end.unused end.parts in
-      let on = writes_more state old fed new held_before held held_after (take (done + used) bytes) end.used end.given fed_so_far end.written end.goes in
-      record {
-        used = take (done + used) bytes;
-        unused = drop (done + used) bytes;
-        given = on.given;
-        parts = sym (take-append-drop (done + used) bytes);
-        written = on.written;
-        goes = subst (λ (l : List ℕ). Goes state l on.given old new)
-            (ap (λ (l : List ℕ). take (done + used) bytes ++ l) nothing ∙ append-nil (take (done + used) bytes)) on.goes;
-        ends = end.ends;
-        owes = end.owes;
-        session = end.session;
-        in_time = λ s used_before over before r wants_before fault told too_long.
-            let inner = so_far.goes s used_before over before r in
-            let less = in_time s (used_before ++ take done bytes) over (before ++ so_far.given) inner wants fault
-            (too_long_before (outcome_of fed) (outcome_of new) fault after (end.ends ∙ told) too_long) too_long in
-            omega (arith, less, ap length (left_of bytes done within), length-drop done bytes, length-take (done + used) bytes);
-      }
-
-  -- a part of a piece was used, and a front of what was given for it was written
-  pub writes_piece_front : WritesFront state [] held held_after fed new → WritesFront state bytes held_before held_after old new
-  writes_piece_front front =
-      let nothing : front.used ≡ [] = front_of_nothing front.used front.unused front.parts in
-      let given = fed_so_far.given ++ front.given in
-      let goes = goes_join state old fed new (take (done + used) bytes) front.used fed_so_far.given front.given fed_so_far.goes front.goes in
-      record {
-        used = take (done + used) bytes;
-        unused = drop (done + used) bytes;
-        given = given;
-        parts = sym (take-append-drop (done + used) bytes);
-        written = AppendsFront-after held_before held held_after fed_so_far.given front.given fed_so_far.written front.written;
-        goes = subst (λ (l : List ℕ). Goes state l given old new) (ap (λ (l : List ℕ). take (done + used) bytes ++ l) nothing
-            ∙ append-nil (take (done + used) bytes)) goes;
-      }
-
-module _ {R A : Type 0} (state : R → RepoState) (old new : Server R A) where
-  -- nothing was used or given, and a flush failed
-  pub nothing_written : (held held_after : Option (List ℕ)) → Keeps held held_after → WritesFront state [] held held_after old old
-  nothing_written held held_after kept = record {
-    used = [];
-    unused = [];
-    given = [];
-    parts = refl;
-    written = ([], [], refl, Appends-kept held held held_after [] (Appends-nil held) kept);
-    goes = goes_nowhere state old;
+      → WritesItsEnd state old new bytes (flow held_before held_after) outcome
+  unfolding writes_piece_part
+  writes_piece_end outcome end wants in_time after = record {
+    part = writes_piece_part false end.part;
+    ends = end.ends;
+    owes = end.owes;
+    session = end.session;
+    in_time = λ s used_before over before r wants_before fault told too_long.
+        let inner = so_far.goes s used_before over before r in
+        let less = in_time s (used_before ++ take done bytes) over (before ++ so_far.given) inner wants fault
+        (too_long_before (outcome_of fed) (outcome_of new) fault after (end.ends ∙ told) too_long) too_long in
+        let so_much : length (writes_piece_part false end.part).used ≡ length (take (done + used) bytes) = refl in
+        omega (arith, less, so_much, ap length (left_of bytes done within), length-drop done bytes, length-take (done + used) bytes);
   }
 
-  -- the session ended, and the flush after it failed
-  pub end_unflushed : (bytes : List ℕ) (held_before held held_after : Option (List ℕ)) (outcome : Outcome)
-      → WritesItsEnd state bytes held_before held old new outcome
-      → Keeps held held_after → WritesFront state bytes held_before held_after old new
-  end_unflushed bytes held_before held held_after outcome end kept = record {
-    used = end.used;
-    unused = end.unused;
-    given = end.given;
-    parts = end.parts;
-    written = (end.given, [], sym (append-nil end.given), Appends-kept held_before held held_after end.given end.written kept);
-    goes = end.goes;
-  }
+-- the writer was flushed, or failed in that
+pub part_flushed : {R A : Type 0} (broken : Bool) (state : R → RepoState) (old new : Server R A) (bytes : List ℕ) (before held after : Option (List ℕ))
+    → WritesPart false state old new bytes (flow before held) → Keeps held after → WritesPart broken state old new bytes (flow before after)
+part_flushed broken state old new bytes before held after part kept = record {
+  used = part.used;
+  unused = part.unused;
+  parts = part.parts;
+  writes = record {
+    given = part.writes.given;
+    written = written_flushed broken before held after part.writes.given part.writes.written kept;
+    goes = part.writes.goes;
+  };
+}
 
-pub keeps_same : (o : Option (List ℕ)) → Keeps o o
+-- a writer that nobody called holds what it held
+keeps_same : (o : Option (List ℕ)) → Keeps o o
 keeps_same None = tt
 keeps_same (Some bytes) = refl
 
--- a server that waits for bytes has no outcome, so it used some
-pub used_some : {R A : Type 0} (fed new : Server R A) (used : ℕ)
-    → 0 < used ⊎ IsSome (outcome_of fed) → IsAfterPull (outcome_of fed) (outcome_of new) → wants_input new ≡ true → 0 < used
-used_some fed new used (inl some) after wants = some
-used_some fed new used (inr ended) after wants =
-    absurd (some_not_none (outcome_of new) (ended_stays (outcome_of fed) (outcome_of new) after ended) (no_outcome new.phase wants))
-
--- bytes were read, of which a front was used
-reads_front : (left_before left left_after : Option (List ℕ)) (used bytes front unused : List ℕ) → bytes ≡ front ++ unused
-    → Consumes left_before left used → Consumes left left_after bytes → Consumes left_before left_after ((used ++ front) ++ unused)
-reads_front left_before left left_after used bytes front unused parts before read =
-    subst (Consumes left_before left_after) (ap (λ (l : List ℕ). used ++ l) parts ∙ sym (append_assoc used front unused))
-    (Consumes-trans left_before left left_after used bytes before read)
-
 module _ {R A : Type 0} (state : R → RepoState) (s : Setting) where
-  -- the server stands to the bytes used and given while its input goes on
-  abbrev pub StandsTo : Server R A → List ℕ → List ℕ → Type 0
-  StandsTo server used given = Running state s used false given server
+  -- the server stands to the bytes used and given while its input goes on, and so many reads brought some bytes
+  abbrev pub StandsAfter : ℕ → Server R A → List ℕ → List ℕ → Type 0
+  StandsAfter count server used given = Running state s used false given server × (count ≤ length used)
 
-  -- how it stands, whether or not the input has ended
-  abbrev pub standing : Server R A → Standing
-  standing server used over given = Running state s used over given server
-
-  -- a new server, which has written what it owes at first
-  pub starts : (old new : Server R A) (left held_before held_after : Option (List ℕ))
-      → Running state s [] false [] old → WritesAll state [] held_before held_after old new
-      → Exchanges (StandsTo new) left left held_before held_after
-  starts old new left held_before held_after r all =
-      record { used = []; given = all.given; read = Consumes-nil left; written = all.written; related = all.goes s [] false [] r }
+  -- how a run with this answer moved its streams
+  abbrev pub RunEnds : Result Outcome RunFault → Bool → ℕ → Server R A → Flow → Flow → Type 0
+  RunEnds result ended turns server reader writer = Moves (is_broken result) (Served state s result ended turns server) (reader ∷ []) (writer ∷ [])
 
   -- a turn: the writer was flushed, bytes were read, and all that was given for them was written
-  pub turns_on : (old new : Server R A) (left_before left left_after held_before held flushed held_after : Option (List ℕ)) (bytes : List ℕ)
-      → Exchanges (StandsTo old) left_before left held_before held → Keeps held flushed → Consumes left left_after bytes
-      → WritesAll state bytes flushed held_after old new
-      → Exchanges (StandsTo new) left_before left_after held_before held_after
-  turns_on old new left_before left left_after held_before held flushed held_after bytes so_far kept read all =
-      Exchanges-more (Exchanges-flush so_far kept) read
-      (record { given = all.given; written = all.written; carries = λ used given r. all.goes s used false given r })
+  pub turns_on : (count n : ℕ) (piece : List ℕ) (old new : Server R A) {left_before left left_after held_before held flushed held_after : Option (List ℕ)}
+      → Moved false (StandsAfter count old) (flow left_before left) (flow held_before held) → Keeps held flushed → Consumes left left_after (take n piece)
+      → WritesAll state old new (take n piece) (flow flushed held_after) → n ≤ length piece → 0 < n
+      → Moved false (StandsAfter (count + 1) new) (flow left_before left_after) (flow held_before held_after)
+  turns_on count n piece old new so_far kept read all within some =
+      moved_on false (StandsAfter (count + 1) new) (take n piece) all.writes.given
+      (λ used given r. (all.writes.goes s used false given r.0, brings_more count n used piece r.1 within some))
+      (moved_flushed false so_far kept) read all.writes.written
 
-  -- where the server waits for bytes, all answers were given
-  pub answered : (server : Server R A) (left_before left_after held_before held_after : Option (List ℕ)) → wants_input server ≡ true
-      → Exchanges (StandsTo server) left_before left_after held_before held_after → Waits s (standing server) left_before left_after held_before held_after
-  answered server left_before left_after held_before held_after wants so_far =
-      record {
-        used = so_far.used;
-        given = so_far.given;
-        read = so_far.read;
-        written = so_far.written;
-        related = (all_answered state server s so_far.used false so_far.given so_far.related wants, so_far.related);
-      }
+  -- ---- the run ended where the server waits for bytes
 
-  -- the input ended
-  closes_on : (old closed : Server R A) (left_before left held_before held : Option (List ℕ)) → Exchanges (StandsTo old) left_before left held_before held
-      → Closes state old closed → Exchanges (λ used given. Running state s used true given closed) left_before left held_before held
-  closes_on old closed left_before left held_before held on closes =
-      record { used = on.used; given = on.given; read = on.read; written = on.written; related = (closes s on.used false on.given on.related).0 }
+  module _ (ended : Bool) (turns count : ℕ) (server : Server R A) where
+    -- all that was read was used
+    rests : (result : Result Outcome RunFault) {reader writer : Flow} → Moved (is_broken result) (StandsAfter count server) reader writer
+        → ((used given : List ℕ) → StandsAfter count server used given → EndsRun s result turns used [] false given)
+        → RunEnds result ended turns server reader writer
+    rests result so_far ends =
+        moves (λ used given r. record {
+          used = used;
+          unused = [];
+          over = false;
+          said = given;
+          heard = ap (λ (l : List ℕ). l ∷ []) (sym (append-nil used));
+          told = refl;
+          stands = r.0;
+          whole = λ e. absurd (cc);
+          ends = ends used given r;
+        }) so_far
 
-  -- a write failed, whether or not the input had ended
-  breaks_at : (over : Bool) (old new : Server R A) (left_before left left_after held_before held held_after : Option (List ℕ)) (bytes : List ℕ) (ended : Bool)
-      → Exchanges (λ used given. Running state s used over given old) left_before left held_before held → Consumes left left_after bytes
-      → (front : WritesFront state bytes held held_after old new) → (over ≡ true → (front.unused ≡ []) × (ended ≡ true))
-      → IsBroken s (standing new) left_before left_after held_before held_after ended
-  breaks_at over old new left_before left left_after held_before held held_after bytes ended on read front whole =
-      let stands = front.goes s on.used over on.given on.related in
-      record {
-        used = on.used ++ front.used;
-        unused = front.unused;
-        over = over;
-        given = on.given ++ front.given;
-        read = reads_front left_before left left_after on.used bytes front.used front.unused front.parts on.read read;
-        written = AppendsFront-after held_before held held_after on.given front.given on.written front.written;
-        moment = every_moment state new s (on.used ++ front.used) over (on.given ++ front.given) stands;
-        stands = stands;
-        whole = whole;
-      }
+    -- the flush before a read failed
+    pub breaks_unflushed : {reader : Flow} {before held after : Option (List ℕ)} → Moved false (StandsAfter count server) reader (flow before held)
+        → Keeps held after → RunEnds (Err WriteFault) ended turns server reader (flow before after)
+    breaks_unflushed so_far kept =
+        rests (Err WriteFault) (moved_flushed true so_far kept) (λ used given r. every_moment state server s used false given r.0)
 
-  -- a write failed while the input went on
-  pub breaks_off : (old new : Server R A) (left_before left left_after held_before held flushed held_after : Option (List ℕ)) (bytes : List ℕ) (ended : Bool)
-      → Exchanges (StandsTo old) left_before left held_before held → Keeps held flushed → Consumes left left_after bytes
-      → WritesFront state bytes flushed held_after old new
-      → IsBroken s (standing new) left_before left_after held_before held_after ended
-  breaks_off old new left_before left left_after held_before held flushed held_after bytes ended so_far kept read front =
-      breaks_at false old new left_before left left_after held_before flushed held_after bytes ended (Exchanges-flush so_far kept) read front (λ e. absurd (cc))
+    module _ (wants : wants_input server ≡ true) where
+      -- all answers were given
+      waits : (used given : List ℕ) → StandsAfter count server used given → Waits s used [] false given
+      waits used given r = record { all = refl; goes_on = refl; answered = all_answered state server s used false given r.0 wants }
 
-  -- the flush before a read failed
-  pub breaks_unflushed : (server : Server R A) (left_before left held_before held held_after : Option (List ℕ)) (ended : Bool)
-      → Exchanges (StandsTo server) left_before left held_before held → Keeps held held_after
-      → IsBroken s (standing server) left_before left held_before held_after ended
-  breaks_unflushed server left_before left held_before held held_after ended so_far kept =
-      breaks_off server server left_before left left held_before held held held_after [] ended so_far (keeps_same held) (Consumes-nil left)
-      (nothing_written state server server held held_after kept)
+      -- a read failed
+      pub ends_unread : {left_before left left_after before held after : Option (List ℕ)}
+          → Moved false (StandsAfter count server) (flow left_before left) (flow before held) → Keeps held after → Keeps left left_after
+          → RunEnds (Err ReadFault) ended turns server (flow left_before left_after) (flow before after)
+      ends_unread so_far flushed kept = rests (Err ReadFault) (moved_unread (moved_flushed false so_far flushed) kept) waits
 
-  -- a write failed after the input had ended
-  pub breaks_closed : (old closed new : Server R A) (left_before left left_after held_before held flushed held_after : Option (List ℕ)) (ended : Bool)
-      → Exchanges (StandsTo old) left_before left held_before held → Keeps held flushed → Consumes left left_after [] → Closes state old closed
-      → WritesFront state [] flushed held_after closed new → ended ≡ true → IsBroken s (standing new) left_before left_after held_before held_after ended
-  breaks_closed old closed new left_before left left_after held_before held flushed held_after ended so_far kept read closes front told =
-      breaks_at true closed new left_before left left_after held_before flushed held_after [] ended
-      (closes_on old closed left_before left held_before flushed (Exchanges-flush so_far kept) closes) read front
-      (λ e. (back_of_nothing front.used front.unused front.parts, told))
+      -- all reads were made, and each brought some bytes
+      pub ends_spent : {reader : Flow} {before held after : Option (List ℕ)} → Moved false (StandsAfter count server) reader (flow before held)
+          → Keeps held after → turns ≤ count → RunEnds (Err ReadLimit) ended turns server reader (flow before after)
+      ends_spent so_far flushed spent =
+          rests (Err ReadLimit) (moved_flushed false so_far flushed) (λ used given r. (waits used given r, omega (arith, spent, r.1)))
 
-  -- the session ended, whether or not the input had
-  ends_at : (over : Bool) (old new : Server R A)
-      (left_before left left_after held_before held written_all held_after : Option (List ℕ)) (bytes : List ℕ) (ended : Bool) (outcome : Outcome)
-      → Exchanges (λ used given. Running state s used over given old) left_before left held_before held → Consumes left left_after bytes
-      → (end : WritesItsEnd state bytes held written_all old new outcome) → Keeps written_all held_after → (over ≡ true → (end.unused ≡ []) × (ended ≡ true))
-      → ((fault : Fault) → outcome ≡ Refused fault → fault.kind ≡ StreamTooLong → end.unused ≢ [])
-      → IsRun s (standing new) left_before left_after held_before held_after ended outcome
-  ends_at over old new left_before left left_after held_before held written_all held_after bytes ended outcome on read end last whole in_time =
-      let stands = end.goes s on.used over on.given on.related in
-      record {
-        used = on.used ++ end.used;
-        unused = end.unused;
-        over = over;
-        given = on.given ++ end.given;
-        read = reads_front left_before left left_after on.used bytes end.used end.unused end.parts on.read read;
-        written = Appends-kept held_before written_all held_after (on.given ++ end.given)
-            (Appends-trans held_before held written_all on.given end.given on.written end.written) last;
-        session = end.session s (on.used ++ end.used) over (on.given ++ end.given) stands;
-        stands = stands;
-        whole = whole;
-        in_time = in_time;
-      }
+  -- ---- the run ended in a step
 
-  -- the session ended before a byte was read
-  pub ends_at_once : (old new : Server R A) (left held written held_after : Option (List ℕ)) (ended : Bool) (outcome : Outcome)
-      → Running state s [] false [] old → WritesItsEnd state [] held written old new outcome → Keeps written held_after
-      → IsRun s (standing new) left left held held_after ended outcome
-  ends_at_once old new left held written held_after ended outcome r end last =
-      let nothing : end.used ≡ [] = front_of_nothing end.used end.unused end.parts in
-      ends_at false old new left left left held held written held_after [] ended outcome (Exchanges-nothing left held r) (Consumes-nil left) end last
-      (λ e. absurd (cc))
-      (λ fault is too_long.
-      let session = end.session s end.used false end.given (end.goes s [] false [] r) in
-      let all : length end.used ≡ 9223372036854775807 = (ends_too_long s end.used false end.given outcome fault session is too_long).1 in
-      absurd (omega (arith, all, ap length nothing)))
+  module _ (ended : Bool) (turns : ℕ) (over : Bool) (old new : Server R A) (bytes : List ℕ) {P : List ℕ → List ℕ → Type 0}
+      {left_before left left_after held_before held : Option (List ℕ)} (runs : (used given : List ℕ) → P used given → Running state s used over given old)
+      (so_far : Moved false P (flow left_before left) (flow held_before held)) (read : Consumes left left_after bytes) where
+    -- a front of the bytes was used, whether or not the input had ended with them
+    stops : (result : Result Outcome RunFault) {held_after : Option (List ℕ)}
+        → (part : WritesPart (is_broken result) state old new bytes (flow held held_after))
+        → (over ≡ true → (part.unused ≡ []) × (ended ≡ true))
+        → ((used given : List ℕ) → P used given → Running state s (used ++ part.used) over (given ++ part.writes.given) new
+        → EndsRun s result turns (used ++ part.used) part.unused over (given ++ part.writes.given))
+        → RunEnds result ended turns new (flow left_before left_after) (flow held_before held_after)
+    stops result part whole ends =
+        moves (λ used given served. served) (moved_on (is_broken result) (λ used given. Served state s result ended turns new (used ∷ []) (given ∷ []))
+        bytes part.writes.given (λ used given at.
+        let stands = part.writes.goes s used over given (runs used given at) in
+        record {
+          used = used ++ part.used;
+          unused = part.unused;
+          over = over;
+          said = given ++ part.writes.given;
+          heard = ap (λ (l : List ℕ). (used ++ l) ∷ []) part.parts ∙ ap (λ (l : List ℕ). l ∷ []) (sym (append_assoc used part.used part.unused));
+          told = refl;
+          stands = stands;
+          whole = whole;
+          ends = ends used given at stands;
+        }) so_far read part.writes.written)
 
-  -- the session ended with a front of the bytes
-  pub ends_with : (old new : Server R A) (left_before left left_after held_before held flushed written_all held_after : Option (List ℕ))
-      (bytes : List ℕ) (ended : Bool) (outcome : Outcome)
-      → Exchanges (StandsTo old) left_before left held_before held → Keeps held flushed → Consumes left left_after bytes
-      → WritesItsEnd state bytes flushed written_all old new outcome → Keeps written_all held_after → wants_input old ≡ true
-      → IsRun s (standing new) left_before left_after held_before held_after ended outcome
-  ends_with old new left_before left left_after held_before held flushed written_all held_after bytes ended outcome so_far kept read end last wants =
-      ends_at false old new left_before left left_after held_before flushed written_all held_after bytes ended outcome
-      (Exchanges-flush so_far kept) read end last
-      (λ e. absurd (cc))
-      (λ fault is too_long none.
-      let less = end.in_time s so_far.used false so_far.given so_far.related wants fault (ap Some is) too_long in
-      omega (arith, less, ap length end.parts, length-append end.used end.unused, ap length none))
+    -- a write failed
+    stops_broken : {held_after : Option (List ℕ)} → (part : WritesPart true state old new bytes (flow held held_after))
+        → (over ≡ true → (part.unused ≡ []) × (ended ≡ true))
+        → RunEnds (Err WriteFault) ended turns new (flow left_before left_after) (flow held_before held_after)
+    stops_broken part whole =
+        stops (Err WriteFault) part whole (λ used given at stands.
+        every_moment state new s (used ++ part.used) over (given ++ part.writes.given) stands)
 
-  -- the session ended with the input
-  pub ends_closed : (old closed new : Server R A)
-      (left_before left left_after held_before held flushed held_after : Option (List ℕ)) (ended : Bool) (outcome : Outcome)
-      → Exchanges (StandsTo old) left_before left held_before held → Keeps held flushed → Consumes left left_after [] → Closes state old closed
-      → WritesItsEnd state [] flushed held_after closed new outcome → ended ≡ true
-      → IsRun s (standing new) left_before left_after held_before held_after ended outcome
-  ends_closed old closed new left_before left left_after held_before held flushed held_after ended outcome so_far kept read closes end told =
-      let on = closes_on old closed left_before left held_before flushed (Exchanges-flush so_far kept) closes in
-      ends_at true closed new left_before left left_after held_before flushed held_after held_after [] ended outcome
-      on read end (keeps_same held_after) (λ e. (back_of_nothing end.used end.unused end.parts, told))
-      (λ fault is too_long.
-      let session = end.session s (on.used ++ end.used) true (on.given ++ end.given) (end.goes s on.used true on.given on.related) in
-      let goes_on : true ≡ false = (ends_too_long s (on.used ++ end.used) true (on.given ++ end.given) outcome fault session is too_long).0 in
-      absurd (cc))
+    -- the session ended
+    stops_whole : (outcome : Outcome) {held_after : Option (List ℕ)} (last : Option (List ℕ))
+        → (end : WritesItsEnd state old new bytes (flow held held_after) outcome) → Keeps held_after last
+        → (over ≡ true → (end.part.unused ≡ []) × (ended ≡ true))
+        → ((used given : List ℕ) → P used given → (fault : Fault) → outcome ≡ Refused fault → fault.kind ≡ StreamTooLong → end.part.unused ≢ [])
+        → RunEnds (Ok outcome) ended turns new (flow left_before left_after) (flow held_before last)
+    unfolding part_flushed
+    stops_whole outcome {held_after} last end kept whole in_time =
+        stops (Ok outcome) (part_flushed false state old new bytes held held_after last end.part kept) whole (λ used given at stands. record {
+          session = end.session s (used ++ end.part.used) over (given ++ end.part.writes.given) stands;
+          in_time = in_time used given at;
+        })
 
-if_err_at : {T : Type 0} (r : Result T RunFault) (fault : RunFault) (P : RunFault → Type 0) → IsErrAnd r (λ e. e ≡ fault) → P fault → IfErr r P
-if_err_at r fault P met holds =
-    let (e, is, same) = err_from_is_err_and r met in
-    subst (λ x. IfErr x P) (sym is) (subst P (sym same) holds)
+  module _ (ended : Bool) (turns : ℕ) (old new : Server R A) where
+    -- nothing was read yet, and a write failed
+    pub breaks_at_once : (left held held_after : Option (List ℕ)) → Running state s [] false [] old → WritesPart true state old new [] (flow held held_after)
+        → RunEnds (Err WriteFault) ended turns new (flow left left) (flow held held_after)
+    breaks_at_once left held held_after r part =
+        stops_broken ended turns false old new [] (λ used given at. at) (moved_nothing left held r) (Consumes-nil left) part (λ e. absurd (cc))
 
--- what holds of the fault that is told
-pub until_at : {T : Type 0} (r : Result T RunFault) (fault told : RunFault) (P : RunFault → Type 0)
-    → IsErrAnd r (λ e. e ≡ fault) → fault ≡ told → P told → IfErr r P
-until_at r fault told P met is holds = if_err_at r fault P met (subst P (sym is) holds)
+    -- the session ended before a byte was read
+    pub ends_at_once : (left held written held_after : Option (List ℕ)) (outcome : Outcome) → Running state s [] false [] old
+        → WritesItsEnd state old new [] (flow held written) outcome → Keeps written held_after
+        → RunEnds (Ok outcome) ended turns new (flow left left) (flow held held_after)
+    ends_at_once left held written held_after outcome r end last =
+        let nothing : end.part.used ≡ [] = front_of_nothing end.part.used end.part.unused end.part.parts in
+        let so_far : Moved false (λ used given. (used ≡ []) × Running state s used false given old) (flow left left) (flow held held) =
+        moved_nothing left held (refl, r) in
+        stops_whole ended turns false old new [] (λ used given at. at.1) so_far (Consumes-nil left) outcome held_after end last (λ e. absurd (cc))
+        (λ used given at fault is too_long.
+        let session =
+        end.session s (used ++ end.part.used) false (given ++ end.part.writes.given) (end.part.writes.goes s used false given at.1) in
+        let all : length (used ++ end.part.used) ≡ 9223372036854775807 =
+        (ends_too_long s (used ++ end.part.used) false (given ++ end.part.writes.given) outcome fault session is too_long).1 in
+        absurd (omega (arith, all, length-append used end.part.used, ap length at.0, ap length nothing)))
 
+    module _ (count : ℕ) (bytes : List ℕ) {left_before left left_after held_before held flushed held_after : Option (List ℕ)}
+        (so_far : Moved false (StandsAfter count old) (flow left_before left) (flow held_before held)) (kept : Keeps held flushed)
+        (read : Consumes left left_after bytes) where
+      -- a write failed while the input went on
+      pub breaks_off : WritesPart true state old new bytes (flow flushed held_after)
+          → RunEnds (Err WriteFault) ended turns new (flow left_before left_after) (flow held_before held_after)
+      breaks_off part =
+          stops_broken ended turns false old new bytes (λ used given at. at.0) (moved_flushed false so_far kept) read part (λ e. absurd (cc))
+
+      -- the session ended with a front of the bytes
+      pub ends_with : (outcome : Outcome) (last : Option (List ℕ)) → WritesItsEnd state old new bytes (flow flushed held_after) outcome
+          → Keeps held_after last → wants_input old ≡ true → RunEnds (Ok outcome) ended turns new (flow left_before left_after) (flow held_before last)
+      ends_with outcome last end flush wants =
+          stops_whole ended turns false old new bytes (λ used given at. at.0) (moved_flushed false so_far kept) read outcome last end flush
+          (λ e. absurd (cc))
+          (λ used given at fault is too_long none.
+          let less = end.in_time s used false given at.0 wants fault (ap Some is) too_long in
+          omega (arith, less, ap length end.part.parts, length-append end.part.used end.part.unused, ap length none))
+
+  module _ (ended : Bool) (turns count : ℕ) (old closed new : Server R A) {left_before left left_after held_before held flushed held_after : Option (List ℕ)}
+      (so_far : Moved false (StandsAfter count old) (flow left_before left) (flow held_before held)) (kept : Keeps held flushed)
+      (read : Consumes left left_after []) (closes : Closes state old closed) (told : ended ≡ true) where
+    -- a write failed after the input had ended
+    pub breaks_closed : WritesPart true state closed new [] (flow flushed held_after)
+        → RunEnds (Err WriteFault) ended turns new (flow left_before left_after) (flow held_before held_after)
+    breaks_closed part =
+        stops_broken ended turns true closed new [] (λ used given at. (closes s used false given at.0).0) (moved_flushed false so_far kept) read part
+        (λ e. (back_of_nothing part.used part.unused part.parts, told))
+
+    -- the session ended with the input
+    pub ends_closed : (outcome : Outcome) → WritesItsEnd state closed new [] (flow flushed held_after) outcome
+        → RunEnds (Ok outcome) ended turns new (flow left_before left_after) (flow held_before held_after)
+    ends_closed outcome end =
+        stops_whole ended turns true closed new [] (λ used given at. (closes s used false given at.0).0) (moved_flushed false so_far kept) read outcome
+        held_after end (keeps_same held_after) (λ e. (back_of_nothing end.part.used end.part.unused end.part.parts, told))
+        (λ used given at fault is too_long.
+        let session =
+        end.session s (used ++ end.part.used) true (given ++ end.part.writes.given)
+        (end.part.writes.goes s used true given (closes s used false given at.0).0) in
+        let goes_on : true ≡ false =
+        (ends_too_long s (used ++ end.part.used) true (given ++ end.part.writes.given) outcome fault session is too_long).0 in
+        absurd (cc))
+
+-- what `?` answers is the fault that it met
+pub serves_at : {R A : Type 0} (state : R → RepoState) (first server : Server R A) (result : Result Outcome RunFault) (fault met : RunFault) (ended : Bool)
+    (turns : ℕ) (reader writer : Flow) → fault ≡ met → IsErrAnd result (λ e. e ≡ fault)
+    → ((s : Setting) → Running state s [] false [] first → RunEnds state s (Err met) ended turns server reader writer)
+    → (s : Setting) → Running state s [] false [] first → RunEnds state s result ended turns server reader writer
+serves_at state first server result fault met ended turns reader writer named answered serves =
+    at_fault result fault met (λ (r : Result Outcome RunFault). (s : Setting) → Running state s [] false [] first
+    → RunEnds state s r ended turns server reader writer) named answered serves
+
+-- what holds where a write failed
 pub on_err_at : {T : Type 0} (r : Result T RunFault) (fault : RunFault) (P : Type 0) → IsErrAnd r (λ e. e ≡ fault) → P → OnErr r P
-on_err_at r fault P met holds =
-    let (e, is, same) = err_from_is_err_and r met in
-    subst (λ x. OnErr x P) (sym is) holds
+on_err_at {T} r fault P met holds = at_fault r fault fault (λ (x : Result T RunFault). OnErr x P) refl met holds

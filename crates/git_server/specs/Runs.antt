@@ -1,101 +1,83 @@
--- What a run of a server over a reader and a writer does to their bytes.
-use Rattle.std.specs.Prelude.{◌≡◌, ◌≢◌, ℕ, Bool, true, false, List, [], ◌++◌, length, Option, Some, None}
-use Rattle.std.specs.Io.KnownBytes.{Appends, Consumes}
-use Rattle.git_pkt.specs.Engine.{Exchanges, HasRead}
-use Rattle.git_pkt.specs.Told.{AppendsFront}
+-- What a run of a server over a reader and a writer comes to: what it used, and what it gave for that.
+use Rattle.std.specs.Prelude.{◌≡◌, ◌≢◌, ℕ, ◌≤◌, Bool, true, false, List, [], ◌∷◌, ◌++◌, length, Option, Some, None, Result, Ok, Err}
+use Rattle.git_pkt.specs.Streams.{Flow, WrittenAs}
 use Rattle.git_pkt.specs.declared.fault.Fault.{Fault}
 use Rattle.git_pkt.specs.declared.fault.Kind.TheVariants.{StreamTooLong}
 use Rattle.git_pkt.specs.declared.fault.RunFault.{RunFault}
 use Rattle.git_pkt.specs.declared.fault.RunFault.TheVariants.{ReadFault, WriteFault, ReadLimit, Refused as RefusedRun}
 use Rattle.git_server.specs.Repository.{RepoState}
 use Rattle.git_server.specs.Sessions.{Setting, IsAnswered, IsRunning, IsSession}
-use Rattle.git_server.specs.Server.{outcome_of, wants_input}
+use Rattle.git_server.specs.Server.{Running, outcome_of, wants_input}
 use Rattle.git_server.specs.ServerCalls.{EndsAs, Goes, OwesNow, StopsInTime}
 use Rattle.git_server.specs.declared.outcome.Outcome.{Outcome}
 use Rattle.git_server.specs.declared.outcome.Outcome.TheVariants.{Refused}
 use Rattle.git_server.specs.declared.server.Server.{Server}
 
-module _ {R A : Type 0} (state : R → RepoState) (bytes : List ℕ) (held_before held_after : Option (List ℕ)) (old new : Server R A) where
-  -- all the bytes were used, and what was given for them so far was written
-  pub record WritesOn : Type 0 where
-    pub given : List ℕ
-    pub written : Appends held_before held_after given
-    pub goes : Goes state bytes given old new
+-- ---- its steps
 
-  -- a write failed: a front of the bytes was used, and of what was given for it a front was written
-  pub record WritesFront : Type 0 where
-    pub used : List ℕ
-    pub unused : List ℕ
-    pub given : List ℕ
-    pub parts : bytes ≡ used ++ unused
-    pub written : AppendsFront held_before held_after given
-    pub goes : Goes state used given old new
+-- the bytes were used, and what was given for them was written; where a write failed, a front of it
+pub record WritesOn {R A : Type 0} (broken : Bool) (state : R → RepoState) (old new : Server R A) (bytes : List ℕ) (writer : Flow) : Type 0 where
+  pub given : List ℕ
+  pub written : WrittenAs broken writer given
+  pub goes : Goes state bytes given old new
 
+-- a front of the bytes was used, and what was given for it was written; where a write failed, a front of it
+pub record WritesPart {R A : Type 0} (broken : Bool) (state : R → RepoState) (old new : Server R A) (bytes : List ℕ) (writer : Flow) : Type 0 where
+  pub used : List ℕ
+  pub unused : List ℕ
+  pub parts : bytes ≡ used ++ unused
+  pub writes : WritesOn broken state old new used writer
+
+module _ {R A : Type 0} (state : R → RepoState) (old new : Server R A) (bytes : List ℕ) (writer : Flow) where
   -- all the bytes were used, and all that was given for them was written
   pub record WritesAll : Type 0 where
-    pub given : List ℕ
-    pub written : Appends held_before held_after given
-    pub goes : Goes state bytes given old new
+    pub writes : WritesOn false state old new bytes writer
     pub wants : wants_input new ≡ true
 
   -- a front of the bytes was used, the session ended so, and all that was given was written
   pub record WritesItsEnd (outcome : Outcome) : Type 0 where
-    pub used : List ℕ
-    pub unused : List ℕ
-    pub given : List ℕ
-    pub parts : bytes ≡ used ++ unused
-    pub written : Appends held_before held_after given
-    pub goes : Goes state used given old new
+    pub part : WritesPart false state old new bytes writer
     pub ends : outcome_of new ≡ Some outcome
     pub owes : OwesNow state new []
     pub session : EndsAs state new outcome
-    pub in_time : StopsInTime state old (length used) bytes (Some outcome)
+    pub in_time : StopsInTime state old (length part.used) bytes (Some outcome)
 
   -- what was written, where the session goes on or ended
   abbrev pub WritesFor : Option Outcome → Type 0
   WritesFor None = WritesAll
   WritesFor (Some outcome) = WritesItsEnd outcome
 
--- how a server stands to the bytes used, and `over` where the input ended with them, and to the bytes given
-abbrev pub Standing : Type 1
-Standing = List ℕ → Bool → List ℕ → Type 0
+-- ---- its ends
 
--- a whole run: of what was read a front was used, and just what the session gives for it was written. Where the session
--- ended with the input, all was used, and the reader told its end. Where the stream is too long, one more byte was read.
-pub record IsRun (s : Setting) (P : Standing) (left_before left_after held_before held_after : Option (List ℕ)) (ended : Bool)
-    (outcome : Outcome) : Type 0 where
-  pub used : List ℕ
-  pub unused : List ℕ
-  pub over : Bool
-  pub given : List ℕ
-  pub read : Consumes left_before left_after (used ++ unused)
-  pub written : Appends held_before held_after given
+-- the session ended so with the bytes used. Where the stream is too long, one more byte was read.
+pub record IsWholeRun (s : Setting) (outcome : Outcome) (used unused : List ℕ) (over : Bool) (given : List ℕ) : Type 0 where
   pub session : IsSession s used over given outcome
-  pub stands : P used over given
-  pub whole : over ≡ true → (unused ≡ []) × (ended ≡ true)
   pub in_time : (fault : Fault) → outcome ≡ Refused fault → fault.kind ≡ StreamTooLong → unused ≢ []
 
--- all that was read was used, and the advertisement and each answer were written whole
-abbrev pub Waits : Setting → Standing → Option (List ℕ) → Option (List ℕ) → Option (List ℕ) → Option (List ℕ) → Type 0
-Waits s P left_before left_after held_before held_after =
-    Exchanges (λ used given. IsAnswered s used given × P used false given) left_before left_after held_before held_after
+-- all that was read was used, the session goes on, and the advertisement and each answer were given whole
+pub record Waits (s : Setting) (used unused : List ℕ) (over : Bool) (given : List ℕ) : Type 0 where
+  pub all : unused ≡ []
+  pub goes_on : over ≡ false
+  pub answered : IsAnswered s used given
 
--- a write failed: of what was read a front was used, and of what the session gives for it a front was written
-pub record IsBroken (s : Setting) (P : Standing) (left_before left_after held_before held_after : Option (List ℕ)) (ended : Bool) : Type 0 where
+-- how a run ended. Where its reads were spent each of them had brought some bytes.
+abbrev pub EndsRun : Setting → Result Outcome RunFault → ℕ → List ℕ → List ℕ → Bool → List ℕ → Type 0
+EndsRun s (Ok outcome) turns used unused over given = IsWholeRun s outcome used unused over given
+EndsRun s (Err ReadFault) turns used unused over given = Waits s used unused over given
+EndsRun s (Err ReadLimit) turns used unused over given = Waits s used unused over given × (turns ≤ length used)
+EndsRun s (Err WriteFault) turns used unused over given = IsRunning s used over given
+EndsRun s (Err (RefusedRun fault)) turns used unused over given = ⊥
+
+-- what a server has to do with the bytes of its run: of those read it used a front, and it gave just what its session gives for
+-- that. Where the session ended with the input, all was used, and the reader told its end.
+pub record Served {R A : Type 0} (state : R → RepoState) (s : Setting) (result : Result Outcome RunFault) (ended : Bool) (turns : ℕ) (server : Server R A)
+    (read given : List (List ℕ)) : Type 0 where
   pub used : List ℕ
   pub unused : List ℕ
   pub over : Bool
-  pub given : List ℕ
-  pub read : Consumes left_before left_after (used ++ unused)
-  pub written : AppendsFront held_before held_after given
-  pub moment : IsRunning s used over given
-  pub stands : P used over given
+  pub said : List ℕ
+  pub heard : read ≡ (used ++ unused) ∷ []
+  pub told : given ≡ said ∷ []
+  pub stands : Running state s used over said server
   pub whole : over ≡ true → (unused ≡ []) × (ended ≡ true)
-
--- a run that a fault ended. Where its reads were spent each of them had brought some bytes.
-abbrev pub RunsUntil : Setting → Standing → ℕ → Option (List ℕ) → Option (List ℕ) → Option (List ℕ) → Option (List ℕ) → Bool → RunFault → Type 0
-RunsUntil s P turns left_before left_after held_before held_after ended ReadFault = Waits s P left_before left_after held_before held_after
-RunsUntil s P turns left_before left_after held_before held_after ended WriteFault = IsBroken s P left_before left_after held_before held_after ended
-RunsUntil s P turns left_before left_after held_before held_after ended ReadLimit =
-    Waits s P left_before left_after held_before held_after × HasRead turns left_before left_after
-RunsUntil s P turns left_before left_after held_before held_after ended (RefusedRun fault) = ⊥
+  pub ends : EndsRun s result turns used unused over said

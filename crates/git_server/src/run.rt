@@ -1,9 +1,10 @@
 //! A server run over a reader and a writer.
 
-ghost use Rattle.std.specs.Prelude.{◌≡◌, ◌≢◌, ◌<◌, ◌≤◌, ◌||◌, [], false, true, length, Some, IsTrue, IsSome, IfOk, IfErr, OnErr, OnOk, is_err};
+ghost use Rattle.std.specs.Prelude.{◌≡◌, ◌≢◌, ◌<◌, ◌≤◌, ◌||◌, [], ◌∷◌, false, true, length, Some, IsTrue, IsSome, IfOk, IfErr, OnErr, OnOk, is_err};
 ghost use Rattle.git_pkt.specs.Told.{inner_of, reads_of, has_failed, has_ended, IsNew};
 ghost use Rattle.git_pkt.specs.Engine.{FailsAs, IsShownBy, IsSpent};
-ghost use Rattle.git_server.specs.Runs.{IsRun, RunsUntil, WritesFor, WritesFront, WritesItsEnd};
+ghost use Rattle.git_pkt.specs.Streams.{flow, is_broken, Moves};
+ghost use Rattle.git_server.specs.Runs.{Served, WritesFor, WritesItsEnd, WritesPart};
 ghost use Rattle.git_server.specs.ServerCalls.{IsAfterPull, OwesNow};
 ghost use Rattle.git_server.specs.Server.{Running, outcome_of, wants_input};
 ghost use Rattle.git_server.specs.Sessions.{Setting};
@@ -20,8 +21,10 @@ fn drain<W: Write, R: Repo, A: Allocator + Copy>(
     writer: &mut Told<W>,
     server: &mut Server<R, A>,
 ) -> Result<Option<Outcome>, RunFault>
-    ensures ok { IfOk result (WritesFor R.state [] (W.contents (inner_of writer.old)) (W.contents (inner_of writer.new)) server.old server.new) }
-    ensures front { OnErr result (WritesFront R.state [] (W.contents (inner_of writer.old)) (W.contents (inner_of writer.new)) server.old server.new) }
+    ensures ok { IfOk result (WritesFor R.state server.old server.new []
+        (flow (W.contents (inner_of writer.old)) (W.contents (inner_of writer.new)))) }
+    ensures front { OnErr result (WritesPart true R.state server.old server.new []
+        (flow (W.contents (inner_of writer.old)) (W.contents (inner_of writer.new)))) }
     ensures outcome { OnOk result (IsAfterPull (outcome_of server.old) (outcome_of server.new)) }
     ensures fault { IfErr result (λ fault. fault ≡ RunFault.WriteFault) }
     ensures failed { has_failed writer.new ≡ (has_failed writer.old || is_err result) }
@@ -43,8 +46,10 @@ fn serve_piece<W: Write, R: Repo, A: Allocator + Copy>(
     bytes: &[u8],
 ) -> Result<Option<Outcome>, RunFault>
     requires { wants_input server.old ≡ true }
-    ensures ok { IfOk result (WritesFor R.state bytes.now (W.contents (inner_of writer.old)) (W.contents (inner_of writer.new)) server.old server.new) }
-    ensures front { OnErr result (WritesFront R.state bytes.now (W.contents (inner_of writer.old)) (W.contents (inner_of writer.new)) server.old server.new) }
+    ensures ok { IfOk result (WritesFor R.state server.old server.new bytes.now
+        (flow (W.contents (inner_of writer.old)) (W.contents (inner_of writer.new)))) }
+    ensures front { OnErr result (WritesPart true R.state server.old server.new bytes.now
+        (flow (W.contents (inner_of writer.old)) (W.contents (inner_of writer.new)))) }
     ensures fault { IfErr result (λ fault. fault ≡ RunFault.WriteFault) }
     ensures failed { has_failed writer.new ≡ (has_failed writer.old || is_err result) }
 {
@@ -76,12 +81,10 @@ pub fn serve<In: Read, W: Write, R: Repo, A: Allocator + Copy>(
     requires sound_writer { has_failed writer.old ≡ false }
 
     ensures reads { reads_of reader.new ≤ turns }
-    ensures run { IfOk result (λ outcome. (s : Setting) → Running R.state s [] false [] server.old
-        → IsRun s (λ used over given. Running R.state s used over given server.new) (In.remaining (inner_of reader.old)) (In.remaining (inner_of reader.new))
-        (W.contents (inner_of writer.old)) (W.contents (inner_of writer.new)) (has_ended reader.new) outcome) }
-    ensures until { IfErr result (λ fault. (s : Setting) → Running R.state s [] false [] server.old
-        → RunsUntil s (λ used over given. Running R.state s used over given server.new) turns (In.remaining (inner_of reader.old)) (In.remaining (inner_of reader.new))
-        (W.contents (inner_of writer.old)) (W.contents (inner_of writer.new)) (has_ended reader.new) fault) }
+    ensures served { (s : Setting) → Running R.state s [] false [] server.old
+        → Moves (is_broken result) (Served R.state s result (has_ended reader.new) turns server.new)
+        (flow (In.remaining (inner_of reader.old)) (In.remaining (inner_of reader.new)) ∷ [])
+        (flow (W.contents (inner_of writer.old)) (W.contents (inner_of writer.new)) ∷ []) }
     ensures fault { IfErr result (IsShownBy (IsTrue (has_failed reader.new)) (IsTrue (has_failed writer.new)) (IsSpent reader.new turns)) }
     ensures told { FailsAs result (has_failed reader.new) (has_failed writer.new) }
     ensures ends { IfOk result (λ outcome. (outcome_of server.new ≡ Some outcome) × OwesNow R.state server.new []) }
@@ -114,8 +117,10 @@ fn finish<W: Write, R: Repo, A: Allocator + Copy>(
     server: &mut Server<R, A>,
 ) -> Result<Outcome, RunFault>
     requires { IsSome (outcome_of server.old) }
-    ensures ok { IfOk result (WritesItsEnd R.state [] (W.contents (inner_of writer.old)) (W.contents (inner_of writer.new)) server.old server.new) }
-    ensures front { OnErr result (WritesFront R.state [] (W.contents (inner_of writer.old)) (W.contents (inner_of writer.new)) server.old server.new) }
+    ensures ok { IfOk result (WritesItsEnd R.state server.old server.new []
+        (flow (W.contents (inner_of writer.old)) (W.contents (inner_of writer.new)))) }
+    ensures front { OnErr result (WritesPart true R.state server.old server.new []
+        (flow (W.contents (inner_of writer.old)) (W.contents (inner_of writer.new)))) }
     ensures fault { IfErr result (λ fault. fault ≡ RunFault.WriteFault) }
     ensures failed { has_failed writer.new ≡ (has_failed writer.old || is_err result) }
 {

@@ -39,7 +39,7 @@ impl<'a> Read for Stream<'a> {
 }
 
 /// Takes at most `step` bytes at a write, and fails once with `error`, at the write numbered
-/// `failing` from 0. Flushes fail from the one numbered `last_flush` on.
+/// `failing` from 0. Flushes fail from the one numbered `last_flush` on. Of what was taken, `flushed` bytes were flushed.
 #[derive(Drop)]
 pub struct Sink {
     pub taken: Vec<u8>,
@@ -49,6 +49,7 @@ pub struct Sink {
     pub writes: u32,
     pub last_flush: u32,
     pub flushes: u32,
+    pub flushed: usize,
 }
 
 impl Sink {
@@ -61,6 +62,7 @@ impl Sink {
             writes: 0,
             last_flush: u32::MAX,
             flushes: 0,
+            flushed: 0,
         }
     }
 }
@@ -83,6 +85,7 @@ impl Write for Sink {
         if number >= self.last_flush {
             return Err(io::Error::from(ErrorKind::BrokenPipe));
         }
+        self.flushed = self.taken.len();
         Ok(())
     }
 }

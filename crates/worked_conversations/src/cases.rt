@@ -6,7 +6,7 @@ use crate::script::{Given, Recording, Script};
 use crate::sessions::{Reads, Setup};
 use crate::tables::Table;
 use crate::trouble::Trouble;
-use crate::{clients, runs};
+use crate::{checks, clients, runs};
 use git_client::Ending;
 use git_msg::Command;
 use git_names::Format;
@@ -163,6 +163,14 @@ fn client_of<'a>(words: Words<'_>, files: &'a Files) -> clients::Setup<'a> {
     }
 }
 
+// The conversation that is checked by these words.
+fn check_of(words: Words<'_>) -> checks::Setup {
+    checks::Setup {
+        format: words.format(),
+        ending: words.ending(),
+    }
+}
+
 // The request that these words begin.
 fn asking_of(words: Words<'_>) -> Result<Asking, Trouble> {
     Ok(Asking {
@@ -181,7 +189,7 @@ fn end_of<'a>(words: Words<'_>, files: &'a Files) -> Result<End<'a>, Trouble> {
         Some("packets") => Ok(End::Packets(words.start()?)),
         Some("requests") => Ok(End::Requests(format, words.limit()?, words.features())),
         Some("client") => Ok(End::Client(client_of(words, files))),
-        Some("check") => Ok(End::Check(format)),
+        Some("check") => Ok(End::Check(check_of(words))),
         Some("server") => Ok(End::Server(server_of(words, files)?)),
         _ => Err(Trouble::BadCase("nothing to run")),
     }
@@ -257,7 +265,10 @@ fn goes(rt: &HostRuntime, alloc: Global, setup: &str, lines: &[&str]) -> Result<
         Subject::End(end) => {
             let mut script = Script::read(alloc, lines, end.form())?;
             if let Some(recording) = recording {
-                script.take_recording(recording)?;
+                match end {
+                    End::Check(_) => script.take_conversation(recording)?,
+                    _ => script.take_recording(recording)?,
+                }
             }
             runs::goes(alloc, &end, &script)
         }

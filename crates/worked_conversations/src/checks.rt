@@ -1,8 +1,9 @@
 //! Recorded streams that are checked against each other.
 
+use crate::escapes::length_told;
 use crate::runs::{Due, Known, Run, compare};
 use crate::script::Script;
-use crate::setup::TURNS;
+use crate::setup::{MANY, TURNS};
 use crate::trouble::Trouble;
 use git_client::Ending;
 use git_names::Format;
@@ -22,25 +23,33 @@ fn ending_of(alloc: Global, answer: Result<(), CheckFault>) -> Result<String, Al
     }
 }
 
+/// How a conversation was recorded.
+#[derive(Clone, Copy)]
+pub struct Setup {
+    pub format: Format,
+    pub ending: Ending,
+}
+
 fn checked(
     alloc: Global,
-    format: Format,
+    setup: Setup,
     requests: &[&[u8]],
     responses: &[&[u8]],
 ) -> Result<Run, Trouble> {
     let mut sink = Sink::new(Vec::new(alloc), usize::MAX, u32::MAX);
     let answer = check(
+        alloc,
         &mut Told::new(Pieces::new(requests)),
         &mut Told::new(Pieces::new(responses)),
-        format,
-        Ending::FlushOnly,
+        setup.format,
+        setup.ending,
         &mut [0; 256],
         &mut [0; 256],
         &mut Told::new(&mut sink),
         TURNS,
     );
-    if sink.flushes != 1 {
-        return Err(Trouble::Breaks("check does not flush once"));
+    if sink.flushed != sink.taken.len() {
+        return Err(Trouble::Breaks("check leaves something unflushed"));
     }
     let ending = ending_of(alloc, answer)?;
     Ok(Run::new(alloc, sink.taken, ending, None))
@@ -49,47 +58,120 @@ fn checked(
 /// Checks the pieces as responses, with the requests whole and cut at the same place.
 pub fn goes(
     alloc: Global,
-    format: Format,
+    setup: Setup,
     script: &Script,
     pieces: &[&[u8]],
     due: &Due,
     place: usize,
 ) -> Result<(), Trouble> {
     let asked = script.asked.as_slice();
-    compare(
-        alloc,
-        &checked(alloc, format, &[asked], pieces)?,
-        due,
-        place,
-    )?;
+    compare(alloc, &checked(alloc, setup, &[asked], pieces)?, due, place)?;
     let (front, rest) = asked.split_at(place.min(asked.len()));
-    let run = checked(alloc, format, &[front, rest], pieces)?;
+    let run = checked(alloc, setup, &[front, rest], pieces)?;
     compare(alloc, &run, due, place)
 }
 
-/// Checks the responses, where they are heard whole, with requests that end inside their first packet. Answers how many
-/// runs were made.
+// How many bytes of the transcript stand before the line of the request with this number, from 0.
+fn before_request(given: &[u8], number: usize) -> usize {
+    let mut before = 0usize;
+    let mut seen = 0usize;
+    for line in given.split(|byte| *byte == b'\n') {
+        if line.starts_with(b"request ") {
+            if seen == number {
+                return before;
+            }
+            seen = seen.saturating_add(1);
+        }
+        before = before.saturating_add(line.len()).saturating_add(1);
+    }
+    given.len()
+}
+
+// How many bytes of the responses come before so many bytes of the transcript are given.
+fn responses_before(script: &Script, given: usize) -> usize {
+    for step in script.steps.as_slice() {
+        if step.given >= given {
+            return step.input;
+        }
+    }
+    script.told()
+}
+
+/// Where the requests stand at a byte.
+#[derive(Clone, Copy)]
+struct Place {
+    /// Where the last whole packet ends.
+    end: usize,
+    /// How many flushes came.
+    flushes: usize,
+    /// Whether one was the last packet.
+    is_between: bool,
+}
+
+fn reached(asked: &[u8], at: usize) -> Place {
+    let mut reached = Place {
+        end: 0,
+        flushes: 0,
+        is_between: true,
+    };
+    for _ in 0..MANY {
+        let digits = asked
+            .get(reached.end..reached.end.saturating_add(4))
+            .unwrap_or(&[]);
+        let Some(length) = length_told(digits) else {
+            return reached;
+        };
+        let end = reached.end.saturating_add(length.max(4));
+        if end > at {
+            return reached;
+        }
+        let is_between = length == 0;
+        reached = Place {
+            end,
+            flushes: reached.flushes.saturating_add(usize::from(is_between)),
+            is_between,
+        };
+    }
+    reached
+}
+
+// What is due where the requests end at this byte, and all of them would be answered.
+fn due_of_requests(alloc: Global, script: &Script, end: usize) -> Result<Due, Trouble> {
+    let reached = reached(script.asked.as_slice(), end);
+    let all = script.given.as_slice();
+    let given = before_request(all, reached.flushes);
+    let ending = if reached.end < end || !reached.is_between {
+        format!(in alloc; "requests: Truncated at {}\n", reached.end)?
+    } else if given < all.len() {
+        let place = responses_before(script, given);
+        format!(in alloc; "responses: UnexpectedPacket at {place}\n")?
+    } else {
+        String::from_str(alloc, "closed\n")?
+    };
+    Ok(Due {
+        given: Vec::from_slice(alloc, all.get(..given).unwrap_or(&[]))?,
+        pack: Vec::new(alloc),
+        progress: Vec::new(alloc),
+        ending,
+        used: 0,
+        known: Known::All,
+    })
+}
+
+/// Checks the responses of a conversation that is whole with requests that end at each byte. Answers how many runs were made.
 pub fn goes_with_requests_cut_short(
     alloc: Global,
-    format: Format,
+    setup: Setup,
     script: &Script,
 ) -> Result<usize, Trouble> {
     let asked = script.asked.as_slice();
     let mut runs = 0usize;
-    if !script.given.as_slice().ends_with(b"offered\n") {
+    if script.is_recorded || script.ending.as_str() != "closed\n" {
         return Ok(runs);
     }
-    for end in 1..script.asked_read.min(asked.len()) {
-        let run = checked(alloc, format, &[&asked[..end]], &[script.input.as_slice()])?;
-        let due = Due {
-            given: script.given.clone()?,
-            pack: Vec::new(alloc),
-            progress: Vec::new(alloc),
-            ending: String::from_str(alloc, "requests: Truncated at 0\n")?,
-            used: 0,
-            known: Known::All,
-        };
-        compare(alloc, &run, &due, end)?;
+    for end in 0..script.asked_read.min(asked.len()) {
+        let run = checked(alloc, setup, &[&asked[..end]], &[script.input.as_slice()])?;
+        compare(alloc, &run, &due_of_requests(alloc, script, end)?, end)?;
         runs = runs.saturating_add(1);
     }
     Ok(runs)

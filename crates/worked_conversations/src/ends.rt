@@ -20,7 +20,14 @@ pub enum End<'a> {
     /// A client.
     Client(clients::Setup<'a>),
     /// `check`, of which the second stream has the requests.
-    Check(Format),
+    Check(checks::Setup),
+}
+
+// Whether a transcript ends after the advertisement or a response.
+fn is_whole(transcript: &[u8]) -> bool {
+    let lines = transcript.strip_suffix(b"\n").unwrap_or(transcript);
+    let last = lines.rsplit(|byte| *byte == b'\n').next().unwrap_or(&[]);
+    last == b"offered".as_slice() || last.starts_with(b"end ")
 }
 
 impl<'a> End<'a> {
@@ -48,7 +55,7 @@ impl<'a> End<'a> {
             End::Packets(_) | End::Requests(..) => true,
             End::Server(_) => is_answered,
             End::Client(_) => false,
-            End::Check(_) => given.ends_with(b"offered\n"),
+            End::Check(_) => is_whole(given),
         }
     }
 
@@ -114,13 +121,13 @@ impl<'a> End<'a> {
                 let run = clients::fed(alloc, setup, script, pieces)?;
                 compare(alloc, &run, due, place)
             }
-            End::Check(format) => checks::goes(alloc, *format, script, pieces, due, place),
+            End::Check(setup) => checks::goes(alloc, *setup, script, pieces, due, place),
         }
     }
     /// The runs of its own, in which another stream than the input is cut short. Answers how many they were.
     pub fn goes_elsewhere(&self, alloc: Global, script: &Script) -> Result<usize, Trouble> {
         match self {
-            End::Check(format) => checks::goes_with_requests_cut_short(alloc, *format, script),
+            End::Check(setup) => checks::goes_with_requests_cut_short(alloc, *setup, script),
             _ => Ok(0),
         }
     }

@@ -226,6 +226,19 @@ impl Script {
         self.steps.push(step).map_err(|_| Trouble::OutOfMemory)
     }
 
+    /// Takes what was recorded as the streams that are checked against each other: all of both.
+    pub fn take_conversation(&mut self, recording: Recording) -> Result<(), Trouble> {
+        if !self.asked.is_empty() || !self.steps.is_empty() {
+            return Err(Trouble::BadCase("more comes than was recorded"));
+        }
+        self.is_recorded = true;
+        self.asked_read = recording.requests.len();
+        self.asked = recording.requests;
+        self.input = recording.responses;
+        let step = self.reached();
+        self.steps.push(step).map_err(|_| Trouble::OutOfMemory)
+    }
+
     // Goes on with the line before: so many times these bytes.
     fn take_more(&mut self, text: &str, form: Given) -> Result<(), Trouble> {
         let (count, text) = text.split_once(' ').unwrap_or((text, ""));

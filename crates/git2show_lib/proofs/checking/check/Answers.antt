@@ -1,137 +1,131 @@
-use Rattle.std.proofs.Common.{rules, arith, ◌≡◌, ◌-◌, ◌≤◌, ◌<◌, true, take, drop, length, [], refl}
-use Rattle.std.specs.Io.KnownBytes.{Consumes, Keeps}
-use Rattle.git_pkt.specs.Told.{inner_of, has_ended, has_failed}
+use Rattle.std.proofs.Common.{rules, arith, false, [], ◌∷◌, ◌++◌, ap, ◌∙◌}
+use Rattle.std.proofs.lemmas.Bool.{or_parts}
+use Rattle.git_pkt.specs.Told.{inner_of, has_ended}
+use Rattle.git_msg.specs.Advertisement.{noted_offer}
+use Rattle.git_msg.specs.declared.limits.TheConstants.Limits.{USUAL}
+use Rattle.git_msg.specs.declared.offers.Caps.{Caps}
+use Rattle.git_client.specs.Client.{caps_of}
 use Rattle.git_client.specs.Parts.{terms_of}
-use Rattle.git2show_lib.specs.CheckedStreams.{Judges, nothing_asked}
-use Rattle.git2show_lib.specs.declared.checking.Left.{Left}
-use Rattle.git2show_lib.specs.declared.checking.CheckFault.TheVariants.{WriteFault}
-use Rattle.git2show_lib.proofs.Asking.{unread_yet}
-use Rattle.git2show_lib.proofs.Transcribing.{ends_at, ends_at_write, flush_failed, responses_stopped, requests_stopped, limit_met, read_failed}
-use Rattle.git2show_lib.proofs.Transcribing.{all_was_used, some_was_left, read_more, read_kept, some_left, no_more_left, taken_some}
+use Rattle.git_client.specs.RunSteps.{window_of}
+use Rattle.git2show_lib.specs.CheckedStreams.{of_responses}
+use Rattle.git2show_lib.proofs.CheckRuns.{advertisement_due, advertised, response_due, response_heard, comes_nearer, ends_at}
+use Rattle.git2show_lib.proofs.CheckRuns.{hearing_stopped, asking_stopped, reading_stopped, seen_the_end}
 use Rattle.git2show_lib.proofs.checking.check.Goals as goal
-
-pub returns-in_err-read_requests-clause-fault : goal.returns-in_err-read_requests-clause-fault
-returns-in_err-read_requests-clause-fault g c = search rules
-
-pub returns-in-Ok-eq0-clause-reads : goal.returns-in-Ok-eq0-clause-reads
-returns-in-Ok-eq0-clause-reads g c = search rules
-
-pub returns-in-Ok-clause-reads : goal.returns-in-Ok-clause-reads
-returns-in-Ok-clause-reads g c = search rules
-
-pub returns-clause-reads : goal.returns-clause-reads
-returns-clause-reads g c = search rules
-
-pub returns-in-Ok-clause-ok : goal.returns-in-Ok-clause-ok
-returns-in-Ok-clause-ok g c = search rules
-
-pub returns-in_err-map_err-clause-checked : goal.returns-in_err-map_err-clause-checked
-returns-in_err-map_err-clause-checked g c =
-    let named : c.in_err-map_err.field-0.0 ≡ WriteFault = search rules in
-    ends_at_write c.from_residual.result _ (terms_of c.args.format c.args.ending) _ (has_ended c.hear_advertisement-heard.new.responses) _ _ _ _ c.from_residual.ensures.1 named
-    (flush_failed (terms_of c.args.format c.args.ending) c.new-client.result c.hear_advertisement-heard.new.client c.new-client.ensures.converses _
-    (has_ended c.hear_advertisement-heard.new.responses) (g.A.Read.remaining (inner_of c.args.responses.now))
-    (g.A.Read.remaining (inner_of c.hear_advertisement-heard.new.responses)) (g.W.Write.contents (inner_of c.args.out.now))
-    (g.W.Write.contents (inner_of c.hear_advertisement-heard.new.out)) (g.W.Write.contents (inner_of c.flush.new.writer)) c.flush.ensures.bytes
-    (unread_yet (has_ended c.args.requests.now) (has_failed c.args.requests.now)
-    (g.Q.Read.remaining (inner_of c.args.requests.now))) c.hear_advertisement-heard.result
-    (λ (left : Left). take (left.end - left.start)
-    (drop left.start c.hear_advertisement-heard.new.piece)) c.hear_advertisement-heard.ensures.heard c.hear_advertisement-heard.ensures.stopped)
 
 pub returns-in_err-left-clause-checked : goal.returns-in_err-left-clause-checked
 returns-in_err-left-clause-checked g c =
-    ends_at c.from_residual-in_err-left.result _ (terms_of c.args.format c.args.ending) _ (has_ended c.hear_advertisement-heard.new.responses) _ _ _ _
-    c.from_residual-in_err-left.ensures.1
-    (responses_stopped (terms_of c.args.format c.args.ending) c.new-client.result c.hear_advertisement-heard.new.client c.new-client.ensures.converses _
-    (has_ended c.hear_advertisement-heard.new.responses) (g.A.Read.remaining (inner_of c.args.responses.now))
-    (g.A.Read.remaining (inner_of c.hear_advertisement-heard.new.responses)) (g.W.Write.contents (inner_of c.args.out.now))
-    (g.W.Write.contents (inner_of c.hear_advertisement-heard.new.out)) (g.W.Write.contents (inner_of c.flush.new.writer)) c.flush.ensures.bytes
-    (unread_yet (has_ended c.args.requests.now) (has_failed c.args.requests.now)
-    (g.Q.Read.remaining (inner_of c.args.requests.now))) c.in_err-left.field-0.0 c.in_err-left.ensures.stopped)
+    let t = terms_of c.args.format c.args.ending in
+    let due =
+    advertisement_due t USUAL c.new-client.result (noted_offer (caps_of c.new-client.result) c.args.format) (g.Q.Read.remaining (inner_of c.args.requests.now))
+    (g.R.Read.remaining (inner_of c.args.responses.now)) (g.O.Write.contents (inner_of c.args.out.now)) c.new-client.ensures.waits
+    c.new-client.ensures.converses in
+    ends_at g.row.A.Denot t USUAL c.args.requests.now c.hear.new.reader c.from_residual.result (of_responses c.in_err-left.field-0.0) _ _ _
+    c.from_residual.ensures.1
+    (hearing_stopped g.row.A.Denot t USUAL c.args.requests.now c.hear.new.reader [] c.new-client.result c.hear.new.client [] _ _ due c.in_err-left.field-0.0
+    c.hear.new.piece c.args.turns _ _ _ c.in_err-left.ensures.heard c.in_err-left.ensures.told c.in_err-left.ensures.fault)
 
-pub returns-in_err-read_requests-clause-checked : goal.returns-in_err-read_requests-clause-checked
-returns-in_err-read_requests-clause-checked g c =
-    ends_at c.from_residual-in_err-read_requests.result _ (terms_of c.args.format c.args.ending) _
-    (has_ended c.hear_advertisement-heard.new.responses) _ _ _ _ c.from_residual-in_err-read_requests.ensures.1
-    (requests_stopped (terms_of c.args.format c.args.ending) c.new-client.result c.hear_advertisement-heard.new.client c.new-client.ensures.converses _
-    (has_ended c.hear_advertisement-heard.new.responses) (g.A.Read.remaining (inner_of c.args.responses.now))
-    (g.A.Read.remaining (inner_of c.hear_advertisement-heard.new.responses)) (g.W.Write.contents (inner_of c.args.out.now))
-    (g.W.Write.contents (inner_of c.hear_advertisement-heard.new.out))
-    (g.W.Write.contents (inner_of c.flush.new.writer)) c.flush.ensures.bytes c.in_ok-left.ensures.whole
-    (take (c.in_ok-left.left.end - c.in_ok-left.left.start)
-    (drop c.in_ok-left.left.start c.hear_advertisement-heard.new.piece)) c.in_ok-left.ensures.heard c.read_requests.new.requests _
-    c.in_err-read_requests.field-0.0 c.in_ok-left.ensures.ok.1 c.in_err-read_requests.ensures.fault c.in_err-read_requests.ensures.asked)
+pub loop-asking-init : goal.loop-asking-init
+loop-asking-init g c =
+    let t = terms_of c.args.format c.args.ending in
+    let heard = c.in_ok-left.ensures.heard in
+    let due =
+    advertisement_due t USUAL c.new-client.result (noted_offer (caps_of c.new-client.result) c.args.format) (g.Q.Read.remaining (inner_of c.args.requests.now))
+    (g.R.Read.remaining (inner_of c.args.responses.now)) (g.O.Write.contents (inner_of c.args.out.now)) c.new-client.ensures.waits
+    c.new-client.ensures.converses in
+    record {
+      checking =
+          advertised t USUAL c.new-client.result c.hear.new.client c.new-asking.result c.in_ok-left.left c.hear.new.piece due heard c.new-asking.ensures.reads
+          (c.new-asking.ensures.offer ∙ c.offer.ensures ∙ ap (λ (caps : Caps). noted_offer caps c.args.format) c.caps.ensures.value)
+          c.new-asking.ensures.limit;
+      wants = c.new-asking.ensures.waits;
+      room = search rules;
+      ordered = search rules;
+      within = search rules;
+      other_room = search rules;
+      other_ordered = heard.ordered;
+      other_within = heard.within;
+      reads = omega (arith, c.requires.new_requests.unread, c.in_ok-left.ensures.reads);
+      sound_requests = c.requires.new_requests.sound;
+      open_requests = c.requires.new_requests.open_ended;
+      sound_responses = search rules;
+      open_responses = search rules;
+      sound_out = search rules;
+    }
 
-pub returns-then-left-clause-checked : goal.returns-then-left-clause-checked
-returns-then-left-clause-checked g c =
-    let so : Judges (has_ended c.read_requests.new.requests) (has_failed c.read_requests.new.requests) (g.Q.Read.remaining (inner_of c.args.requests.now))
-    (g.Q.Read.remaining (inner_of c.read_requests.new.requests)) nothing_asked = search rules in
-    some_was_left (terms_of c.args.format c.args.ending) c.new-client.result c.hear_advertisement-heard.new.client c.new-client.ensures.converses _
-    (has_ended c.hear_advertisement-heard.new.responses) (g.A.Read.remaining (inner_of c.args.responses.now))
-    (g.A.Read.remaining (inner_of c.hear_advertisement-heard.new.responses)) (g.W.Write.contents (inner_of c.args.out.now))
-    (g.W.Write.contents (inner_of c.hear_advertisement-heard.new.out)) (g.W.Write.contents (inner_of c.flush.new.writer)) c.flush.ensures.bytes
-    c.in_ok-left.ensures.whole (take (c.in_ok-left.left.end - c.in_ok-left.left.start) (drop c.in_ok-left.left.start c.hear_advertisement-heard.new.piece))
-    c.in_ok-left.ensures.heard so c.left_over.result c.left_over.ensures
-    (some_left c.hear_advertisement-heard.new.piece c.in_ok-left.left.start c.in_ok-left.left.end (omega arith) c.in_ok-left.ensures.left)
+pub returns-in_err-request-clause-checked : goal.returns-in_err-request-clause-checked
+returns-in_err-request-clause-checked g c =
+    let at = c.loop-asking in
+    let t = terms_of c.args.format c.args.ending in
+    ends_at g.row.A.Denot t USUAL c.next_request.new.reader at.responses c.from_residual-in_err-request.result c.in_err-request.field-0.0 _ _ _
+    c.from_residual-in_err-request.ensures.1
+    (reading_stopped g.row.A.Denot t USUAL c.next_request.new.reader at.responses at.client at.asking c.next_request.new.stream (window_of at.waiting at.piece)
+    (window_of at.left at.other_piece) _ at.invariant.checking c.in_err-request.field-0.0 c.next_request.new.waiting c.next_request.new.piece
+    at.invariant.open_responses c.in_err-request.ensures.asked c.in_err-request.ensures.told)
 
-pub returns-then-reads-turns-clause-checked : goal.returns-then-reads-turns-clause-checked
-returns-then-reads-turns-clause-checked g c =
-    let so : Judges (has_ended c.read_requests.new.requests) (has_failed c.read_requests.new.requests) (g.Q.Read.remaining (inner_of c.args.requests.now))
-    (g.Q.Read.remaining (inner_of c.read_requests.new.requests)) nothing_asked = search rules in
-    let none : c.in_ok-left.left.end ≤ c.in_ok-left.left.start = search rules in
-    limit_met (terms_of c.args.format c.args.ending) c.new-client.result c.hear_advertisement-heard.new.client c.new-client.ensures.converses _
-    (has_ended c.hear_advertisement-heard.new.responses) (g.A.Read.remaining (inner_of c.args.responses.now))
-    (g.A.Read.remaining (inner_of c.hear_advertisement-heard.new.responses)) (g.W.Write.contents (inner_of c.args.out.now))
-    (g.W.Write.contents (inner_of c.hear_advertisement-heard.new.out)) (g.W.Write.contents (inner_of c.flush.new.writer)) c.flush.ensures.bytes
-    c.in_ok-left.ensures.whole (take (c.in_ok-left.left.end - c.in_ok-left.left.start) (drop c.in_ok-left.left.start c.hear_advertisement-heard.new.piece))
-    c.in_ok-left.ensures.heard
-    so (no_more_left c.hear_advertisement-heard.new.piece c.in_ok-left.left.start c.in_ok-left.left.end none)
+pub returns-in_err-ask_next-clause-checked : goal.returns-in_err-ask_next-clause-checked
+returns-in_err-ask_next-clause-checked g c =
+    let at = c.loop-asking in
+    let t = terms_of c.args.format c.args.ending in
+    let step = rw c.in-Some.is at c.in_ok-request.ensures.asked in
+    ends_at g.row.A.Denot t USUAL c.next_request.new.reader at.responses c.from_residual-in_err-ask_next.result (of_responses c.in_err-ask_next.field-0.0) _ _ _
+    c.from_residual-in_err-ask_next.ensures.1
+    (asking_stopped g.row.A.Denot t USUAL c.next_request.new.reader at.responses c.in_err-ask_next.field-0.0 at.client c.ask_next.new.client at.asking
+    c.next_request.new.stream c.in-Some.request (has_ended c.next_request.new.reader) (window_of at.waiting at.piece)
+    (window_of c.next_request.new.waiting c.next_request.new.piece) (window_of at.left at.other_piece) _ at.invariant.checking step
+    c.in_err-ask_next.ensures.asked)
 
-pub returns-in-Ok-eq0-clause-checked : goal.returns-in-Ok-eq0-clause-checked
-returns-in-Ok-eq0-clause-checked g c =
-    let so : Judges (has_ended c.read_requests.new.requests) (has_failed c.read_requests.new.requests) (g.Q.Read.remaining (inner_of c.args.requests.now))
-    (g.Q.Read.remaining (inner_of c.read_requests.new.requests)) nothing_asked = search rules in
-    let none : c.in_ok-left.left.end ≤ c.in_ok-left.left.start = search rules in
-    let at_end : has_ended c.receive.new.reader ≡ true = search rules in
-    let read : Consumes (g.A.Read.remaining (inner_of c.hear_advertisement-heard.new.responses)) (g.A.Read.remaining (inner_of c.receive.new.reader)) [] =
-    search rules in
-    all_was_used (terms_of c.args.format c.args.ending) c.new-client.result c.hear_advertisement-heard.new.client c.new-client.ensures.converses _
-    (has_ended c.receive.new.reader) (g.A.Read.remaining (inner_of c.args.responses.now)) (g.A.Read.remaining (inner_of c.receive.new.reader))
-    (g.W.Write.contents (inner_of c.args.out.now)) (g.W.Write.contents (inner_of c.hear_advertisement-heard.new.out))
-    (g.W.Write.contents (inner_of c.flush.new.writer)) c.flush.ensures.bytes c.in_ok-left.ensures.whole []
-    (read_more _ _ (take (c.in_ok-left.left.end - c.in_ok-left.left.start) (drop c.in_ok-left.left.start c.hear_advertisement-heard.new.piece)) [] _ _ _ _ _
-    (no_more_left c.hear_advertisement-heard.new.piece c.in_ok-left.left.start c.in_ok-left.left.end none) c.in_ok-left.ensures.heard read) so refl at_end
+pub returns-in_err-left-2-clause-checked : goal.returns-in_err-left-2-clause-checked
+returns-in_err-left-2-clause-checked g c =
+    let at = c.loop-asking in
+    let request = c.in-Some.request in
+    let t = terms_of c.args.format c.args.ending in
+    let waiting = window_of at.left at.other_piece in
+    let step = rw c.in-Some.is at c.in_ok-request.ensures.asked in
+    let due =
+    response_due t USUAL false at.client c.ask_next.new.client at.asking c.next_request.new.stream request (has_ended c.next_request.new.reader)
+    (window_of at.waiting at.piece) (window_of c.next_request.new.waiting c.next_request.new.piece) waiting at.invariant.checking step
+    c.in_ok-ask_next.ensures.asked.0 in
+    ends_at g.row.A.Denot t USUAL c.next_request.new.reader c.hear-in-Some.new.reader c.from_residual-in_err-left-2.result
+    (of_responses c.in_err-left-2.field-0.0) _ _ _ c.from_residual-in_err-left-2.ensures.1
+    (hearing_stopped g.row.A.Denot t USUAL c.next_request.new.reader c.hear-in-Some.new.reader (at.invariant.checking.front ++ request ∷ [])
+    c.ask_next.new.client c.hear-in-Some.new.client waiting _ _ due c.in_err-left-2.field-0.0 c.hear-in-Some.new.piece _ _ _ _ c.in_err-left-2.ensures.heard
+    c.in_err-left-2.ensures.told c.in_err-left-2.ensures.fault)
 
-pub returns-in-Ok-clause-checked : goal.returns-in-Ok-clause-checked
-returns-in-Ok-clause-checked g c =
-    let so : Judges (has_ended c.read_requests.new.requests) (has_failed c.read_requests.new.requests) (g.Q.Read.remaining (inner_of c.args.requests.now))
-    (g.Q.Read.remaining (inner_of c.read_requests.new.requests)) nothing_asked = search rules in
-    let none : c.in_ok-left.left.end ≤ c.in_ok-left.left.start = search rules in
-    let read : Consumes (g.A.Read.remaining (inner_of c.hear_advertisement-heard.new.responses)) (g.A.Read.remaining (inner_of c.receive.new.reader))
-    (take c.in-Ok.field-0 c.receive.new.piece) =
-    search rules in
-    let bound : c.in-Ok.field-0 ≤ length c.receive.new.piece = search rules in
-    let some : 0 < c.in-Ok.field-0 = search rules in
-    let more : 0 < length (take c.in-Ok.field-0 c.receive.new.piece) = taken_some c.receive.new.piece c.in-Ok.field-0 some bound in
-    some_was_left (terms_of c.args.format c.args.ending) c.new-client.result c.hear_advertisement-heard.new.client c.new-client.ensures.converses _
-    (has_ended c.receive.new.reader) (g.A.Read.remaining (inner_of c.args.responses.now)) (g.A.Read.remaining (inner_of c.receive.new.reader))
-    (g.W.Write.contents (inner_of c.args.out.now)) (g.W.Write.contents (inner_of c.hear_advertisement-heard.new.out))
-    (g.W.Write.contents (inner_of c.flush.new.writer)) c.flush.ensures.bytes c.in_ok-left.ensures.whole (take c.in-Ok.field-0 c.receive.new.piece)
-    (read_more _ _ (take (c.in_ok-left.left.end - c.in_ok-left.left.start) (drop c.in_ok-left.left.start c.hear_advertisement-heard.new.piece)) _ _ _ _ _ _
-    (no_more_left c.hear_advertisement-heard.new.piece c.in_ok-left.left.start c.in_ok-left.left.end none) c.in_ok-left.ensures.heard read) so
-    c.left_over-in-Ok.result c.left_over-in-Ok.ensures more
+pub loop-asking-smaller : goal.loop-asking-smaller
+loop-asking-smaller g c =
+    let step = rw c.in-Some.is at c.in_ok-request.ensures.asked in
+    comes_nearer (terms_of c.args.format c.args.ending) USUAL c.loop-asking.invariant.checking.reading step
+
+pub loop-asking-preserved : goal.loop-asking-preserved
+loop-asking-preserved g c =
+    let at = c.loop-asking in
+    let heard = c.in_ok-left-2.ensures.heard in
+    let step = rw c.in-Some.is at c.in_ok-request.ensures.asked in
+    record {
+      checking =
+          response_heard (terms_of c.args.format c.args.ending) USUAL at.client c.ask_next.new.client c.hear-in-Some.new.client at.asking
+          c.next_request.new.stream c.in-Some.request (has_ended c.next_request.new.reader) (window_of at.waiting at.piece)
+          (window_of c.next_request.new.waiting c.next_request.new.piece) (window_of at.left at.other_piece) c.in_ok-left-2.left
+          c.hear-in-Some.new.piece at.invariant.checking step c.in_ok-ask_next.ensures.asked.0 heard;
+      wants = step.onward;
+      room = omega (arith, at.invariant.room, c.in_ok-request.ensures.room);
+      ordered = c.in_ok-request.ensures.ordered;
+      within = c.in_ok-request.ensures.within;
+      other_room = omega (arith, at.invariant.other_room, c.in_ok-left-2.ensures.room);
+      other_ordered = heard.ordered;
+      other_within = heard.within;
+      reads = omega (arith, c.in_ok-left-2.ensures.reads, c.reads-in-Some.ensures, c.in_ok-request.ensures.reads);
+      sound_requests = c.in_ok-request.ensures.told.0;
+      open_requests = step.can_come;
+      sound_responses = c.in_ok-left-2.ensures.told.0;
+      open_responses = c.in_ok-left-2.ensures.goes_on;
+      sound_out = (or_parts _ _ c.in_ok-left-2.ensures.told.1).0;
+    }
 
 pub returns-clause-checked : goal.returns-clause-checked
 returns-clause-checked g c =
-    let so : Judges (has_ended c.read_requests.new.requests) (has_failed c.read_requests.new.requests) (g.Q.Read.remaining (inner_of c.args.requests.now))
-    (g.Q.Read.remaining (inner_of c.read_requests.new.requests)) nothing_asked = search rules in
-    let none : c.in_ok-left.left.end ≤ c.in_ok-left.left.start = search rules in
-    let kept : Keeps (g.A.Read.remaining (inner_of c.hear_advertisement-heard.new.responses)) (g.A.Read.remaining (inner_of c.receive.new.reader)) =
-    search rules in
-    read_failed (terms_of c.args.format c.args.ending) c.new-client.result c.hear_advertisement-heard.new.client c.new-client.ensures.converses _
-    (has_ended c.receive.new.reader) (g.A.Read.remaining (inner_of c.args.responses.now)) (g.A.Read.remaining (inner_of c.receive.new.reader))
-    (g.W.Write.contents (inner_of c.args.out.now)) (g.W.Write.contents (inner_of c.hear_advertisement-heard.new.out))
-    (g.W.Write.contents (inner_of c.flush.new.writer)) c.flush.ensures.bytes c.in_ok-left.ensures.whole
-    (take (c.in_ok-left.left.end - c.in_ok-left.left.start) (drop c.in_ok-left.left.start c.hear_advertisement-heard.new.piece))
-    (read_kept _ _ _ _ _ _ _ _ c.in_ok-left.ensures.heard kept)
-    so (no_more_left c.hear_advertisement-heard.new.piece c.in_ok-left.left.start c.in_ok-left.left.end none)
+    let at = c.loop-asking in
+    let step = rw c.in_default.is at c.in_ok-request.ensures.asked in
+    seen_the_end g.row.A.Denot (terms_of c.args.format c.args.ending) USUAL c.next_request.new.reader c.see_the_end.new.reader at.client at.asking
+    c.next_request.new.stream (window_of at.waiting at.piece) (window_of at.left at.other_piece) _ at.invariant.checking step c.see_the_end.result
+    c.position.result _ _ _ _ c.position.ensures.value c.see_the_end.ensures.seen c.see_the_end.ensures.told c.see_the_end.ensures.fault

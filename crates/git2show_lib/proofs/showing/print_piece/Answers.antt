@@ -1,6 +1,7 @@
 use Rattle.std.proofs.Common.{rules, arith}
 use Rattle.git_pkt.specs.Told.{inner_of}
-use Rattle.git2show_lib.specs.ShownStream.{PrintsInto}
+use Rattle.git_pkt.specs.Streams.{flow}
+use Rattle.git2show_lib.specs.ShownStream.{WritesFront}
 use Rattle.git2show_lib.proofs.Printing.{fed_failed, fed_packet, fed_packet_front, left_length, tells_by}
 use Rattle.git2show_lib.proofs.showing.print_piece.Goals as goal
 
@@ -9,10 +10,10 @@ returns-in-Failed-clause-ok g c =
     fed_failed _ _ _ _ _ _ _ _ _ c.loop-done.invariant.within c.loop-done.invariant.prints c.feed-fed.follows.holds-at-none _ c.loop-done.invariant.sound
     c.in-Failed.is
 
-pub returns-in_err-put-in-Packet-clause-err : goal.returns-in_err-put-in-Packet-clause-err
-returns-in_err-put-in-Packet-clause-err g c =
-    let front : PrintsInto c.args.packets.now c.args.piece.now (g.W.Write.contents (inner_of c.args.writer.now))
-    (g.W.Write.contents (inner_of c.put.new.writer)) c.feed-fed.follows.lender-at-none =
+pub returns-in_err-put-in-Packet-clause-front : goal.returns-in_err-put-in-Packet-clause-front
+returns-in_err-put-in-Packet-clause-front g c =
+    let front : WritesFront c.args.packets.now c.feed-fed.follows.lender-at-none c.args.piece.now (flow (g.W.Write.contents (inner_of c.args.writer.now))
+    (g.W.Write.contents (inner_of c.put.new.writer))) =
     fed_packet_front _ _ _ _ _ _ _ _ _ c.loop-done.invariant.within c.loop-done.invariant.prints c.feed-fed.follows.holds-at-none _ _ _ c.in-Packet.is
     (search rules) in
     search rules

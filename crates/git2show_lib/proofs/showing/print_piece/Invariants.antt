@@ -1,6 +1,7 @@
 use Rattle.std.proofs.Common.{◌≡◌, ◌-◌, ◌≤◌, length, take, None}
 use Rattle.git_pkt.specs.Told.{inner_of, has_failed}
 use Rattle.git_pkt.specs.PacketReader.{fault_of}
+use Rattle.git_pkt.specs.Streams.{flow}
 use Rattle.git2show_lib.specs.ShownStream.{Prints}
 use Rattle.git2show_lib.proofs.showing.print_piece.Given as goal
 
@@ -10,7 +11,8 @@ invariant-loop-done g l = record {
   within : l.done ≤ length l.piece;
   sound : fault_of l.packets ≡ None;
   writer_sound : has_failed l.writer ≡ has_failed l.fn.writer;
-  prints : Prints l.fn.packets (take l.done l.piece) (g.W.Write.contents (inner_of l.fn.writer)) (g.W.Write.contents (inner_of l.writer)) l.lines l.packets;
+  prints : Prints l.fn.packets l.packets (take l.done l.piece) l.lines
+      (flow (g.W.Write.contents (inner_of l.fn.writer)) (g.W.Write.contents (inner_of l.writer)));
 }
 
 abbrev pub decreases-loop-done : goal.decreases-loop-done

@@ -1,20 +1,37 @@
-use Rattle.std.proofs.Common.{rules}
-use Rattle.git_pkt.specs.Told.{has_ended}
-use Rattle.git_pkt.proofs.EngineLemmas.{Exchanges-more, ExchangesUntil-more, Exchanges-read_fault, one_more_read}
-use Rattle.git2show_lib.proofs.Printing.{ends_at_fault, until_read_fault}
+use Rattle.std.proofs.Common.{rules, Result, [], take, ℕ, subst, refl}
+use Rattle.std.specs.Io.KnownBytes.{Consumes}
+use Rattle.git_pkt.specs.Told.{inner_of, has_ended}
+use Rattle.git_pkt.specs.Streams.{flow}
+use Rattle.git_pkt.specs.declared.fault.RunFault.{RunFault}
+use Rattle.git_pkt.specs.declared.fault.RunFault.TheVariants.{ReadFault}
+use Rattle.git_pkt.proofs.EngineLemmas.{at_fault}
+use Rattle.git2show_lib.proofs.Printing.{RunEnds, shows_more, stops_by, ends_unread, ends_spent, ends_closed}
 use Rattle.git2show_lib.proofs.showing.show.Goals as goal
 
-pub returns-then-count-eq0-clause-ok : goal.returns-then-count-eq0-clause-ok
-returns-then-count-eq0-clause-ok g c = search rules
+pub returns-in_err-count-clause-shown : goal.returns-in_err-count-clause-shown
+returns-in_err-count-clause-shown g c =
+    at_fault c.from_residual.result _ ReadFault (λ (r : Result (Unit {0}) RunFault). RunEnds r (has_ended c.receive.new.reader) c.args.turns
+    (flow (g.R.Read.remaining (inner_of c.args.reader.now)) (g.R.Read.remaining (inner_of c.receive.new.reader)))
+    (flow (g.W.Write.contents (inner_of c.args.writer.now)) (g.W.Write.contents (inner_of c.loop.writer))))
+    c.in_err-count.ensures.fault c.from_residual.ensures.1
+    (ends_unread _ _ _ c.loop.packets c.loop.invariant.sound c.loop.invariant.shows c.in_err-count.ensures.bytes)
 
-pub returns-then-count-eq0-clause-end : goal.returns-then-count-eq0-clause-end
-returns-then-count-eq0-clause-end g c = search rules
+pub returns-then-count-eq0-clause-shown : goal.returns-then-count-eq0-clause-shown
+returns-then-count-eq0-clause-shown g c =
+    let left = g.R.Read.remaining (inner_of c.loop.reader) in
+    let left_after = g.R.Read.remaining (inner_of c.receive.new.reader) in
+    let nothing : Consumes left left_after [] =
+    subst (λ (n : ℕ). Consumes left left_after (take n c.receive.new.piece)) c.if-count-eq0.true c.in_ok-count.ensures.bytes.0 in
+    ends_closed _ _ _ c.loop.packets c.close.new.self c.loop.invariant.shows nothing c.close.ensures.carries (search rules) c.close.result
+    c.map_err.result c.map_err.ensures.cases c.close.ensures.between c.close.ensures.told (c.close.ensures.truncated c.loop.invariant.sound)
 
-pub returns-clause-ok : goal.returns-clause-ok
-returns-clause-ok g c = search rules
-
-pub returns-clause-end : goal.returns-clause-end
-returns-clause-end g c = search rules
+pub returns-in_err-show_piece-clause-shown : goal.returns-in_err-show_piece-clause-shown
+returns-in_err-show_piece-clause-shown g c =
+    at_fault c.from_residual-in_err-show_piece.result _ _ (λ (r : Result (Unit {0}) RunFault). RunEnds r (has_ended c.receive.new.reader) c.args.turns
+    (flow (g.R.Read.remaining (inner_of c.args.reader.now)) (g.R.Read.remaining (inner_of c.receive.new.reader)))
+    (flow (g.W.Write.contents (inner_of c.args.writer.now)) (g.W.Write.contents (inner_of c.show_piece.new.writer))))
+    refl c.from_residual-in_err-show_piece.ensures.1
+    (stops_by _ _ _ _ _ _ _ c.loop.invariant.shows c.in_ok-count.ensures.bytes.0 c.in_err-show_piece.ensures.shown)
 
 pub loop-preserved : goal.loop-preserved
 loop-preserved g c = record {
@@ -22,20 +39,11 @@ loop-preserved g c = record {
   reader_sound = search rules;
   open_ended = search rules;
   writer_sound = search rules;
-  sound = search rules;
+  sound = c.in_ok-show_piece.ensures.shown.1;
   empty = search rules;
-  bytes = Exchanges-more c.loop.invariant.bytes c.in_ok-count.ensures.bytes.0 c.in_ok-show_piece.ensures.ok;
-  brought = one_more_read c.loop.counter c.in_ok-count.count _ _ _ c.receive.new.piece c.loop.invariant.brought c.in_ok-count.ensures.bytes.0 (search rules)
-      (search rules);
+  shows = shows_more c.loop.packets c.show_piece.new.packets c.loop.counter c.in_ok-count.count c.receive.new.piece c.loop.invariant.shows
+      c.in_ok-count.ensures.bytes.0 c.in_ok-show_piece.ensures.shown.0 (search rules) (search rules);
 }
 
-pub returns-in_err-count-clause-shown : goal.returns-in_err-count-clause-shown
-returns-in_err-count-clause-shown g c =
-    ends_at_fault c.from_residual.result _ (has_ended c.receive.new.reader) _ _ _ _ c.from_residual.ensures.1
-    (until_read_fault _ (has_ended c.receive.new.reader) _ _ _ _ c.loop.packets c.in_err-count.ensures.fault c.loop.invariant.sound
-    (Exchanges-read_fault c.loop.invariant.bytes c.in_err-count.ensures.bytes))
-
-pub returns-in_err-show_piece-clause-shown : goal.returns-in_err-show_piece-clause-shown
-returns-in_err-show_piece-clause-shown g c =
-    ends_at_fault c.from_residual-in_err-show_piece.result _ (has_ended c.receive.new.reader) _ _ _ _ c.from_residual-in_err-show_piece.ensures.1
-    (ExchangesUntil-more _ _ _ _ _ c.loop.invariant.bytes c.in_ok-count.ensures.bytes.0 (c.in_err-show_piece.ensures.err (has_ended c.receive.new.reader)))
+pub returns-clause-shown : goal.returns-clause-shown
+returns-clause-shown g c = ends_spent _ _ _ c.loop.packets c.loop.invariant.sound c.loop.invariant.shows (search rules)

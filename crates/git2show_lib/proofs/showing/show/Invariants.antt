@@ -1,9 +1,10 @@
--- Each turn is one read, nothing has failed or ended, and the lines of what was read were written.
+-- Each turn is one read that brought some bytes, nothing has failed or ended, and the lines of what was read were written.
 use Rattle.std.proofs.Common.{◌≡◌, false, None, []}
 use Rattle.git_pkt.specs.Told.{inner_of, reads_of, has_failed, has_ended}
-use Rattle.git_pkt.specs.Engine.{Exchanges, HasRead}
 use Rattle.git_pkt.specs.PacketReader.{fault_of}
-use Rattle.git2show_lib.specs.ShownStream.{ShowsSoFar}
+use Rattle.git_pkt.specs.Streams.{flow}
+use Rattle.git_pkt.proofs.EngineLemmas.{Moved}
+use Rattle.git2show_lib.proofs.Printing.{ShowsSoFar}
 use Rattle.git2show_lib.proofs.showing.show.Given as goal
 
 abbrev pub invariant-loop : goal.invariant-loop
@@ -14,7 +15,6 @@ invariant-loop g l = record {
   writer_sound : has_failed l.writer ≡ false;
   sound : fault_of l.packets ≡ None;
   empty : l.lines ≡ [];
-  bytes : Exchanges (ShowsSoFar l.packets) (g.R.Read.remaining (inner_of l.fn.reader)) (g.R.Read.remaining (inner_of l.reader))
-      (g.W.Write.contents (inner_of l.fn.writer)) (g.W.Write.contents (inner_of l.writer));
-  brought : HasRead l.counter (g.R.Read.remaining (inner_of l.fn.reader)) (g.R.Read.remaining (inner_of l.reader));
+  shows : Moved false (ShowsSoFar l.packets l.counter) (flow (g.R.Read.remaining (inner_of l.fn.reader)) (g.R.Read.remaining (inner_of l.reader)))
+      (flow (g.W.Write.contents (inner_of l.fn.writer)) (g.W.Write.contents (inner_of l.writer)));
 }

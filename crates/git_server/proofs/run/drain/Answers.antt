@@ -1,6 +1,6 @@
-use Rattle.std.proofs.Common.{rules}
+use Rattle.std.proofs.Common.{rules, true, false}
 use Rattle.git_server.proofs.Outcomes.{pulls_on}
-use Rattle.git_server.proofs.RunLemmas.{on_err_at, writes_packet, writes_front, writes_end}
+use Rattle.git_server.proofs.RunLemmas.{on_err_at, all_in_part, writes_packet, writes_end}
 use Rattle.git_server.proofs.run.drain.Goals as goal
 
 pub loop-bytes-preserved : goal.loop-bytes-preserved
@@ -8,17 +8,17 @@ loop-bytes-preserved g c =
     record {
       sound = search rules;
       outcome = pulls_on _ _ _ c.loop-bytes.invariant.outcome c.pull.follows.holds-at-none.outcome;
-      writes = writes_packet g.R.Repo.state _ _ _ _ _ _ _ c.in-Packet.bytes
+      writes = writes_packet g.R.Repo.state _ _ _ _ _ _ false _ c.in-Packet.bytes
           c.loop-bytes.invariant.writes c.pull.follows.holds-at-none c.in-Packet.is (search rules);
     }
 
 pub returns-in-Finished-clause-ok : goal.returns-in-Finished-clause-ok
 returns-in-Finished-clause-ok g c =
-    writes_end g.R.Repo.state _ _ _ _ _ _ c.in-Finished.outcome c.loop-bytes.invariant.writes c.pull.follows.holds-at-none c.in-Finished.is
+    writes_end g.R.Repo.state _ _ _ _ _ c.in-Finished.outcome c.loop-bytes.invariant.writes c.pull.follows.holds-at-none c.in-Finished.is
     c.loop-bytes.invariant.outcome
 
 pub returns-in_err-send-in-Packet-clause-front : goal.returns-in_err-send-in-Packet-clause-front
 returns-in_err-send-in-Packet-clause-front g c =
     on_err_at _ _ _ c.from_residual.ensures.1
-    (writes_front g.R.Repo.state _ _ _ _ _ _ _ c.in-Packet.bytes c.loop-bytes.invariant.writes
-    c.pull.follows.holds-at-none c.in-Packet.is c.in_err-send-in-Packet.ensures.err)
+    (all_in_part g.R.Repo.state true _ _ _ _ (writes_packet g.R.Repo.state _ _ _ _ _ _ true _ c.in-Packet.bytes c.loop-bytes.invariant.writes
+    c.pull.follows.holds-at-none c.in-Packet.is c.in_err-send-in-Packet.ensures.err))

@@ -1,6 +1,7 @@
 -- What was pulled was written, and nothing has failed since the call began.
-use Rattle.std.proofs.Common.{◌≡◌, []}
+use Rattle.std.proofs.Common.{◌≡◌, false, []}
 use Rattle.git_pkt.specs.Told.{inner_of, has_failed}
+use Rattle.git_pkt.specs.Streams.{flow}
 use Rattle.git_server.specs.ServerCalls.{IsAfterPull, most_left}
 use Rattle.git_server.specs.Server.{outcome_of}
 use Rattle.git_server.specs.Runs.{WritesOn}
@@ -10,7 +11,8 @@ abbrev pub invariant-loop-bytes : goal.invariant-loop-bytes
 invariant-loop-bytes g l = record {
   sound : has_failed l.writer ≡ has_failed l.fn.writer;
   outcome : IsAfterPull (outcome_of l.fn.server) (outcome_of l.server);
-  writes : WritesOn g.R.Repo.state [] (g.W.Write.contents (inner_of l.fn.writer)) (g.W.Write.contents (inner_of l.writer)) l.fn.server l.server;
+  writes : WritesOn false g.R.Repo.state l.fn.server l.server []
+      (flow (g.W.Write.contents (inner_of l.fn.writer)) (g.W.Write.contents (inner_of l.writer)));
 }
 
 abbrev pub decreases-loop-bytes : goal.decreases-loop-bytes

@@ -1,15 +1,16 @@
-use Rattle.std.proofs.Common.{subst, Option, []}
+use Rattle.std.proofs.Common.{subst, Option, [], true}
 use Rattle.git_pkt.specs.Told.{inner_of}
+use Rattle.git_pkt.specs.Streams.{flow}
 use Rattle.git_server.specs.Runs.{WritesFor}
 use Rattle.git_server.specs.declared.outcome.Outcome.{Outcome}
-use Rattle.git_server.proofs.RunLemmas.{on_err_at, end_unflushed}
+use Rattle.git_server.proofs.RunLemmas.{on_err_at, part_flushed}
 use Rattle.git_server.proofs.run.finish.Goals as goal
 
 pub returns-in_err-flush-in-Some-clause-front : goal.returns-in_err-flush-in-Some-clause-front
 returns-in_err-flush-in-Some-clause-front g c =
     let held = g.W.Write.contents (inner_of c.args.writer.now) in
     let written = g.W.Write.contents (inner_of c.drain.new.writer) in
-    let end = subst (λ (o : Option Outcome). WritesFor g.R.Repo.state [] held written c.args.server.now c.drain.new.server o)
+    let end = subst (λ (o : Option Outcome). WritesFor g.R.Repo.state c.args.server.now c.drain.new.server [] (flow held written) o)
     c.in-Some.is c.in_ok-outcome.ensures.ok in
     on_err_at _ _ _ c.from_residual-in_err-flush-in-Some.ensures.1
-    (end_unflushed g.R.Repo.state c.args.server.now c.drain.new.server [] held written _ c.in-Some.outcome end c.in_err-flush-in-Some.ensures.bytes)
+    (part_flushed true g.R.Repo.state c.args.server.now c.drain.new.server [] held written _ end.part c.in_err-flush-in-Some.ensures.bytes)

@@ -1,9 +1,11 @@
--- Each turn is one read, nothing has failed or ended, and all that was given for what was read was written.
+-- Each turn is one read that brought some bytes, nothing has failed or ended, and all that was given for what was read was written.
 use Rattle.std.proofs.Common.{◌≡◌, false, true, []}
 use Rattle.git_pkt.specs.Told.{inner_of, reads_of, has_failed, has_ended}
-use Rattle.git_pkt.specs.Engine.{Exchanges, HasRead}
+use Rattle.git_pkt.specs.Streams.{flow}
+use Rattle.git_pkt.proofs.EngineLemmas.{Moved}
 use Rattle.git_server.specs.Sessions.{Setting}
 use Rattle.git_server.specs.Server.{Running, wants_input}
+use Rattle.git_server.proofs.RunLemmas.{StandsAfter}
 use Rattle.git_server.proofs.run.serve.Given as goal
 
 abbrev pub invariant-loop : goal.invariant-loop
@@ -13,9 +15,8 @@ invariant-loop g l = record {
   open_ended : has_ended l.reader ≡ false;
   writer_sound : has_failed l.writer ≡ false;
   wants : wants_input l.server ≡ true;
-  brought : HasRead l.counter (g.In.Read.remaining (inner_of l.fn.reader)) (g.In.Read.remaining (inner_of l.reader));
   run : (s : Setting) → Running g.R.Repo.state s [] false [] l.fn.server
-      → Exchanges (λ used given. Running g.R.Repo.state s used false given l.server)
-      (g.In.Read.remaining (inner_of l.fn.reader)) (g.In.Read.remaining (inner_of l.reader))
-      (g.W.Write.contents (inner_of l.fn.writer)) (g.W.Write.contents (inner_of l.writer));
+      → Moved false (StandsAfter g.R.Repo.state s l.counter l.server)
+      (flow (g.In.Read.remaining (inner_of l.fn.reader)) (g.In.Read.remaining (inner_of l.reader)))
+      (flow (g.W.Write.contents (inner_of l.fn.writer)) (g.W.Write.contents (inner_of l.writer)));
 }

@@ -1,0 +1,612 @@
+-- A check so far: what was read of both streams, what was asked and heard; and what it comes to at each of its ends.
+use Rattle.std.proofs.Common.{arith, ◌≡◌, inl, inr, ◌⊎◌, ℕ, ◌-◌, ◌<◌, Bool, true, false, List, [], ◌∷◌, ◌++◌, length, map, Option, None}
+use Rattle.std.proofs.Common.{Result, Ok, Err, IfErr, IsErrAnd, refl, sym, ap, ◌∙◌, subst, append_assoc, append-nil, length-append}
+use Rattle.std.proofs.lemmas.List.{map-append}
+use Rattle.std.proofs.lemmas.Result.{err_from_is_err_and}
+use Rattle.std.proofs.KnownBytes.{Consumes-nil, Consumes-trans}
+use Rattle.std.specs.Io.KnownBytes.{Consumes}
+use Rattle.git_names.specs.declared.object_format.Format.{Format}
+use Rattle.git_pkt.specs.Engine.{FailsAs, IsShownBy, IsSpent}
+use Rattle.git_pkt.specs.Faults.{IsOpen, last_position}
+use Rattle.git_pkt.specs.Splits.{Given}
+use Rattle.git_pkt.specs.Streams.{Flow, flow, WrittenAs, Moves, is_broken}
+use Rattle.git_pkt.specs.declared.fault.Fault.{Fault}
+use Rattle.git_pkt.specs.declared.fault.Kind.TheVariants.{UnexpectedPacket}
+use Rattle.git_pkt.specs.declared.fault.RunFault.{RunFault}
+use Rattle.git_pkt.specs.declared.fault.RunFault.TheVariants.{ReadFault, WriteFault, ReadLimit, Refused}
+use Rattle.git_pkt.specs.Told.{has_ended, has_failed}
+use Rattle.git_pkt.specs.declared.told.Told.{Told}
+use Rattle.git_pkt.proofs.Spelling.{none_begins_nothing}
+use Rattle.git_msg.specs.Advertisement.{noted_offer}
+use Rattle.git_msg.specs.Asked.{Asked}
+use Rattle.git_msg.specs.Checks.{Refuses as RefusesBy}
+use Rattle.git_msg.specs.HeldRequest.{asked_of}
+use Rattle.git_msg.specs.Requests.{IsStop}
+use Rattle.git_msg.specs.RequestStreams.{HasRead, AreAsked, IsRefusedAs, bytes_used, limit_of, offer_of}
+use Rattle.git_msg.specs.StreamStages.{AreBegun}
+use Rattle.git_msg.specs.declared.offers.Offer.{Offer}
+use Rattle.git_msg.specs.declared.requests.Request.{Request}
+use Rattle.git_msg.specs.declared.streams.RequestStream.{RequestStream}
+use Rattle.git_client.specs.Client.{History, Converses, nothing_yet, ask_checks, bytes_used as client_bytes, can_ask, caps_of, phase_of, request_of}
+use Rattle.git_client.specs.Client.{wants_input}
+use Rattle.git_client.specs.Conversation.{IsConversation, HasNoted}
+use Rattle.git_client.specs.Parts.{Terms}
+use Rattle.git_client.specs.RunSteps.{IsTold, AsksNext, AsksTo, HearsBytes, HearsTo, HearsWhole, no_counts, window_of}
+use Rattle.git_client.specs.Runs.{IsInterrupted}
+use Rattle.git_client.specs.Transcript.{transcript_of}
+use Rattle.git_client.specs.Turns.{takes_packets}
+use Rattle.git_client.specs.declared.client.Client.{Client}
+use Rattle.git_client.specs.declared.hearing.Window.{Window}
+use Rattle.git_client.specs.declared.phase.Phase.{Phase}
+use Rattle.git_client.specs.declared.phase.Phase.TheVariants.{Hearing}
+use Rattle.git_client.proofs.Alongs.{written_then}
+use Rattle.git_client.proofs.Carries.{is_quiet, not_left, owes_nothing}
+use Rattle.git_client.proofs.ClientRuns.{Running, Ran, ran, begins}
+use Rattle.git_client.proofs.EventsHeard.{all_is_said, awaits_more, has_events, has_noted, is_whole, position_is}
+use Rattle.git_client.proofs.Faults.{first_fault}
+use Rattle.git2show_lib.specs.CheckFaults.{run_fault, run_result, standing_of}
+use Rattle.git2show_lib.specs.CheckSteps.{Asking, ReadsAll, ReadsNoMore, ReadsOn, ReadsRequest, ReadsTo, SeesEnd}
+use Rattle.git2show_lib.specs.CheckedStreams.{AreAllAsked, AreAnswered, AreOver, AreUnread, Checked, EndsAs, Found, IsOffered, IsWithinRequest}
+use Rattle.git2show_lib.specs.CheckedStreams.{of_responses as fault_of_responses}
+use Rattle.git2show_lib.specs.declared.checking.CheckFault.{CheckFault}
+use Rattle.git2show_lib.specs.declared.checking.CheckFault.TheVariants.{Requests, Responses}
+use Rattle.git2show_lib.specs.declared.checking.CheckFault.TheVariants.{ReadFault as CheckReadFault, WriteFault as CheckWriteFault, ReadLimit as CheckReadLimit}
+
+-- ---- what was read and written
+
+-- where the packets that are asked and the packs go: nowhere
+abbrev pub silent : Flow
+silent = flow None None
+
+-- there all bytes count as written
+in_silence : (broken : Bool) (bytes : List ℕ) → WrittenAs broken silent bytes
+in_silence false bytes = tt
+in_silence true bytes = ([], bytes, refl, tt)
+
+-- of the bytes that waited and those that came, some were used
+bytes_on : (before held after : Option (List ℕ)) (used waiting came more unused : List ℕ) → Consumes before held (used ++ waiting)
+    → Consumes held after came → waiting ++ came ≡ more ++ unused → Consumes before after ((used ++ more) ++ unused)
+bytes_on before held after used waiting came more unused first second parts =
+    subst (Consumes before after) (append_assoc used waiting came ∙ ap (λ (l : List ℕ). used ++ l) parts ∙ sym (append_assoc used more unused))
+    (Consumes-trans before held after (used ++ waiting) came first second)
+
+-- ---- where bytes of the server are due
+
+-- a client that hears owes nothing, and has not left
+quiet_where_due : (phase : Phase) → takes_packets phase ≡ true → is_quiet phase ≡ true
+quiet_where_due (Hearing due) e = refl
+quiet_where_due phase e = absurd (cc)
+
+-- a conversation that ends there was interrupted: all that was due was said, and more is to come
+interrupted : {A : Type 0} (t : Terms) (h : History) (client : Client A) → Converses t h client → wants_input client ≡ true → IsInterrupted t [] h
+interrupted t h client stands due =
+    let quiet = quiet_where_due (phase_of client) due in
+    record {
+      all = refl;
+      goes_on = awaits_more t h client stands due;
+      stays = stands.left ∙ not_left (phase_of client) quiet;
+      said = record {
+        caps = caps_of client;
+        noted = has_noted t h client stands;
+        said = all_is_said t h client stands (owes_nothing (phase_of client) (request_of client) quiet);
+      };
+    }
+
+-- ---- what an advertisement offers
+
+-- what was offered stays so when more bytes come
+offered_on : (t : Terms) (bytes more : List ℕ) (offer : Offer) → IsOffered t bytes offer → IsOffered t (bytes ++ more) offer
+offered_on t bytes more offer o = record {
+  advertised = o.advertised;
+  more = o.more ++ more;
+  events = o.events;
+  caps = o.caps;
+  cut = ap (λ (l : List ℕ). l ++ more) o.cut ∙ append_assoc o.advertised o.more more;
+  whole = o.whole;
+  noted = o.noted;
+  offers = o.offers;
+}
+
+-- the same offer of the same bytes
+still_offered : (t : Terms) {bytes all : List ℕ} {offer other : Offer} → other ≡ offer → all ≡ bytes → IsOffered t bytes offer → IsOffered t all other
+still_offered t {bytes} {all} {offer} {other} same grown offered =
+    subst (IsOffered t all) (sym same) (subst (λ (l : List ℕ). IsOffered t l offer) (sym grown) offered)
+
+-- the same where perhaps no request was read yet
+known_on : (t : Terms) (bytes more all : List ℕ) (offer : Offer) (found : Found) → all ≡ bytes ++ more → IsOffered t bytes offer ⊎ AreUnread found
+    → IsOffered t all offer ⊎ AreUnread found
+known_on t bytes more all offer found grown (inl offered) =
+    inl (subst (λ (l : List ℕ). IsOffered t l offer) (sym grown) (offered_on t bytes more offer offered))
+known_on t bytes more all offer found grown (inr unread) = inr unread
+
+-- a byte is left over at this place
+abbrev the_fault : ℕ → Fault
+the_fault at = record { kind = UnexpectedPacket; offset = at }
+
+-- before the first request: nothing
+abbrev nothing_found : Found
+nothing_found = record { used = []; unused = []; asked = []; left = []; rest = [] }
+
+-- no bytes ask for nothing
+none_asked : (offer : Offer) (limit : ℕ) → AreAsked offer limit [] [] [] []
+none_asked offer limit = record { packets = []; splits = record { spelled = refl; ends = none_begins_nothing }; requests = refl }
+
+module _ {A : Type 0} (t : Terms) where
+  -- ---- the steps of the client, of which the bytes that it used are known
+
+  -- more bytes were used, or a write failed while they were
+  heard_on : (broken : Bool) (front : List (Request A)) (old new : Client A) (waiting unused : List ℕ)
+      {before held after out_before out_held out_after : Option (List ℕ)}
+      → (r : Running false t front old no_counts waiting (flow before held) silent (flow out_before out_held) silent)
+      → (step : HearsBytes broken old new waiting unused (flow held after) (flow out_held out_after) silent)
+      → (on : Running broken t front new step.counts unused (flow before after) silent (flow out_before out_after) silent)
+      × (on.h.used ≡ r.h.used ++ step.used)
+  heard_on broken front old new waiting unused {before} {held} {after} {out_before} {out_held} {out_after} r step =
+      let (events, along) = step.goes t r.h r.lines r.packed r.along in (
+        record {
+          h = record r.h { used = r.h.used ++ step.used; events = r.h.events ++ events };
+          lines = r.lines ++ step.lines;
+          packed = r.packed ++ step.packed;
+          along = along;
+          asked = r.asked;
+          read = bytes_on before held after r.h.used waiting step.came step.used unused r.read step.read step.parts;
+          said = in_silence broken r.h.given;
+          told = written_then broken out_before out_held out_after r.lines step.lines r.told step.told;
+          sent = in_silence broken (r.packed ++ step.packed);
+        },
+        refl,
+      )
+
+  -- a response was heard whole: at the next one the client counts from nothing
+  heard_whole : (front : List (Request A)) (old new : Client A) (waiting : List ℕ) (window : Window) (piece : List ℕ)
+      {before held after out_before out_held out_after : Option (List ℕ)}
+      → (r : Running false t front old no_counts waiting (flow before held) silent (flow out_before out_held) silent)
+      → (step : HearsWhole window old new waiting piece (flow held after) (flow out_held out_after) silent)
+      → (on : Running false t front new no_counts (window_of window piece) (flow before after) silent (flow out_before out_after) silent)
+      × (on.h.used ≡ r.h.used ++ step.hears.used)
+  heard_whole front old new waiting window piece r step =
+      let (on, grown) = heard_on false front old new waiting (window_of window piece) r step.hears in (
+        record {
+          h = on.h;
+          lines = on.lines;
+          packed = on.packed;
+          along = record {
+            stands = on.along.stands;
+            told = subst (λ (now : Bool). IsTold now on.h on.lines no_counts) (sym step.can_ask_on)
+                (subst (λ (now : Bool). IsTold now on.h on.lines step.hears.counts) step.can_ask_on on.along.told);
+            pack_is = on.along.pack_is;
+            within = omega arith;
+          };
+          asked = on.asked;
+          read = on.read;
+          said = on.said;
+          told = on.told;
+          sent = on.sent;
+        },
+        grown,
+      )
+
+  -- a request was asked, or a write failed while it was
+  asked_on : (broken : Bool) (front : List (Request A)) (old new : Client A) (request : Request A) (unused : List ℕ)
+      {responses : Flow} {out_before out_held out_after : Option (List ℕ)}
+      → (r : Running false t front old no_counts unused responses silent (flow out_before out_held) silent)
+      → AsksNext broken old new request silent (flow out_held out_after)
+      → (on : Running broken t (front ++ request ∷ []) new no_counts unused responses silent (flow out_before out_after) silent)
+      × (on.h.used ≡ r.h.used)
+  asked_on broken front old new request unused {responses} {out_before} {out_held} {out_after} r step = (
+    record {
+      h = record r.h { asked = r.h.asked ++ asked_of request ∷ []; given = r.h.given ++ step.given };
+      lines = _;
+      packed = r.packed;
+      along = step.goes t r.h r.lines r.packed no_counts r.along;
+      asked = ap (λ (l : List Asked). l ++ asked_of request ∷ []) r.asked ∙ sym (map-append asked_of front (request ∷ []));
+      read = r.read;
+      said = in_silence broken (r.h.given ++ step.given);
+      told = written_then broken out_before out_held out_after r.lines _ r.told step.told;
+      sent = in_silence broken r.packed;
+    },
+    refl,
+  )
+
+  module _ (limit : ℕ) where
+    -- ---- how a check stands
+
+    -- of the requests these bytes were used, which ask for these, and these wait
+    pub record Reading (asked : List Asked) (stream : RequestStream A) (waiting : List ℕ) (requests : Flow) : Type 0 where
+      pub used : List ℕ
+      pub has_read : HasRead used asked stream
+      pub read : Consumes requests.before requests.after (used ++ waiting)
+      pub limit_is : limit_of stream ≡ limit
+
+    -- a response is due: the advertisement, or that to the last of the requests that were read
+    pub record Awaiting (broken : Bool) (front : List (Request A)) (client : Client A) (waiting : List ℕ) (requests responses out : Flow) : Type 0 where
+      pub found : Found
+      pub offer : Offer
+      pub runs : Running broken t front client no_counts waiting responses silent out silent
+      pub read : Consumes requests.before requests.after (found.used ++ found.unused)
+      pub asks : AreAsked offer limit found.used found.asked found.left found.rest
+      pub asked : found.asked ≡ map asked_of front
+      pub nothing_left : found.left ≡ []
+      pub no_rest : found.rest ≡ []
+      pub offered : IsOffered t runs.h.used offer ⊎ AreUnread found
+
+    -- the next request can come: those that were read were asked, and the response to each was heard whole
+    pub record Checking (client : Client A) (stream : RequestStream A) (held waiting : List ℕ) (requests responses out : Flow) : Type 0 where
+      pub front : List (Request A)
+      pub runs : Running false t front client no_counts waiting responses silent out silent
+      pub reading : Reading (map asked_of front) stream held requests
+      pub offered : IsOffered t runs.h.used (offer_of stream)
+      pub ready : can_ask client ≡ true
+
+    -- ---- the requests
+
+    -- they were read on
+    reads_on : {asked more : List Asked} {old new : RequestStream A} {waiting unused : List ℕ} {before held after : Option (List ℕ)}
+        → Reading asked old waiting (flow before held) → ReadsOn old new more waiting unused (flow held after)
+        → Reading (asked ++ more) new unused (flow before after)
+    reads_on {asked} {more} {old} {new} {waiting} {unused} {before} {held} {after} r step = record {
+      used = r.used ++ step.used;
+      has_read = step.reads r.used asked r.has_read;
+      read = bytes_on before held after r.used waiting step.came step.used unused r.read step.read step.parts;
+      limit_is = step.limit ∙ r.limit_is;
+    }
+
+    -- they were read on, but no request was whole
+    reads_none : {asked : List Asked} {old new : RequestStream A} {waiting unused : List ℕ} {before held after : Option (List ℕ)}
+        → Reading asked old waiting (flow before held) → ReadsOn old new [] waiting unused (flow held after) → Reading asked new unused (flow before after)
+    reads_none {asked} {old} {new} {waiting} {unused} {before} {held} {after} r step =
+        subst (λ (qs : List Asked). Reading qs new unused (flow before after)) (append-nil asked) (reads_on r step)
+
+    -- what is found in them, where this stands after the last whole request
+    abbrev found_in : {asked : List Asked} {stream : RequestStream A} {waiting : List ℕ} {requests : Flow} → Reading asked stream waiting requests
+        → List Given → List ℕ → Found
+    found_in {asked} {stream} {waiting} r left rest = record { used = r.used; unused = waiting; asked = asked; left = left; rest = rest }
+
+    -- that is what the requests ask within this limit
+    asks_within : {asked : List Asked} {stream : RequestStream A} {waiting : List ℕ} {requests : Flow} (r : Reading asked stream waiting requests)
+        (left : List Given) (rest : List ℕ) → AreAsked (offer_of stream) (limit_of stream) r.used asked left rest
+        → AreAsked (offer_of stream) limit r.used asked left rest
+    asks_within {asked} {stream} r left rest are_asked =
+        subst (λ (l : ℕ). AreAsked (offer_of stream) l r.used asked left rest) r.limit_is are_asked
+
+    -- a request takes the reader a byte on, or more
+    pub comes_nearer : {asked : List Asked} {old new : RequestStream A} {request : Request A} {ended : Bool} {waiting unused : List ℕ}
+        {before held after : Option (List ℕ)} → Reading asked old waiting (flow before held)
+        → ReadsRequest ended old new request waiting unused (flow held after) → last_position - bytes_used new < last_position - bytes_used old
+    comes_nearer {asked} r step =
+        let on = step.reads.reads r.used asked r.has_read in
+        omega (arith, step.some, r.has_read.reads.position, on.reads.position, on.reads.within, length-append r.used step.reads.used)
+
+    -- ---- the client
+
+    -- before the first byte
+    pub advertisement_due : (client : Client A) (offer : Offer) (requests responses out : Option (List ℕ)) → wants_input client ≡ true
+        → Converses t nothing_yet client → Awaiting false [] client [] (flow requests requests) (flow responses responses) (flow out out)
+    advertisement_due client offer requests responses out due stands = record {
+      found = nothing_found;
+      offer = offer;
+      runs = begins t client responses None None out None due stands tt;
+      read = Consumes-nil requests;
+      asks = none_asked offer limit;
+      asked = refl;
+      nothing_left = refl;
+      no_rest = refl;
+      offered = inr (record { nothing_used = refl; nothing_waits = refl });
+    }
+
+    -- the advertisement was heard whole, and a reader of requests was made of what it offers
+    pub advertised : (old new : Client A) (stream : RequestStream A) (window : Window) (piece : List ℕ) {requests : Option (List ℕ)}
+        {before held after out_before out_held out_after : Option (List ℕ)}
+        → Awaiting false [] old [] (flow requests requests) (flow before held) (flow out_before out_held)
+        → HearsWhole window old new [] piece (flow held after) (flow out_held out_after) silent
+        → HasRead [] [] stream → offer_of stream ≡ noted_offer (caps_of new) t.format → limit_of stream ≡ limit
+        → Checking new stream [] (window_of window piece) (flow requests requests) (flow before after) (flow out_before out_after)
+    advertised old new stream window piece {requests} a heard reads offers kept =
+        let (on, grown) = heard_whole [] old new [] window piece a.runs heard in
+        let stands = on.along.stands in
+        record {
+          front = [];
+          runs = on;
+          reading = record { used = []; has_read = reads; read = Consumes-nil requests; limit_is = kept };
+          offered = record {
+            advertised = on.h.used;
+            more = [];
+            events = on.h.events;
+            caps = caps_of new;
+            cut = sym (append-nil on.h.used);
+            whole = subst (λ (asked : List Asked). IsConversation t asked on.h.used on.h.events) on.asked (is_whole t on.h new stands heard.can_ask_on);
+            noted = subst (λ (asked : List Asked). HasNoted t asked on.h.used (caps_of new)) on.asked (has_noted t on.h new stands);
+            offers = offers;
+          };
+          ready = heard.can_ask_on;
+        }
+
+    -- a request was read, and asked, or a write failed while it was
+    pub response_due : (broken : Bool) (old new : Client A) (stream next : RequestStream A) (request : Request A) (ended : Bool)
+        (held later waiting : List ℕ) {responses : Flow} {before left after out_before out_held out_after : Option (List ℕ)}
+        → (c : Checking old stream held waiting (flow before left) responses (flow out_before out_held))
+        → ReadsRequest ended stream next request held later (flow left after)
+        → AsksNext broken old new request silent (flow out_held out_after)
+        → Awaiting broken (c.front ++ request ∷ []) new waiting (flow before after) responses (flow out_before out_after)
+    response_due broken old new stream next request ended held later waiting c step asks =
+        let asked = map asked_of c.front ++ asked_of request ∷ [] in
+        let reading = reads_on c.reading step.reads in
+        let (left, rest, are_asked, (nothing, none)) = step.alone reading.used asked reading.has_read in
+        let (on, same) = asked_on broken c.front old new request waiting c.runs asks in
+        record {
+          found = found_in reading left rest;
+          offer = offer_of next;
+          runs = on;
+          read = reading.read;
+          asks = asks_within reading left rest are_asked;
+          asked = sym (map-append asked_of c.front (request ∷ []));
+          nothing_left = nothing;
+          no_rest = none;
+          offered = inl (still_offered t step.reads.offer same c.offered);
+        }
+
+    -- a request was read and asked, and the response to it was heard whole
+    pub response_heard : (old middle new : Client A) (stream next : RequestStream A) (request : Request A) (ended : Bool)
+        (held later waiting : List ℕ) (window : Window) (piece : List ℕ)
+        {before left after heard_before heard heard_after out_before out_held out_asked out_after : Option (List ℕ)}
+        → Checking old stream held waiting (flow before left) (flow heard_before heard) (flow out_before out_held)
+        → ReadsRequest ended stream next request held later (flow left after)
+        → AsksNext false old middle request silent (flow out_held out_asked)
+        → HearsWhole window middle new waiting piece (flow heard heard_after) (flow out_asked out_after) silent
+        → Checking new next later (window_of window piece) (flow before after) (flow heard_before heard_after) (flow out_before out_after)
+    response_heard old middle new stream next request ended held later waiting window piece {before} {left} {after} c step asks heard =
+        let (asked, same) = asked_on false c.front old middle request waiting c.runs asks in
+        let (on, grown) = heard_whole (c.front ++ request ∷ []) middle new waiting window piece asked heard in
+        record {
+          front = c.front ++ request ∷ [];
+          runs = on;
+          reading =
+              subst (λ (asks : List Asked). Reading asks next later (flow before after)) (sym (map-append asked_of c.front (request ∷ [])))
+              (reads_on c.reading step.reads);
+          offered =
+              still_offered t step.reads.offer (grown ∙ ap (λ (l : List ℕ). l ++ heard.hears.used) same)
+              (offered_on t c.runs.h.used heard.hears.used (offer_of stream) c.offered);
+          ready = heard.can_ask_on;
+        }
+
+-- ---- how a check ends
+
+module _ (A : Type 0) (t : Terms) (limit : ℕ) {Q R : Type 0} (of_requests : Told Q) (of_responses : Told R) where
+  -- how a check with this answer moved its streams
+  abbrev pub CheckEnds : Result (Unit {0}) CheckFault → Flow → Flow → Flow → Type 0
+  CheckEnds result requests responses out =
+      Moves (is_broken (run_result result)) (Checked A t limit result (standing_of of_requests) (standing_of of_responses))
+      (requests ∷ responses ∷ []) (out ∷ [])
+
+  -- what a `?` answers is the fault that it met
+  pub ends_at : (result : Result (Unit {0}) CheckFault) (fault : CheckFault) (requests responses out : Flow) → IsErrAnd result (λ e. e ≡ fault)
+      → CheckEnds (Err fault) requests responses out → CheckEnds result requests responses out
+  ends_at result fault requests responses out met ends =
+      let (e, is, same) = err_from_is_err_and result met in
+      subst (λ (r : Result (Unit {0}) CheckFault). CheckEnds r requests responses out) (sym (is ∙ ap Err same)) ends
+
+  -- what the run of the client and the requests come to in a check that ends here
+  ends : (result : Result (Unit {0}) CheckFault) (found : Found) (offer : Offer) (h : History) (front : List (Request A)) (client : Client A)
+      (unused : List ℕ) (requests responses out : Flow) → Consumes requests.before requests.after (found.used ++ found.unused)
+      → Ran (is_broken (run_result result)) t h front client unused responses silent out silent → IsOffered t h.used offer ⊎ AreUnread found
+      → AreAsked offer limit found.used found.asked found.left found.rest
+      → EndsAs A t offer limit result (standing_of of_requests) (standing_of of_responses) unused h found → CheckEnds result requests responses out
+  ends result found offer h front client unused requests responses out read at offered asks ended = record {
+    used = (found.used ++ found.unused) ∷ (h.used ++ unused) ∷ [];
+    given = transcript_of h.asked h.events ∷ [];
+    read = (read, (at.read, tt));
+    written = (at.told, tt);
+    related = record {
+      h = h;
+      unused = unused;
+      found = found;
+      offer = offer;
+      were_read = refl;
+      told = refl;
+      heard = has_events t h client at.stands;
+      offered = offered;
+      asks = asks;
+      ends = ended;
+    };
+  }
+
+  -- ---- a response, or the advertisement, is due
+
+  module _ (front : List (Request A)) (old new : Client A) (waiting : List ℕ) {requests : Flow}
+      {before held out_before out_held : Option (List ℕ)} (after out_after : Option (List ℕ))
+      (a : Awaiting t limit false front old waiting requests (flow before held) (flow out_before out_held)) where
+    -- all that came of it was heard, and then this was told
+    heard_up_to : (result : Result (Unit {0}) CheckFault) (unused : List ℕ)
+        (step : HearsBytes (is_broken (run_result result)) old new waiting unused (flow held after) (flow out_held out_after) silent)
+        → ((h : History) → Converses t h new → AreAllAsked h a.found
+        → EndsAs A t a.offer limit result (standing_of of_requests) (standing_of of_responses) unused h a.found)
+        → CheckEnds result requests (flow before after) (flow out_before out_after)
+    heard_up_to result unused step ended =
+        let (on, grown) = heard_on t (is_broken (run_result result)) front old new waiting unused a.runs step in
+        let all_asked : AreAllAsked on.h a.found =
+        record { asked = a.asked ∙ sym on.asked; nothing_left = a.nothing_left; no_rest = a.no_rest } in
+        ends result a.found a.offer on.h front new unused _ _ _ a.read (ran on)
+        (known_on t a.runs.h.used step.used on.h.used a.offer a.found grown a.offered) a.asks (ended on.h on.along.stands all_asked)
+
+    -- it was not heard to its end
+    pub hearing_stopped : (fault : RunFault) (piece : List ℕ) (turns : ℕ) (written : Bool) (F W : Type 0)
+        → HearsTo (Err fault) (has_ended of_responses) old new waiting piece (flow held after) (flow out_held out_after) silent
+        → FailsAs {T = Window} (Err fault) (has_failed of_responses) written → IsShownBy F W (IsSpent of_responses turns) fault
+        → CheckEnds (Err (fault_of_responses fault)) requests (flow before after) (flow out_before out_after)
+    hearing_stopped ReadFault piece turns written F W step told shown =
+        heard_up_to (Err CheckReadFault) [] step.hears
+        (λ h stands all_asked. inl (record { all_asked = all_asked; interrupted = interrupted t h new stands step.due }, told.0))
+    hearing_stopped WriteFault piece turns written F W (unused, step) told shown = heard_up_to (Err CheckWriteFault) unused step (λ h stands all_asked. tt)
+    hearing_stopped ReadLimit piece turns written F W step told shown =
+        heard_up_to (Err CheckReadLimit) [] step.hears
+        (λ h stands all_asked. inl (record { all_asked = all_asked; interrupted = interrupted t h new stands step.due }, shown.open_ended))
+    hearing_stopped (Refused fault) piece turns written F W step told shown =
+        heard_up_to (Err (Responses fault)) step.unused step.hears (λ h stands all_asked.
+        inl (record { all_asked = all_asked; malformed = record { first = first_fault t h new fault stands step.told; timely = step.timely } }))
+
+  -- ---- a request was not asked
+
+  -- the client refuses it, or a write failed
+  pub asking_stopped : (fault : RunFault) (old new : Client A) (stream next : RequestStream A) (request : Request A) (ended : Bool)
+      (held later waiting : List ℕ) {responses : Flow} {before left after out_before out_held : Option (List ℕ)} (out_after : Option (List ℕ))
+      → Checking t limit old stream held waiting (flow before left) responses (flow out_before out_held)
+      → ReadsRequest ended stream next request held later (flow left after)
+      → AsksTo (Err fault) old new request silent (flow out_held out_after)
+      → CheckEnds (Err (fault_of_responses fault)) (flow before after) responses (flow out_before out_after)
+  asking_stopped ReadFault old new stream next request ended held later waiting out_after c step asks = absurd asks
+  asking_stopped ReadLimit old new stream next request ended held later waiting out_after c step asks = absurd asks
+  asking_stopped WriteFault old new stream next request ended held later waiting out_after c step asks =
+      let a = response_due t limit true old new stream next request ended held later waiting c step asks in
+      ends (Err CheckWriteFault) a.found a.offer a.runs.h (c.front ++ request ∷ []) new waiting _ _ _ a.read (ran a.runs) a.offered a.asks tt
+  asking_stopped (Refused fault) old new stream next request ended held later waiting {responses} {before} {left} {after} {out_before} {out_held}
+      out_after c step asks =
+      let asked = map asked_of c.front ++ asked_of request ∷ [] in
+      let reading = reads_on t limit c.reading step.reads in
+      let (remaining, rest, are_asked, (nothing, none)) = step.alone reading.used asked reading.has_read in
+      let h = c.runs.h in
+      let at = ran c.runs in
+      let stands = at.stands in
+      let lines = transcript_of h.asked h.events in
+      let so : Ran false t h c.front old waiting responses silent (flow out_before out_after) silent = record {
+        stands = stands;
+        asked = at.asked;
+        read = at.read;
+        said = at.said;
+        told =
+            subst (WrittenAs false (flow out_before out_after)) (append-nil lines)
+            (written_then false out_before out_held out_after lines [] at.told asks.told);
+        sent = at.sent;
+      } in
+      ends (Err (Responses fault)) (found_in t limit reading remaining rest) (offer_of next) h c.front old waiting _ _ _ reading.read so
+      (inl (still_offered t step.reads.offer refl c.offered)) (asks_within t limit reading remaining rest are_asked) (inr (inl (record {
+        request = request;
+        asked = ap (λ (l : List Asked). l ++ asked_of request ∷ []) (sym c.runs.asked);
+        nothing_left = nothing;
+        no_rest = none;
+        refused = record {
+          request = request;
+          later = [];
+          caps = caps_of old;
+          next = refl;
+          whole = is_whole t h old stands c.ready;
+          noted = has_noted t h old stands;
+          refused = subst (λ (format : Format). RefusesBy (ask_checks format (caps_of old) request) fault.kind) stands.format_is asks.refused;
+          at = asks.at ∙ position_is t h old stands;
+        };
+      })))
+
+  -- ---- no further request was read
+
+  module _ (client : Client A) (stream next : RequestStream A) (held waiting : List ℕ) {before left heard_before heard : Option (List ℕ)} {out : Flow}
+      (after : Option (List ℕ)) (c : Checking t limit client stream held waiting (flow before left) (flow heard_before heard) out) where
+    -- what is found in the requests: those that were asked, and this after them
+    abbrev found_after : (used unused : List ℕ) → List Given → List ℕ → Found
+    found_after used unused remaining rest = record { used = used; unused = unused; asked = map asked_of c.front; left = remaining; rest = rest }
+
+    -- the requests were read on, and bytes of what is left over of the responses, or none; then this was told
+    told_then : (result : Result (Unit {0}) CheckFault) → is_broken (run_result result) ≡ false → (came : List ℕ) (heard_after : Option (List ℕ))
+        → Consumes heard heard_after came → (unused : List ℕ) → ReadsOn stream next [] held unused (flow left after)
+        → (Stands : List ℕ → List Given → List ℕ → Type 0) → Asking next Stands
+        → ((used : List ℕ) (remaining : List Given) (rest : List ℕ) → Stands used remaining rest
+        → AreAnswered t c.runs.h (found_after used unused remaining rest)
+        → EndsAs A t (offer_of next) limit result (standing_of of_requests) (standing_of of_responses) (waiting ++ came) c.runs.h
+        (found_after used unused remaining rest)) → CheckEnds result (flow before after) (flow heard_before heard_after) out
+    told_then result sound came heard_after read unused step Stands asking ended =
+        let h = c.runs.h in
+        let at = ran c.runs in
+        let reading = reads_none t limit c.reading step in
+        let (remaining, rest, are_asked, stands) = asking reading.used (map asked_of c.front) reading.has_read in
+        let so : Ran false t h c.front client (waiting ++ came) (flow heard_before heard_after) silent out silent = record {
+          stands = at.stands;
+          asked = at.asked;
+          read =
+              subst (Consumes heard_before heard_after) (append_assoc h.used waiting came)
+              (Consumes-trans heard_before heard heard_after (h.used ++ waiting) came at.read read);
+          said = at.said;
+          told = at.told;
+          sent = at.sent;
+        } in
+        ends result (found_after reading.used unused remaining rest) (offer_of next) h c.front client (waiting ++ came) _ _ _ reading.read
+        (subst (λ (broken : Bool). Ran broken t h c.front client (waiting ++ came) (flow heard_before heard_after) silent out silent) (sym sound) so)
+        (inl (still_offered t step.offer refl c.offered)) (asks_within t limit reading remaining rest are_asked)
+        (ended reading.used remaining rest stands (record { asked = sym c.runs.asked; whole = is_whole t h client at.stands c.ready }))
+
+    -- all bytes of the requests were read, and more can come
+    all_read : (result : Result (Unit {0}) CheckFault) → is_broken (run_result result) ≡ false → has_ended of_responses ≡ false
+        → ReadsAll (has_ended of_requests) stream next held (flow left after)
+        → ((found : Found) → IsWithinRequest t (offer_of next) limit (standing_of of_requests) (standing_of of_responses) c.runs.h found
+        → EndsAs A t (offer_of next) limit result (standing_of of_requests) (standing_of of_responses) (waiting ++ []) c.runs.h found)
+        → CheckEnds result (flow before after) (flow heard_before heard) out
+    all_read result sound more step ended =
+        told_then result sound [] heard (Consumes-nil heard) [] step.reads
+        (λ used remaining rest. AreBegun (offer_of next) (limit_of next) remaining × IsOpen rest) step.begun
+        (λ used remaining rest (begun, still_open) answered. ended (found_after used [] remaining rest) (record {
+          answered = answered;
+          begun = subst (λ (l : ℕ). AreBegun (offer_of next) l remaining) (step.reads.limit ∙ c.reading.limit_is) begun;
+          still_open = still_open;
+          all_used = refl;
+          can_come = step.can_come;
+          more_can_come = more;
+        }))
+
+    -- the next request was not read whole
+    pub reading_stopped : (fault : CheckFault) (window : Window) (piece : List ℕ) → has_ended of_responses ≡ false
+        → ReadsTo (Err fault) (has_ended of_requests) stream next held window piece (flow left after)
+        → FailsAs {T = Option (Request A)} (run_result (Err fault)) (has_failed of_requests) false
+        → CheckEnds (Err fault) (flow before after) (flow heard_before heard) out
+    reading_stopped (Requests fault) window piece more step told =
+        told_then (Err (Requests fault)) refl [] heard (Consumes-nil heard) step.unused step.reads
+        (λ used remaining rest. IsRefusedAs (offer_of next) (limit_of next) remaining rest (length used) fault) step.refused
+        (λ used remaining rest refused answered. record {
+          answered = answered;
+          refused =
+              subst (λ (l : ℕ). IsRefusedAs (offer_of next) l remaining rest (length used) fault) (step.reads.limit ∙ c.reading.limit_is) refused;
+          timely = step.timely;
+          more_can_come = more;
+        })
+    reading_stopped (Responses fault) window piece more step told = absurd step
+    reading_stopped CheckReadFault window piece more step told = all_read (Err CheckReadFault) refl more step (λ found within. inr (inl (within, told.0)))
+    reading_stopped CheckWriteFault window piece more step told = absurd step
+    reading_stopped CheckReadLimit window piece more step told = all_read (Err CheckReadLimit) refl more step (λ found within. inr (inl (within, tt)))
+
+    -- no request came any more: what is left over of the responses was seen
+    module _ (step : ReadsNoMore (has_ended of_requests) stream next held (flow left after)) where
+      -- these bytes of it, and then this was told
+      seen_then : (result : Result (Unit {0}) CheckFault) → is_broken (run_result result) ≡ false → (came : List ℕ) (heard_after : Option (List ℕ))
+          → Consumes heard heard_after came
+          → ((found : Found) → AreAnswered t c.runs.h found → AreOver (has_ended of_requests) found
+          → EndsAs A t (offer_of next) limit result (standing_of of_requests) (standing_of of_responses) (waiting ++ came) c.runs.h found)
+          → CheckEnds result (flow before after) (flow heard_before heard_after) out
+      seen_then result sound came heard_after read ended =
+          told_then result sound came heard_after read step.unused step.reads
+          (λ used remaining rest. (rest ≡ []) × (IsStop remaining ⊎ ((remaining ≡ []) × (step.unused ≡ []) × (has_ended of_requests ≡ true)))) step.over
+          (λ used remaining rest over answered. ended (found_after used step.unused remaining rest) answered over)
+
+      -- nothing waits, and nothing came
+      none_over : waiting ≡ [] → waiting ++ [] ≡ []
+      none_over none = append-nil waiting ∙ none
+
+      pub seen_the_end : (result : Result (Unit {0}) CheckFault) (position turns : ℕ) (F W : Type 0) (heard_after : Option (List ℕ))
+          → position ≡ client_bytes client → SeesEnd result (has_ended of_responses) position waiting (flow heard heard_after)
+          → FailsAs (run_result result) (has_failed of_responses) false
+          → IfErr result (λ fault. IsShownBy F W (IsSpent of_responses turns) (run_fault fault))
+          → CheckEnds result (flow before after) (flow heard_before heard_after) out
+      seen_the_end (Ok done) position turns F W heard_after place (seen, ended) told shown =
+          seen_then (Ok done) refl [] heard_after seen.read
+          (λ found answered over. record { answered = answered; over = over; nothing_left = none_over seen.none_waits; ended = ended })
+      seen_the_end (Err (Requests fault)) position turns F W heard_after place seen told shown = absurd seen
+      seen_the_end (Err (Responses fault)) position turns F W heard_after place (seen, fault_is) told shown =
+          seen_then (Err (Responses fault)) refl seen.came heard_after seen.read (λ found answered over. inr (inr (record {
+            answered = answered;
+            over = over;
+            more = seen.some;
+            fault_is =
+                fault_is ∙ ap (λ (at : ℕ). the_fault at) (place ∙ position_is t c.runs.h client c.runs.along.stands);
+          })))
+      seen_the_end (Err CheckReadFault) position turns F W heard_after place seen told shown =
+          seen_then (Err CheckReadFault) refl [] heard_after seen.read
+          (λ found answered over. inr (inr (record { answered = answered; over = over; nothing_left = none_over seen.none_waits }, told.0)))
+      seen_the_end (Err CheckWriteFault) position turns F W heard_after place seen told shown = absurd seen
+      seen_the_end (Err CheckReadLimit) position turns F W heard_after place seen told shown =
+          seen_then (Err CheckReadLimit) refl [] heard_after seen.read
+          (λ found answered over. inr (inr (record { answered = answered; over = over; nothing_left = none_over seen.none_waits }, shown.open_ended)))

@@ -1,0 +1,442 @@
+-- Each answer, section by section, as a client hears it.
+use Rattle.std.proofs.Common.{arith, ◌≡◌, ℕ, ◌<◌, Bool, true, false, not, ◌&&◌, All, length, map, List, [], ◌∷◌, ◌++◌, Option, Some, None, codes, refl, ap}
+use Rattle.std.proofs.Common.{sym, ◌∙◌, subst, append_assoc, slice_index, cond}
+use Rattle.std.specs.List.{filter_map, cons_option}
+use Rattle.std.specs.Option.{option_map}
+use Rattle.std.specs.Str.{bytes_eq}
+use Rattle.std.proofs.lemmas.List.{get_or_append_left}
+use Rattle.std.proofs.lemmas.List.Elements.{All-cons, All-filter, All-head, All-nil, All-tail}
+use Rattle.std.proofs.lemmas.Slice.Eq.{bytes_eq-Decides}
+use Rattle.git_names.specs.Digits.{IsHexDigit, digit_value}
+use Rattle.git_names.specs.ObjectFormat.{digits_of}
+use Rattle.git_names.specs.ObjectName.{ObjectName, IsOid, hex_of}
+use Rattle.git_names.specs.RefName.{IsRefName}
+use Rattle.git_names.specs.declared.object_format.Format.{Format}
+use Rattle.git_names.specs.declared.object_format.Format.TheVariants.{Sha1, Sha256}
+use Rattle.git_names.proofs.WrittenForms.{digits-object_name}
+use Rattle.git_pkt.specs.Packets.{Pkt, flush, delim}
+use Rattle.git_pkt.specs.Splits.{Given}
+use Rattle.git_pkt.proofs.Texts.{text_of-line_end}
+use Rattle.git_msg.specs.declared.Boundary.{Boundary}
+use Rattle.git_msg.specs.declared.Boundary.TheVariants.{Shallow, Unshallow}
+use Rattle.git_msg.specs.Arguments.{IsNameIn}
+use Rattle.git_msg.specs.Asked.{Asked, FetchAsked, LsRefsAsked, ObjectInfoAsked, fetch, is_empty, ls_refs, object_info}
+use Rattle.git_msg.specs.declared.response_lines.Info.{Info}
+use Rattle.git_msg.specs.References.{IsWritable, reference_text}
+use Rattle.git_msg.specs.ResponseLines.{IsSize, Wanted, ack_text, boundary_text, info_text, object_of, wanted_of, wanted_text}
+use Rattle.git_msg.specs.Texts.{IsErrorText}
+use Rattle.git_msg.specs.WrittenRequest.{text_line}
+use Rattle.git_msg.proofs.ReferenceLaws.{reference_reads_back}
+use Rattle.git_msg.proofs.ResponseLines.{ack_reads_back, boundary_reads_back, info_reads_back, wanted_reads_back}
+use Rattle.git_msg.proofs.WrittenNames.{hex_of-reads_back, length-hex_of}
+use Rattle.git_client.specs.Client.{AreWhole, IsDue}
+use Rattle.git_client.specs.Conversation.{GiveAll}
+use Rattle.git_client.specs.Events.{EventValue, GivesLine, ack, ended, info, pack, ready, reference, wanted_ref}
+use Rattle.git_client.specs.Parts.{Terms, nearest}
+use Rattle.git_client.specs.Places.{acknowledgments as acknowledgments_at, references, shallow_info as shallow_place, sizes, wanted_refs as wanted_place}
+use Rattle.git_client.specs.Sections.{allowed_after, told_with}
+use Rattle.git_client.specs.Turns.{after_acknowledgments, first_due}
+use Rattle.git_client.specs.declared.phase.Due.TheVariants.{Acknowledgments, Header, Packfile, References, ShallowInfo, SizeLine, Sizes, WantedRefs}
+use Rattle.git_client.specs.declared.phase.Said.TheVariants.{Nothing, Ack, Nak, Ready}
+use Rattle.git_client.specs.declared.sections.Allowed.{Allowed}
+use Rattle.git_client.specs.declared.sections.Told.{Told}
+use Rattle.git_client.proofs.Questions.{due_said}
+use Rattle.git_client.proofs.Sequences.{gives_more}
+use Rattle.git_server.specs.Answers.{IsAnswer, reference_packet, info_packet, is_shown, ls_refs_answer, object_info_answer, shown_line, shown_refs}
+use Rattle.git_server.specs.FetchAnswers.{EndsWithBoundary, EndsWithRefs, IsFetchAnswerBy, IsNegotiated, ack_packet, acknowledgments, boundary_packet, common}
+use Rattle.git_server.specs.FetchAnswers.{nak_or_acks, negotiates, ready_lines, shallow_info, wanted_packet, wanted_refs}
+use Rattle.git_server.specs.Objects.{object_of as boundary_object}
+use Rattle.git_server.specs.Packs.{IsPackfile, whole}
+use Rattle.git_server.specs.Repository.{Entry, IsNamed, IsOfFormat, IsSound, Repository, found_ref}
+use Rattle.git2show_lib.specs.ToldAnswers.{AsksIn, CanBeWritten, IsEntryOfNames, end_packets, found_refs, packets_of}
+use Rattle.git2show_lib.specs.ToldAnswers.{told_boundary, told_by, told_common, told_fetch, told_pack, told_ready, told_refs, told_sizes}
+use Rattle.git2show_lib.proofs.Hearing.{AnswerGives, bands_give, caps_at, end_gives, given_give, given_whole, header_gives}
+use Rattle.git2show_lib.proofs.Hearing.{lines_give, no_error, of_text, packet_gives}
+
+-- ---- lines that are no error packets
+
+-- `R` is no digit
+no_digit : ¬ IsHexDigit 82
+unfolding digit_value
+no_digit is = omega arith
+
+-- an object name has more than one
+some_digits : (format : Format) → 1 < digits_of format
+some_digits Sha1 = omega arith
+some_digits Sha256 = omega arith
+
+-- a line that begins with an object name: its second byte is a digit, and no `R`
+name_no_error : (format : Format) (id : ObjectName) (rest : List ℕ) → IsNameIn format id → ¬ IsErrorText (hex_of id ++ rest)
+name_no_error format id rest h error =
+    let long : 1 < length (hex_of id) = omega (arith, length-hex_of format id h, some_digits format) in
+    let digit = digits-object_name format (hex_of id) id (hex_of-reads_back format id h) 1 long in
+    let second : slice_index (hex_of id) 1 ≡ 82 = sym (get_or_append_left (hex_of id) rest 0 1 long) ∙ ap (λ (xs : List ℕ). slice_index xs 1) error.spelled in
+    no_digit (subst IsHexDigit second digit)
+
+-- what is shown where it was asked for is what there is
+chosen : {X : Type 0} (flag : Bool) (found : Option X) (x : X) → cond flag found None ≡ Some x → found ≡ Some x
+chosen true found x h = h
+chosen false found x h = absurd (cc)
+
+-- ---- what a line of each kind gives
+
+-- the line of a reference, of which its target and its peeled object are shown where they were asked for
+reference_line : (format : Format) (symrefs peel : Bool) (entry : Entry) → IsNamed entry.name entry.target → IsOfFormat format entry
+    → IsEntryOfNames entry
+    → GivesLine references format (reference_text (shown_line symrefs peel entry)) (reference (shown_line symrefs peel entry) ∷ [])
+reference_line format symrefs peel entry named of_format names =
+    let ref = shown_line symrefs peel entry in
+    let in_format : IsNameIn format entry.id = record { of_format = of_format.by_id; is_oid = names.by_id } in
+    let writable : IsWritable ref = record {
+      name = named.by_name;
+      target = λ name e. named.by_target name (chosen symrefs entry.target name e);
+      peeled = λ id e. of_format.by_peeled id (chosen peel entry.peeled id e) ∙ sym of_format.by_id;
+    } in
+    record {
+      no_error = name_no_error format entry.id _ in_format;
+      says = reference_reads_back format ref in_format (λ id e. names.by_peeled id (chosen peel entry.peeled id e)) writable;
+    }
+
+-- a line of the shallow boundary
+boundary_line : (format : Format) (line : Boundary) → (boundary_object line).format ≡ format → IsOid (object_of line)
+    → GivesLine shallow_place format (boundary_text line) (told_boundary line ∷ [])
+boundary_line format (Shallow id) of_format oid =
+    record {
+      no_error = no_error (codes "shallow " ++ hex_of id) (λ e. omega arith);
+      says = boundary_reads_back format (Shallow id) (record { of_format = of_format; is_oid = oid });
+    }
+boundary_line format (Unshallow id) of_format oid =
+    record {
+      no_error = no_error (codes "unshallow " ++ hex_of id) (λ e. omega arith);
+      says = boundary_reads_back format (Unshallow id) (record { of_format = of_format; is_oid = oid });
+    }
+
+-- the line of a reference that was asked for by its name
+wanted_line : (format : Format) (wanted : Wanted) → IsNameIn format wanted.id → IsRefName wanted.name
+    → GivesLine wanted_place format (wanted_text wanted) (wanted_ref wanted ∷ [])
+wanted_line format wanted in_format name =
+    record { no_error = name_no_error format wanted.id _ in_format; says = wanted_reads_back format wanted in_format name }
+
+-- the line of an object and its size
+size_line_is : (format : Format) (id : ObjectName) (size : Option ℕ) → IsNameIn format id → ((bytes : ℕ) → size ≡ Some bytes → IsSize bytes)
+    → GivesLine sizes format (info_text (record { id = id; size = size })) (info (record { id = id; size = size }) ∷ [])
+size_line_is format id size in_format fits =
+    record { no_error = name_no_error format id _ in_format; says = info_reads_back format (record { id = id; size = size }) in_format fits }
+
+-- ---- the references that are found by their names
+
+-- what holds of each reference holds of one that was found
+found_holds : (P : List ℕ → ObjectName → Type 0) (refs : List Entry) (name : List ℕ) (id : ObjectName) → All (λ ref. P ref.name ref.id) refs
+    → found_ref refs name ≡ Some id → P name id
+found_holds P [] name id all h = absurd (cc)
+found_holds P (ref ∷ refs) name id all h =
+    go (found_holds P refs name id (All-tail (λ (r : Entry). P r.name r.id) ref refs all)) (bytes_eq ref.name name) refl h where
+      go : (found_ref refs name ≡ Some id → P name id) → (b : Bool) → bytes_eq ref.name name ≡ b → cond b (Some ref.id) (found_ref refs name) ≡ Some id
+          → P name id
+      go behind true same here =
+          let there : ref.id ≡ id = cc in
+          subst (λ (n : List ℕ). P n id) ((bytes_eq-Decides ref.name name).0 same)
+          (subst (λ (i : ObjectName). P ref.name i) there (All-head (λ (r : Entry). P r.name r.id) ref refs all))
+      go behind false other later = behind later
+
+-- the packets of the wanted references are those of the references that are found
+wanted_packets : (repo : Repository) (names : List (List ℕ))
+    → filter_map (wanted_packet repo) names ≡ map (λ wanted. text_line (wanted_text wanted)) (found_refs repo names)
+wanted_packets repo [] = refl
+wanted_packets repo (name ∷ names) = go (wanted_packets repo names) (found_ref repo.refs name) where
+  go : filter_map (wanted_packet repo) names ≡ map (λ wanted. text_line (wanted_text wanted)) (found_refs repo names) → (found : Option ObjectName)
+      → cons_option (option_map (λ id. text_line (wanted_text (wanted_of id name))) found) (filter_map (wanted_packet repo) names)
+      ≡ map (λ wanted. text_line (wanted_text wanted)) (cons_option (option_map (λ id. wanted_of id name) found) (found_refs repo names))
+  go others None = others
+  go others (Some id) = ap (λ (ps : List Pkt). text_line (wanted_text (wanted_of id name)) ∷ ps) others
+
+-- what holds of each that can be found holds of all that are
+all_found : (P : Wanted → Type 0) (repo : Repository) → ((name : List ℕ) (id : ObjectName) → found_ref repo.refs name ≡ Some id → P (wanted_of id name))
+    → (names : List (List ℕ)) → All P (found_refs repo names)
+all_found P repo each [] = All-nil P
+all_found P repo each (name ∷ names) = go (all_found P repo each names) (found_ref repo.refs name) refl where
+  go : All P (found_refs repo names) → (found : Option ObjectName) → found_ref repo.refs name ≡ found
+      → All P (cons_option (option_map (λ id. wanted_of id name) found) (found_refs repo names))
+  go others None is = others
+  go others (Some id) is = All-cons P (wanted_of id name) (found_refs repo names) (each name id is) others
+
+-- a request that negotiates has no `done`
+not_done : (some done : Bool) → (some && not done) ≡ true → (not done && true) ≡ true
+not_done some true h = absurd (no_both some h) where
+  no_both : (b : Bool) → (b && false) ≡ true → ⊥
+  no_both true h = cc
+  no_both false h = cc
+not_done some false h = refl
+
+module _ (t : Terms) (asked : List Asked) (repo : Repository) (sound : IsSound repo) (written : CanBeWritten repo) (same : repo.format ≡ t.format) where
+  -- the client's format is that of the repository
+  of_format : (entry : Entry) → IsOfFormat repo.format entry → IsOfFormat t.format entry
+  of_format entry is = subst (λ (format : Format). IsOfFormat format entry) same is
+
+  -- ---- the pack
+
+  -- the section of the pack, and the end of the answer
+  pack_gives : (bytes : List ℕ) (allowed : Allowed) (before packets : List Pkt) → IsPackfile whole bytes packets → IsDue t asked before (Header allowed)
+      → AnswerGives t asked before (packets ++ end_packets t.ending) (map pack bytes ++ ended ∷ [])
+  pack_gives bytes allowed before packets file is =
+      let bands = file.ends.bands in
+      let parts : packets ++ end_packets t.ending ≡ text_line (codes "packfile") ∷ (bands ++ (flush ∷ end_packets t.ending)) =
+      ap (λ (ps : List Pkt). ps ++ end_packets t.ending) file.packets_are
+      ∙ ap (λ (ps : List Pkt). text_line (codes "packfile") ∷ (ps ++ end_packets t.ending)) file.ends.packets_are
+      ∙ ap (λ (ps : List Pkt). text_line (codes "packfile") ∷ ps) (append_assoc bands (flush ∷ []) (end_packets t.ending)) in
+      subst (λ (ps : List Pkt). AnswerGives t asked before ps (map pack bytes ++ ended ∷ [])) (sym parts)
+      (header_gives t asked (codes "packfile") allowed Packfile before _ _ is (no_error (codes "packfile") (λ e. omega arith)) refl refl
+      (λ is. bands_give t asked bands bytes _ (flush ∷ end_packets t.ending) (ended ∷ []) file.ends.are_bands is
+      (λ behind is. end_gives t.format t.ending asked behind Packfile tt is)))
+
+  -- ---- the wanted references
+
+  -- the end of a section, and all after it
+  section_end : (lines others last : List Pkt) → ((lines ++ delim ∷ []) ++ others) ++ last ≡ lines ++ (delim ∷ (others ++ last))
+  section_end lines others last = append_assoc (lines ++ delim ∷ []) others last ∙ append_assoc lines (delim ∷ []) (others ++ last)
+
+  -- what each line gives
+  wanted_lines : (names : List (List ℕ)) → All (λ wanted. GivesLine wanted_place t.format (wanted_text wanted) (wanted_ref wanted ∷ [])) (found_refs repo names)
+  wanted_lines names =
+      all_found (λ wanted. GivesLine wanted_place t.format (wanted_text wanted) (wanted_ref wanted ∷ [])) repo
+      (λ name id found. wanted_line t.format (wanted_of id name)
+      (found_holds (λ name id. IsNameIn t.format id) repo.refs name id
+      (λ k d within. record { of_format = (sound.of_format k d within).by_id ∙ same; is_oid = (written.refs k d within).by_id }) found)
+      (found_holds (λ name id. IsRefName name) repo.refs name id (λ k d within. (sound.named k d within).by_name) found)) names
+
+  -- the section of wanted references, which is there where some were asked for, and then the pack
+  refs_give : (names : List (List ℕ)) (bytes : List ℕ) (allowed : Allowed) (before others : List Pkt) → allowed.wanted_refs ≡ true
+      → IsPackfile whole bytes others → IsDue t asked before (Header allowed)
+      → AnswerGives t asked before ((wanted_refs repo names ++ others) ++ end_packets t.ending)
+      (map wanted_ref (found_refs repo names) ++ (map pack bytes ++ ended ∷ []))
+  refs_give [] bytes allowed before others may file is = pack_gives bytes allowed before others file is
+  refs_give (name ∷ names) bytes allowed before others may file is =
+      let wanteds = found_refs repo (name ∷ names) in
+      let lines = map (λ wanted. text_line (wanted_text wanted)) wanteds in
+      let left : Allowed = record { acknowledgments = false; shallow_info = allowed.shallow_info; wanted_refs = false } in
+      let events = map wanted_ref wanteds ++ (map pack bytes ++ ended ∷ []) in
+      let parts : ((filter_map (wanted_packet repo) (name ∷ names) ++ delim ∷ []) ++ others) ++ end_packets t.ending
+      ≡ lines ++ (delim ∷ (others ++ end_packets t.ending)) =
+      ap (λ (ps : List Pkt). ((ps ++ delim ∷ []) ++ others) ++ end_packets t.ending) (wanted_packets repo (name ∷ names))
+      ∙ section_end lines others (end_packets t.ending) in
+      subst (λ (ps : List Pkt). AnswerGives t asked before (text_line (codes "wanted-refs") ∷ ps) events) (sym parts)
+      (header_gives t asked (codes "wanted-refs") allowed (WantedRefs left) before _ _ is (no_error (codes "wanted-refs") (λ e. omega arith)) may refl
+      (λ is. lines_give t asked wanted_text wanted_ref (WantedRefs left) tt wanteds _ (delim ∷ (others ++ end_packets t.ending)) _ is
+      (λ caps. wanted_lines (name ∷ names))
+      (λ behind is. packet_gives t asked behind (WantedRefs left) delim Nothing (others ++ end_packets t.ending) _ is refl tt refl
+      (λ is. pack_gives bytes left (delim ∷ behind) others file is))))
+
+  -- ---- the shallow boundary
+
+  -- what each line gives
+  boundary_lines : (q : FetchAsked) → All (λ line. GivesLine shallow_place t.format (boundary_text line) (told_boundary line ∷ [])) (repo.boundaries q)
+  boundary_lines q k d within = boundary_line t.format _ (sound.boundaries_of_format q k d within ∙ same) (written.boundaries q k d within)
+
+  -- what follows the lines of the boundary
+  abbrev LaterGives : FetchAsked → List Pkt → Type 0
+  LaterGives q others =
+      (allowed : Allowed) (before : List Pkt) → allowed.wanted_refs ≡ true → IsDue t asked before (Header allowed)
+      → AnswerGives t asked before (others ++ end_packets t.ending) (map wanted_ref (found_refs repo q.want_refs) ++ (map pack (repo.pack q) ++ ended ∷ []))
+
+  later_gives : (q : FetchAsked) (packets : List Pkt) → EndsWithRefs whole repo q packets → LaterGives q packets
+  later_gives q packets h allowed before may is =
+      subst (λ (ps : List Pkt). AnswerGives t asked before (ps ++ end_packets t.ending) (map wanted_ref (found_refs repo q.want_refs)
+      ++ (map pack (repo.pack q) ++ ended ∷ []))) (sym h.packets_are) (refs_give q.want_refs (repo.pack q) allowed before h.others may h.holds is)
+
+  -- the section of the shallow boundary, which is there where the boundary has commits, and then the others
+  boundary_gives : (lines : List Boundary) (allowed : Allowed) (before others : List Pkt) (later : List EventValue)
+      → All (λ line. GivesLine shallow_place t.format (boundary_text line) (told_boundary line ∷ [])) lines → allowed.shallow_info ≡ true
+      → allowed.wanted_refs ≡ true → IsDue t asked before (Header allowed)
+      → ((left : Allowed) (behind : List Pkt) → left.wanted_refs ≡ true → IsDue t asked behind (Header left)
+      → AnswerGives t asked behind (others ++ end_packets t.ending) later)
+      → AnswerGives t asked before ((shallow_info lines ++ others) ++ end_packets t.ending) (map told_boundary lines ++ later)
+  boundary_gives [] allowed before others later all may may_refs is then = then allowed before may_refs is
+  boundary_gives (line ∷ lines) allowed before others later all may may_refs is then =
+      let left : Allowed = record { acknowledgments = false; shallow_info = false; wanted_refs = allowed.wanted_refs } in
+      let all_lines = line ∷ lines in
+      let behind = delim ∷ (others ++ end_packets t.ending) in
+      subst (λ (ps : List Pkt). AnswerGives t asked before (text_line (codes "shallow-info") ∷ ps) (map told_boundary all_lines ++ later))
+      (sym (section_end (map boundary_packet all_lines) others (end_packets t.ending)))
+      (header_gives t asked (codes "shallow-info") allowed (ShallowInfo left) before (map boundary_packet all_lines ++ behind)
+      (map told_boundary all_lines ++ later) is (no_error (codes "shallow-info") (λ e. omega arith)) may refl
+      (λ is. lines_give t asked boundary_text told_boundary (ShallowInfo left) tt all_lines _ behind later is
+      (λ caps. all)
+      (λ behind is. packet_gives t asked behind (ShallowInfo left) delim Nothing (others ++ end_packets t.ending) later is refl tt refl
+      (λ is. then left (delim ∷ behind) may_refs is))))
+
+  -- from the section of the shallow boundary on
+  rest_gives : (q : FetchAsked) (allowed : Allowed) (before packets : List Pkt) → EndsWithBoundary whole repo q packets → allowed.shallow_info ≡ true
+      → allowed.wanted_refs ≡ true → IsDue t asked before (Header allowed)
+      → AnswerGives t asked before (packets ++ end_packets t.ending) (told_pack repo q ++ ended ∷ [])
+  rest_gives q allowed before packets h may may_refs is =
+      let lines = map told_boundary (repo.boundaries q) in
+      let refs = map wanted_ref (found_refs repo q.want_refs) in
+      let bytes = map pack (repo.pack q) in
+      let events : ((lines ++ refs) ++ bytes) ++ ended ∷ [] ≡ lines ++ (refs ++ (bytes ++ ended ∷ [])) =
+      append_assoc (lines ++ refs) bytes (ended ∷ []) ∙ append_assoc lines refs (bytes ++ ended ∷ []) in
+      subst (λ (ps : List Pkt). AnswerGives t asked before (ps ++ end_packets t.ending) (told_pack repo q ++ ended ∷ [])) (sym h.packets_are)
+      (subst (λ (l : List EventValue). AnswerGives t asked before ((shallow_info (repo.boundaries q) ++ h.others) ++ end_packets t.ending) l) (sym events)
+      (boundary_gives (repo.boundaries q) allowed before h.others (refs ++ (bytes ++ ended ∷ [])) (boundary_lines q) may may_refs is
+      (later_gives q h.others h.holds)))
+
+  -- ---- the acknowledgments
+
+  -- so far there was no `NAK` and no `ready`
+  abbrev told_acks : Bool → Told
+  told_acks any = record { any = any; nak = false; ready = false }
+
+  -- a line for each object that both ends have: none of them is `NAK` or `ready`
+  acks_give : (ids : List ObjectName) (any : Bool) (before ps : List Pkt) (later : List EventValue) → All (IsNameIn t.format) ids
+      → IsDue t asked before (Acknowledgments (told_acks any))
+      → ((told : Told) (behind : List Pkt) → told.ready ≡ false → IsDue t asked behind (Acknowledgments told) → AnswerGives t asked behind ps later)
+      → AnswerGives t asked before (map ack_packet ids ++ ps) (map ack ids ++ later)
+  acks_give [] any before ps later all is then = then (told_acks any) before refl is
+  acks_give (id ∷ ids) any before ps later all is then =
+      let one = All-head (IsNameIn t.format) id ids all in
+      let gives : GivesLine (acknowledgments_at (told_acks any)) t.format (ack_text id) (ack id ∷ []) =
+      record { no_error = no_error (codes "ACK " ++ hex_of id) (λ e. omega arith); says = (ack_reads_back t.format id one, refl) } in
+      packet_gives t asked before (Acknowledgments (told_acks any)) (ack_packet id) (Ack id) (map ack_packet ids ++ ps) (map ack ids ++ later) is
+      (of_text t asked (Acknowledgments (told_acks any)) (caps_at t asked before) (ack_text id) (ack id ∷ []) gives) tt refl
+      (λ behind. acks_give ids true (ack_packet id ∷ before) ps later (All-tail (IsNameIn t.format) id ids all)
+      (subst (λ (u : List ℕ). IsDue t asked (ack_packet id ∷ before) (Acknowledgments (told_with (told_acks any) u))) (text_of-line_end (ack_text id)) behind)
+      then)
+
+  -- a line for each object that both ends have, or one that says that there is none
+  common_gives : (ids : List ObjectName) (before ps : List Pkt) (later : List EventValue) → All (IsNameIn t.format) ids
+      → IsDue t asked before (Acknowledgments (told_acks false))
+      → ((told : Told) (behind : List Pkt) → told.ready ≡ false → IsDue t asked behind (Acknowledgments told) → AnswerGives t asked behind ps later)
+      → AnswerGives t asked before (nak_or_acks ids ++ ps) (told_common ids ++ later)
+  common_gives [] before ps later all is then =
+      packet_gives t asked before (Acknowledgments (told_acks false)) (text_line (codes "NAK")) Nak ps later is
+      (record { no_error = no_error (codes "NAK") (λ e. omega arith); says = (refl, refl) }) tt refl
+      (λ behind. then _ (text_line (codes "NAK") ∷ before) refl behind)
+  common_gives (id ∷ ids) before ps later all is then = acks_give (id ∷ ids) false before ps later all is then
+
+  -- `ready` and the delimiter after it
+  ready_gives : (told : Told) (before ps : List Pkt) (later : List EventValue) → told.ready ≡ false → IsDue t asked before (Acknowledgments told)
+      → ((behind : List Pkt) → IsDue t asked behind (Header after_acknowledgments) → AnswerGives t asked behind ps later)
+      → AnswerGives t asked before (ready_lines ++ ps) (ready ∷ later)
+  ready_gives told before ps later not_yet is then =
+      packet_gives t asked before (Acknowledgments told) (text_line (codes "ready")) Ready (delim ∷ ps) later is
+      (record { no_error = no_error (codes "ready") (λ e. omega arith); says = (refl, not_yet) }) tt refl
+      (λ is. packet_gives t asked (text_line (codes "ready") ∷ before) (Acknowledgments (told_with told (codes "ready"))) delim Nothing ps later is refl tt refl
+      (λ is. then (delim ∷ text_line (codes "ready") ∷ before) is))
+
+  -- ---- a fetch
+
+  -- the acknowledgments, and then the pack, where the repository is ready, or else nothing
+  negotiated_gives : (is_ready : Bool) (q : FetchAsked) (allowed : Allowed) (before packets : List Pkt) → allowed.acknowledgments ≡ true
+      → IsDue t asked before (Header allowed) → All (IsNameIn t.format) q.haves → IsNegotiated is_ready (acknowledgments repo q) whole repo q packets
+      → AnswerGives t asked before (packets ++ end_packets t.ending) ((told_common (common repo.has q.haves) ++ told_ready is_ready repo q) ++ ended ∷ [])
+  negotiated_gives true q allowed before packets may is haves answer =
+      let ids = common repo.has q.haves in
+      let lines = nak_or_acks ids in
+      let last = end_packets t.ending in
+      let parts : packets ++ last ≡ text_line (codes "acknowledgments") ∷ (lines ++ (ready_lines ++ (answer.others ++ last))) =
+      ap (λ (ps : List Pkt). ps ++ last) answer.packets_are
+      ∙ append_assoc (acknowledgments repo q ++ ready_lines) answer.others last
+      ∙ append_assoc (acknowledgments repo q) ready_lines (answer.others ++ last) in
+      let events : (told_common ids ++ (ready ∷ told_pack repo q)) ++ ended ∷ [] ≡ told_common ids ++ (ready ∷ (told_pack repo q ++ ended ∷ [])) =
+      append_assoc (told_common ids) (ready ∷ told_pack repo q) (ended ∷ []) in
+      subst (λ (l : List EventValue). AnswerGives t asked before (packets ++ last) l) (sym events)
+      (subst (λ (ps : List Pkt). AnswerGives t asked before ps (told_common ids ++ (ready ∷ (told_pack repo q ++ ended ∷ [])))) (sym parts)
+      (header_gives t asked (codes "acknowledgments") allowed (Acknowledgments (told_acks false)) before (lines ++ (ready_lines ++ (answer.others ++ last)))
+      (told_common ids ++ (ready ∷ (told_pack repo q ++ ended ∷ []))) is (no_error (codes "acknowledgments") (λ e. omega arith)) may refl
+      (λ is. common_gives ids (text_line (codes "acknowledgments") ∷ before) (ready_lines ++ (answer.others ++ last))
+      (ready ∷ (told_pack repo q ++ ended ∷ [])) (All-filter repo.has (IsNameIn t.format) q.haves haves) is
+      (λ told behind not_yet is. ready_gives told behind (answer.others ++ last) (told_pack repo q ++ ended ∷ []) not_yet is
+      (λ behind is. rest_gives q after_acknowledgments behind answer.others answer.holds refl refl is)))))
+  negotiated_gives false q allowed before packets may is haves answer =
+      let ids = common repo.has q.haves in
+      let lines = nak_or_acks ids in
+      let last = end_packets t.ending in
+      let parts : packets ++ last ≡ text_line (codes "acknowledgments") ∷ (lines ++ (flush ∷ last)) =
+      ap (λ (ps : List Pkt). ps ++ last) answer ∙ append_assoc (acknowledgments repo q) (flush ∷ []) last in
+      let events : (told_common ids ++ []) ++ ended ∷ [] ≡ told_common ids ++ (ended ∷ []) = append_assoc (told_common ids) [] (ended ∷ []) in
+      subst (λ (l : List EventValue). AnswerGives t asked before (packets ++ last) l) (sym events)
+      (subst (λ (ps : List Pkt). AnswerGives t asked before ps (told_common ids ++ (ended ∷ []))) (sym parts)
+      (header_gives t asked (codes "acknowledgments") allowed (Acknowledgments (told_acks false)) before (lines ++ (flush ∷ last))
+      (told_common ids ++ (ended ∷ [])) is (no_error (codes "acknowledgments") (λ e. omega arith)) may refl
+      (λ is. common_gives ids (text_line (codes "acknowledgments") ∷ before) (flush ∷ last) (ended ∷ [])
+      (All-filter repo.has (IsNameIn t.format) q.haves haves) is
+      (λ told behind not_yet is. end_gives t.format t.ending asked behind (Acknowledgments told) not_yet is))))
+
+  -- the answer to a fetch that negotiates or not
+  fetch_gives : (negotiates : Bool) (q : FetchAsked) (allowed : Allowed) (before packets : List Pkt) → (negotiates ≡ true → allowed.acknowledgments ≡ true)
+      → allowed.shallow_info ≡ true → allowed.wanted_refs ≡ true → IsDue t asked before (Header allowed) → All (IsNameIn t.format) q.haves
+      → IsFetchAnswerBy negotiates whole repo q packets
+      → AnswerGives t asked before (packets ++ end_packets t.ending) (told_fetch negotiates repo q ++ ended ∷ [])
+  fetch_gives true q allowed before packets may may_boundary may_refs is haves answer =
+      negotiated_gives (repo.is_ready q) q allowed before packets (may refl) is haves answer
+  fetch_gives false q allowed before packets may may_boundary may_refs is haves answer =
+      rest_gives q allowed before packets answer may_boundary may_refs is
+
+  -- ---- references
+
+  -- the answer to ls-refs
+  listing_gives : (q : LsRefsAsked) (before packets : List Pkt) → IsDue t asked before References → packets ≡ ls_refs_answer q repo.refs
+      → AnswerGives t asked before (packets ++ end_packets t.ending) (told_refs repo q ++ ended ∷ [])
+  listing_gives q before packets is answer =
+      let line = λ (entry : Entry). reference_text (shown_line q.symrefs q.peel entry) in
+      let event = λ (entry : Entry). reference (shown_line q.symrefs q.peel entry) in
+      let shown = shown_refs q.ref_prefixes repo.refs in
+      let all : All (λ entry. GivesLine references t.format (line entry) (event entry ∷ [])) repo.refs =
+      λ k d within. reference_line t.format q.symrefs q.peel _ (sound.named k d within) (of_format _ (sound.of_format k d within)) (written.refs k d within) in
+      let parts : packets ++ end_packets t.ending ≡ map (reference_packet q.symrefs q.peel) shown ++ (flush ∷ end_packets t.ending) =
+      ap (λ (ps : List Pkt). ps ++ end_packets t.ending) answer
+      ∙ append_assoc (map (reference_packet q.symrefs q.peel) shown) (flush ∷ []) (end_packets t.ending) in
+      subst (λ (ps : List Pkt). AnswerGives t asked before ps (told_refs repo q ++ ended ∷ [])) (sym parts)
+      (lines_give t asked line event References tt shown before (flush ∷ end_packets t.ending) (ended ∷ []) is
+      (λ caps. All-filter (λ entry. is_shown q.ref_prefixes entry.name) (λ entry. GivesLine references t.format (line entry) (event entry ∷ [])) repo.refs all)
+      (λ behind is. end_gives t.format t.ending asked behind References tt is))
+
+  -- ---- sizes
+
+  -- the answer to object-info
+  sizes_give : (q : ObjectInfoAsked) (before packets : List Pkt) → IsDue t asked before SizeLine → All (IsNameIn t.format) q.oids
+      → packets ≡ object_info_answer q repo → AnswerGives t asked before (packets ++ end_packets t.ending) (told_sizes repo q ++ ended ∷ [])
+  sizes_give q before packets is oids answer =
+      let told : ObjectName → Info = λ id. record { id = id; size = repo.object_size id } in
+      let last = flush ∷ end_packets t.ending in
+      let parts : packets ++ end_packets t.ending ≡ text_line (codes "size") ∷ (map (info_packet repo) q.oids ++ last) =
+      ap (λ (ps : List Pkt). ps ++ end_packets t.ending) answer
+      ∙ ap (λ (ps : List Pkt). text_line (codes "size") ∷ ps) (append_assoc (map (info_packet repo) q.oids) (flush ∷ []) (end_packets t.ending)) in
+      subst (λ (ps : List Pkt). AnswerGives t asked before ps (told_sizes repo q ++ ended ∷ [])) (sym parts)
+      (packet_gives t asked before SizeLine (text_line (codes "size")) Nothing (map (info_packet repo) q.oids ++ last) (told_sizes repo q ++ ended ∷ []) is
+      (record { no_error = no_error (codes "size") (λ e. omega arith); says = refl }) tt refl
+      (λ is. lines_give t asked (λ id. info_text (told id)) (λ id. info (told id)) Sizes tt q.oids (text_line (codes "size") ∷ before) last (ended ∷ []) is
+      (λ caps k d within. size_line_is t.format _ _ (oids k d within) (written.sizes _))
+      (λ behind is. end_gives t.format t.ending asked behind Sizes tt is)))
+
+  -- ---- each answer
+
+  -- the answer to a question, where that is due
+  pub answer_gives : (q : Asked) (before packets : List Pkt) → IsDue t asked before (first_due q) → AsksIn t.format q → IsAnswer repo q packets
+      → AnswerGives t asked before (packets ++ end_packets t.ending) (told_by repo q ++ ended ∷ [])
+  answer_gives (ls_refs q) before packets is asks answer = listing_gives q before packets is answer
+  answer_gives (fetch q) before packets is asks answer =
+      fetch_gives (negotiates q) q (allowed_after q.done []) before packets (not_done (not (is_empty q.haves)) q.done) refl refl is asks answer
+  answer_gives (object_info q) before packets is asks answer = sizes_give q before packets is asks answer
+
+-- what an answer gives, wherever it stands, and that the next one may come after it
+module _ (t : Terms) (repo : Repository) (earlier : List Asked) (q : Asked) (before packets : List Pkt) (gs : List Given) (sound : IsSound repo)
+    (written : CanBeWritten repo) (same : repo.format ≡ t.format) (asks : AsksIn t.format q) (answer : IsAnswer repo q packets)
+    (before_whole : AreWhole t earlier before) (cut : packets_of gs ≡ packets ++ end_packets t.ending) where
+  -- its packets, and that it is whole after them
+  given : AnswerGives t (earlier ++ q ∷ []) before (packets_of gs) (told_by repo q ++ ended ∷ [])
+  given =
+      let asked = earlier ++ q ∷ [] in
+      let is = due_said t asked before q (record { earlier = earlier; last = q; asked_is = refl; question_is = refl; whole = before_whole }) in
+      subst (λ (ps : List Pkt). AnswerGives t asked before ps (told_by repo q ++ ended ∷ [])) (sym cut)
+      (answer_gives t asked repo sound written same q before packets is asks answer)
+
+  -- whatever was asked later
+  pub heard : (later : List Asked) → GiveAll t (earlier ++ q ∷ later) before gs (told_by repo q ++ ended ∷ [])
+  heard later =
+      let events = told_by repo q ++ ended ∷ [] in
+      subst (λ (all : List Asked). GiveAll t all before gs events) (append_assoc earlier (q ∷ []) later)
+      (gives_more t (earlier ++ q ∷ []) later before gs events (given_give t (earlier ++ q ∷ []) before gs events given))
+
+  -- the next answer may come
+  pub whole_after : AreWhole t (earlier ++ q ∷ []) (nearest gs before)
+  whole_after = given_whole t (earlier ++ q ∷ []) before gs (told_by repo q ++ ended ∷ []) given

@@ -1,0 +1,187 @@
+-- Answers one after the other, and repositories whose answers can be written.
+use Rattle.std.proofs.Common.{◌≡◌, ℕ, Bool, true, false, All, List, [], ◌∷◌, ◌++◌, Option, Some, None, refl, ap, sym, ◌∙◌, subst, append_assoc, cond}
+use Rattle.std.proofs.lemmas.List.{append-nil}
+use Rattle.std.proofs.lemmas.List.Elements.{All-cons, All-head, All-nil, All-tail}
+use Rattle.std.specs.Ordering.{is_eq}
+use Rattle.git_names.specs.ObjectName.{ObjectName, IsOid}
+use Rattle.git_names.specs.declared.object_format.Format.{Format}
+use Rattle.git_names.proofs.ObjectNames.{IsOid-of_text}
+use Rattle.git_pkt.specs.Packets.{Pkt}
+use Rattle.git_pkt.specs.Splits.{Given}
+use Rattle.git_msg.specs.declared.Boundary.{Boundary}
+use Rattle.git_msg.specs.declared.Boundary.TheVariants.{Shallow, Unshallow}
+use Rattle.git_msg.specs.Asked.{Asked}
+use Rattle.git_msg.specs.References.{IsMaybeObjectName, IsReferenceLine, Ref}
+use Rattle.git_msg.specs.ResponseLines.{IsSize, object_of}
+use Rattle.git_client.specs.Client.{AreWhole}
+use Rattle.git_client.specs.Conversation.{GiveAll}
+use Rattle.git_client.specs.Events.{EventValue, ended}
+use Rattle.git_client.specs.Parts.{Terms, nearest}
+use Rattle.git_client.specs.declared.events.Ending.{Ending}
+use Rattle.git_client.specs.declared.events.Ending.TheVariants.{FlushOnly}
+use Rattle.git_server.specs.BoundaryLaws.{told_keep}
+use Rattle.git_server.specs.ListRepo.{lists_of, state_of}
+use Rattle.git_server.specs.Lists.{Lists}
+use Rattle.git_server.specs.Objects.{object_cmp, size_among}
+use Rattle.git_server.specs.Repository.{Entry, IsSound, Repository}
+use Rattle.git_server.specs.Sessions.{AreAnswers}
+use Rattle.git_server.specs.declared.list_repo.ListRepo.{ListRepo}
+use Rattle.git2show_lib.specs.RepositoryLines.{Said, boundary, object, ready, reference}
+use Rattle.git2show_lib.specs.RepositoryText.{IsRepositoryText, SayAll, boundaries_in, entry_of, objects_in, refs_in}
+use Rattle.git2show_lib.specs.ToldAnswers.{AsksIn, IsEntryOfNames, CanBeWritten, end_packets, packets_of, told_all, told_by}
+use Rattle.git2show_lib.proofs.HearingAnswers.{heard, whole_after}
+
+-- ---- answers one after the other
+
+-- packets give what they do, and those behind them what they do
+all_give : (t : Terms) (asked : List Asked) (before : List Pkt) (gs hs : List Given) (events later : List EventValue) → GiveAll t asked before gs events
+    → GiveAll t asked (nearest gs before) hs later → GiveAll t asked before (gs ++ hs) (events ++ later)
+all_give t asked before [] hs events later e gives =
+    subst (λ (l : List EventValue). GiveAll t asked before hs (l ++ later)) (sym e) gives
+all_give t asked before (g ∷ gs) hs events later (now, rest, e, at, others) gives = (
+  now,
+  rest ++ later,
+  ap (λ (l : List EventValue). l ++ later) e ∙ append_assoc now rest later,
+  at,
+  all_give t asked (g.packet ∷ before) gs hs rest later others gives,
+)
+
+-- the packets of two lists stand behind those before both
+nearest-append : (gs hs : List Given) (before : List Pkt) → nearest (gs ++ hs) before ≡ nearest hs (nearest gs before)
+nearest-append [] hs before = refl
+nearest-append (g ∷ gs) hs before = nearest-append gs hs (g.packet ∷ before)
+
+-- packets that are two lists fall into these two
+pub record Cut (gs : List Given) (front back : List Pkt) : Type 0 where
+  pub first : List Given
+  pub second : List Given
+  pub whole : gs ≡ first ++ second
+  pub first_are : packets_of first ≡ front
+  pub second_are : packets_of second ≡ back
+
+-- as they do
+cut_at : (gs : List Given) (front back : List Pkt) → packets_of gs ≡ front ++ back → Cut gs front back
+cut_at gs [] back e = record { first = []; second = gs; whole = refl; first_are = refl; second_are = e }
+cut_at [] (p ∷ front) back e = absurd (cc)
+cut_at (g ∷ gs) (p ∷ front) back e =
+    let head : g.packet ≡ p = cc in
+    let rest : packets_of gs ≡ front ++ back = cc in
+    let c = cut_at gs front back rest in
+    record {
+      first = g ∷ c.first;
+      second = c.second;
+      whole = ap (λ (l : List Given). g ∷ l) c.whole;
+      first_are = ap (λ (q : Pkt). q ∷ packets_of c.first) head ∙ ap (λ (l : List Pkt). p ∷ l) c.first_are;
+      second_are = c.second_are;
+    }
+
+module _ (t : Terms) (repo : Repository) (sound : IsSound repo) (written : CanBeWritten repo) (same : repo.format ≡ t.format)
+    (flush_only : t.ending ≡ FlushOnly) where
+  -- after an answer's flush comes nothing
+  no_end : (packets : List Pkt) → packets ≡ packets ++ end_packets t.ending
+  no_end packets = sym (ap (λ (ending : Ending). packets ++ end_packets ending) flush_only ∙ append-nil packets)
+
+  -- all answers give what they tell, and then the conversation is whole
+  pub all_heard : (asked earlier later : List Asked) (before packets : List Pkt) (gs : List Given) → All (AsksIn t.format) asked
+      → AreAnswers repo asked packets → AreWhole t earlier before → packets_of gs ≡ packets
+      → GiveAll t (earlier ++ (asked ++ later)) before gs (told_all repo asked) × AreWhole t (earlier ++ asked) (nearest gs before)
+  all_heard [] earlier later before packets [] asks none before_whole e =
+      (refl, subst (λ (l : List Asked). AreWhole t l before) (sym (append-nil earlier)) before_whole)
+  all_heard [] earlier later before packets (g ∷ gs) asks none before_whole e = absurd (cc)
+  all_heard (q ∷ asked) earlier later before packets gs asks (answer, more, parts, is, rest) before_whole e =
+      let c = cut_at gs answer more (e ∙ parts) in
+      let one = All-head (AsksIn t.format) q asked asks in
+      let cut = c.first_are ∙ no_end answer in
+      let now = heard t repo earlier q before answer c.first sound written same one is before_whole cut (asked ++ later) in
+      let then = whole_after t repo earlier q before answer c.first sound written same one is before_whole cut in
+      let others = all_heard asked (earlier ++ q ∷ []) later (nearest c.first before) more c.second (All-tail (AsksIn t.format) q asked asks) rest then
+      c.second_are in
+      let behind = subst (λ (l : List Asked). GiveAll t l (nearest c.first before) c.second (told_all repo asked))
+      (append_assoc earlier (q ∷ []) (asked ++ later)) others.0 in (
+        subst (λ (l : List Given). GiveAll t (earlier ++ (q ∷ (asked ++ later))) before l (told_all repo (q ∷ asked))) (sym c.whole)
+            (all_give t (earlier ++ (q ∷ (asked ++ later))) before c.first c.second (told_by repo q ++ ended ∷ []) (told_all repo asked) now behind),
+        subst (λ (l : List Asked). AreWhole t l (nearest gs before)) (append_assoc earlier (q ∷ []) asked)
+            (subst (λ (l : List Pkt). AreWhole t ((earlier ++ q ∷ []) ++ asked) l)
+            (sym (ap (λ (l : List Given). nearest l before) c.whole ∙ nearest-append c.first c.second before)) others.1),
+      )
+
+-- ---- what a text says can be written
+
+-- the object names of a reference line are names
+names_of : (format : Format) (line : List ℕ) (ref : Ref) → IsReferenceLine format line ref → IsEntryOfNames (entry_of ref)
+names_of format line ref h = record {
+  by_id = IsOid-of_text format h.id ref.id h.id_is;
+  by_peeled = λ id e. peeled _ ref.peeled id h.attributes_are.peeled_is e;
+} where
+  peeled : (text : Option (List ℕ)) (found : Option ObjectName) (id : ObjectName) → IsMaybeObjectName format text found → found ≡ Some id → IsOid id
+  peeled None found id none e = absurd (cc)
+  peeled (Some digits) found id (named, is, same) e =
+      let there : named ≡ id = cc in
+      subst IsOid there (IsOid-of_text format digits named is)
+
+-- so are those of all references that a text says
+refs_written : (format : Format) (lines : List (List ℕ)) (said : List Said) → SayAll format lines said → All IsEntryOfNames (refs_in said)
+refs_written format [] [] h = All-nil IsEntryOfNames
+refs_written format [] (s ∷ said) h = absurd h
+refs_written format (line ∷ lines) [] h = absurd h
+refs_written format (line ∷ lines) (reference ref ∷ said) (now, h) =
+    All-cons IsEntryOfNames (entry_of ref) (refs_in said) (names_of format now.value ref now.holds) (refs_written format lines said h)
+refs_written format (line ∷ lines) (object id size ∷ said) (now, h) = refs_written format lines said h
+refs_written format (line ∷ lines) (ready count ∷ said) (now, h) = refs_written format lines said h
+refs_written format (line ∷ lines) (boundary b ∷ said) (now, h) = refs_written format lines said h
+
+-- the sizes that a text says have 64 bits
+sizes_written : (format : Format) (lines : List (List ℕ)) (said : List Said) → SayAll format lines said → All (λ object. IsSize object.1) (objects_in said)
+sizes_written format [] [] h = All-nil (λ (object : ObjectName × ℕ). IsSize object.1)
+sizes_written format [] (s ∷ said) h = absurd h
+sizes_written format (line ∷ lines) [] h = absurd h
+sizes_written format (line ∷ lines) (reference ref ∷ said) (now, h) = sizes_written format lines said h
+sizes_written format (line ∷ lines) (object id size ∷ said) (now, h) =
+    All-cons (λ (object : ObjectName × ℕ). IsSize object.1) (id, size) (objects_in said) now.holds.in_range (sizes_written format lines said h)
+sizes_written format (line ∷ lines) (ready count ∷ said) (now, h) = sizes_written format lines said h
+sizes_written format (line ∷ lines) (boundary b ∷ said) (now, h) = sizes_written format lines said h
+
+-- the object names of the shallow boundary that a text says are names
+boundaries_written : (format : Format) (lines : List (List ℕ)) (said : List Said) → SayAll format lines said
+    → All (λ line. IsOid (object_of line)) (boundaries_in said)
+boundaries_written format [] [] h = All-nil (λ line. IsOid (object_of line))
+boundaries_written format [] (s ∷ said) h = absurd h
+boundaries_written format (line ∷ lines) [] h = absurd h
+boundaries_written format (line ∷ lines) (reference ref ∷ said) (now, h) = boundaries_written format lines said h
+boundaries_written format (line ∷ lines) (object id size ∷ said) (now, h) = boundaries_written format lines said h
+boundaries_written format (line ∷ lines) (ready count ∷ said) (now, h) = boundaries_written format lines said h
+boundaries_written format (line ∷ lines) (boundary (Shallow id) ∷ said) (now, h) =
+    All-cons (λ line. IsOid (object_of line)) (Shallow id) (boundaries_in said) (IsOid-of_text format now.value id now.holds)
+    (boundaries_written format lines said h)
+boundaries_written format (line ∷ lines) (boundary (Unshallow id) ∷ said) (now, h) =
+    All-cons (λ line. IsOid (object_of line)) (Unshallow id) (boundaries_in said) (IsOid-of_text format now.value id now.holds)
+    (boundaries_written format lines said h)
+
+-- the size that is found is one of those
+found_size : (objects : List (ObjectName × ℕ)) (id : ObjectName) (size : ℕ) → All (λ object. IsSize object.1) objects → size_among objects id ≡ Some size
+    → IsSize size
+found_size [] id size all found = absurd (cc)
+found_size (first ∷ objects) id size all found =
+    go (found_size objects id size (All-tail (λ (o : ObjectName × ℕ). IsSize o.1) first objects all)) (is_eq (object_cmp first.0 id)) found where
+      go : (size_among objects id ≡ Some size → IsSize size) → (b : Bool) → cond b (Some first.1) (size_among objects id) ≡ Some size → IsSize size
+      go behind true here =
+          let same : first.1 ≡ size = cc in
+          subst IsSize same (All-head (λ (o : ObjectName × ℕ). IsSize o.1) first objects all)
+      go behind false later = behind later
+
+-- what a repository answers that is made of what a text says can be written
+pub can_be_written : (repo : ListRepo) (text pack : List ℕ) → IsRepositoryText text pack (lists_of repo) → CanBeWritten (state_of repo).answers
+can_be_written repo text pack h =
+    let lines = h.begins.others in
+    let boundaries = ap (λ (l : Lists). l.boundaries) h.lists_are in
+    let objects = ap (λ (l : Lists). l.objects) h.lists_are in
+    record {
+      refs = subst (λ (l : List Entry). All IsEntryOfNames l) (sym (ap (λ (l : Lists). l.refs) h.lists_are))
+          (refs_written h.format lines h.said h.begins.say_all);
+      boundaries = λ q. told_keep (λ line. IsOid (object_of line)) (lists_of repo).boundaries q
+          (subst (λ (l : List Boundary). All (λ line. IsOid (object_of line)) l) (sym boundaries)
+          (boundaries_written h.format lines h.said h.begins.say_all));
+      sizes = λ id size. found_size (lists_of repo).objects id size
+          (subst (λ (l : List (ObjectName × ℕ)). All (λ object. IsSize object.1) l) (sym objects)
+          (sizes_written h.format lines h.said h.begins.say_all));
+    }

@@ -1,0 +1,208 @@
+-- The next request, read a piece at a time: what all pieces so far come to, and what each end of the reading says of them.
+use Rattle.std.proofs.Common.{arith, ◌≡◌, ℕ, ◌-◌, ◌≤◌, Bool, true, false, List, [], ◌++◌, length, take, drop, Option, None, Result, Ok, Err}
+use Rattle.std.proofs.Common.{IsErrAnd, inl, inr, refl, sym, ap, ◌∙◌, subst, append_assoc, append-nil, length-append, length-drop, take-append-drop}
+use Rattle.std.proofs.Math.Seq.{drop-length}
+use Rattle.std.proofs.lemmas.List.{length-take-le}
+use Rattle.std.proofs.lemmas.Result.{err_from_is_err_and}
+use Rattle.std.specs.Io.KnownBytes.{Consumes, Keeps}
+use Rattle.std.proofs.KnownBytes.{Consumes-nil, Consumes-trans, Consumes-kept}
+use Rattle.git_pkt.specs.declared.fault.Fault.{Fault}
+use Rattle.git_pkt.specs.declared.fault.Kind.{Kind}
+use Rattle.git_pkt.specs.Streams.{Flow, flow, IsTimely}
+use Rattle.git_pkt.proofs.EngineLemmas.{timely}
+use Rattle.git_msg.specs.Asked.{Asked}
+use Rattle.git_msg.specs.RequestStreams.{Closes, Feeds, HasRead, asked_by, fault_of, wants_input}
+use Rattle.git_msg.specs.StreamStages.{fault_in}
+use Rattle.git_msg.specs.declared.requests.Request.{Request as HeldRequest}
+use Rattle.git_msg.specs.declared.streams.RequestStream.{RequestStream}
+use Rattle.git_msg.specs.declared.streams.ReadGot.{ReadGot}
+use Rattle.git_msg.specs.declared.streams.ReadGot.TheVariants.{More, Request, Stop, Failed}
+use Rattle.git_msg.specs.declared.streams.ReadRequest.{ReadRequest}
+use Rattle.git_msg.specs.declared.streams.Stage.{Stage}
+use Rattle.git_msg.proofs.StreamReadings.{asked_so_far, begun_so_far, nothing_begun, reads_between, refused_as, stopped_at}
+use Rattle.git_msg.proofs.StreamSteps.{reading}
+use Rattle.git_client.specs.RunSteps.{window_of}
+use Rattle.git_client.specs.declared.hearing.Window.{Window}
+use Rattle.git2show_lib.specs.declared.checking.CheckFault.{CheckFault}
+use Rattle.git2show_lib.specs.declared.checking.CheckFault.TheVariants.{ReadFault}
+use Rattle.git2show_lib.specs.CheckSteps.{ReadsAll, ReadsFault, ReadsNoMore, ReadsOn, ReadsRequest, ReadsTo}
+
+-- the bytes at the front of a piece are a window of it
+front_window : (end : ℕ) (piece : List ℕ) → take end piece ≡ window_of (record { start = 0; end = end }) piece
+front_window end piece = let same : end ≡ end - 0 = omega arith in ap (λ (n : ℕ). take n piece) same
+
+module _ {A : Type 0} where
+  -- what a call of `feed` did, by its answer
+  feeds_with : {old new : RequestStream A} {piece : List ℕ} (read : ReadRequest A) {got : ReadGot A} → read.got ≡ got → Feeds old piece read new
+      → Feeds old piece (record { used = read.used; got = got }) new
+  feeds_with {old = old} {new = new} {piece = piece} read is feeds =
+      subst (λ (o : ReadGot A). Feeds old piece (record { used = read.used; got = o }) new) is feeds
+
+  -- before the first byte all that waits is left
+  pub reads_nothing : (s : RequestStream A) (waiting : List ℕ) (left : Option (List ℕ)) → ReadsOn s s [] waiting waiting (flow left left)
+  reads_nothing s waiting left = record {
+    came = [];
+    used = [];
+    read = Consumes-nil left;
+    parts = append-nil waiting;
+    reads = λ before known h.
+        subst (λ (bytes : List ℕ). HasRead bytes (known ++ []) s) (sym (append-nil before))
+        (subst (λ (qs : List Asked). HasRead before qs s) (sym (append-nil known)) h);
+    offer = refl;
+    limit = refl;
+  }
+
+  module _ {old middle : RequestStream A} {waiting unused : List ℕ} {before left : Option (List ℕ)}
+      (so_far : ReadsOn old middle [] waiting unused (flow before left)) where
+    -- more bytes came
+    pub came_more : {after : Option (List ℕ)} (came : List ℕ) → Consumes left after came → ReadsOn old middle [] waiting (unused ++ came) (flow before after)
+    came_more {after = after} came read = record {
+      came = so_far.came ++ came;
+      used = so_far.used;
+      read = Consumes-trans before left after so_far.came came so_far.read read;
+      parts =
+          sym (append_assoc waiting so_far.came came) ∙ ap (λ (l : List ℕ). l ++ came) so_far.parts ∙ append_assoc so_far.used unused came;
+      reads = so_far.reads;
+      offer = so_far.offer;
+      limit = so_far.limit;
+    }
+
+    -- a read failed
+    pub came_not : {after : Option (List ℕ)} → Keeps left after → ReadsOn old middle [] waiting unused (flow before after)
+    came_not {after = after} kept = record {
+      came = so_far.came;
+      used = so_far.used;
+      read = Consumes-kept before left after so_far.came so_far.read kept;
+      parts = so_far.parts;
+      reads = so_far.reads;
+      offer = so_far.offer;
+      limit = so_far.limit;
+    }
+
+    -- of the bytes that were left some were read
+    module _ {used : ℕ} {got : ReadGot A} {new : RequestStream A} (feeds : Feeds middle unused (record { used = used; got = got }) new) where
+      fed : ReadsOn old new (asked_by got) waiting (drop used unused) (flow before left)
+      fed = record {
+        came = so_far.came;
+        used = so_far.used ++ take used unused;
+        read = so_far.read;
+        parts =
+            so_far.parts ∙ ap (λ (l : List ℕ). so_far.used ++ l) (sym (take-append-drop used unused))
+            ∙ sym (append_assoc so_far.used (take used unused) (drop used unused));
+        reads = λ bytes known h.
+            subst (λ (all : List ℕ). HasRead all (known ++ asked_by got) new) (append_assoc bytes so_far.used (take used unused))
+            (subst (λ (qs : List Asked). HasRead ((bytes ++ so_far.used) ++ take used unused) (qs ++ asked_by got) new) (append-nil known)
+            (feeds.reads (bytes ++ so_far.used) (known ++ []) (so_far.reads bytes known h)));
+        offer = feeds.offer ∙ so_far.offer;
+        limit = feeds.limit ∙ so_far.limit;
+      }
+
+    module _ {new : RequestStream A} (read : ReadRequest A) where
+      -- they end a request
+      pub fed_request : {ended : Bool} {request : HeldRequest A} {rest : List ℕ} → read.got ≡ Request request → Feeds middle unused read new
+          → read.used ≤ length unused → drop read.used unused ≡ rest → ended ≡ false → ReadsRequest ended old new request waiting rest (flow before left)
+      unfolding fed
+      fed_request {ended = ended} {request = request} is feeds within rest_is open_ended =
+          let news = feeds_with read is feeds in
+          let (some, between, shut, format, kept) = news.leaves in
+          subst (λ (l : List ℕ). ReadsRequest ended old new request waiting l (flow before left)) rest_is (record {
+            reads = fed news;
+            onward = reads_between new.stage between;
+            can_come = open_ended;
+            some = omega (arith, some, within, length-append so_far.used (take read.used unused), length-take-le read.used unused within);
+            alone = λ bytes known h. (h.left, h.rest, asked_so_far h, nothing_begun h between shut);
+          })
+
+      -- they end in a flush in the place of a request
+      pub fed_stop : {ended : Bool} → read.got ≡ Stop → Feeds middle unused read new → ReadsNoMore ended old new waiting (flow before left)
+      fed_stop is feeds =
+          let news = feeds_with read is feeds in
+          let (some, quiet, sound) = news.leaves in
+          record {
+            unused = drop read.used unused;
+            reads = fed news;
+            over = λ bytes known h. let (stop, none) = stopped_at h quiet sound in (h.left, h.rest, asked_so_far h, (none, inl stop));
+          }
+
+      -- they are refused
+      pub fed_fault : {ended : Bool} {fault : Fault} → read.got ≡ Failed fault → Feeds middle unused read new → wants_input middle ≡ true
+          → ReadsFault fault ended old new waiting (flow before left)
+      fed_fault {ended = ended} {fault = fault} is feeds wants =
+          let news = feeds_with read is feeds in
+          let sound : fault_of middle ≡ None = reading (λ (s : Stage). fault_in s ≡ None) refl refl middle.stage wants in
+          let shown = news.news fault sound refl in
+          record {
+            unused = drop read.used unused;
+            reads = fed news;
+            refused = λ bytes known h. (h.left, h.rest, asked_so_far h, refused_as h news.leaves);
+            timely = timely fault.kind ended (drop read.used unused) shown.not_the_end
+                (λ long. omega (arith, shown.one_more long, length-drop read.used unused));
+          }
+
+      -- they end nothing: all of them were used, and more are wanted
+      pub fed_more : read.got ≡ More → Feeds middle unused read new → wants_input middle ≡ true
+          → (wants_input new ≡ true) × ReadsOn old new [] waiting [] (flow before left)
+      fed_more is feeds wants =
+          let news = feeds_with read is feeds in
+          let (all, onward) = news.leaves wants in
+          let none : drop read.used unused ≡ [] = subst (λ (n : ℕ). drop n unused ≡ []) (sym all) (drop-length unused) in
+          (onward, subst (λ (l : List ℕ). ReadsOn old new [] waiting l (flow before left)) none (fed news))
+
+  module _ {old middle : RequestStream A} {waiting : List ℕ} {before left : Option (List ℕ)}
+      (so_far : ReadsOn old middle [] waiting [] (flow before left)) where
+    -- all that came was used, and more can come
+    pub read_all : {ended : Bool} → wants_input middle ≡ true → ended ≡ false → ReadsAll ended old middle waiting (flow before left)
+    read_all wants open_ended = record {
+      reads = so_far;
+      begun = λ bytes known h. (h.left, h.rest, asked_so_far h, begun_so_far h wants);
+      can_come = open_ended;
+    }
+
+    -- bytes came, at the front of a piece
+    pub came_in_front : {after : Option (List ℕ)} (end : ℕ) (piece : List ℕ) → Consumes left after (take end piece)
+        → ReadsOn old middle [] waiting (window_of (record { start = 0; end = end }) piece) (flow before after)
+    came_in_front {after = after} end piece read =
+        subst (λ (l : List ℕ). ReadsOn old middle [] waiting l (flow before after)) (front_window end piece) (came_more so_far (take end piece) read)
+
+    -- a read gave no bytes
+    module _ {after : Option (List ℕ)} (end : ℕ) (piece : List ℕ) (none : end ≡ 0) (read : Consumes left after (take end piece)) where
+      read_nothing : ReadsOn old middle [] waiting [] (flow before after)
+      read_nothing = came_more so_far [] (subst (λ (n : ℕ). Consumes left after (take n piece)) none read)
+
+      -- the input ended after a whole request, or before the first one
+      pub ended_whole : {ended : Bool} {new : RequestStream A} {done : Unit {0}} → ended ≡ true → Closes (Ok done) middle new
+          → ReadsNoMore ended old new waiting (flow before after)
+      ended_whole {ended = ended} at_end (same, whole) =
+          subst (λ (s : RequestStream A). ReadsNoMore ended old s waiting (flow before after)) (sym same) (record {
+            unused = [];
+            reads = read_nothing;
+            over = λ bytes known h. ([], [], whole bytes known h, (refl, inr (refl, refl, at_end)));
+          })
+
+      -- the input ended inside a request
+      pub ended_inside : {ended : Bool} {new : RequestStream A} {fault : Fault} → ended ≡ true → Closes (Err fault) middle new
+          → ReadsFault fault ended old new waiting (flow before after)
+      unfolding read_nothing came_more
+      ended_inside {ended = ended} at_end (kind, told, offer, limit, carries) =
+          record {
+            unused = [];
+            reads = record {
+              came = read_nothing.came;
+              used = read_nothing.used;
+              read = read_nothing.read;
+              parts = read_nothing.parts;
+              reads = λ bytes known h. carries (bytes ++ so_far.used) (known ++ []) (so_far.reads bytes known h);
+              offer = offer ∙ so_far.offer;
+              limit = limit ∙ so_far.limit;
+            };
+            refused = λ bytes known h. (h.left, h.rest, asked_so_far h, refused_as h told);
+            timely = subst (λ (k : Kind). IsTimely k ended []) (sym kind) (refl, at_end);
+          }
+
+  -- a read failed, and a `?` answers the fault that it met
+  pub read_fault : (result : Result (Option (HeldRequest A)) CheckFault) (fault : CheckFault) (ended : Bool) (old new : RequestStream A)
+      (waiting : List ℕ) (window : Window) (piece : List ℕ) (reader : Flow) → IsErrAnd result (λ e. e ≡ fault) → fault ≡ ReadFault
+      → ReadsAll ended old new waiting reader → ReadsTo result ended old new waiting window piece reader
+  read_fault result fault ended old new waiting window piece reader answered named all =
+      let (e, is, same) = err_from_is_err_and result answered in
+      subst (λ (r : Result (Option (HeldRequest A)) CheckFault). ReadsTo r ended old new waiting window piece reader) (sym (is ∙ ap Err (same ∙ named))) all

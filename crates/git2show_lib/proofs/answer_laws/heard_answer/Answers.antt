@@ -1,0 +1,9 @@
+use Rattle.git2show_lib.proofs.HearingAnswers.{heard, whole_after}
+use Rattle.git2show_lib.proofs.answer_laws.heard_answer.Goals as goal
+
+pub returns : goal.returns
+returns c = record {
+  heard = λ t repo earlier later q before packets gs sound written same asks answer before_whole cut.
+      heard t repo earlier q before packets gs sound written same asks answer before_whole cut later;
+  whole = whole_after;
+}

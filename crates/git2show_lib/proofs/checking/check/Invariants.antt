@@ -1,0 +1,37 @@
+use Rattle.std.proofs.Common.{◌≡◌, ◌+◌, ◌-◌, ◌≤◌, ◌<◌, length, true, false}
+use Rattle.git_pkt.specs.Faults.{last_position}
+use Rattle.git_pkt.specs.Streams.{flow}
+use Rattle.git_pkt.specs.Told.{inner_of, reads_of, has_failed, has_ended}
+use Rattle.git_msg.specs.RequestStreams.{bytes_used, wants_input}
+use Rattle.git_msg.specs.declared.limits.TheConstants.Limits.{USUAL}
+use Rattle.git_client.specs.Parts.{terms_of}
+use Rattle.git_client.specs.RunSteps.{window_of}
+use Rattle.git2show_lib.proofs.CheckRuns.{Checking}
+use Rattle.git2show_lib.proofs.checking.check.Given as goal
+
+-- the requests that were read were asked, and the response to each was heard whole: what waits of both pieces is all that was read
+-- and not used
+abbrev pub invariant-loop-asking : goal.invariant-loop-asking
+invariant-loop-asking g l = record {
+  checking : Checking (terms_of l.fn.format l.fn.ending) USUAL l.client l.asking (window_of l.waiting l.piece) (window_of l.left l.other_piece)
+      (flow (g.Q.Read.remaining (inner_of l.fn.requests)) (g.Q.Read.remaining (inner_of l.requests)))
+      (flow (g.R.Read.remaining (inner_of l.fn.responses)) (g.R.Read.remaining (inner_of l.responses)))
+      (flow (g.O.Write.contents (inner_of l.fn.out)) (g.O.Write.contents (inner_of l.out)));
+  wants : wants_input l.asking ≡ true;
+  room : 0 < length l.piece;
+  ordered : l.waiting.start ≤ l.waiting.end;
+  within : l.waiting.end ≤ length l.piece;
+  other_room : 0 < length l.other_piece;
+  other_ordered : l.left.start ≤ l.left.end;
+  other_within : l.left.end ≤ length l.other_piece;
+  reads : reads_of l.requests + reads_of l.responses ≤ l.turns;
+  sound_requests : has_failed l.requests ≡ false;
+  open_requests : has_ended l.requests ≡ false;
+  sound_responses : has_failed l.responses ≡ false;
+  open_responses : has_ended l.responses ≡ false;
+  sound_out : has_failed l.out ≡ false;
+}
+
+-- each request uses a byte, or more
+abbrev pub decreases-loop-asking : goal.decreases-loop-asking
+decreases-loop-asking g l = last_position - bytes_used l.asking

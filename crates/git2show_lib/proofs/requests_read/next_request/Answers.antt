@@ -1,0 +1,85 @@
+use Rattle.std.proofs.Common.{rules, ◌≡◌, true, false, take, refl}
+use Rattle.std.specs.Io.KnownBytes.{Consumes, Keeps}
+use Rattle.git_pkt.specs.Told.{inner_of, has_ended}
+use Rattle.git_client.proofs.HearingBytes.{rest_of_window}
+use Rattle.git2show_lib.specs.declared.checking.CheckFault.TheVariants.{ReadFault}
+use Rattle.git2show_lib.proofs.RequestsRead.{reads_nothing, fed_request, fed_stop, fed_fault, fed_more, came_in_front, came_not}
+use Rattle.git2show_lib.proofs.RequestsRead.{read_all, read_fault, ended_whole, ended_inside}
+use Rattle.git2show_lib.proofs.requests_read.next_request.Goals as goal
+
+pub loop-request-init : goal.loop-request-init
+loop-request-init g c = record {
+  room = refl;
+  ordered = c.requires.ordered;
+  within = c.requires.within;
+  wants = c.requires.waits;
+  reads = c.requires.turns;
+  sound_reader = c.requires.sound_reader;
+  open_ended = c.requires.open_ended;
+  so_far = reads_nothing c.args.stream.now _ _;
+}
+
+pub returns-in-Request-clause-asked : goal.returns-in-Request-clause-asked
+returns-in-Request-clause-asked g c =
+    let at = c.loop-request.waiting in
+    let was = c.loop-request.invariant in
+    let read = c.feed-read.result in
+    rw c.in-Request.request-is (fed_request was.so_far read c.in-Request.is c.feed-read.ensures.feeds c.feed-read.ensures.used
+    (rest_of_window at.start at.end read.used c.loop-request.piece c.feed-read.ensures.used) was.open_ended)
+
+pub returns-in-Stop-clause-asked : goal.returns-in-Stop-clause-asked
+returns-in-Stop-clause-asked g c = fed_stop c.loop-request.invariant.so_far c.feed-read.result c.in-Stop.is c.feed-read.ensures.feeds
+
+pub returns-in-Failed-clause-asked : goal.returns-in-Failed-clause-asked
+returns-in-Failed-clause-asked g c =
+    fed_fault c.loop-request.invariant.so_far c.feed-read.result c.in-Failed.is c.feed-read.ensures.feeds c.loop-request.invariant.wants
+
+pub returns-then-reads-turns-clause-asked : goal.returns-then-reads-turns-clause-asked
+returns-then-reads-turns-clause-asked g c =
+    let was = c.loop-request.invariant in
+    let (wants, so_far) = fed_more was.so_far c.feed-read.result c.in-More.is c.feed-read.ensures.feeds was.wants in
+    read_all so_far wants was.open_ended
+
+pub returns-in_err-end-clause-asked : goal.returns-in_err-end-clause-asked
+returns-in_err-end-clause-asked g c =
+    let was = c.loop-request.invariant in
+    let (wants, so_far) = fed_more was.so_far c.feed-read.result c.in-More.is c.feed-read.ensures.feeds was.wants in
+    let kept : Keeps (g.R.Read.remaining (inner_of c.loop-request.reader)) (g.R.Read.remaining (inner_of c.receive.new.reader)) = search rules in
+    let can_come : has_ended c.receive.new.reader ≡ false = search rules in
+    let named : c.in_err-end.field-0.0 ≡ ReadFault = search rules in
+    read_fault c.from_residual.result c.in_err-end.field-0.0 _ _ _ _ _ _ _ c.from_residual.ensures.1 named (read_all (came_not so_far kept) wants can_come)
+
+pub returns-in-Ok-clause-asked : goal.returns-in-Ok-clause-asked
+returns-in-Ok-clause-asked g c =
+    let was = c.loop-request.invariant in
+    let (wants, so_far) = fed_more was.so_far c.feed-read.result c.in-More.is c.feed-read.ensures.feeds was.wants in
+    let read : Consumes (g.R.Read.remaining (inner_of c.loop-request.reader)) (g.R.Read.remaining (inner_of c.receive.new.reader))
+    (take c.in_ok-end.end c.receive.new.piece) = search rules in
+    let at_end : has_ended c.receive.new.reader ≡ true = search rules in
+    ended_whole so_far c.in_ok-end.end c.receive.new.piece c.if-end-eq0.true read at_end c.in-Ok.ensures
+
+pub returns-in-Err-clause-asked : goal.returns-in-Err-clause-asked
+returns-in-Err-clause-asked g c =
+    let was = c.loop-request.invariant in
+    let (wants, so_far) = fed_more was.so_far c.feed-read.result c.in-More.is c.feed-read.ensures.feeds was.wants in
+    let read : Consumes (g.R.Read.remaining (inner_of c.loop-request.reader)) (g.R.Read.remaining (inner_of c.receive.new.reader))
+    (take c.in_ok-end.end c.receive.new.piece) = search rules in
+    let at_end : has_ended c.receive.new.reader ≡ true = search rules in
+    ended_inside so_far c.in_ok-end.end c.receive.new.piece c.if-end-eq0.true read at_end c.in-Err.ensures
+
+pub loop-request-preserved : goal.loop-request-preserved
+loop-request-preserved g c =
+    let was = c.loop-request.invariant in
+    let (wants, so_far) = fed_more was.so_far c.feed-read.result c.in-More.is c.feed-read.ensures.feeds was.wants in
+    let read : Consumes (g.R.Read.remaining (inner_of c.loop-request.reader)) (g.R.Read.remaining (inner_of c.receive.new.reader))
+    (take c.in_ok-end.end c.receive.new.piece) = search rules in
+    record {
+      room = search rules;
+      ordered = search rules;
+      within = search rules;
+      wants = wants;
+      reads = search rules;
+      sound_reader = search rules;
+      open_ended = search rules;
+      so_far = came_in_front so_far c.in_ok-end.end c.receive.new.piece read;
+    }

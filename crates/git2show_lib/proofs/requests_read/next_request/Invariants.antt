@@ -1,0 +1,25 @@
+use Rattle.std.proofs.Common.{◌≡◌, ◌≤◌, ◌-◌, length, true, false, []}
+use Rattle.git_pkt.specs.Told.{inner_of, reads_of, has_failed, has_ended}
+use Rattle.git_pkt.specs.Streams.{flow}
+use Rattle.git_msg.specs.RequestStreams.{wants_input}
+use Rattle.git_client.specs.RunSteps.{window_of}
+use Rattle.git2show_lib.specs.CheckSteps.{ReadsOn}
+use Rattle.git2show_lib.proofs.requests_read.next_request.Given as goal
+
+-- nothing has failed or ended, and bytes are wanted on; of those that came all but the window's were used, and brought nothing whole
+abbrev pub invariant-loop-request : goal.invariant-loop-request
+invariant-loop-request g l = record {
+  room : length l.piece ≡ length l.fn.piece;
+  ordered : l.waiting.start ≤ l.waiting.end;
+  within : l.waiting.end ≤ length l.piece;
+  wants : wants_input l.stream ≡ true;
+  reads : reads_of l.reader ≤ l.turns;
+  sound_reader : has_failed l.reader ≡ false;
+  open_ended : has_ended l.reader ≡ false;
+  so_far : ReadsOn l.fn.stream l.stream [] (window_of l.fn.waiting l.fn.piece) (window_of l.waiting l.piece)
+      (flow (g.R.Read.remaining (inner_of l.fn.reader)) (g.R.Read.remaining (inner_of l.reader)));
+}
+
+-- each turn is one read
+abbrev pub decreases-loop-request : goal.decreases-loop-request
+decreases-loop-request g l = l.turns - reads_of l.reader

@@ -1,0 +1,91 @@
+-- What a repository's answer to a question tells a client: the events, however the answer is written and cut.
+use Rattle.std.specs.Prelude.{◌≡◌, ℕ, Bool, true, false, All, Some, List, [], ◌∷◌, ◌++◌, map}
+use Rattle.std.specs.List.{filter_map, flat_map}
+use Rattle.std.specs.Option.{ForSome, option_map}
+use Rattle.git_names.specs.ObjectName.{ObjectName, IsOid}
+use Rattle.git_names.specs.declared.object_format.Format.{Format}
+use Rattle.git_pkt.specs.Packets.{Pkt, resp_end}
+use Rattle.git_pkt.specs.Splits.{Given}
+use Rattle.git_msg.specs.declared.Boundary.{Boundary}
+use Rattle.git_msg.specs.declared.Boundary.TheVariants.{Shallow, Unshallow}
+use Rattle.git_msg.specs.Arguments.{IsNameIn}
+use Rattle.git_msg.specs.Asked.{Asked, FetchAsked, LsRefsAsked, ObjectInfoAsked, ls_refs, fetch, object_info}
+use Rattle.git_msg.specs.ResponseLines.{IsSize, Wanted, object_of, wanted_of}
+use Rattle.git_client.specs.Events.{EventValue, reference, ack, nak, ready, shallow, unshallow, wanted_ref, pack, info, ended}
+use Rattle.git_client.specs.declared.events.Ending.{Ending}
+use Rattle.git_client.specs.declared.events.Ending.TheVariants.{FlushOnly, ResponseEnd}
+use Rattle.git_server.specs.Answers.{shown_line, shown_refs}
+use Rattle.git_server.specs.FetchAnswers.{common, negotiates}
+use Rattle.git_server.specs.Repository.{Entry, Repository, found_ref}
+
+-- the references that are shown
+abbrev pub told_refs : Repository → LsRefsAsked → List EventValue
+told_refs repo q = map (λ entry. reference (shown_line q.symrefs q.peel entry)) (shown_refs q.ref_prefixes repo.refs)
+
+-- the objects that both ends have, or that there is none
+abbrev pub told_common : List ObjectName → List EventValue
+told_common [] = nak ∷ []
+told_common (id ∷ ids) = map ack (id ∷ ids)
+
+-- a commit of the shallow boundary
+abbrev pub told_boundary : Boundary → EventValue
+told_boundary (Shallow id) = shallow id
+told_boundary (Unshallow id) = unshallow id
+
+-- of the references that were asked for by their names those that there are
+abbrev pub found_refs : Repository → List (List ℕ) → List Wanted
+found_refs repo names = filter_map (λ name. option_map (λ id. wanted_of id name) (found_ref repo.refs name)) names
+
+-- the boundary, the wanted references and each byte of the pack
+abbrev pub told_pack : Repository → FetchAsked → List EventValue
+told_pack repo q = map told_boundary (repo.boundaries q) ++ map wanted_ref (found_refs repo q.want_refs) ++ map pack (repo.pack q)
+
+-- what follows the objects that both ends have: the pack, where the repository is ready, or else nothing
+abbrev pub told_ready : Bool → Repository → FetchAsked → List EventValue
+told_ready true repo q = ready ∷ told_pack repo q
+told_ready false repo q = []
+
+-- the answer to a fetch that negotiates or not
+abbrev pub told_fetch : Bool → Repository → FetchAsked → List EventValue
+told_fetch true repo q = told_common (common repo.has q.haves) ++ told_ready (repo.is_ready q) repo q
+told_fetch false repo q = told_pack repo q
+
+-- the sizes of the objects that were asked about
+abbrev pub told_sizes : Repository → ObjectInfoAsked → List EventValue
+told_sizes repo q = map (λ id. info (record { id = id; size = repo.object_size id })) q.oids
+
+-- what an answer tells, but for its end
+abbrev pub told_by : Repository → Asked → List EventValue
+told_by repo (ls_refs q) = told_refs repo q
+told_by repo (fetch q) = told_fetch (negotiates q) repo q
+told_by repo (object_info q) = told_sizes repo q
+
+-- the object names of a question that an answer repeats are names of the format
+abbrev pub AsksIn : Format → Asked → Type 0
+AsksIn format (ls_refs q) = Unit {0}
+AsksIn format (fetch q) = All (IsNameIn format) q.haves
+AsksIn format (object_info q) = All (IsNameIn format) q.oids
+
+-- the object names of a reference are values that object names have
+pub record IsEntryOfNames (entry : Entry) : Type 0 where
+  pub by_id : IsOid entry.id
+  pub by_peeled : ForSome entry.peeled IsOid
+
+-- what a repository answers can be written: object names have 32 bytes, and sizes 64 bits
+pub record CanBeWritten (repo : Repository) : Type 0 where
+  pub refs : All IsEntryOfNames repo.refs
+  pub boundaries : (q : FetchAsked) → All (λ line. IsOid (object_of line)) (repo.boundaries q)
+  pub sizes : (id : ObjectName) (size : ℕ) → repo.object_size id ≡ Some size → IsSize size
+
+-- what comes after an answer's flush
+abbrev pub end_packets : Ending → List Pkt
+end_packets FlushOnly = []
+end_packets ResponseEnd = resp_end ∷ []
+
+-- the packets, wherever they stand
+abbrev pub packets_of : List Given → List Pkt
+packets_of gs = map (λ g. g.packet) gs
+
+-- what the answers to these questions tell, each with its end
+abbrev pub told_all : Repository → List Asked → List EventValue
+told_all repo asked = flat_map (λ q. told_by repo q ++ ended ∷ []) asked

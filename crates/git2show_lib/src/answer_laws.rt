@@ -1,0 +1,49 @@
+//! Laws of what a client hears of a server's answers.
+
+ghost use Rattle.std.specs.Prelude.{ℕ, ◌≡◌, ◌∷◌, ◌++◌, [], All, List};
+ghost use Rattle.git_pkt.specs.Packets.{Pkt};
+ghost use Rattle.git_pkt.specs.Splits.{Given};
+ghost use Rattle.git_msg.specs.Asked.{Asked};
+ghost use Rattle.git_client.specs.Client.{AreWhole};
+ghost use Rattle.git_client.specs.Conversation.{GiveAll};
+ghost use Rattle.git_client.specs.Events.{ended};
+ghost use Rattle.git_client.specs.Parts.{Terms, nearest};
+ghost use Rattle.git_client.specs.declared.events.Ending.TheVariants.{FlushOnly};
+ghost use Rattle.git_server.specs.Answers.{IsAnswer};
+ghost use Rattle.git_server.specs.ListRepo.{lists_of, state_of};
+ghost use Rattle.git_server.specs.Repository.{Repository, IsSound};
+ghost use Rattle.git_server.specs.Sessions.{AreAnswers};
+ghost use Rattle.git_server.specs.declared.list_repo.ListRepo.{ListRepo};
+ghost use Rattle.git2show_lib.specs.RepositoryText.{IsRepositoryText};
+ghost use Rattle.git2show_lib.specs.ToldAnswers.{AsksIn, CanBeWritten, end_packets, packets_of, told_all, told_by};
+
+/// A whole answer is heard as it was meant: after the advertisement and the answers to the questions before, none of its packets is refused,
+/// and it gives just the events that the repository's answers name, however the pack is cut. Then the next answer may follow.
+pub fn heard_answer()
+    ensures heard { (t : Terms) (repo : Repository) (earlier later : List Asked) (q : Asked) (before packets : List Pkt) (gs : List Given)
+        → IsSound repo → CanBeWritten repo → repo.format ≡ t.format → AsksIn t.format q → IsAnswer repo q packets
+        → AreWhole t earlier before → packets_of gs ≡ packets ++ end_packets t.ending
+        → GiveAll t (earlier ++ q ∷ later) before gs (told_by repo q ++ ended ∷ []) }
+    ensures whole { (t : Terms) (repo : Repository) (earlier : List Asked) (q : Asked) (before packets : List Pkt) (gs : List Given)
+        → IsSound repo → CanBeWritten repo → repo.format ≡ t.format → AsksIn t.format q → IsAnswer repo q packets
+        → AreWhole t earlier before → packets_of gs ≡ packets ++ end_packets t.ending
+        → AreWhole t (earlier ++ q ∷ []) (nearest gs before) }
+{}
+
+/// The answers of a session are heard as they were meant: all answers that a server gave, one after the other, give just the events that the
+/// repository's answers to the questions name, and then the conversation is whole.
+pub fn heard_answers()
+    ensures heard { (t : Terms) (repo : Repository) (earlier later asked : List Asked) (before packets : List Pkt) (gs : List Given)
+        → IsSound repo → CanBeWritten repo → repo.format ≡ t.format → All (AsksIn t.format) asked → AreAnswers repo asked packets
+        → AreWhole t earlier before → t.ending ≡ FlushOnly → packets_of gs ≡ packets
+        → GiveAll t (earlier ++ (asked ++ later)) before gs (told_all repo asked) }
+    ensures whole { (t : Terms) (repo : Repository) (earlier asked : List Asked) (before packets : List Pkt) (gs : List Given)
+        → IsSound repo → CanBeWritten repo → repo.format ≡ t.format → All (AsksIn t.format) asked → AreAnswers repo asked packets
+        → AreWhole t earlier before → t.ending ≡ FlushOnly → packets_of gs ≡ packets
+        → AreWhole t (earlier ++ asked) (nearest gs before) }
+{}
+
+/// What a repository answers that was read from a text can be written: so its answers are heard.
+pub fn read_repository_can_be_written()
+    ensures { (repo : ListRepo) (text pack : List ℕ) → IsRepositoryText text pack (lists_of repo) → CanBeWritten (state_of repo).answers }
+{}

@@ -1,0 +1,55 @@
+//! What is left over of the responses of a recorded conversation.
+
+ghost use Rattle.std.specs.Prelude.{◌≡◌, ◌≤◌, ◌<◌, length, false, IsTrue, IfErr};
+ghost use Rattle.git_pkt.specs.Told.{inner_of, reads_of, has_failed, has_ended};
+ghost use Rattle.git_pkt.specs.Engine.{FailsAs, IsShownBy, IsSpent};
+ghost use Rattle.git_pkt.specs.Streams.{flow};
+ghost use Rattle.git_client.specs.RunSteps.{window_of};
+ghost use Rattle.git2show_lib.specs.CheckFaults.{run_fault, run_result};
+ghost use Rattle.git2show_lib.specs.CheckSteps.{SeesEnd};
+
+use crate::checking::CheckFault;
+use git_client::Window;
+use git_pkt::{Fault, Kind, Told, receive};
+use std::io::Read;
+
+/// Sees that nothing is left of the responses, after so many bytes of them: nothing waits of the piece, and one more read gives nothing.
+///
+/// `Responses` with the first byte that is left over, as `UnexpectedPacket`, `ReadFault` where the read fails, and `ReadLimit` where
+/// the reader has made as many reads as `turns`.
+pub(crate) fn see_the_end<R: Read>(
+    reader: &mut Told<R>,
+    piece: &mut [u8],
+    waiting: Window,
+    position: u64,
+    turns: u64,
+) -> Result<(), CheckFault>
+    requires room { 0 < length piece.old }
+    requires ordered { waiting.start ≤ waiting.end }
+    requires within { waiting.end ≤ length piece.old }
+    requires sound_reader { has_failed reader.old ≡ false }
+    requires open_ended { has_ended reader.old ≡ false }
+    requires turns { reads_of reader.old ≤ turns }
+
+    ensures reads { reads_of reader.new ≤ turns }
+    ensures seen { SeesEnd result (has_ended reader.new) position (window_of waiting piece.old)
+        (flow (R.remaining (inner_of reader.old)) (R.remaining (inner_of reader.new))) }
+    ensures fault { IfErr result (λ fault. IsShownBy (IsTrue (has_failed reader.new)) ⊥ (IsSpent reader.new turns) (run_fault fault)) }
+    ensures told { FailsAs (run_result result) (has_failed reader.new) false }
+{
+    let left_over = CheckFault::Responses(Fault {
+        kind: Kind::UnexpectedPacket,
+        offset: position,
+    });
+    if waiting.start < waiting.end {
+        return Err(left_over);
+    }
+    if reader.reads() == turns {
+        return Err(CheckFault::ReadLimit);
+    }
+    match receive(reader, piece) {
+        Ok(0) => Ok(()),
+        Ok(_) => Err(left_over),
+        Err(_) => Err(CheckFault::ReadFault),
+    }
+}

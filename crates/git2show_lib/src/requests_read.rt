@@ -1,0 +1,69 @@
+//! The requests of a recorded conversation, one after another.
+
+ghost use Rattle.std.specs.Prelude.{◌≡◌, ◌≤◌, ◌<◌, length, true, false, IsTrue, IfErr};
+ghost use Rattle.git_pkt.specs.Told.{inner_of, reads_of, has_failed, has_ended};
+ghost use Rattle.git_pkt.specs.Engine.{FailsAs, IsShownBy, IsSpent};
+ghost use Rattle.git_pkt.specs.Streams.{flow};
+ghost use Rattle.git_msg.specs.RequestStreams.{wants_input};
+ghost use Rattle.git_client.specs.RunSteps.{window_of};
+ghost use Rattle.git2show_lib.specs.CheckFaults.{run_fault, run_result};
+ghost use Rattle.git2show_lib.specs.CheckSteps.{ReadsTo};
+
+use crate::checking::CheckFault;
+use git_client::Window;
+use git_msg::{ReadGot, Request, RequestStream};
+use git_pkt::{Told, receive};
+use std::alloc::Allocator;
+use std::io::Read;
+
+/// Reads the next request. What waits of the piece is read first, and then what is read into it; afterwards that of the piece waits
+/// which was not used. Answers `None` after the last request.
+///
+/// `Requests` with the first fault of the requests, `ReadFault` where a read fails, and `ReadLimit` where the reader has made as many
+/// reads as `turns` and needs one more.
+pub(crate) fn next_request<R: Read, A: Allocator + Copy>(
+    stream: &mut RequestStream<A>,
+    reader: &mut Told<R>,
+    piece: &mut [u8],
+    waiting: &mut Window,
+    turns: u64,
+) -> Result<Option<Request<A>>, CheckFault>
+    requires waits { wants_input stream.old ≡ true }
+    requires room { 0 < length piece.old }
+    requires ordered { waiting.old.start ≤ waiting.old.end }
+    requires within { waiting.old.end ≤ length piece.old }
+    requires sound_reader { has_failed reader.old ≡ false }
+    requires open_ended { has_ended reader.old ≡ false }
+    requires turns { reads_of reader.old ≤ turns }
+
+    ensures reads { reads_of reader.new ≤ turns }
+    ensures asked { ReadsTo result (has_ended reader.new) stream.old stream.new (window_of waiting.old piece.old) waiting.new piece.new
+        (flow (R.remaining (inner_of reader.old)) (R.remaining (inner_of reader.new))) }
+    ensures room { length piece.new ≡ length piece.old }
+    ensures ordered { waiting.new.start ≤ waiting.new.end }
+    ensures within { waiting.new.end ≤ length piece.new }
+    ensures fault { IfErr result (λ fault. IsShownBy (IsTrue (has_failed reader.new)) ⊥ (IsSpent reader.new turns) (run_fault fault)) }
+    ensures told { FailsAs (run_result result) (has_failed reader.new) false }
+{
+    loop {
+        let read = stream.feed(&piece[waiting.start..waiting.end]);
+        waiting.start += read.used;
+        match read.got {
+            ReadGot::Request(request) => return Ok(Some(request)),
+            ReadGot::Stop => return Ok(None),
+            ReadGot::Failed(fault) => return Err(CheckFault::Requests(fault)),
+            ReadGot::More => {}
+        }
+        if reader.reads() == turns {
+            return Err(CheckFault::ReadLimit);
+        }
+        let end = receive(reader, piece).map_err(|_| CheckFault::ReadFault)?;
+        *waiting = Window { start: 0, end };
+        if end == 0 {
+            return match stream.close() {
+                Ok(()) => Ok(None),
+                Err(fault) => Err(CheckFault::Requests(fault)),
+            };
+        }
+    }
+}

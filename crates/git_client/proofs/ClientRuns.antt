@@ -1,0 +1,480 @@
+-- A run of a client over its streams so far, and what it comes to at each of its ends.
+use Rattle.std.proofs.Common.{arith, ◌≡◌, inl, inr, ℕ, Bool, true, false, List, [], ◌∷◌, ◌++◌, map, Option, Some}
+use Rattle.std.proofs.Common.{◌||◌, IsTrue, Result, Ok, Err, is_err, IfErr, IsErrAnd, refl, sym, ap, ◌∙◌, subst, append_assoc, append-nil}
+use Rattle.std.proofs.lemmas.List.{map-append}
+use Rattle.std.proofs.Math.Bool.{or-false}
+use Rattle.std.proofs.lemmas.Bool.{or_from, or_left}
+use Rattle.std.proofs.lemmas.Result.{err_from_is_err_and}
+use Rattle.std.proofs.KnownBytes.{Appends-kept, Consumes-nil, Consumes-trans}
+use Rattle.std.specs.Io.KnownBytes.{Consumes, Keeps}
+use Rattle.git_pkt.specs.Engine.{FailsAs, IsShownBy}
+use Rattle.git_pkt.specs.declared.fault.Fault.{Fault}
+use Rattle.git_pkt.specs.declared.fault.RunFault.{RunFault}
+use Rattle.git_pkt.specs.declared.fault.RunFault.TheVariants.{ReadFault, WriteFault, ReadLimit, Refused}
+use Rattle.git_msg.specs.Asked.{Asked}
+use Rattle.git_msg.specs.Checks.{Refuses as RefusesBy}
+use Rattle.git_msg.specs.HeldRequest.{asked_of}
+use Rattle.git_msg.specs.declared.requests.Request.{Request}
+use Rattle.git_names.specs.declared.object_format.Format.{Format}
+use Rattle.git_pkt.proofs.EngineLemmas.{holds_at_fault}
+use Rattle.git_client.specs.Parts.{Terms}
+use Rattle.git_client.specs.Events.{EventValue, pack_bytes}
+use Rattle.git_client.specs.Transcript.{transcript_of}
+use Rattle.git_client.specs.Turns.{takes_packets, fault_in, is_ready}
+use Rattle.git_client.specs.Client.{History, Converses, Leaves, nothing_yet, ask_checks, caps_of, ending_of, can_ask, wants_input}
+use Rattle.git_client.specs.Client.{left_to_say, phase_of, request_of}
+use Rattle.git_pkt.specs.Streams.{Flow, flow, WrittenAs, Moves, is_broken}
+use Rattle.git_client.specs.RunSteps.{IsTold, Along, HearsBytes, HearsTo, Says, AsksNext, AsksTo, no_counts}
+use Rattle.git_client.specs.Runs.{leaves_last, HasSaid, IsInterrupted, IsWholeRun, EndsAs, Conversed}
+use Rattle.git_client.specs.declared.phase.Phase.{Phase}
+use Rattle.git_client.specs.declared.phase.Phase.TheVariants.{Hearing, Ready, Failed}
+use Rattle.git_client.specs.declared.client.Client.{Client}
+use Rattle.git_client.specs.declared.events.Ending.{Ending}
+use Rattle.git_client.specs.declared.events.Ending.TheVariants.{FlushOnly, ResponseEnd}
+use Rattle.git_client.specs.declared.hearing.Counts.{Counts}
+use Rattle.git_client.proofs.Alongs.{written_nothing, written_then, written_whole, in_part}
+use Rattle.git_client.proofs.Carries.{is_quiet, not_left, owes_nothing}
+use Rattle.git_client.proofs.Phases.{not_ready_where_due}
+use Rattle.git_client.proofs.EventsHeard.{has_noted, awaits_more, is_whole, position_is, all_is_said}
+use Rattle.git_client.proofs.Faults.{first_fault}
+
+-- ---- what a phase is in which the client can ask, hears, or has failed
+
+quiet_where_ready : (phase : Phase) → is_ready phase ≡ true → is_quiet phase ≡ true
+quiet_where_ready Ready e = refl
+quiet_where_ready phase e = absurd (cc)
+
+quiet_where_due : (phase : Phase) → takes_packets phase ≡ true → is_quiet phase ≡ true
+quiet_where_due (Hearing due) e = refl
+quiet_where_due phase e = absurd (cc)
+
+quiet_where_failed : (phase : Phase) (fault : Fault) → fault_in phase ≡ Some fault → is_quiet phase ≡ true
+quiet_where_failed (Failed f) fault e = refl
+quiet_where_failed phase fault e = absurd (cc)
+
+-- ---- what was read and written
+
+-- of the bytes that waited and those that came, some were used
+read_on : (before held after : Option (List ℕ)) (used waiting came more unused : List ℕ) → Consumes before held (used ++ waiting)
+    → Consumes held after came → waiting ++ came ≡ more ++ unused → Consumes before after ((used ++ more) ++ unused)
+read_on before held after used waiting came more unused first second parts =
+    subst (Consumes before after) (append_assoc used waiting came ∙ ap (λ (l : List ℕ). used ++ l) parts ∙ sym (append_assoc used more unused))
+    (Consumes-trans before held after (used ++ waiting) came first second)
+
+-- where nothing is asked and heard any more, the lines so far are all of the transcript
+all_lines : (ready : Bool) (h : History) (lines : List ℕ) (counts : Counts) → IsTold ready h lines counts
+    → transcript_of (h.asked ++ []) (h.events ++ []) ≡ lines
+all_lines true h lines counts told = told [] [] ∙ append-nil (lines ++ []) ∙ append-nil lines
+all_lines false h lines counts told = told [] [] ∙ append-nil lines
+
+all_told : (ready : Bool) (h : History) (lines : List ℕ) (counts : Counts) → IsTold ready h lines counts → lines ≡ transcript_of h.asked h.events
+all_told ready h lines counts told =
+    sym (all_lines ready h lines counts told) ∙ ap (λ (asked : List Asked). transcript_of asked (h.events ++ [])) (append-nil h.asked)
+    ∙ ap (λ (events : List EventValue). transcript_of h.asked events) (append-nil h.events)
+
+-- ---- which streams failed
+
+-- a stream that has not failed changes nothing, as the last or as the first
+pub sound_last : (a b c : Bool) → c ≡ false → (a || b) ≡ (a || (b || c))
+sound_last a b c sound = ap (λ (x : Bool). a || x) (sym (or-false b) ∙ ap (λ (x : Bool). b || x) (sym sound))
+
+pub sound_first : (a b : Bool) → a ≡ false → b ≡ (a || b)
+sound_first a b sound = ap (λ (x : Bool). x || b) (sym sound)
+
+-- what `?` answers tells what the fault tells that it met
+pub fails_at : (r : Result (Unit {0}) RunFault) (fault : RunFault) (read reads written writes : Bool) → IsErrAnd r (λ e. e ≡ fault) → read ≡ reads
+    → written ≡ writes → FailsAs {T = Unit {0}} (Err fault) read written → FailsAs r reads writes
+fails_at r fault read reads written writes met same others told =
+    let (e, is, named) = err_from_is_err_and r met in
+    subst (λ (x : Result (Unit {0}) RunFault). FailsAs x reads writes) (sym (is ∙ ap Err named))
+    (subst (λ (b : Bool). FailsAs {T = Unit {0}} (Err fault) b writes) same (subst (FailsAs {T = Unit {0}} (Err fault) read) others told))
+
+shown_by : (fault : RunFault) (R S : Type 0) (written writes : Bool) {Read Spent : Type 0} → (Read → R) → (Spent → S) → written ≡ writes
+    → IsShownBy Read (IsTrue written) Spent fault → IsShownBy R (IsTrue writes) S fault
+shown_by ReadFault R S written writes reads spends others shown = reads shown
+shown_by WriteFault R S written writes reads spends others shown = subst IsTrue others shown
+shown_by ReadLimit R S written writes reads spends others shown = spends shown
+shown_by (Refused f) R S written writes reads spends others shown = tt
+
+pub shown_at : (r : Result (Unit {0}) RunFault) (fault : RunFault) (R S : Type 0) (written writes : Bool) {Read Spent : Type 0}
+    → IsErrAnd r (λ e. e ≡ fault) → (Read → R) → (Spent → S) → written ≡ writes → IsShownBy Read (IsTrue written) Spent fault
+    → IfErr r (IsShownBy R (IsTrue writes) S)
+shown_at r fault R S written writes met reads spends others shown =
+    holds_at_fault r fault (λ _. Unit {0}) (IsShownBy R (IsTrue writes) S) met (shown_by fault R S written writes reads spends others shown)
+
+-- the last flush fails or not, where nothing has failed before
+module _ (before after others : Bool) (sound : before ≡ false) where
+  pub flush_fails : (r : Result (Unit {0}) RunFault) (read : Bool) → read ≡ false → others ≡ false → after ≡ (before || is_err r)
+      → IfErr r (λ fault. fault ≡ WriteFault) → FailsAs r read (after || others)
+  flush_fails (Ok done) read reads writes failed named = (reads, or_from after others (failed ∙ ap (λ (b : Bool). b || false) sound) writes)
+  flush_fails (Err fault) read reads writes failed named =
+      subst (λ (f : RunFault). FailsAs {T = Unit {0}} (Err f) read (after || others)) (sym named)
+      (reads, or_left after others (failed ∙ ap (λ (b : Bool). b || true) sound))
+
+  pub flush_shows : (r : Result (Unit {0}) RunFault) (R S : Type 0) → after ≡ (before || is_err r) → IfErr r (λ fault. fault ≡ WriteFault)
+      → IfErr r (IsShownBy R (IsTrue (after || others)) S)
+  flush_shows (Ok done) R S failed named = tt
+  flush_shows (Err fault) R S failed named =
+      subst (IsShownBy R (IsTrue (after || others)) S) (sym named) (or_left after others (failed ∙ ap (λ (b : Bool). b || true) sound))
+
+module _ {A : Type 0} where
+  -- ---- how a run stands
+
+  -- a run of a client so far, which can go on: it asked the requests of the front, these bytes were read beside those that it used,
+  -- and so each stream moved
+  pub record Running (broken : Bool) (t : Terms) (front : List (Request A)) (client : Client A) (counts : Counts) (unused : List ℕ)
+      (reader writer out pack : Flow) : Type 0 where
+    pub h : History
+    pub lines : List ℕ
+    pub packed : List ℕ
+    pub along : Along t h client lines packed counts
+    pub asked : h.asked ≡ map asked_of front
+    pub read : Consumes reader.before reader.after (h.used ++ unused)
+    pub said : WrittenAs broken writer h.given
+    pub told : WrittenAs broken out lines
+    pub sent : WrittenAs broken pack packed
+
+  -- the same of a run that ends here, with this history
+  pub record Ran (broken : Bool) (t : Terms) (h : History) (front : List (Request A)) (client : Client A) (unused : List ℕ)
+      (reader writer out pack : Flow) : Type 0 where
+    pub stands : Converses t h client
+    pub asked : h.asked ≡ map asked_of front
+    pub read : Consumes reader.before reader.after (h.used ++ unused)
+    pub said : WrittenAs broken writer h.given
+    pub told : WrittenAs broken out (transcript_of h.asked h.events)
+    pub sent : WrittenAs broken pack (pack_bytes h.events)
+
+  -- a run may end wherever it stands
+  pub ran : {broken : Bool} {t : Terms} {front : List (Request A)} {client : Client A} {counts : Counts} {unused : List ℕ} {reader writer out pack : Flow}
+      → (r : Running broken t front client counts unused reader writer out pack) → Ran broken t r.h front client unused reader writer out pack
+  ran {broken} {t} {front} {client} {counts} {unused} {reader} {writer} {out} {pack} r = record {
+    stands = r.along.stands;
+    asked = r.asked;
+    read = r.read;
+    said = r.said;
+    told = subst (WrittenAs broken out) (all_told (can_ask client) r.h r.lines counts r.along.told) r.told;
+    sent = subst (WrittenAs broken pack) r.along.pack_is r.sent;
+  }
+
+  -- ---- its steps
+
+  module _ (t : Terms) where
+    -- before the first byte: the writer was flushed, or failed in that
+    pub begins : (client : Client A) (reader writer flushed out pack : Option (List ℕ)) → wants_input client ≡ true → Converses t nothing_yet client
+        → Keeps writer flushed → Running false t [] client no_counts [] (flow reader reader) (flow writer flushed) (flow out out) (flow pack pack)
+    begins client reader writer flushed out pack due stands kept = record {
+      h = nothing_yet;
+      lines = [];
+      packed = [];
+      along = record {
+        stands = stands;
+        told = subst (λ (ready : Bool). IsTold ready nothing_yet [] no_counts) (sym (not_ready_where_due (phase_of client) due)) (λ later more. refl);
+        pack_is = refl;
+        within = omega arith;
+      };
+      asked = refl;
+      read = Consumes-nil reader;
+      said = Appends-kept writer writer flushed [] (written_nothing writer) kept;
+      told = written_nothing out;
+      sent = written_nothing pack;
+    }
+
+    -- at the next response a client that can ask counts from nothing
+    pub counts_anew : (front : List (Request A)) (client : Client A) (counts : Counts) (unused : List ℕ) {reader writer out pack : Flow}
+        → can_ask client ≡ true → Running false t front client counts unused reader writer out pack
+        → Running false t front client no_counts unused reader writer out pack
+    counts_anew front client counts unused ready r = record {
+      h = r.h;
+      lines = r.lines;
+      packed = r.packed;
+      along = record {
+        stands = r.along.stands;
+        told = subst (λ (now : Bool). IsTold now r.h r.lines no_counts) (sym ready)
+            (subst (λ (now : Bool). IsTold now r.h r.lines counts) ready r.along.told);
+        pack_is = r.along.pack_is;
+        within = omega arith;
+      };
+      asked = r.asked;
+      read = r.read;
+      said = r.said;
+      told = r.told;
+      sent = r.sent;
+    }
+
+    -- a request was asked, or a write failed while it was
+    pub asks_on : (broken : Bool) (front : List (Request A)) (old new : Client A) (request : Request A) (counts : Counts) (unused : List ℕ)
+        {reader pack : Flow} {writer_before writer_held writer_after out_before out_held out_after : Option (List ℕ)}
+        → Running false t front old counts unused reader (flow writer_before writer_held) (flow out_before out_held) pack
+        → AsksNext broken old new request (flow writer_held writer_after) (flow out_held out_after)
+        → Running broken t (front ++ request ∷ []) new no_counts unused reader (flow writer_before writer_after) (flow out_before out_after) pack
+    asks_on broken front old new request counts unused {reader} {pack} {writer_before = w0} {writer_held = w1} {writer_after = w2}
+        {out_before = o0} {out_held = o1} {out_after = o2} r step = record {
+          h = record r.h { asked = r.h.asked ++ asked_of request ∷ []; given = r.h.given ++ step.given };
+          lines = _;
+          packed = r.packed;
+          along = step.goes t r.h r.lines r.packed counts r.along;
+          asked = ap (λ (l : List Asked). l ++ asked_of request ∷ []) r.asked ∙ sym (map-append asked_of front (request ∷ []));
+          read = r.read;
+          said = written_then broken w0 w1 w2 r.h.given step.given r.said step.said;
+          told = written_then broken o0 o1 o2 r.lines _ r.told step.told;
+          sent = written_whole broken pack r.packed r.sent;
+        }
+
+    -- bytes were heard, or a write failed while they were
+    pub hears_on : (broken : Bool) (front : List (Request A)) (old new : Client A) (waiting unused : List ℕ)
+        {writer : Flow} {left_before left left_after out_before out_held out_after pack_before pack_held pack_after : Option (List ℕ)}
+        → Running false t front old no_counts waiting (flow left_before left) writer (flow out_before out_held) (flow pack_before pack_held)
+        → (step : HearsBytes broken old new waiting unused (flow left left_after) (flow out_held out_after) (flow pack_held pack_after))
+        → Running broken t front new step.counts unused (flow left_before left_after) writer (flow out_before out_after) (flow pack_before pack_after)
+    hears_on broken front old new waiting unused {writer} {left_before = r0} {left = r1} {left_after = r2} {out_before = o0} {out_held = o1} {out_after = o2}
+        {pack_before = p0} {pack_held = p1} {pack_after = p2} r step =
+        let (events, along) = step.goes t r.h r.lines r.packed r.along in
+        record {
+          h = record r.h { used = r.h.used ++ step.used; events = r.h.events ++ events };
+          lines = r.lines ++ step.lines;
+          packed = r.packed ++ step.packed;
+          along = along;
+          asked = r.asked;
+          read = read_on r0 r1 r2 r.h.used waiting step.came step.used unused r.read step.read step.parts;
+          said = written_whole broken writer r.h.given r.said;
+          told = written_then broken o0 o1 o2 r.lines step.lines r.told step.told;
+          sent = written_then broken p0 p1 p2 r.packed step.packed r.sent step.sent;
+        }
+
+    -- the conversation was left, or a write failed while it was
+    pub leaves_on : (broken : Bool) (front : List (Request A)) (old mid new : Client A) (counts : Counts) (unused : List ℕ)
+        {reader out pack : Flow} {before held after : Option (List ℕ)}
+        → (r : Running false t front old counts unused reader (flow before held) out pack) → Leaves old mid → (step : Says broken mid new (flow held after))
+        → Ran broken t (record r.h { left = true; given = r.h.given ++ step.given }) front new unused reader (flow before after) out pack
+    leaves_on broken front old mid new counts unused {reader} {out} {pack} {before} {held} {after} r leaving step =
+        let at = ran r in
+        record {
+          stands = step.says t (record r.h { left = true }) (leaving.leaves t r.h at.stands);
+          asked = at.asked;
+          read = at.read;
+          said = written_then broken before held after r.h.given step.given at.said step.written;
+          told = written_whole broken out (transcript_of r.h.asked r.h.events) at.told;
+          sent = written_whole broken pack (pack_bytes r.h.events) at.sent;
+        }
+
+    -- the writer was flushed, or failed in that
+    ran_flushed : {h : History} {front : List (Request A)} {client : Client A} {unused : List ℕ} {reader out pack : Flow} {before held after : Option (List ℕ)}
+        → Ran false t h front client unused reader (flow before held) out pack → Keeps held after
+        → Ran false t h front client unused reader (flow before after) out pack
+    ran_flushed {h} {before} {held} {after} r kept = record {
+      stands = r.stands;
+      asked = r.asked;
+      read = r.read;
+      said = Appends-kept before held after h.given r.said kept;
+      told = r.told;
+      sent = r.sent;
+    }
+
+    -- where only a flush failed, all was written
+    ran_in_part : {h : History} {front : List (Request A)} {client : Client A} {unused : List ℕ} {reader writer out pack : Flow}
+        → Ran false t h front client unused reader writer out pack → Ran true t h front client unused reader writer out pack
+    ran_in_part {h} {writer} {out} {pack} r = record {
+      stands = r.stands;
+      asked = r.asked;
+      read = r.read;
+      said = in_part writer h.given r.said;
+      told = in_part out (transcript_of h.asked h.events) r.told;
+      sent = in_part pack (pack_bytes h.events) r.sent;
+    }
+
+-- ---- the ends of a run
+
+-- a conversation is left only where each response ends with its flush alone
+stays_last : (ending : Ending) → (ending ≡ FlushOnly → ⊥) → leaves_last ending ≡ false
+stays_last FlushOnly other = absurd (other refl)
+stays_last ResponseEnd other = refl
+
+module _ {A : Type 0} (t : Terms) where
+  -- a client that owes nothing has said all that is due
+  has_said : (h : History) (client : Client A) → Converses t h client → left_to_say client ≡ [] → HasSaid t h
+  has_said h client stands nothing =
+      record { caps = caps_of client; noted = has_noted t h client stands; said = all_is_said t h client stands nothing }
+
+  quietly_said : (h : History) (client : Client A) → Converses t h client → is_quiet (phase_of client) ≡ true → HasSaid t h
+  quietly_said h client stands quiet = has_said h client stands (owes_nothing (phase_of client) (request_of client) quiet)
+
+  stayed : (h : History) (client : Client A) → Converses t h client → is_quiet (phase_of client) ≡ true → h.left ≡ false
+  stayed h client stands quiet = stands.left ∙ not_left (phase_of client) quiet
+
+  -- where bytes of the server are due, a run that ends here was interrupted
+  interrupted : (h : History) (client : Client A) → Converses t h client → wants_input client ≡ true → IsInterrupted t [] h
+  interrupted h client stands due =
+      let quiet = quiet_where_due (phase_of client) due in
+      record {
+        all = refl;
+        goes_on = awaits_more t h client stands due;
+        stays = stayed h client stands quiet;
+        said = quietly_said h client stands quiet;
+      }
+
+  module _ (requests : List (Request A)) where
+    -- how a run with this answer moved its streams
+    abbrev pub RunEnds : Result (Unit {0}) RunFault → Bool → Client A → Flow → Flow → Flow → Flow → Type 0
+    RunEnds result ended client reader writer out pack =
+        Moves (is_broken result) (Conversed t requests result ended client) (reader ∷ []) (writer ∷ out ∷ pack ∷ [])
+
+    -- what `?` answers is the fault that it met
+    pub ends_at : (result : Result (Unit {0}) RunFault) (fault : RunFault) (ended : Bool) (client : Client A) (reader writer out pack : Flow)
+        → IsErrAnd result (λ e. e ≡ fault) → RunEnds (Err fault) ended client reader writer out pack → RunEnds result ended client reader writer out pack
+    ends_at result fault ended client reader writer out pack met ends =
+        let (e, is, same) = err_from_is_err_and result met in
+        subst (λ (x : Result (Unit {0}) RunFault). RunEnds x ended client reader writer out pack) (sym (is ∙ ap Err same)) ends
+
+    -- a write failed in what `?` was asked of
+    pub ends_at_write : (result : Result (Unit {0}) RunFault) (fault : RunFault) (ended : Bool) (client : Client A) (reader writer out pack : Flow)
+        → IsErrAnd result (λ e. e ≡ fault) → fault ≡ WriteFault → RunEnds (Err WriteFault) ended client reader writer out pack
+        → RunEnds result ended client reader writer out pack
+    ends_at_write result fault ended client reader writer out pack met named ends =
+        ends_at result fault ended client reader writer out pack met
+        (subst (λ (f : RunFault). RunEnds (Err f) ended client reader writer out pack) (sym named) ends)
+
+    module _ (front rest : List (Request A)) (split : requests ≡ front ++ rest) where
+      moves : (result : Result (Unit {0}) RunFault) (ended : Bool) (h : History) (client : Client A) (unused : List ℕ) {reader writer out pack : Flow}
+          → Ran (is_broken result) t h front client unused reader writer out pack → EndsAs t result ended unused rest h
+          → RunEnds result ended client reader writer out pack
+      moves result ended h client unused r ends = record {
+        used = (h.used ++ unused) ∷ [];
+        given = h.given ∷ transcript_of h.asked h.events ∷ pack_bytes h.events ∷ [];
+        read = (r.read, tt);
+        written = (r.said, (r.told, (r.sent, tt)));
+        related = record {
+          h = h;
+          unused = unused;
+          rest = rest;
+          heard = refl;
+          told = refl;
+          stands = r.stands;
+          asked = record { front = front; all = split; asked = r.asked };
+          ends = ends;
+        };
+      }
+
+      -- a write failed
+      pub breaks_off : (ended : Bool) (client : Client A) (counts : Counts) (unused : List ℕ) {reader writer out pack : Flow}
+          → Running true t front client counts unused reader writer out pack → RunEnds (Err WriteFault) ended client reader writer out pack
+      breaks_off ended client counts unused r = moves (Err WriteFault) ended r.h client unused (ran r) tt
+
+      -- a flush failed
+      pub breaks_unflushed : (ended : Bool) (client : Client A) (counts : Counts) (unused : List ℕ) {reader writer out pack : Flow}
+          → Running false t front client counts unused reader writer out pack → RunEnds (Err WriteFault) ended client reader writer out pack
+      breaks_unflushed ended client counts unused r = moves (Err WriteFault) ended r.h client unused (ran_in_part t (ran r)) tt
+
+      -- a response was not heard to its end
+      pub hearing_stopped : (fault : RunFault) (ended : Bool) (old new : Client A) (waiting piece : List ℕ) {writer : Flow}
+          {left_before left left_after out_before out_held out_after pack_before pack_held pack_after : Option (List ℕ)}
+          → Running false t front old no_counts waiting (flow left_before left) writer (flow out_before out_held) (flow pack_before pack_held)
+          → HearsTo (Err fault) ended old new waiting piece (flow left left_after) (flow out_held out_after) (flow pack_held pack_after)
+          → RunEnds (Err fault) ended new (flow left_before left_after) writer (flow out_before out_after) (flow pack_before pack_after)
+      hearing_stopped ReadFault ended old new waiting piece r step =
+          let on = hears_on t false front old new waiting [] r step.hears in
+          moves (Err ReadFault) ended on.h new [] (ran on) (interrupted on.h new on.along.stands step.due)
+      hearing_stopped WriteFault ended old new waiting piece r (unused, step) =
+          breaks_off ended new step.counts unused (hears_on t true front old new waiting unused r step)
+      hearing_stopped ReadLimit ended old new waiting piece r step =
+          let on = hears_on t false front old new waiting [] r step.hears in
+          moves (Err ReadLimit) ended on.h new [] (ran on) (interrupted on.h new on.along.stands step.due)
+      hearing_stopped (Refused fault) ended old new waiting piece r step =
+          let on = hears_on t false front old new waiting step.unused r step.hears in
+          let quiet = quiet_where_failed (phase_of new) fault step.told in
+          moves (Err (Refused fault)) ended on.h new step.unused (ran on) (
+            inl (record { first = first_fault t on.h new fault on.along.stands step.told; timely = step.timely }),
+            stayed on.h new on.along.stands quiet,
+            quietly_said on.h new on.along.stands quiet,
+          )
+
+    -- a request was not asked, or a write failed while it was
+    pub asking_stopped : (fault : RunFault) (ended : Bool) (front later : List (Request A)) (request : Request A) (old new : Client A)
+        (counts : Counts) (unused : List ℕ) {reader pack : Flow}
+        {writer_before writer_held writer_after out_before out_held out_after : Option (List ℕ)} → requests ≡ front ++ request ∷ later
+        → can_ask old ≡ true → Running false t front old counts unused reader (flow writer_before writer_held) (flow out_before out_held) pack
+        → AsksTo (Err fault) old new request (flow writer_held writer_after) (flow out_held out_after)
+        → RunEnds (Err fault) ended new reader (flow writer_before writer_after) (flow out_before out_after) pack
+    asking_stopped ReadFault ended front later request old new counts unused split ready r step = absurd step
+    asking_stopped WriteFault ended front later request old new counts unused split ready r step =
+        breaks_off (front ++ request ∷ []) later (split ∙ sym (append_assoc front (request ∷ []) later)) ended new no_counts unused
+        (asks_on t true front old new request counts unused r step)
+    asking_stopped ReadLimit ended front later request old new counts unused split ready r step = absurd step
+    asking_stopped (Refused fault) ended front later request old new counts unused {reader} {pack} {writer_before = w0} {writer_held = w1} {writer_after = w2}
+        {out_before = o0} {out_held = o1} {out_after = o2} split ready r step =
+        let at = ran r in
+        let told = transcript_of r.h.asked r.h.events in
+        let stands = at.stands in
+        let so : Ran false t r.h front old unused reader (flow w0 w2) (flow o0 o2) pack = record {
+          stands = stands;
+          asked = at.asked;
+          read = at.read;
+          said = subst (WrittenAs false (flow w0 w2)) (append-nil r.h.given) (written_then false w0 w1 w2 r.h.given [] at.said step.said);
+          told = subst (WrittenAs false (flow o0 o2)) (append-nil told) (written_then false o0 o1 o2 told [] at.told step.told);
+          sent = at.sent;
+        } in
+        subst (λ (client : Client A). RunEnds (Err (Refused fault)) ended client reader (flow w0 w2) (flow o0 o2) pack) (sym step.stays)
+        (moves front (request ∷ later) split (Err (Refused fault)) ended r.h old unused so (
+          inr (record {
+            request = request;
+            later = later;
+            caps = caps_of old;
+            next = refl;
+            whole = is_whole t r.h old stands ready;
+            noted = has_noted t r.h old stands;
+            refused = subst (λ (format : Format). RefusesBy (ask_checks format (caps_of old) request) fault.kind) stands.format_is step.refused;
+            at = step.at ∙ position_is t r.h old stands;
+          }),
+          stayed r.h old stands (quiet_where_ready (phase_of old) ready),
+          quietly_said r.h old stands (quiet_where_ready (phase_of old) ready),
+        ))
+
+    -- ---- all requests were asked, and each response is whole
+
+    module _ (front : List (Request A)) (split : requests ≡ front ++ []) where
+      -- the last flush of the writer, by its answer
+      finishes : (result : Result (Unit {0}) RunFault) (ended : Bool) (h : History) (client : Client A) (unused : List ℕ) {reader out pack : Flow}
+          {before held after : Option (List ℕ)} → IfErr result (λ fault. fault ≡ WriteFault)
+          → Ran false t h front client unused reader (flow before held) out pack → Keeps held after → IsWholeRun {A = A} t [] h
+          → RunEnds result ended client reader (flow before after) out pack
+      finishes (Ok done) ended h client unused named r kept whole = moves front [] split (Ok done) ended h client unused (ran_flushed t r kept) whole
+      finishes (Err fault) ended h client unused {reader} {out} {pack} {before} {held} {after} named r kept whole =
+          subst (λ (f : RunFault). RunEnds (Err f) ended client reader (flow before after) out pack) (sym named)
+          (moves front [] split (Err WriteFault) ended h client unused (ran_in_part t (ran_flushed t r kept)) tt)
+
+      -- each request has a connection of its own, and the client does not leave
+      pub stays_to_the_end : (result : Result (Unit {0}) RunFault) (ended : Bool) (client : Client A) (counts : Counts) (unused : List ℕ)
+          {reader out pack : Flow} {before held after : Option (List ℕ)} → IfErr result (λ fault. fault ≡ WriteFault) → can_ask client ≡ true
+          → (ending_of client ≡ FlushOnly → ⊥) → Running false t front client counts unused reader (flow before held) out pack → Keeps held after
+          → RunEnds result ended client reader (flow before after) out pack
+      stays_to_the_end result ended client counts unused named ready other r kept =
+          let stands = r.along.stands in
+          let quiet = quiet_where_ready (phase_of client) ready in
+          finishes result ended r.h client unused named (ran r) kept (record {
+            all = refl;
+            whole = is_whole t r.h client stands ready;
+            leaves = stands.left ∙ not_left (phase_of client) quiet ∙ sym (stays_last t.ending (λ last. other (stands.ending_is ∙ last)));
+            said = quietly_said r.h client stands quiet;
+          })
+
+      module _ (old mid new : Client A) (counts : Counts) (unused : List ℕ) (ready : can_ask old ≡ true) (leaving : Leaves old mid) where
+        -- the client left, but a write failed
+        pub leaving_stopped : (ended : Bool) {reader out pack : Flow} {before held after : Option (List ℕ)}
+            → Running false t front old counts unused reader (flow before held) out pack → Says true mid new (flow held after)
+            → RunEnds (Err WriteFault) ended new reader (flow before after) out pack
+        leaving_stopped ended r step =
+            moves front [] split (Err WriteFault) ended _ new unused (leaves_on t true front old mid new counts unused r leaving step) tt
+
+        -- the client left, and said so
+        pub leaves_at_the_end : (result : Result (Unit {0}) RunFault) (ended : Bool) {reader out pack : Flow} {before held flushed after : Option (List ℕ)}
+            → IfErr result (λ fault. fault ≡ WriteFault) → ending_of old ≡ FlushOnly
+            → Running false t front old counts unused reader (flow before held) out pack → Says false mid new (flow held flushed) → Keeps flushed after
+            → RunEnds result ended new reader (flow before after) out pack
+        leaves_at_the_end result ended named last r step kept =
+            let at = leaves_on t false front old mid new counts unused r leaving step in
+            let stands = r.along.stands in
+            finishes result ended _ new unused named at kept (record {
+              all = refl;
+              whole = is_whole t r.h old stands ready;
+              leaves = ap leaves_last (sym last ∙ stands.ending_is);
+              said = has_said _ new at.stands (step.all refl);
+            })

@@ -1,0 +1,205 @@
+-- The bytes of a response, heard a piece at a time: what all pieces so far come to, and what each end of a hearing says of them.
+use Rattle.std.proofs.Common.{arith, ◌≡◌, ℕ, ◌+◌, ◌-◌, ◌≤◌, Bool, true, false, List, [], ◌++◌, length, take, drop, Option, Some}
+use Rattle.std.proofs.Common.{Result, Err, IsErrAnd, refl, sym, ap, ◌∙◌, subst, append_assoc, append-nil, length-drop, take-append-drop}
+use Rattle.std.proofs.lemmas.Grind.{common_steps}
+use Rattle.std.proofs.lemmas.List.{drop-take, drop-drop, length-take}
+use Rattle.std.specs.Io.KnownBytes.{Consumes, Keeps}
+use Rattle.std.proofs.KnownBytes.{Consumes-nil, Consumes-trans, Consumes-kept}
+use Rattle.git_pkt.specs.declared.fault.Fault.{Fault}
+use Rattle.git_pkt.specs.declared.fault.Kind.{Kind}
+use Rattle.git_pkt.specs.declared.fault.Kind.TheVariants.{Truncated}
+use Rattle.git_pkt.specs.declared.fault.RunFault.{RunFault}
+use Rattle.git_pkt.specs.declared.fault.RunFault.TheVariants.{ReadFault, WriteFault, ReadLimit, Refused}
+use Rattle.git_pkt.specs.Streams.{Flow, flow, WrittenAs, IsTimely}
+use Rattle.git_pkt.proofs.EngineLemmas.{timely}
+use Rattle.git_client.specs.Client.{HearsOn, fault_of, phase_of, wants_input}
+use Rattle.git_client.specs.RunSteps.{no_counts, window_of, GoesAlong, HearsPiece, HearsPieceTo, HearsBytes, HearsFault, HearsTo}
+use Rattle.git_client.specs.declared.client.Client.{Client}
+use Rattle.git_client.specs.declared.hearing.Counts.{Counts}
+use Rattle.git_client.specs.declared.hearing.Window.{Window}
+use Rattle.git_client.proofs.Phases.{not_ready_where_failed}
+use Rattle.git_client.proofs.Alongs.{written_nothing, written_then, in_part, at_fault, along_nothing, along_then}
+use Rattle.git_client.proofs.HearingSteps.{goes_quietly}
+
+-- ---- the bytes of a window
+
+-- all bytes of a window were used
+pub none_left : (window : Window) (piece : List ℕ) → window.start ≡ window.end → window_of window piece ≡ []
+none_left window piece same = grind (arith, common_steps)
+
+pub window_length : (window : Window) (piece : List ℕ) → window.start ≤ window.end → window.end ≤ length piece
+    → window.start + length (window_of window piece) ≡ window.end
+window_length window piece ordered within =
+    omega (arith, length-take (window.end - window.start) (drop window.start piece), length-drop window.start piece)
+
+-- what is left of the front of a piece is a window of it
+pub rest_of_front : (end used : ℕ) (piece : List ℕ) → used ≤ length (take end piece) → drop used (take end piece) ≡ take (end - used) (drop used piece)
+rest_of_front end used piece within =
+    let same : used + (end - used) ≡ end = omega (arith, within, length-take end piece) in
+    subst (λ (n : ℕ). drop used (take n piece) ≡ take (end - used) (drop used piece)) same (drop-take used (end - used) piece)
+
+-- what is left of a window is a window
+pub rest_of_window : (start end used : ℕ) (piece : List ℕ) → used ≤ length (take (end - start) (drop start piece))
+    → drop used (take (end - start) (drop start piece)) ≡ take (end - (start + used)) (drop (start + used) piece)
+rest_of_window start end used piece within =
+    let same : end - start - used ≡ end - (start + used) = omega arith in
+    rest_of_front (end - start) used (drop start piece) within ∙ ap (λ (n : ℕ). take n (drop used (drop start piece))) same
+    ∙ ap (take (end - (start + used))) (drop-drop used start piece)
+
+-- ---- all pieces so far
+
+module _ {A : Type 0} where
+  -- of the bytes that waited and those that came all but the last were heard, and what they say was written. The counts, which
+  -- `HearsBytes` hides, are named here: the next piece is heard with them.
+  pub record HeardSoFar (broken : Bool) (old new : Client A) (counts : Counts) (waiting unused : List ℕ) (reader out packs : Flow) : Type 0 where
+    pub came : List ℕ
+    pub used : List ℕ
+    pub lines : List ℕ
+    pub packed : List ℕ
+    pub read : Consumes reader.before reader.after came
+    pub parts : waiting ++ came ≡ used ++ unused
+    pub told : WrittenAs broken out lines
+    pub sent : WrittenAs broken packs packed
+    pub goes : GoesAlong old new no_counts counts used lines packed
+
+  pub hears_bytes : {broken : Bool} {old new : Client A} {counts : Counts} {waiting unused : List ℕ} {reader out packs : Flow}
+      → HeardSoFar broken old new counts waiting unused reader out packs → HearsBytes broken old new waiting unused reader out packs
+  hears_bytes so_far = record {
+    came = so_far.came;
+    used = so_far.used;
+    lines = so_far.lines;
+    packed = so_far.packed;
+    counts = _;
+    read = so_far.read;
+    parts = so_far.parts;
+    told = so_far.told;
+    sent = so_far.sent;
+    goes = so_far.goes;
+  }
+
+  -- what a `?` answers is the fault that it met
+  pub hears_at : (result : Result Window RunFault) (fault met : RunFault) (ended : Bool) (old new : Client A) (waiting buffer : List ℕ)
+      (reader out packs : Flow) → IsErrAnd result (λ e. e ≡ fault) → fault ≡ met → HearsTo (Err met) ended old new waiting buffer reader out packs
+      → HearsTo result ended old new waiting buffer reader out packs
+  hears_at result fault met ended old new waiting buffer reader out packs answered is hears =
+      at_fault result fault met (λ (r : Result Window RunFault). HearsTo r ended old new waiting buffer reader out packs) is answered hears
+
+  -- before the first piece all that waits is left
+  pub heard_nothing : (client : Client A) (waiting : List ℕ) (left told sent : Option (List ℕ))
+      → HeardSoFar false client client no_counts waiting waiting (flow left left) (flow told told) (flow sent sent)
+  heard_nothing client waiting left told sent = record {
+    came = [];
+    used = [];
+    lines = [];
+    packed = [];
+    read = Consumes-nil left;
+    parts = append-nil waiting;
+    told = written_nothing told;
+    sent = written_nothing sent;
+    goes = along_nothing client no_counts;
+  }
+
+  module _ {old middle : Client A} {counts : Counts} {waiting unused : List ℕ} {left_before left told_before told sent_before sent : Option (List ℕ)}
+      (so_far : HeardSoFar false old middle counts waiting unused (flow left_before left) (flow told_before told) (flow sent_before sent)) where
+    -- one more piece was heard, of what was left and what was read
+    pub heard_on : {broken : Bool} {new : Client A} {counts_after : Counts} {piece rest : List ℕ} {used : ℕ}
+        {left_after told_after sent_after : Option (List ℕ)} (came : List ℕ) → Consumes left left_after came → unused ++ came ≡ piece → drop used piece ≡ rest
+        → HearsPiece broken middle new counts counts_after piece used (flow told told_after) (flow sent sent_after)
+        → HeardSoFar broken old new counts_after waiting rest (flow left_before left_after) (flow told_before told_after) (flow sent_before sent_after)
+    heard_on {broken = broken} {new = new} {counts_after = counts_after} {piece = piece} {rest = rest} {used = used}
+        {left_after = left_after} {told_after = told_after} {sent_after = sent_after} came read is rest_is hears = record {
+          came = so_far.came ++ came;
+          used = so_far.used ++ take used piece;
+          lines = so_far.lines ++ hears.lines;
+          packed = so_far.packed ++ hears.packed;
+          read = Consumes-trans left_before left left_after so_far.came came so_far.read read;
+          parts =
+              sym (append_assoc waiting so_far.came came) ∙ ap (λ (l : List ℕ). l ++ came) so_far.parts ∙ append_assoc so_far.used unused came
+              ∙ ap (λ (l : List ℕ). so_far.used ++ l) (is ∙ sym (take-append-drop used piece))
+              ∙ sym (append_assoc so_far.used (take used piece) (drop used piece)) ∙ ap (λ (l : List ℕ). (so_far.used ++ take used piece) ++ l) rest_is;
+          told = written_then broken told_before told told_after so_far.lines hears.lines so_far.told hears.told;
+          sent = written_then broken sent_before sent sent_after so_far.packed hears.packed so_far.sent hears.sent;
+          goes = along_then old middle new no_counts counts counts_after so_far.used (take used piece) so_far.lines hears.lines so_far.packed hears.packed
+              so_far.goes hears.goes;
+        }
+
+    -- the transcript and the pack were flushed
+    pub heard_flushed : {told_after sent_after : Option (List ℕ)} → WrittenAs false (flow told told_after) [] → WrittenAs false (flow sent sent_after) []
+        → HeardSoFar false old middle counts waiting unused (flow left_before left) (flow told_before told_after) (flow sent_before sent_after)
+    heard_flushed flushed flushed_pack =
+        heard_on {used = 0} [] (Consumes-nil left) (append-nil unused) refl
+        (record { lines = []; packed = []; told = flushed; sent = flushed_pack; goes = along_nothing middle counts })
+
+    -- a write failed
+    pub heard_broken : HeardSoFar true old middle counts waiting unused (flow left_before left) (flow told_before told) (flow sent_before sent)
+    heard_broken = record {
+      came = so_far.came;
+      used = so_far.used;
+      lines = so_far.lines;
+      packed = so_far.packed;
+      read = so_far.read;
+      parts = so_far.parts;
+      told = in_part (flow told_before told) so_far.lines so_far.told;
+      sent = in_part (flow sent_before sent) so_far.packed so_far.sent;
+      goes = so_far.goes;
+    }
+
+    -- a read failed
+    pub heard_unread : {left_after : Option (List ℕ)} → Keeps left left_after
+        → HeardSoFar false old middle counts waiting unused (flow left_before left_after) (flow told_before told) (flow sent_before sent)
+    heard_unread {left_after = left_after} kept = record {
+      came = so_far.came;
+      used = so_far.used;
+      lines = so_far.lines;
+      packed = so_far.packed;
+      read = Consumes-kept left_before left left_after so_far.came so_far.read kept;
+      parts = so_far.parts;
+      told = so_far.told;
+      sent = so_far.sent;
+      goes = so_far.goes;
+    }
+
+    -- a fault ended a piece
+    pub heard_until : (fault : RunFault) (ended : Bool) (new : Client A) (counts_after : Counts) (came piece buffer : List ℕ)
+        (left_after told_after sent_after : Option (List ℕ)) → Consumes left left_after came → unused ++ came ≡ piece
+        → HearsPieceTo (Err fault) middle new counts counts_after piece (flow told told_after) (flow sent sent_after)
+        → HearsTo (Err fault) ended old new waiting buffer (flow left_before left_after) (flow told_before told_after) (flow sent_before sent_after)
+    heard_until ReadFault ended new counts_after came piece buffer left_after told_after sent_after read is step = absurd step
+    heard_until WriteFault ended new counts_after came piece buffer left_after told_after sent_after read is (used, hears) =
+        (drop used piece, hears_bytes (heard_on came read is refl hears))
+    heard_until ReadLimit ended new counts_after came piece buffer left_after told_after sent_after read is step = absurd step
+    heard_until (Refused fault) ended new counts_after came piece buffer left_after told_after sent_after read is step = record {
+      unused = drop step.used piece;
+      hears = hears_bytes (heard_on came read is refl step.hears);
+      told = step.told;
+      timely = timely fault.kind ended (drop step.used piece) step.shown.not_the_end
+          (λ long. omega (arith, step.shown.one_more long, length-drop step.used piece));
+    }
+
+    -- the input ended where more was due
+    pub heard_end : {fault : Fault} {ended : Bool} {new : Client A} {left_after : Option (List ℕ)} → unused ≡ [] → Consumes left left_after []
+        → ended ≡ true → wants_input middle ≡ true → fault.kind ≡ Truncated → fault_of new ≡ Some fault → HearsOn middle [] [] new
+        → HearsFault fault ended old new waiting (flow left_before left_after) (flow told_before told) (flow sent_before sent)
+    heard_end {fault = fault} {ended = ended} {new = new} all read at_end wants kind failed hears = record {
+      unused = [];
+      hears = hears_bytes (heard_on {used = 0} [] read (append-nil unused ∙ all) refl (record {
+        lines = [];
+        packed = [];
+        told = written_nothing told;
+        sent = written_nothing sent;
+        goes = goes_quietly middle new [] hears wants (not_ready_where_failed (phase_of new) fault failed) counts;
+      }));
+      told = failed;
+      timely = subst (λ (k : Kind). IsTimely k ended []) (sym kind) (refl, at_end);
+    }
+
+  -- before a read all that came was used, and the transcript and the pack were flushed
+  pub heard_before_read : {old new : Client A} {counts : Counts} {waiting : List ℕ} {reader : Flow} {told_before told sent_before sent : Option (List ℕ)}
+      (window : Window) (piece : List ℕ) (told_after sent_after : Option (List ℕ)) → window.start ≡ window.end
+      → HeardSoFar false old new counts waiting (window_of window piece) reader (flow told_before told) (flow sent_before sent)
+      → WrittenAs false (flow told told_after) [] → WrittenAs false (flow sent sent_after) []
+      → HeardSoFar false old new counts waiting [] reader (flow told_before told_after) (flow sent_before sent_after)
+  heard_before_read {old = old} {new = new} {counts = counts} {waiting = waiting} {reader = reader} {told_before = told_before} {told = told}
+      {sent_before = sent_before} {sent = sent} window piece told_after sent_after all so_far flushed flushed_pack =
+      heard_flushed (subst (λ (unused : List ℕ). HeardSoFar false old new counts waiting unused reader (flow told_before told) (flow sent_before sent))
+      (none_left window piece all) so_far) flushed flushed_pack

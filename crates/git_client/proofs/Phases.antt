@@ -1,0 +1,22 @@
+-- What a phase is where bytes are due, where the client can ask, and where it has failed.
+use Rattle.std.proofs.Common.{◌≡◌, true, false, Some, None, refl}
+use Rattle.git_pkt.specs.declared.fault.Fault.{Fault}
+use Rattle.git_client.specs.Turns.{takes_packets, fault_in, is_ready}
+use Rattle.git_client.specs.declared.phase.Phase.{Phase}
+use Rattle.git_client.specs.declared.phase.Phase.TheVariants.{Hearing, Ready, Failed}
+
+pub not_ready_where_due : (phase : Phase) → takes_packets phase ≡ true → is_ready phase ≡ false
+not_ready_where_due (Hearing due) e = refl
+not_ready_where_due phase e = absurd (cc)
+
+pub not_ready_where_failed : (phase : Phase) (fault : Fault) → fault_in phase ≡ Some fault → is_ready phase ≡ false
+not_ready_where_failed (Failed f) fault e = refl
+not_ready_where_failed phase fault e = absurd (cc)
+
+pub sound_where_due : (phase : Phase) → takes_packets phase ≡ true → fault_in phase ≡ None
+sound_where_due (Hearing due) e = refl
+sound_where_due phase e = absurd (cc)
+
+pub sound_where_ready : (phase : Phase) → is_ready phase ≡ true → fault_in phase ≡ None
+sound_where_ready Ready e = refl
+sound_where_ready phase e = absurd (cc)

@@ -1,0 +1,191 @@
+-- What a client that says a question comes to, one packet after another, and what asking does to its history.
+use Rattle.std.proofs.Common.{arith, ◌≡◌, ◌≢◌, ℕ, Bool, true, false, List, [], ◌∷◌, ◌++◌, Option, None}
+use Rattle.std.proofs.Common.{Result, Ok, Err, IfErr, refl, sym, ap, ◌∙◌, subst, append_assoc, append-nil}
+use Rattle.std.proofs.KnownBytes.{Appends-kept}
+use Rattle.std.specs.Io.KnownBytes.{Keeps}
+use Rattle.git_pkt.specs.Packets.{Pkt, payload}
+use Rattle.git_pkt.specs.declared.fault.RunFault.{RunFault}
+use Rattle.git_pkt.specs.declared.fault.RunFault.TheVariants.{WriteFault}
+use Rattle.git_msg.specs.Asked.{Asked, command_asked}
+use Rattle.git_msg.specs.HeldRequest.{asked_of}
+use Rattle.git_msg.specs.declared.requests.Request.{Request}
+use Rattle.git_pkt.specs.Streams.{Flow, flow, WrittenAs, is_broken}
+use Rattle.git_client.specs.Transcript.{asked_line, transcript_of}
+use Rattle.git_client.specs.Turns.{takes_packets, fault_in, is_ready, is_asking, has_left_in, left_in}
+use Rattle.git_client.specs.Client.{History, Converses, Asks, AsksOn, SaysOn, Pulls, TellsSent, given_by, can_ask, fault_of, has_left, left_to_say}
+use Rattle.git_client.specs.Client.{wants_input}
+use Rattle.git_client.specs.RunSteps.{IsTold, Says, AsksNext, AsksTo, no_counts}
+use Rattle.git_client.specs.declared.phase.Phase.{Phase}
+use Rattle.git_client.specs.declared.phase.Phase.TheVariants.{Hearing, Asking, Leaving, Left}
+use Rattle.git_client.specs.declared.client.Client.{Client}
+use Rattle.git_client.specs.declared.events.Sent.{Sent}
+use Rattle.git_client.specs.declared.events.Sent.TheVariants.{Packet, NeedInput, CanAsk, Finished, Failed as FailedSent}
+use Rattle.git_client.specs.declared.hearing.Counts.{Counts}
+use Rattle.git_client.proofs.Alongs.{written_nothing, written_then, written_whole, in_part}
+use denote.Ref.{Bor}
+
+-- ---- the phases of a client that says something
+
+-- a client that hears owes no packet
+hearing_owes_nothing : {A : Type 0} (phase : Phase) (request : Option (Request A)) → takes_packets phase ≡ true → left_in phase request ≡ []
+hearing_owes_nothing (Hearing due) request e = refl
+hearing_owes_nothing phase request e = absurd (cc)
+
+-- a client that owes a packet other than a flush asks, and has not left
+owes_before_leaving : {A : Type 0} (phase : Phase) (request : Option (Request A)) (bytes : List ℕ) (others : List Pkt)
+    → left_in phase request ≡ payload bytes ∷ others → has_left_in phase ≡ false
+owes_before_leaving Leaving request bytes others owes = absurd (cc)
+owes_before_leaving Left request bytes others owes = absurd (cc)
+owes_before_leaving phase request bytes others owes = refl
+
+-- a client that owes no packet, can't ask, and has not left or failed hears
+hears_after_all : {A : Type 0} (phase : Phase) (request : Option (Request A)) → is_ready phase ≡ false → fault_in phase ≡ None
+    → has_left_in phase ≡ false → (is_asking phase ≡ true → left_in phase request ≢ []) → left_in phase request ≡ [] → takes_packets phase ≡ true
+hears_after_all (Hearing due) request not_ready sound stays owes all = refl
+hears_after_all (Asking writer) request not_ready sound stays owes all = absurd (owes refl all)
+hears_after_all phase request not_ready sound stays owes all = absurd (cc)
+
+-- ---- what was written
+
+-- what was written whole is written whole where a flush followed
+written_flushed : (broken : Bool) (before held after : Option (List ℕ)) (u : List ℕ) → WrittenAs false (flow before held) u → Keeps held after
+    → WrittenAs broken (flow before after) u
+written_flushed broken before held after u written kept = written_whole broken (flow before after) u (Appends-kept before held after u written kept)
+
+-- ---- what is told of a question
+
+-- however it goes on after the question: the question's line comes next, and no byte of its response has come
+told_asked : (h : History) (question : Asked) (lines : List ℕ) (counts : Counts) → IsTold true h lines counts
+    → IsTold false (record h { asked = h.asked ++ question ∷ [] }) (lines ++ asked_line (command_asked question)) no_counts
+told_asked h question lines counts told later more =
+    ap (λ (asked : List Asked). transcript_of asked (h.events ++ more)) (append_assoc h.asked (question ∷ []) later) ∙ told (question ∷ later) more
+
+module _ {A : Type 0} where
+  -- ---- what was said
+
+  -- some of the packets that were owed were given, and written
+  pub record SaysSome (broken : Bool) (old new : Client A) (writer : Flow) : Type 0 where
+    pub given : List ℕ
+    pub written : WrittenAs broken writer given
+    pub says : SaysOn old given new
+    pub same_leaving : has_left new ≡ has_left old
+    pub sound : fault_of new ≡ None
+    pub not_ready : can_ask new ≡ false
+
+  says_nothing : (client : Client A) → SaysOn client [] client
+  says_nothing client t h c = subst (λ (given : List ℕ). Converses t (record h { given = given }) client) (sym (append-nil h.given)) c
+
+  says_then : (old middle new : Client A) (u v : List ℕ) → SaysOn old u middle → SaysOn middle v new → SaysOn old (u ++ v) new
+  says_then old middle new u v first second t h c =
+      subst (λ (given : List ℕ). Converses t (record h { given = given }) new) (append_assoc h.given u v)
+      (second t (record h { given = h.given ++ u }) (first t h c))
+
+  pub says_none_yet : (client : Client A) (held : Option (List ℕ)) → can_ask client ≡ false → fault_of client ≡ None
+      → SaysSome false client client (flow held held)
+  says_none_yet client held not_ready sound = record {
+    given = [];
+    written = written_nothing held;
+    says = says_nothing client;
+    same_leaving = refl;
+    sound = sound;
+    not_ready = not_ready;
+  }
+
+  -- a client that can't ask and has no fault, and gives no packet, owes none
+  gives_no_packet : (sent : Sent) (middle new : Client A) → TellsSent sent middle new → can_ask middle ≡ false → fault_of middle ≡ None
+      → ((bytes : Bor (List ℕ)) → sent ≡ Packet bytes → ⊥) → (new ≡ middle) × (left_to_say middle ≡ [])
+  gives_no_packet (Packet bytes) middle new tells not_ready sound none = absurd (none bytes refl)
+  gives_no_packet NeedInput middle new tells not_ready sound none = (tells.1, hearing_owes_nothing middle.phase middle.request tells.0)
+  gives_no_packet CanAsk middle new tells not_ready sound none = absurd (cc)
+  gives_no_packet Finished middle new tells not_ready sound none = (tells.2, tells.1)
+  gives_no_packet (FailedSent fault) middle new tells not_ready sound none = absurd (cc)
+
+  module _ (broken : Bool) (old middle new : Client A) (before held after : Option (List ℕ)) (sent : Sent)
+      (so_far : SaysSome false old middle (flow before held)) (pulls : Pulls middle sent new) where
+    -- a packet was pulled, and written as far as that went
+    pub says_packet : (bytes : Bor (List ℕ)) → sent ≡ Packet bytes → WrittenAs broken (flow held after) bytes.now
+        → SaysSome broken old new (flow before after)
+    says_packet bytes is written =
+        let tells : TellsSent (Packet bytes) middle new = subst (λ (s : Sent). TellsSent s middle new) is pulls.tells in
+        let says : SaysOn middle bytes.now new = subst (λ (s : Sent). SaysOn middle (given_by s) new) is pulls.says in
+        record {
+          given = so_far.given ++ bytes.now;
+          written = written_then broken before held after so_far.given bytes.now so_far.written written;
+          says = says_then old middle new so_far.given bytes.now so_far.says says;
+          same_leaving = tells.same_leaving ∙ so_far.same_leaving;
+          sound = tells.sound;
+          not_ready = tells.not_ready;
+        }
+
+    -- no packet was left, and the writer was flushed as far as that went
+    pub says_all : ((bytes : Bor (List ℕ)) → sent ≡ Packet bytes → ⊥) → Keeps held after → Says broken old new (flow before after)
+    says_all none kept =
+        let (stays, all) = gives_no_packet sent middle new pulls.tells so_far.not_ready so_far.sound none in
+        subst (λ (client : Client A). Says broken old client (flow before after)) (sym stays) (record {
+          given = so_far.given;
+          written = written_flushed broken before held after so_far.given so_far.written kept;
+          says = so_far.says;
+          all = λ whole. all;
+          same_leaving = so_far.same_leaving;
+          sound = so_far.sound;
+          not_ready = so_far.not_ready;
+        })
+
+  -- a write failed, so nothing is said of what is left
+  pub says_front : (old new : Client A) (writer : Flow) → SaysSome true old new writer → Says true old new writer
+  says_front old new writer some = record {
+    given = some.given;
+    written = some.written;
+    says = some.says;
+    all = λ whole. absurd (cc);
+    same_leaving = some.same_leaving;
+    sound = some.sound;
+    not_ready = some.not_ready;
+  }
+
+  -- ---- what asking does to the history
+
+  module _ (broken : Bool) (old middle new : Client A) (request : Request A) (writer out : Flow) (ready : can_ask old ≡ true)
+      (asks : AsksOn old (asked_of request) middle) where
+    -- the question was asked, its line written as far as that went, and these bytes of it given, and written as far as that went
+    asks_giving : (given : List ℕ) → WrittenAs broken writer given → WrittenAs broken out (asked_line (command_asked (asked_of request)))
+        → SaysOn middle given new → can_ask new ≡ false → AsksNext broken old new request writer out
+    asks_giving given said told says not_ready = record {
+      given = given;
+      said = said;
+      told = told;
+      goes = λ t h lines packed counts along. record {
+        stands = says t (record h { asked = h.asked ++ asked_of request ∷ [] }) (asks t h along.stands);
+        told = subst (λ (can : Bool). IsTold can (record h { asked = h.asked ++ asked_of request ∷ []; given = h.given ++ given })
+            (lines ++ asked_line (command_asked (asked_of request))) no_counts) (sym not_ready)
+            (told_asked h (asked_of request) lines counts (subst (λ (can : Bool). IsTold can h lines counts) ready along.told));
+        pack_is = along.pack_is;
+        within = omega arith;
+      };
+    }
+
+  -- the question was taken, and a write of its line failed
+  pub asks_unsaid : (old middle : Client A) (request : Request A) (held : Option (List ℕ)) (out : Flow) → can_ask old ≡ true → Asks old request middle
+      → WrittenAs true out (asked_line (command_asked (asked_of request))) → AsksNext true old middle request (flow held held) out
+  asks_unsaid old middle request held out ready asks told =
+      asks_giving true old middle middle request (flow held held) out ready asks.asks [] (in_part (flow held held) [] (written_nothing held)) told
+      (says_nothing middle) asks.no_more
+
+  -- all of the question was said, so its response is due
+  hears_next : (old middle new : Client A) (request : Request A) (writer : Flow) → Asks old request middle → Says false middle new writer
+      → wants_input new ≡ true
+  hears_next old middle new request writer asks says =
+      hears_after_all new.phase new.request says.not_ready says.sound
+      (says.same_leaving ∙ owes_before_leaving middle.phase middle.request _ _ asks.owes) new.owes (says.all refl)
+
+  -- the question was taken, its line written, and its packets said as far as that went
+  pub asks_said : (r : Result (Unit {0}) RunFault) (old middle new : Client A) (request : Request A) (writer out : Flow) → can_ask old ≡ true
+      → Asks old request middle → WrittenAs false out (asked_line (command_asked (asked_of request))) → Says (is_broken r) middle new writer
+      → IfErr r (λ fault. fault ≡ WriteFault) → AsksTo r old new request writer out
+  asks_said (Ok done) old middle new request writer out ready asks told says named = (
+    asks_giving false old middle new request writer out ready asks.asks says.given says.written told says.says says.not_ready,
+    hears_next old middle new request writer asks says,
+  )
+  asks_said (Err WriteFault) old middle new request writer out ready asks told says named =
+      asks_giving true old middle new request writer out ready asks.asks says.given says.written (in_part out _ told) says.says says.not_ready
+  asks_said (Err fault) old middle new request writer out ready asks told says named = absurd (cc)

@@ -1,0 +1,86 @@
+-- What one event comes to: its line, its bytes of the pack, and the counts after it.
+use Rattle.std.proofs.Common.{arith, ◌≡◌, ℕ, ◌+◌, ◌<◌, min, Bool, false, List, [], ◌∷◌, length, map, Bor}
+use Rattle.std.proofs.Common.{Option, Result, Ok, Err, OnOk, OnErr, IfErr, refl, sym, ap, ◌∙◌, subst}
+use Rattle.std.specs.Io.KnownBytes.{Appends}
+use Rattle.git_pkt.specs.Told.{AppendsFront}
+use Rattle.git_pkt.specs.declared.fault.RunFault.{RunFault}
+use Rattle.git_pkt.specs.declared.fault.RunFault.TheVariants.{WriteFault}
+use Rattle.git_client.specs.Events.{pack, progress, pack_bytes}
+use Rattle.git_pkt.specs.Streams.{flow, is_broken, WrittenAs}
+use Rattle.git_client.specs.RunSteps.{progress_bytes, counted}
+use Rattle.git_client.specs.Transcript.{lines_of}
+use Rattle.git_client.specs.Turns.{values_of}
+use Rattle.git_client.specs.declared.events.Event.{Event}
+use Rattle.git_client.specs.declared.events.Event.TheVariants.{Pack, Progress}
+use Rattle.git_client.specs.declared.hearing.Counts.{Counts}
+use Rattle.git_client.proofs.PlaceLines.{band_is}
+use Rattle.git_client.proofs.Alongs.{written_nothing, written_whole}
+
+-- ---- what a call wrote
+
+-- a stream that was left alone, whether another failed or not
+pub left_alone : (broken : Bool) (held : Option (List ℕ)) (bytes : List ℕ) → bytes ≡ [] → WrittenAs broken (flow held held) bytes
+left_alone broken held bytes none =
+    written_whole broken (flow held held) bytes (subst (WrittenAs false (flow held held)) (sym none) (written_nothing held))
+
+-- a call that fails by a failing write alone, and has written all of the bytes or a front of them
+pub written_by : {T : Type 0} (result : Result T RunFault) (before after : Option (List ℕ)) (bytes : List ℕ) → OnOk result (Appends before after bytes)
+    → OnErr result (AppendsFront before after bytes) → IfErr result (λ fault. fault ≡ WriteFault) → WrittenAs (is_broken result) (flow before after) bytes
+written_by (Ok done) before after bytes whole front failed = whole
+written_by (Err WriteFault) before after bytes whole front failed = front
+written_by (Err fault) before after bytes whole front failed = absurd (cc)
+
+-- ---- the counts
+
+abbrev pub counts_of : ℕ → ℕ → Counts
+counts_of p q = record { pack = p; progress = q }
+
+pub same_counts : (p q r s : ℕ) → p ≡ r → q ≡ s → counts_of p q ≡ counts_of r s
+same_counts p q r s e f = ap (λ (n : ℕ). counts_of n q) e ∙ ap (λ (n : ℕ). counts_of r n) f
+
+-- ---- bytes of the pack and of the progress
+
+no_lines_of_pack : (bytes : List ℕ) (p q : ℕ) → lines_of (map pack bytes) p q ≡ []
+no_lines_of_pack [] p q = refl
+no_lines_of_pack (byte ∷ bytes) p q = no_lines_of_pack bytes p q
+
+no_lines_of_progress : (bytes : List ℕ) (p q : ℕ) → lines_of (map progress bytes) p q ≡ []
+no_lines_of_progress [] p q = refl
+no_lines_of_progress (byte ∷ bytes) p q = no_lines_of_progress bytes p q
+
+no_progress_of_pack : (bytes : List ℕ) → length (progress_bytes (map pack bytes)) ≡ 0
+no_progress_of_pack [] = refl
+no_progress_of_pack (byte ∷ bytes) = no_progress_of_pack bytes
+
+progress_is : (bytes : List ℕ) → progress_bytes (map progress bytes) ≡ bytes
+progress_is [] = refl
+progress_is (byte ∷ bytes) = ap (λ (l : List ℕ). byte ∷ l) (progress_is bytes)
+
+module _ (e : Event) (bytes : Bor (List ℕ)) where
+  pub pack_lines : e ≡ Pack bytes → (p q : ℕ) → lines_of (values_of e) p q ≡ []
+  pack_lines is p q = ap (λ (x : Event). lines_of (values_of x) p q) is ∙ no_lines_of_pack bytes.now p q
+
+  pub pack_sent : e ≡ Pack bytes → pack_bytes (values_of e) ≡ bytes.now
+  pack_sent is = ap (λ (x : Event). pack_bytes (values_of x)) is ∙ (band_is (1 ∷ bytes.now) (map pack bytes.now) refl).1
+
+  pub pack_counted : e ≡ Pack bytes → (counts : Counts) (n : ℕ) → n ≡ min (counts.pack + length bytes.now) 18446744073709551615
+      → counts.progress < 18446744073709551616 → counts_of n counts.progress ≡ counted counts (values_of e)
+  pack_counted is counts n total small =
+      let none : length (progress_bytes (values_of e)) ≡ 0 =
+      ap (λ (x : Event). length (progress_bytes (values_of x))) is ∙ no_progress_of_pack bytes.now in
+      same_counts n counts.progress _ _ (total ∙ ap (λ (k : ℕ). min (counts.pack + k) 18446744073709551615) (sym (ap length (pack_sent is))))
+      (omega (arith, none, small))
+
+  pub progress_lines : e ≡ Progress bytes → (p q : ℕ) → lines_of (values_of e) p q ≡ []
+  progress_lines is p q = ap (λ (x : Event). lines_of (values_of x) p q) is ∙ no_lines_of_progress bytes.now p q
+
+  pub progress_unsent : e ≡ Progress bytes → pack_bytes (values_of e) ≡ []
+  progress_unsent is = ap (λ (x : Event). pack_bytes (values_of x)) is ∙ (band_is (2 ∷ bytes.now) (map progress bytes.now) refl).1
+
+  pub progress_counted : e ≡ Progress bytes → (counts : Counts) (n : ℕ) → n ≡ min (counts.progress + length bytes.now) 18446744073709551615
+      → counts.pack < 18446744073709551616 → counts_of counts.pack n ≡ counted counts (values_of e)
+  progress_counted is counts n total small =
+      let all : length (progress_bytes (values_of e)) ≡ length bytes.now =
+      ap (λ (x : Event). length (progress_bytes (values_of x))) is ∙ ap length (progress_is bytes.now) in
+      same_counts counts.pack n _ _ (omega (arith, ap length (progress_unsent is), small))
+      (total ∙ ap (λ (k : ℕ). min (counts.progress + k) 18446744073709551615) (sym all))

@@ -1,0 +1,230 @@
+use Rattle.std.proofs.Common.{rules, arith, Bool, ◌||◌, Err, ◌≡◌, ◌∷◌, [], ◌++◌, List, length, false, true, refl, sym, ap, ◌∙◌, subst, append_assoc}
+use denote.Enum.Bare.{same_true, sameb}
+use Rattle.std.proofs.lemmas.Bool.{or_parts, or_from}
+use Rattle.std.proofs.lemmas.List.{nil_from_length}
+use Rattle.std.specs.Io.KnownBytes.{Keeps}
+use Rattle.std.specs.Vec.Iter.{into_iter_items}
+use Rattle.git_pkt.specs.Told.{inner_of, has_failed, has_ended}
+use Rattle.git_pkt.specs.declared.fault.RunFault.{RunFault}
+use Rattle.git_pkt.specs.declared.told.Told.{Told}
+use Rattle.git_client.specs.declared.client.Client.{Client}
+use Rattle.git_client.specs.declared.events.Ending.{Ending}
+use Rattle.git_client.specs.declared.events.Ending.TheVariants.{FlushOnly}
+use Rattle.git_client.specs.contracts.events.Ending.{the_type}
+use Rattle.git_client.specs.Client.{ending_of}
+use Rattle.git_pkt.specs.Streams.{flow, is_broken}
+use Rattle.git_client.specs.RunSteps.{Says, no_counts, window_of}
+use Rattle.git_client.proofs.ClientRuns.{RunEnds, begins, counts_anew, asks_on, hears_on, ends_at, ends_at_write, breaks_unflushed}
+use Rattle.git_client.proofs.ClientRuns.{hearing_stopped, asking_stopped, stays_to_the_end, leaving_stopped, leaves_at_the_end}
+use Rattle.git_client.proofs.ClientRuns.{fails_at, shown_at, flush_fails, flush_shows, sound_last, sound_first}
+use Rattle.git_client.proofs.Writing.{no_failure}
+use Rattle.git_client.proofs.conversing.converse.Goals as goal
+use Rattle.git_client.proofs.conversing.converse.Goals.{then-eq+in_ok-say, else-eq}
+
+-- a write broke a step that answers nothing
+abbrev write_broke : RunFault → Bool
+write_broke fault = is_broken {T = Unit {0}} (Err fault)
+
+-- one request more came off the vector, and then none
+next_is : {X : Type 0} (all front rest later : List X) (x : X) → all ≡ front ++ rest → rest ≡ x ∷ later → all ≡ front ++ x ∷ later
+next_is {X} all front rest later x split next = split ∙ ap (λ (l : List X). front ++ l) next
+
+one_more : {X : Type 0} (all front rest later : List X) (x : X) → all ≡ front ++ rest → rest ≡ x ∷ later → all ≡ (front ++ x ∷ []) ++ later
+one_more all front rest later x split next = next_is all front rest later x split next ∙ sym (append_assoc front (x ∷ []) later)
+
+none_more : {X : Type 0} (all front rest : List X) → all ≡ front ++ rest → length rest ≡ 0 → all ≡ front ++ []
+none_more {X} all front rest split none = split ∙ ap (λ (l : List X). front ++ l) (nil_from_length rest none)
+
+pub returns-in_err-flush-clause-conversed : goal.returns-in_err-flush-clause-conversed
+returns-in_err-flush-clause-conversed g c =
+    λ t begun.
+    ends_at_write t c.args.requests.items c.from_residual.result _ _ _ _ _ _ _ c.from_residual.ensures.1 c.in_err-flush.ensures.fault
+    (breaks_unflushed t c.args.requests.items [] c.args.requests.items refl _ c.args.client.now no_counts []
+    (begins t c.args.client.now (g.R.Read.remaining (inner_of c.args.reader.now)) (g.W.Write.contents (inner_of c.args.writer.now))
+    (g.W.Write.contents (inner_of c.flush.new.writer)) (g.O.Write.contents (inner_of c.args.out.now)) (g.P.Write.contents (inner_of c.args.pack.now))
+    c.requires.waits begun c.flush.ensures.bytes))
+
+pub returns-in_err-waiting-clause-conversed : goal.returns-in_err-waiting-clause-conversed
+returns-in_err-waiting-clause-conversed g c =
+    λ t begun.
+    ends_at t c.args.requests.items c.from_residual-in_err-waiting.result c.in_err-waiting.field-0.0 _ _ _ _ _ _ c.from_residual-in_err-waiting.ensures.1
+    (hearing_stopped t c.args.requests.items [] c.args.requests.items refl c.in_err-waiting.field-0.0 _ c.args.client.now c.hear.new.client []
+    c.hear.new.piece
+    (begins t c.args.client.now (g.R.Read.remaining (inner_of c.args.reader.now)) (g.W.Write.contents (inner_of c.args.writer.now))
+    (g.W.Write.contents (inner_of c.flush.new.writer)) (g.O.Write.contents (inner_of c.args.out.now)) (g.P.Write.contents (inner_of c.args.pack.now))
+    c.requires.waits begun c.flush.ensures.bytes) c.in_err-waiting.ensures.heard)
+
+pub loop-request-init : goal.loop-request-init
+loop-request-init g c =
+    let heard = c.in_ok-waiting.ensures.heard in
+    let unused = window_of c.in_ok-waiting.waiting c.hear.new.piece in
+    record {
+      runs = λ t begun.
+          counts_anew t [] c.hear.new.client heard.hears.counts unused heard.can_ask_on
+          (hears_on t false [] c.args.client.now c.hear.new.client [] unused
+          (begins t c.args.client.now (g.R.Read.remaining (inner_of c.args.reader.now)) (g.W.Write.contents (inner_of c.args.writer.now))
+          (g.W.Write.contents (inner_of c.flush.new.writer)) (g.O.Write.contents (inner_of c.args.out.now)) (g.P.Write.contents (inner_of c.args.pack.now))
+          c.requires.waits begun c.flush.ensures.bytes) heard.hears);
+      ready = heard.can_ask_on;
+      left_to_ask = sym c.into_iter-request-iterator.ensures.into_iter_gives.0;
+      counted = search rules;
+      ordered = heard.ordered;
+      within = heard.within;
+      room = search rules;
+      reads = c.in_ok-waiting.ensures.reads;
+      sound_reader = search rules;
+      open_ended = search rules;
+      sound_writer = no_failure _ _ _ c.in_ok-flush.ensures.failed c.requires.sound_writer;
+      sound_out = (or_parts _ _ c.in_ok-waiting.ensures.told.1).0;
+      sound_pack = (or_parts _ _ c.in_ok-waiting.ensures.told.1).1;
+    }
+
+pub returns-in_err-ask_next-clause-conversed : goal.returns-in_err-ask_next-clause-conversed
+returns-in_err-ask_next-clause-conversed g c =
+    let at = c.loop-request in
+    let request = c.in-Some.request in
+    let later = into_iter_items c.next.new.self in
+    λ t begun.
+    ends_at t c.args.requests.items c.from_residual-in_err-ask_next.result c.in_err-ask_next.field-0.0 _ _ _ _ _ _
+    c.from_residual-in_err-ask_next.ensures.1
+    (asking_stopped t c.args.requests.items c.in_err-ask_next.field-0.0 _ at.yielded later request at.client c.ask_next.new.client no_counts
+    (window_of at.waiting at.piece)
+    (next_is c.args.requests.items at.yielded (into_iter_items at.request-iterator) later request at.invariant.left_to_ask c.in-Some.ensures.steps.0)
+    at.invariant.ready (at.invariant.runs t begun) c.in_err-ask_next.ensures.asked)
+
+pub returns-in_err-ask_next-clause-fault : goal.returns-in_err-ask_next-clause-fault
+returns-in_err-ask_next-clause-fault g c =
+    shown_at c.from_residual-in_err-ask_next.result c.in_err-ask_next.field-0.0 _ _
+    (has_failed c.ask_next.new.writer || has_failed c.ask_next.new.out) _ c.from_residual-in_err-ask_next.ensures.1 (λ none. absurd none) (λ none. absurd none)
+    (sound_last (has_failed c.ask_next.new.writer) (has_failed c.ask_next.new.out) (has_failed c.loop-request.pack) c.loop-request.invariant.sound_pack)
+    c.in_err-ask_next.ensures.fault
+
+pub returns-in_err-ask_next-clause-told : goal.returns-in_err-ask_next-clause-told
+returns-in_err-ask_next-clause-told g c =
+    fails_at c.from_residual-in_err-ask_next.result c.in_err-ask_next.field-0.0 false _ (has_failed c.ask_next.new.writer || has_failed c.ask_next.new.out) _
+    c.from_residual-in_err-ask_next.ensures.1 (sym c.loop-request.invariant.sound_reader)
+    (sound_last (has_failed c.ask_next.new.writer) (has_failed c.ask_next.new.out) (has_failed c.loop-request.pack) c.loop-request.invariant.sound_pack)
+    c.in_err-ask_next.ensures.told
+
+pub hear-requires-in-loop-request-clause-sound_out : goal.hear-requires-in-loop-request-clause-sound_out
+hear-requires-in-loop-request-clause-sound_out g c = (or_parts _ _ c.in_ok-ask_next.ensures.told.1).1
+
+pub returns-in_err-waiting-2-clause-conversed : goal.returns-in_err-waiting-2-clause-conversed
+returns-in_err-waiting-2-clause-conversed g c =
+    let at = c.loop-request in
+    let request = c.in-Some.request in
+    let later = into_iter_items c.next.new.self in
+    λ t begun.
+    ends_at t c.args.requests.items c.from_residual-in_err-waiting-2.result c.in_err-waiting-2.field-0.0 _ _ _ _ _ _
+    c.from_residual-in_err-waiting-2.ensures.1
+    (hearing_stopped t c.args.requests.items (at.yielded ++ request ∷ []) later
+    (one_more c.args.requests.items at.yielded (into_iter_items at.request-iterator) later request at.invariant.left_to_ask c.in-Some.ensures.steps.0)
+    c.in_err-waiting-2.field-0.0 _ c.ask_next.new.client c.hear-in-loop-request.new.client (window_of at.waiting at.piece) c.hear-in-loop-request.new.piece
+    (asks_on t false at.yielded at.client c.ask_next.new.client request no_counts (window_of at.waiting at.piece) (at.invariant.runs t begun)
+    c.in_ok-ask_next.ensures.asked.0) c.in_err-waiting-2.ensures.heard)
+
+pub returns-in_err-waiting-2-clause-fault : goal.returns-in_err-waiting-2-clause-fault
+returns-in_err-waiting-2-clause-fault g c =
+    shown_at c.from_residual-in_err-waiting-2.result c.in_err-waiting-2.field-0.0 _ _
+    (has_failed c.hear-in-loop-request.new.out || has_failed c.hear-in-loop-request.new.pack) _ c.from_residual-in_err-waiting-2.ensures.1
+    (λ failed. failed) (λ spent. spent) (sound_first (has_failed c.ask_next.new.writer) _ (or_parts _ _ c.in_ok-ask_next.ensures.told.1).0)
+    c.in_err-waiting-2.ensures.fault
+
+pub returns-in_err-waiting-2-clause-told : goal.returns-in_err-waiting-2-clause-told
+returns-in_err-waiting-2-clause-told g c =
+    fails_at c.from_residual-in_err-waiting-2.result c.in_err-waiting-2.field-0.0 _ _
+    (has_failed c.hear-in-loop-request.new.out || has_failed c.hear-in-loop-request.new.pack) _ c.from_residual-in_err-waiting-2.ensures.1 refl
+    (sound_first (has_failed c.ask_next.new.writer) _ (or_parts _ _ c.in_ok-ask_next.ensures.told.1).0) c.in_err-waiting-2.ensures.told
+
+pub loop-request-preserved : goal.loop-request-preserved
+loop-request-preserved g c =
+    let at = c.loop-request in
+    let request = c.in-Some.request in
+    let later = into_iter_items c.next.new.self in
+    let heard = c.in_ok-waiting-2.ensures.heard in
+    let waiting = window_of at.waiting at.piece in
+    let unused = window_of c.in_ok-waiting-2.waiting c.hear-in-loop-request.new.piece in
+    record {
+      runs = λ t begun.
+          counts_anew t (at.yielded ++ request ∷ []) c.hear-in-loop-request.new.client heard.hears.counts unused heard.can_ask_on
+          (hears_on t false (at.yielded ++ request ∷ []) c.ask_next.new.client c.hear-in-loop-request.new.client waiting unused
+          (asks_on t false at.yielded at.client c.ask_next.new.client request no_counts waiting (at.invariant.runs t begun)
+          c.in_ok-ask_next.ensures.asked.0) heard.hears);
+      ready = heard.can_ask_on;
+      left_to_ask =
+          one_more c.args.requests.items at.yielded (into_iter_items at.request-iterator) later request at.invariant.left_to_ask c.in-Some.ensures.steps.0;
+      counted = omega (arith, at.invariant.counted, c.in-Some.ensures.steps.1, ap length c.in-Some.ensures.steps.0);
+      ordered = heard.ordered;
+      within = heard.within;
+      room = omega (arith, at.invariant.room, c.in_ok-waiting-2.ensures.room);
+      reads = c.in_ok-waiting-2.ensures.reads;
+      sound_reader = c.in_ok-waiting-2.ensures.told.0;
+      open_ended = c.in_ok-waiting-2.ensures.goes_on;
+      sound_writer = (or_parts _ _ c.in_ok-ask_next.ensures.told.1).0;
+      sound_out = (or_parts _ _ c.in_ok-waiting-2.ensures.told.1).0;
+      sound_pack = (or_parts _ _ c.in_ok-waiting-2.ensures.told.1).1;
+    }
+
+pub returns-in_err-say-clause-conversed : goal.returns-in_err-say-clause-conversed
+returns-in_err-say-clause-conversed g c =
+    let at = c.loop-request in
+    λ t begun.
+    ends_at_write t c.args.requests.items c.from_residual-in_err-say.result c.in_err-say.field-0.0 _ _ _ _ _ _ c.from_residual-in_err-say.ensures.1
+    c.in_err-say.ensures.fault
+    (leaving_stopped t c.args.requests.items at.yielded
+    (none_more c.args.requests.items at.yielded (into_iter_items at.request-iterator) at.invariant.left_to_ask
+    (sym at.invariant.counted ∙ c.in-None.ensures.steps.0)) at.client c.leave.new.self c.say.new.client no_counts (window_of at.waiting at.piece)
+    at.invariant.ready c.leave.ensures _ (at.invariant.runs t begun)
+    (subst (λ (fault : RunFault). Says (write_broke fault) c.leave.new.self c.say.new.client
+    (flow (g.W.Write.contents (inner_of at.writer)) (g.W.Write.contents (inner_of c.say.new.writer)))) c.in_err-say.ensures.fault c.in_err-say.ensures.says))
+
+pub returns-clause-conversed : goal.returns-clause-conversed
+returns-clause-conversed g c =
+    let at = c.loop-request in
+    let all =
+    none_more c.args.requests.items at.yielded (into_iter_items at.request-iterator) at.invariant.left_to_ask
+    (sym at.invariant.counted ∙ c.in-None.ensures.steps.0) in
+    let ended = has_ended at.reader in
+    let reader = flow (g.R.Read.remaining (inner_of c.args.reader.now)) (g.R.Read.remaining (inner_of at.reader)) in
+    let writer = flow (g.W.Write.contents (inner_of c.args.writer.now)) (g.W.Write.contents (inner_of c.flush-2.new.writer)) in
+    let out = flow (g.O.Write.contents (inner_of c.args.out.now)) (g.O.Write.contents (inner_of at.out)) in
+    let pack = flow (g.P.Write.contents (inner_of c.args.pack.now)) (g.P.Write.contents (inner_of at.pack)) in
+    λ t begun.
+    elim c.if-eq.branch [
+      | then-eq+in_ok-say w ↦
+          let last : ending_of at.client ≡ FlushOnly = same_true the_type (search rules) _ _ (sym w.if-eq.ensures) in
+          let kept : Keeps (g.W.Write.contents (inner_of w.say.new.writer)) (g.W.Write.contents (inner_of c.flush-2.new.writer)) =
+          subst (λ (told : Told _). Keeps (g.W.Write.contents (inner_of told)) (g.W.Write.contents (inner_of c.flush-2.new.writer))) w.writer-is
+          c.flush-2.ensures.bytes in
+          subst (λ (client : Client _). RunEnds t c.args.requests.items c.flush-2.result ended client reader writer out pack) (sym w.client-is)
+          (leaves_at_the_end t c.args.requests.items at.yielded all at.client w.leave.new.self w.say.new.client no_counts (window_of at.waiting at.piece)
+          at.invariant.ready w.leave.ensures c.flush-2.result ended c.flush-2.ensures.fault last (at.invariant.runs t begun) w.in_ok-say.ensures.says kept)
+      | else-eq w ↦
+          let other : ending_of at.client ≡ FlushOnly → ⊥ = λ last. let differs : false ≡ true =
+          w.if-eq.ensures ∙ ap (λ (ending : Ending). sameb the_type ending FlushOnly) last in absurd (cc) in
+          let kept : Keeps (g.W.Write.contents (inner_of at.writer)) (g.W.Write.contents (inner_of c.flush-2.new.writer)) =
+          subst (λ (told : Told _). Keeps (g.W.Write.contents (inner_of told)) (g.W.Write.contents (inner_of c.flush-2.new.writer))) w.writer-is
+          c.flush-2.ensures.bytes in
+          subst (λ (client : Client _). RunEnds t c.args.requests.items c.flush-2.result ended client reader writer out pack) (sym w.client-is)
+          (stays_to_the_end t c.args.requests.items at.yielded all c.flush-2.result ended at.client no_counts (window_of at.waiting at.piece)
+          c.flush-2.ensures.fault at.invariant.ready other (at.invariant.runs t begun) kept)
+    ]
+
+pub returns-clause-fault : goal.returns-clause-fault
+returns-clause-fault g c =
+    let sound : has_failed c.if-eq.writer ≡ false = elim c.if-eq.branch [
+      | then-eq+in_ok-say w ↦ ap has_failed w.writer-is ∙ no_failure _ _ _ w.in_ok-say.ensures.failed c.loop-request.invariant.sound_writer
+      | else-eq w ↦ ap has_failed w.writer-is ∙ c.loop-request.invariant.sound_writer
+    ] in
+    flush_shows (has_failed c.if-eq.writer) (has_failed c.flush-2.new.writer) (has_failed c.loop-request.out || has_failed c.loop-request.pack) sound
+    c.flush-2.result _ _ c.flush-2.ensures.failed c.flush-2.ensures.fault
+
+pub returns-clause-told : goal.returns-clause-told
+returns-clause-told g c =
+    let at = c.loop-request.invariant in
+    let sound : has_failed c.if-eq.writer ≡ false = elim c.if-eq.branch [
+      | then-eq+in_ok-say w ↦ ap has_failed w.writer-is ∙ no_failure _ _ _ w.in_ok-say.ensures.failed at.sound_writer
+      | else-eq w ↦ ap has_failed w.writer-is ∙ at.sound_writer
+    ] in
+    flush_fails (has_failed c.if-eq.writer) (has_failed c.flush-2.new.writer) (has_failed c.loop-request.out || has_failed c.loop-request.pack) sound
+    c.flush-2.result _ at.sound_reader (or_from _ _ at.sound_out at.sound_pack) c.flush-2.ensures.failed c.flush-2.ensures.fault

@@ -1,0 +1,16 @@
+-- What was pulled was written, and nothing has failed since the call began.
+use Rattle.std.proofs.Common.{◌≡◌, false, length}
+use Rattle.git_pkt.specs.Streams.{flow}
+use Rattle.git_client.specs.Client.{left_to_say}
+use Rattle.git_client.proofs.SayingSteps.{SaysSome}
+use Rattle.git_client.proofs.conversing.say.Given as goal
+
+abbrev pub invariant-loop-packet : goal.invariant-loop-packet
+invariant-loop-packet g l = record {
+  sound : g.W.Output.failed l.writer ≡ g.W.Output.failed l.fn.writer;
+  says : SaysSome false l.fn.client l.client (flow (g.W.Output.contents l.fn.writer) (g.W.Output.contents l.writer));
+}
+
+-- each packet that is given was owed, and is owed no more
+abbrev pub decreases-loop-packet : goal.decreases-loop-packet
+decreases-loop-packet g l = length (left_to_say l.client)

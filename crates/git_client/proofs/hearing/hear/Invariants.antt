@@ -1,0 +1,30 @@
+use Rattle.std.proofs.Common.{◌≡◌, ◌-◌, ◌≤◌, length, true, false}
+use Rattle.git_pkt.specs.Told.{inner_of, reads_of, has_failed, has_ended}
+use Rattle.git_pkt.specs.Streams.{flow}
+use Rattle.git_client.specs.Client.{can_ask, wants_input}
+use Rattle.git_client.specs.RunSteps.{window_of}
+use Rattle.git_client.proofs.HearingBytes.{HeardSoFar}
+use Rattle.git_client.proofs.hearing.hear.Given as goal
+
+-- nothing has failed or ended; while input is wanted all bytes that came are used
+abbrev pub invariant-loop-left : goal.invariant-loop-left
+invariant-loop-left g l = record {
+  room : length l.piece ≡ length l.fn.piece;
+  ordered : l.left.start ≤ l.left.end;
+  within : l.left.end ≤ length l.piece;
+  all : wants_input l.client ≡ true → l.left.start ≡ l.left.end;
+  stands : wants_input l.client ≡ false → can_ask l.client ≡ true;
+  reads : reads_of l.reader ≤ l.turns;
+  sound_reader : has_failed l.reader ≡ false;
+  open_ended : has_ended l.reader ≡ false;
+  sound_out : has_failed l.out ≡ false;
+  sound_pack : g.P.Output.failed l.pack ≡ false;
+  heard : HeardSoFar false l.fn.client l.client l.counts (window_of l.fn.waiting l.fn.piece) (window_of l.left l.piece)
+      (flow (g.R.Read.remaining (inner_of l.fn.reader)) (g.R.Read.remaining (inner_of l.reader)))
+      (flow (g.O.Write.contents (inner_of l.fn.out)) (g.O.Write.contents (inner_of l.out)))
+      (flow (g.P.Output.contents l.fn.pack) (g.P.Output.contents l.pack));
+}
+
+-- each turn is one read
+abbrev pub decreases-loop-left : goal.decreases-loop-left
+decreases-loop-left g l = l.turns - reads_of l.reader

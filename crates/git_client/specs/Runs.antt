@@ -1,0 +1,88 @@
+-- What a run of a client over its streams comes to: what it asked and heard, what it said, the transcript and the pack.
+use Rattle.std.specs.Prelude.{◌≡◌, ◌⊎◌, Bool, true, false, ℕ, List, [], ◌∷◌, ◌++◌, length, Result, Ok, Err, map}
+use Rattle.git_pkt.specs.Streams.{IsTimely}
+use Rattle.git_pkt.specs.declared.fault.Fault.{Fault}
+use Rattle.git_pkt.specs.declared.fault.RunFault.{RunFault}
+use Rattle.git_pkt.specs.declared.fault.RunFault.TheVariants.{ReadFault, WriteFault, ReadLimit, Refused}
+use Rattle.git_msg.specs.Checks.{Refuses as RefusesBy}
+use Rattle.git_msg.specs.HeldRequest.{asked_of}
+use Rattle.git_msg.specs.declared.offers.Caps.{Caps}
+use Rattle.git_msg.specs.declared.requests.Request.{Request}
+use Rattle.git_client.specs.Parts.{Terms}
+use Rattle.git_client.specs.Events.{pack_bytes}
+use Rattle.git_client.specs.Conversation.{HasNoted, FirstMalformed, GoesOn, IsConversation}
+use Rattle.git_client.specs.Transcript.{transcript_of}
+use Rattle.git_client.specs.Client.{History, Converses, ask_checks, said_of, spelled}
+use Rattle.git_client.specs.declared.client.Client.{Client}
+use Rattle.git_client.specs.declared.events.Ending.{Ending}
+use Rattle.git_client.specs.declared.events.Ending.TheVariants.{FlushOnly, ResponseEnd}
+
+-- after the last response the client leaves, but not where each request has a connection of its own
+abbrev pub leaves_last : Ending → Bool
+leaves_last FlushOnly = true
+leaves_last ResponseEnd = false
+
+-- all that is due was said: what is written of each question, and after leaving the flush
+pub record HasSaid (t : Terms) (h : History) : Type 0 where
+  pub caps : Caps
+  pub noted : HasNoted t h.asked h.used caps
+  pub said : h.given ≡ spelled (said_of t.format caps h.asked h.left)
+
+-- what was heard is refused for its first fault: truncated only where the input has ended, too long only where one more byte was read
+pub record IsMalformed (t : Terms) (ended : Bool) (unused : List ℕ) (h : History) (fault : Fault) : Type 0 where
+  pub first : FirstMalformed t h.asked h.used fault
+  pub timely : IsTimely fault.kind ended unused
+
+-- all that was read was used, nothing of it has a fault, more is due, and all that was to be said was said
+pub record IsInterrupted (t : Terms) (unused : List ℕ) (h : History) : Type 0 where
+  pub all : unused ≡ []
+  pub goes_on : GoesOn t h.asked h.used h.events
+  pub stays : h.left ≡ false
+  pub said : HasSaid t h
+
+module _ {A : Type 0} where
+  -- of the requests these were not asked, and all before them were
+  pub record HasAsked (requests rest : List (Request A)) (h : History) : Type 0 where
+    pub front : List (Request A)
+    pub all : requests ≡ front ++ rest
+    pub asked : h.asked ≡ map asked_of front
+
+  -- after the responses to all that was asked, the next request was refused
+  pub record IsRefusedRequest (t : Terms) (rest : List (Request A)) (h : History) (fault : Fault) : Type 0 where
+    pub request : Request A
+    pub later : List (Request A)
+    pub caps : Caps
+    pub next : rest ≡ request ∷ later
+    pub whole : IsConversation t h.asked h.used h.events
+    pub noted : HasNoted t h.asked h.used caps
+    pub refused : RefusesBy (ask_checks t.format caps request) fault.kind
+    pub at : fault.offset ≡ length h.used
+
+  -- all requests were asked, and each response is whole
+  pub record IsWholeRun (t : Terms) (rest : List (Request A)) (h : History) : Type 0 where
+    pub all : rest ≡ []
+    pub whole : IsConversation t h.asked h.used h.events
+    pub leaves : h.left ≡ leaves_last t.ending
+    pub said : HasSaid t h
+
+  -- how a run ended, where these requests were not asked
+  abbrev pub EndsAs : Terms → Result (Unit {0}) RunFault → Bool → List ℕ → List (Request A) → History → Type 0
+  EndsAs t (Ok done) ended unused rest h = IsWholeRun t rest h
+  EndsAs t (Err ReadFault) ended unused rest h = IsInterrupted t unused h
+  EndsAs t (Err ReadLimit) ended unused rest h = IsInterrupted t unused h
+  EndsAs t (Err WriteFault) ended unused rest h = Unit {0}
+  EndsAs t (Err (Refused fault)) ended unused rest h =
+      (IsMalformed t ended unused h fault ⊎ IsRefusedRequest t rest h fault) × (h.left ≡ false) × HasSaid t h
+
+  -- what a client that was asked these requests has to do with the bytes of its run: it used those read but the last of them, and
+  -- the bytes given are what it said, the transcript, and the pack
+  pub record Conversed (t : Terms) (requests : List (Request A)) (result : Result (Unit {0}) RunFault) (ended : Bool) (client : Client A)
+      (read given : List (List ℕ)) : Type 0 where
+    pub h : History
+    pub unused : List ℕ
+    pub rest : List (Request A)
+    pub heard : read ≡ (h.used ++ unused) ∷ []
+    pub told : given ≡ h.given ∷ transcript_of h.asked h.events ∷ pack_bytes h.events ∷ []
+    pub stands : Converses t h client
+    pub asked : HasAsked requests rest h
+    pub ends : EndsAs t result ended unused rest h

@@ -1,0 +1,169 @@
+//! A response, heard over a reader: its transcript and its pack are written.
+
+ghost use Rattle.std.specs.Prelude.{[], ◌≡◌, ◌≤◌, ◌<◌, ◌||◌, length, true, false, IsTrue, OnOk, OnErr, IfErr, is_err};
+ghost use Rattle.git_pkt.specs.Told.{inner_of, reads_of, has_failed, has_ended, AppendsFront};
+ghost use Rattle.git_pkt.specs.Engine.{FailsAs, IsShownBy, IsSpent};
+ghost use Rattle.git_pkt.specs.Streams.{flow, is_broken, WrittenAs};
+ghost use Rattle.git_client.specs.Client.{wants_input};
+ghost use Rattle.git_client.specs.Events.{pack_bytes};
+ghost use Rattle.git_client.specs.RunSteps.{counted, window_of, HearsPieceTo, HearsTo};
+ghost use Rattle.git_client.specs.Transcript.{lines_of};
+ghost use Rattle.git_client.specs.Turns.{values_of};
+
+use crate::client::Client;
+use crate::events::{Event, HeardGot};
+use crate::transcript::write_event;
+use git_pkt::{Output, RunFault, Told, flush, receive};
+use std::alloc::Allocator;
+use std::io::{Read, Write};
+
+/// The bytes of a piece that nobody used yet: from `start` to `end`.
+#[derive(Clone, Copy, Debug)]
+pub struct Window {
+    /// Where they begin.
+    pub start: usize,
+    /// Where they end.
+    pub end: usize,
+}
+
+/// How many bytes of the pack and of the progress a response has given.
+#[derive(Clone, Copy, Debug)]
+struct Counts {
+    pack: u64,
+    progress: u64,
+}
+
+/// Hears what is due, the advertisement or a response, up to where the client can ask. What waits of the piece is heard
+/// first, and then what is read into it. The transcript's lines are written to `out` and the bytes of the pack to `pack`; both
+/// are flushed before each read and at the end. Answers what of the piece was not used.
+///
+/// `Refused` with the first fault of what was heard; `ReadFault` where a read fails, `WriteFault` where a write or a flush
+/// does, and `ReadLimit` where the reader has made as many reads as `turns` and needs one more.
+pub fn hear<R: Read, O: Write, P: Output, A: Allocator + Copy>(
+    client: &mut Client<A>,
+    reader: &mut Told<R>,
+    piece: &mut [u8],
+    waiting: Window,
+    out: &mut Told<O>,
+    pack: &mut P,
+    turns: u64,
+) -> Result<Window, RunFault>
+    requires waits { wants_input client.old ≡ true }
+    requires room { 0 < length piece.old }
+    requires ordered { waiting.start ≤ waiting.end }
+    requires within { waiting.end ≤ length piece.old }
+    requires sound_reader { has_failed reader.old ≡ false }
+    requires open_ended { has_ended reader.old ≡ false }
+    requires turns { reads_of reader.old ≤ turns }
+    requires sound_out { has_failed out.old ≡ false }
+    requires sound_pack { P.failed pack.old ≡ false }
+
+    ensures reads { reads_of reader.new ≤ turns }
+    ensures heard { HearsTo result (has_ended reader.new) client.old client.new (window_of waiting piece.old) piece.new
+        (flow (R.remaining (inner_of reader.old)) (R.remaining (inner_of reader.new)))
+        (flow (O.contents (inner_of out.old)) (O.contents (inner_of out.new)))
+        (flow (P.contents pack.old) (P.contents pack.new)) }
+    ensures room { length piece.new ≡ length piece.old }
+    ensures goes_on { OnOk result (has_ended reader.new ≡ false) }
+    ensures fault { IfErr result (IsShownBy (IsTrue (has_failed reader.new)) (IsTrue (has_failed out.new || P.failed pack.new)) (IsSpent reader.new turns)) }
+    ensures told { FailsAs result (has_failed reader.new) (has_failed out.new || P.failed pack.new) }
+{
+    let mut counts = Counts {
+        pack: 0,
+        progress: 0,
+    };
+    let mut left = waiting;
+    left.start += hear_piece(client, &mut counts, &piece[left.start..left.end], out, pack)?;
+    while client.wants_input() {
+        flush_both(out, pack)?;
+        if reader.reads() == turns {
+            return Err(RunFault::ReadLimit);
+        }
+        let end = receive(reader, piece)?;
+        if end == 0 {
+            return Err(RunFault::Refused(client.close()));
+        }
+        let start = hear_piece(client, &mut counts, &piece[..end], out, pack)?;
+        left = Window { start, end };
+    }
+    flush_both(out, pack)?;
+    Ok(left)
+}
+
+/// Hears what a piece says, up to where the client can ask. Answers how many bytes were used. What was said before a fault is
+/// flushed.
+fn hear_piece<O: Write, P: Output, A: Allocator + Copy>(
+    client: &mut Client<A>,
+    counts: &mut Counts,
+    piece: &[u8],
+    out: &mut Told<O>,
+    pack: &mut P,
+) -> Result<usize, RunFault>
+    requires waits { wants_input client.old ≡ true }
+    requires sound_out { has_failed out.old ≡ false }
+    requires sound_pack { P.failed pack.old ≡ false }
+    ensures heard { HearsPieceTo result client.old client.new counts.old counts.new piece.now
+        (flow (O.contents (inner_of out.old)) (O.contents (inner_of out.new)))
+        (flow (P.contents pack.old) (P.contents pack.new)) }
+    ensures fault { IfErr result (IsShownBy ⊥ (IsTrue (has_failed out.new || P.failed pack.new)) ⊥) }
+    ensures told { FailsAs result false (has_failed out.new || P.failed pack.new) }
+{
+    let mut used = 0;
+    while used < piece.len() && client.wants_input() {
+        let heard = client.feed(&piece[used..]);
+        match heard.got {
+            HeardGot::More => return Ok(piece.len()),
+            HeardGot::Failed(fault) => {
+                flush_both(out, pack)?;
+                return Err(RunFault::Refused(fault));
+            }
+            HeardGot::Event(event) => tell(&event, counts, out, pack)?,
+        }
+        used += heard.used;
+    }
+    Ok(used)
+}
+
+/// Writes what an event says: its line, which is that of the counts so far, and its bytes of the pack. Counts its bytes.
+fn tell<O: Write, P: Output>(
+    event: &Event<'_>,
+    counts: &mut Counts,
+    out: &mut Told<O>,
+    pack: &mut P,
+) -> Result<(), RunFault>
+    ensures told { WrittenAs (is_broken result) (flow (O.contents (inner_of out.old)) (O.contents (inner_of out.new)))
+        (lines_of (values_of event.now) counts.old.pack counts.old.progress) }
+    ensures sent { WrittenAs (is_broken result) (flow (P.contents pack.old) (P.contents pack.new))
+        (pack_bytes (values_of event.now)) }
+    ensures counts { counts.new ≡ counted counts.old (values_of event.now) }
+    ensures fault { IfErr result (λ fault. fault ≡ RunFault.WriteFault) }
+    ensures failed { (has_failed out.new || P.failed pack.new) ≡ ((has_failed out.old || P.failed pack.old) || is_err result) }
+{
+    // Both are read in each case: a number behind a reference is known to fit its type once it was read.
+    let Counts {
+        pack: packed,
+        progress: told,
+    } = *counts;
+    match event {
+        Event::Pack(bytes) => {
+            counts.pack = packed.saturating_add(bytes.len() as u64);
+            pack.send(bytes)
+        }
+        Event::Progress(bytes) => {
+            counts.progress = told.saturating_add(bytes.len() as u64);
+            Ok(())
+        }
+        event => write_event(out, event, packed, told),
+    }
+}
+
+/// Flushes both writers, up to the first that fails.
+fn flush_both<O: Write, P: Output>(out: &mut Told<O>, pack: &mut P) -> Result<(), RunFault>
+    ensures told { WrittenAs false (flow (O.contents (inner_of out.old)) (O.contents (inner_of out.new))) [] }
+    ensures sent { WrittenAs false (flow (P.contents pack.old) (P.contents pack.new)) [] }
+    ensures fault { IfErr result (λ fault. fault ≡ RunFault.WriteFault) }
+    ensures failed { (has_failed out.new || P.failed pack.new) ≡ ((has_failed out.old || P.failed pack.old) || is_err result) }
+{
+    flush(out)?;
+    pack.flush()
+}

@@ -1,0 +1,298 @@
+-- A reader of requests from bytes, a packet at a time.
+use Rattle.std.proofs.Common.{◌≡◌, ◌≢◌, ℕ, ◌+◌, ◌-◌, ◌<◌, ◌≤◌, true, false, List, [], ◌∷◌, ◌++◌, length, take, drop, length-drop, Some, None}
+use Rattle.std.proofs.Common.{refl, sym, ap, ◌∙◌, subst, append-nil, zero-add, inl, inr, arith}
+use Rattle.std.proofs.Props.{props}
+use Rattle.std.proofs.Math.Logic.{∥∥₁_elim, ∥∥₁_prop}
+use Rattle.git_pkt.specs.Faults.{StopsBy}
+use Rattle.git_pkt.specs.Splits.{Given}
+use Rattle.git_pkt.specs.PacketReader.{Feeds, Reads, ReadsOn, ShownByFeed, Tells, fault_of as packet_fault, given_by, is_open}
+use Rattle.git_pkt.specs.declared.fault.Fault.{Fault}
+use Rattle.git_pkt.specs.declared.fault.Kind.{Kind}
+use Rattle.git_pkt.specs.declared.fault.Kind.TheVariants.{StreamTooLong, Truncated}
+use Rattle.git_pkt.specs.declared.reader.Fed.{Fed}
+use Rattle.git_pkt.specs.declared.reader.Got.{Got}
+use Rattle.git_pkt.specs.declared.reader.PacketReader.{PacketReader}
+use Rattle.git_pkt.proofs.Cuttings.{stopped}
+use Rattle.git_pkt.proofs.KnownRest.{sound_rest, none_between}
+use Rattle.git_pkt.proofs.Pieces.{joined, left_of}
+use Rattle.git_msg.specs.declared.offers.Offer.{Offer}
+use Rattle.git_msg.specs.Asked.{Asked}
+use Rattle.git_msg.specs.HeldRequest.{asked_of, kept_of}
+use Rattle.git_msg.specs.Requests.{IsTold}
+use Rattle.git_msg.specs.RequestReader.{Takes, offer_of as offer_in, limit_in, kept_so_far, fault_of as reader_fault, is_waiting}
+use Rattle.git_msg.specs.WholeRequests.{AreRequests}
+use Rattle.git_msg.specs.StreamStages.{AreBegun, Brings, HasTaken, IsBrought, IsWithin, fault_in, goes_on, stage_brought, takes_bytes, stage_is_between}
+use Rattle.git_msg.specs.RequestStreams.{HasRead, IsLeftIn, IsOne, Leaves, asked_by, fault_of, limit_of, offer_of, wants_input}
+use Rattle.git_msg.specs.RequestStreamSteps.{StepLeaves, Steps}
+use Rattle.git_msg.specs.declared.reader.RequestReader.{RequestReader}
+use Rattle.git_msg.specs.declared.streams.ReadGot.{ReadGot}
+use Rattle.git_msg.specs.declared.streams.ReadGot.TheVariants.{More, Request, Stop, Failed}
+use Rattle.git_msg.specs.declared.streams.ReadRequest.{ReadRequest}
+use Rattle.git_msg.specs.declared.streams.RequestStream.{RequestStream}
+use Rattle.git_msg.specs.declared.streams.Stage.{Stage}
+use Rattle.git_msg.specs.declared.streams.Stage.TheVariants.{Between, Within, Stopped, Failed as FailedStage}
+use Rattle.git_msg.proofs.PacketFaults.{NotOfPackets, told_of_packets}
+use Rattle.git_msg.proofs.WholeRequests.{one_more_request, requests_more}
+
+-- ---- the reader of packets
+
+-- what ended the reading of a stream from offset 0
+pub stopped_by : (r : PacketReader) (bytes : List ℕ) (given : List Given) (rest : List ℕ) (f : Fault) → packet_fault r ≡ Some f → Reads r 0 bytes given rest
+    → StopsBy (length bytes - length rest) rest (length bytes) f.kind f.offset
+stopped_by r bytes given rest f is h =
+    subst (λ (n : ℕ). StopsBy (n - length rest) rest n f.kind f.offset) (zero-add (length bytes)) (stopped r f 0 bytes given rest h is)
+
+-- after a whole packet there is no rest
+pub rest_behind : (r : PacketReader) (bytes : List ℕ) (packets : List Given) (rest : List ℕ)
+    → packet_fault r ≡ None → is_open r ≡ false → Reads r 0 bytes packets rest → rest ≡ []
+rest_behind r bytes packets rest sound shut stream = none_between r rest (sound_rest r 0 bytes packets rest sound stream).0 shut
+
+-- what a call of `feed` did, by its answer
+pub record FeedsWith (old : PacketReader) (piece : List ℕ) (used : ℕ) (got : Got) (new : PacketReader) : Type 0 where
+  pub reads : ReadsOn old (take used piece) (given_by got) new
+  pub tells : Tells got used piece new
+
+pub feeds_with : (old new : PacketReader) (piece : List ℕ) (fed : Fed) (got : Got) → fed.got ≡ got → Feeds old piece fed new
+    → FeedsWith old piece fed.used got new
+feeds_with old new piece fed got is feeds = record {
+  reads = subst (λ (o : Got). ReadsOn old (take fed.used piece) (given_by o) new) is feeds.reads;
+  tells = subst (λ (o : Got). Tells o fed.used piece new) is feeds.tells;
+}
+
+-- ---- the stages
+
+-- a reader that reads on is between two requests or within one
+pub reading : (P : Stage → Type 0) → P Between → P Within → (stage : Stage) → takes_bytes stage ≡ true → P stage
+reading P between within Between on = between
+reading P between within Within on = within
+reading P between within Stopped on = absurd (cc)
+reading P between within (FailedStage fault) on = absurd (cc)
+
+-- what is left then is lines that begin a request, if any
+pub left_begins : (offer : Offer) (limit : ℕ) (left : List Given) (rest : List ℕ) (end : ℕ) (stage : Stage)
+    → takes_bytes stage ≡ true → IsLeftIn stage offer limit left rest end → AreBegun offer limit left
+left_begins offer limit left rest end = reading (λ (s : Stage). IsLeftIn s offer limit left rest end → AreBegun offer limit left)
+    (λ none. subst (AreBegun offer limit) (sym none) ([], tt)) (λ (some, begun). begun)
+
+-- and the bytes behind it have no part in it
+pub left_stays : (offer : Offer) (limit : ℕ) (left : List Given) (rest later : List ℕ) (end further : ℕ) (stage : Stage)
+    → takes_bytes stage ≡ true → IsLeftIn stage offer limit left rest end → IsLeftIn stage offer limit left later further
+left_stays offer limit left rest later end further =
+    reading (λ (s : Stage). IsLeftIn s offer limit left rest end → IsLeftIn s offer limit left later further) (λ h. h) (λ h. h)
+
+some_left : (left : List Given) (g : Given) → left ++ g ∷ [] ≢ []
+some_left [] g e = cc
+some_left (x ∷ left) g e = cc
+
+-- ---- what a packet brings
+
+module _ {A : Type 0} where
+  -- a reader of bytes that reads on goes on after what was brought
+  brought_goes_on : (got : ReadGot A) → takes_bytes (stage_brought got) ≡ true → goes_on got ≡ true
+  brought_goes_on More on = refl
+  brought_goes_on (Request request) on = refl
+  brought_goes_on Stop on = absurd (cc)
+  brought_goes_on (Failed fault) on = absurd (cc)
+
+  taken_behind : (old new : RequestReader A) (g : Given) (got : ReadGot A) → Brings old g got new → goes_on got ≡ true → HasTaken old → HasTaken new
+  taken_behind old new g More brings on (left, takes) = (left ++ g ∷ [], (brings.brings left takes).0)
+  taken_behind old new g (Request request) brings on (left, takes) = ([], (brings.brings left takes).0)
+  taken_behind old new g Stop brings on (left, takes) = absurd (cc)
+  taken_behind old new g (Failed fault) brings on (left, takes) = absurd (cc)
+
+  within_limit : (got : ReadGot A) (new : RequestReader A) → IsWithin got new → kept_so_far new ≤ limit_in new
+  within_limit More new h = h
+  within_limit (Request request) new h = omega (arith, h.1)
+  within_limit Stop new h = h
+  within_limit (Failed fault) new h = h
+
+  module _ (old : RequestStream A) (new : RequestReader A) (g : Given) (got : ReadGot A) (stage : Stage)
+      (wants : wants_input old ≡ true) (brings : Brings old.requests g got new) (stage_is : stage ≡ stage_brought got) where
+    goes_in : takes_bytes stage ≡ true → goes_on got ≡ true
+    goes_in on = brought_goes_on got (sym (ap takes_bytes stage_is) ∙ on)
+
+    -- what holds of the readers in a reader of bytes, after a packet
+    pub sound_behind : takes_bytes stage ≡ true → reader_fault new ≡ None
+    sound_behind on = brings.sound (goes_in on)
+
+    pub ready_behind : takes_bytes stage ≡ true → is_waiting new ≡ false
+    ready_behind on = brings.ready (goes_in on)
+
+    pub some_taken_behind : takes_bytes stage ≡ true → ∥ HasTaken new ∥₁
+    some_taken_behind on = ∥∥₁_elim (old.taken wants) ∥∥₁_prop (λ (h : HasTaken old.requests). ∣ taken_behind old.requests new g got brings (goes_in on) h ∣₁)
+
+    pub within_behind : kept_so_far new ≤ limit_in new
+    within_behind = within_limit got new (brings.within old.within)
+
+    -- a fault of a packet is none that the bytes show
+    pub packet_news : (fault : Fault) (used : ℕ) (piece : List ℕ) → got ≡ Failed fault → ShownByFeed fault used piece
+    packet_news fault used piece is =
+        let told : HasTaken old.requests → (left : List Given) × IsTold (offer_in new) (limit_in new) (left ++ g ∷ []) fault =
+        λ (left, takes). (left, subst (λ (o : ReadGot A). IsBrought (left ++ g ∷ []) o new) is (brings.brings left takes)) in
+        let other : (kind : Kind) → NotOfPackets kind → fault.kind ≢ kind =
+        λ kind strange name. ∥∥₁_elim (old.taken wants) (λ x y. absurd x) (λ (h : HasTaken old.requests).
+        let (left, t) = told h in told_of_packets kind strange (offer_in new) (limit_in new) (left ++ g ∷ []) fault t name) in
+        record { not_the_end = other Truncated tt; one_more = λ too_long. absurd (other StreamTooLong tt too_long) }
+
+module _ {A : Type 0} (old new : RequestStream A) (g : Given) (used : ℕ) (piece : List ℕ) (wants : wants_input old ≡ true) (some : 0 < used)
+    (shut : is_open new.packets ≡ false) where
+  -- how a reader of bytes stands after a packet
+  pub packet_leaves : (got : ReadGot A) → Brings old.requests g got new.requests → new.stage ≡ stage_brought got → StepLeaves got used piece old new
+  packet_leaves More brings is = (some, ap takes_bytes is)
+  packet_leaves (Request request) brings is = (
+    some,
+    ap stage_is_between is,
+    shut,
+    ∥∥₁_elim (old.taken wants) (hlevel props) (λ (h : HasTaken old.requests). let (left, takes) = h in (brings.brings left takes).2),
+    (brings.within old.within).0,
+  )
+  packet_leaves Stop brings is = (some, ap takes_bytes is, ap fault_in is)
+  packet_leaves (Failed fault) brings is = ap fault_in is
+
+-- ---- how what was read goes on
+
+module _ {A : Type 0} (old new : RequestStream A) (u : List ℕ) (wants : wants_input old ≡ true)
+    (offer : offer_of new ≡ offer_of old) (limit : limit_of new ≡ limit_of old) (used : List ℕ) (asked : List Asked) (h : HasRead used asked old) where
+  -- the requests so far are requests by the new reader's offer and limit
+  earlier_requests : AreRequests (IsOne (offer_of new) (limit_of new)) h.packets asked h.left
+  earlier_requests =
+      subst (λ (o : Offer). AreRequests (IsOne o (limit_of new)) h.packets asked h.left) (sym offer)
+      (subst (λ (n : ℕ). AreRequests (IsOne (offer_of old) n) h.packets asked h.left) (sym limit) h.requests)
+
+  -- and what is left of the packets is what it was
+  left_before : IsLeftIn old.stage (offer_of new) (limit_of new) h.left h.rest (length used)
+  left_before =
+      subst (λ (o : Offer). IsLeftIn old.stage o (limit_of new) h.left h.rest (length used)) (sym offer)
+      (subst (λ (n : ℕ). IsLeftIn old.stage (offer_of old) n h.left h.rest (length used)) (sym limit) h.left_is)
+
+  begun_before : AreBegun (offer_of new) (limit_of new) h.left
+  begun_before = left_begins (offer_of new) (limit_of new) h.left h.rest (length used) old.stage wants left_before
+
+  -- all that was read, in the stage that was come to
+  has_read : (packets left : List Given) (rest : List ℕ) (now : List Asked) (stage : Stage) → new.stage ≡ stage
+      → Reads new.packets 0 (used ++ u) packets rest → AreRequests (IsOne (offer_of new) (limit_of new)) packets now left
+      → IsLeftIn stage (offer_of new) (limit_of new) left rest (length (used ++ u)) → (takes_bytes stage ≡ true → Takes left new.requests)
+      → HasRead (used ++ u) now new
+  has_read packets left rest now stage is stream requests left_is takes = record {
+    packets = packets;
+    left = left;
+    rest = rest;
+    reads = stream;
+    requests = requests;
+    left_is = subst (λ (s : Stage). IsLeftIn s (offer_of new) (limit_of new) left rest (length (used ++ u))) (sym is) left_is;
+    onward = λ on. record {
+      sound = new.sound on;
+      takes = takes (sym (ap takes_bytes is) ∙ on);
+      open_ended = new.open_ended on;
+      ready = new.ready on;
+    };
+    within = new.within;
+  }
+
+  -- with no packet more
+  bytes_read : (rest : List ℕ) (stage : Stage) → new.stage ≡ stage → Reads new.packets 0 (used ++ u) (h.packets ++ []) rest
+      → IsLeftIn stage (offer_of new) (limit_of new) h.left rest (length (used ++ u)) → (takes_bytes stage ≡ true → Takes h.left new.requests)
+      → HasRead (used ++ u) (asked ++ []) new
+  bytes_read rest stage is stream left_is takes =
+      has_read h.packets h.left rest (asked ++ []) stage is
+      (subst (λ (gs : List Given). Reads new.packets 0 (used ++ u) gs rest) (append-nil h.packets) stream)
+      (subst (λ (qs : List Asked). AreRequests (IsOne (offer_of new) (limit_of new)) h.packets qs h.left) (sym (append-nil asked)) earlier_requests)
+      left_is takes
+
+  -- the bytes end no packet
+  pub open_read : new.requests ≡ old.requests → new.stage ≡ old.stage → ReadsOn old.packets u [] new.packets → HasRead (used ++ u) (asked ++ []) new
+  open_read same is reads =
+      let (rest, stream) = reads 0 used h.packets h.rest h.reads in
+      bytes_read rest old.stage is stream
+      (left_stays (offer_of new) (limit_of new) h.left h.rest rest (length used) (length (used ++ u)) old.stage wants left_before)
+      (λ on. subst (Takes h.left) (sym same) (h.onward on).takes)
+
+  -- they are refused
+  pub refused_read : (fault : Fault) → new.stage ≡ FailedStage fault → packet_fault new.packets ≡ Some fault → fault.kind ≢ Truncated
+      → ReadsOn old.packets u [] new.packets → HasRead (used ++ u) (asked ++ []) new
+  refused_read fault is told other reads =
+      let (rest, stream) = reads 0 used h.packets h.rest h.reads in
+      bytes_read rest (FailedStage fault) is stream
+      (inr (inl (record {
+        begun = begun_before;
+        stops = stopped_by new.packets (used ++ u) (h.packets ++ []) rest fault told stream;
+        not_the_end = other;
+      })))
+      (λ on. absurd (cc))
+
+  -- they end a packet
+  pub packet_read : (g : Given) (got : ReadGot A) → Brings old.requests g got new.requests → new.stage ≡ stage_brought got
+      → packet_fault new.packets ≡ None → is_open new.packets ≡ false → ReadsOn old.packets u (g ∷ []) new.packets
+      → HasRead (used ++ u) (asked ++ asked_by got) new
+  packet_read g got brings is sound shut reads =
+      let (rest, stream) = reads 0 used h.packets h.rest h.reads in
+      by rest stream (rest_behind new.packets (used ++ u) (h.packets ++ g ∷ []) rest sound shut stream) got brings is
+    where
+      takes : Takes h.left old.requests
+      takes = (h.onward wants).takes
+
+      with_packet : AreRequests (IsOne (offer_of new) (limit_of new)) (h.packets ++ g ∷ []) asked (h.left ++ g ∷ [])
+      with_packet = requests_more (IsOne (offer_of new) (limit_of new)) h.packets (g ∷ []) asked h.left earlier_requests
+
+      none_more : AreRequests (IsOne (offer_of new) (limit_of new)) (h.packets ++ g ∷ []) (asked ++ []) (h.left ++ g ∷ [])
+      none_more =
+          subst (λ (qs : List Asked). AreRequests (IsOne (offer_of new) (limit_of new)) (h.packets ++ g ∷ []) qs (h.left ++ g ∷ []))
+          (sym (append-nil asked)) with_packet
+
+      by : (rest : List ℕ) → Reads new.packets 0 (used ++ u) (h.packets ++ g ∷ []) rest → rest ≡ [] → (got : ReadGot A)
+          → Brings old.requests g got new.requests → new.stage ≡ stage_brought got → HasRead (used ++ u) (asked ++ asked_by got) new
+      by rest stream none More brings is =
+          let (taken, begun) = brings.brings h.left takes in
+          has_read (h.packets ++ g ∷ []) (h.left ++ g ∷ []) rest (asked ++ []) Within is stream none_more (some_left h.left g, begun) (λ on. taken)
+      by rest stream none (Request request) brings is =
+          let (taken, asks, format) = brings.brings h.left takes in
+          has_read (h.packets ++ g ∷ []) [] rest (asked ++ asked_of request ∷ []) Between is stream
+          (one_more_request (IsOne (offer_of new) (limit_of new)) (h.packets ++ g ∷ []) asked (h.left ++ g ∷ []) (asked_of request) with_packet
+          (kept_of request, asks)) refl (λ on. taken)
+      by rest stream none Stop brings is =
+          has_read (h.packets ++ g ∷ []) (h.left ++ g ∷ []) rest (asked ++ []) Stopped is stream none_more (brings.brings h.left takes, none)
+          (λ on. absurd (cc))
+      by rest stream none (Failed fault) brings is =
+          has_read (h.packets ++ g ∷ []) (h.left ++ g ∷ []) rest (asked ++ []) (FailedStage fault) is stream none_more
+          (inl (record {
+            front = h.left;
+            last = g;
+            whole = refl;
+            begun = begun_before;
+            told = brings.brings h.left takes;
+            no_rest = none;
+          })) (λ on. absurd (cc))
+
+-- ---- a step over what is left of a piece
+
+-- what a step did, by its answer
+pub steps_with : {A : Type 0} (old new : RequestStream A) (piece : List ℕ) (read : ReadRequest A) (got : ReadGot A) → read.got ≡ got
+    → Steps old piece read new → Steps old piece (record { used = read.used; got = got }) new
+steps_with {A = A} old new piece read got is steps = subst (λ (o : ReadGot A). Steps old piece (record { used = read.used; got = o }) new) is steps
+
+module _ {A : Type 0} (old mid new : RequestStream A) (piece : List ℕ) (done : ℕ) (within : done ≤ length piece)
+    (more : ℕ) (got : ReadGot A) (steps : Steps mid (take (length piece - done) (drop done piece)) (record { used = more; got = got }) new) where
+  pub reads_further : ((used : List ℕ) (asked : List Asked) → HasRead used asked old → HasRead (used ++ take done piece) asked mid)
+      → (used : List ℕ) (asked : List Asked) → HasRead used asked old → HasRead (used ++ take (done + more) piece) (asked ++ asked_by got) new
+  reads_further before used asked h =
+      subst (λ (bytes : List ℕ). HasRead bytes (asked ++ asked_by got) new) (joined used piece done more within)
+      (steps.reads (used ++ take done piece) asked (before used asked h))
+
+  -- a fault that what is left of the piece shows, the piece shows
+  pub shows_further : wants_input mid ≡ true → (fault : Fault) → got ≡ Failed fault → ShownByFeed fault (done + more) piece
+  shows_further wants fault is =
+      let none : fault_of mid ≡ None = reading (λ (s : Stage). fault_in s ≡ None) refl refl mid.stage wants in
+      let shown = steps.news fault none is in
+      record {
+        not_the_end = shown.not_the_end;
+        one_more = λ too_long. omega (arith, shown.one_more too_long, ap length (left_of piece done within), length-drop done piece);
+      }
+
+-- how a reader stands after a step that is the last of a call
+pub leaves_further : {A : Type 0} (old mid new : RequestStream A) (piece rest : List ℕ) (done more : ℕ) (got : ReadGot A) → got ≢ More
+    → StepLeaves got more rest mid new → Leaves got (done + more) piece old new
+leaves_further old mid new piece rest done more More other leaves = absurd (other refl)
+leaves_further old mid new piece rest done more (Request request) other (some, between, shut, format, kept) =
+    (omega (arith, some), between, shut, format, kept)
+leaves_further old mid new piece rest done more Stop other (some, quiet, none) = (omega (arith, some), quiet, none)
+leaves_further old mid new piece rest done more (Failed fault) other leaves = leaves

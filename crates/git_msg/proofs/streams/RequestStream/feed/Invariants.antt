@@ -1,0 +1,19 @@
+use Rattle.std.proofs.Common.{length, ◌-◌, ◌≡◌, ◌++◌, false, ◌≤◌, ℕ, List, take}
+use Rattle.git_msg.specs.Asked.{Asked}
+use Rattle.git_msg.specs.RequestStreams.{HasRead, offer_of, limit_of, wants_input}
+use Rattle.git_msg.proofs.streams.RequestStream.feed.Given as goal
+
+-- what was used so far brought nothing whole, and bytes are wanted on if they were
+abbrev pub invariant-loop-used : goal.invariant-loop-used
+invariant-loop-used g l = record {
+  within : l.used ≤ length l.piece;
+  reads : (used : List ℕ) (asked : List Asked) → HasRead used asked l.fn.self → HasRead (used ++ take l.used l.piece) asked l.self;
+  same : wants_input l.self ≡ wants_input l.fn.self;
+  nothing : wants_input l.fn.self ≡ false → (l.used ≡ 0) × (l.self ≡ l.fn.self);
+  offer : offer_of l.self ≡ offer_of l.fn.self;
+  limit : limit_of l.self ≡ limit_of l.fn.self;
+}
+
+-- a step uses bytes, or stops
+abbrev pub decreases-loop-used : goal.decreases-loop-used
+decreases-loop-used g l = length l.piece - l.used

@@ -1,0 +1,75 @@
+use Rattle.std.proofs.Common.{rules, refl, subst, take}
+use Rattle.git_pkt.specs.Packets.{seen}
+use Rattle.git_pkt.specs.Splits.{Given}
+use Rattle.git_pkt.specs.PacketReader.{ShownByFeed}
+use Rattle.git_pkt.specs.declared.fault.Fault.{Fault}
+use Rattle.git_msg.proofs.StreamSteps.{open_read, feeds_with, packet_leaves, packet_news, packet_read, ready_behind, refused_read, some_taken_behind, sound_behind, within_behind}
+use Rattle.git_msg.proofs.streams.RequestStream.step.Goals as goal
+
+pub invariant_of-self-in-Packet : goal.invariant_of-self-in-Packet
+invariant_of-self-in-Packet g c =
+    let old = c.args.self.now in
+    let new = c.take_packet-got.new.requests in
+    let given : Given = record { packet = seen c.in-Packet.packet; offset = c.in-Packet.offset } in
+    let got = c.take_packet-got.result in
+    let stage = c.stage_after-self.result in
+    let feeds = feeds_with old.packets c.feed-fed.follows.lender-at-none c.args.piece.now c.feed-fed.result _ c.in-Packet.is c.feed-fed.follows.holds-at-none in
+    record {
+      sound = λ on. feeds.tells.1;
+      open_ended = sound_behind old new given got stage c.requires.waits c.take_packet-got.ensures c.stage_after-self.ensures;
+      ready = ready_behind old new given got stage c.requires.waits c.take_packet-got.ensures c.stage_after-self.ensures;
+      taken = some_taken_behind old new given got stage c.requires.waits c.take_packet-got.ensures c.stage_after-self.ensures;
+      within = within_behind old new given got stage c.requires.waits c.take_packet-got.ensures c.stage_after-self.ensures;
+    }
+
+pub returns-in-Packet-clause-steps : goal.returns-in-Packet-clause-steps
+returns-in-Packet-clause-steps g c =
+    let old = c.args.self.now in
+    let piece = c.args.piece.now in
+    let fed = c.feed-fed.result in
+    let given : Given = record { packet = seen c.in-Packet.packet; offset = c.in-Packet.offset } in
+    let got = c.take_packet-got.result in
+    let brings = c.take_packet-got.ensures in
+    let feeds = feeds_with old.packets c.feed-fed.follows.lender-at-none piece fed _ c.in-Packet.is c.feed-fed.follows.holds-at-none in
+    record {
+      reads = λ used asked h.
+          packet_read old _ (take fed.used piece) c.requires.waits brings.offer brings.limit used asked h given got brings c.stage_after-self.ensures
+          feeds.tells.1 feeds.tells.2 feeds.reads;
+      leaves = packet_leaves old _ given fed.used piece c.requires.waits feeds.tells.0 feeds.tells.2 got brings c.stage_after-self.ensures;
+      news = λ fault none is.
+          packet_news old c.take_packet-got.new.requests given got c.stage_after-self.result c.requires.waits brings c.stage_after-self.ensures
+          fault fed.used piece is;
+      offer = brings.offer;
+      limit = brings.limit;
+    }
+
+pub returns-in-Failed-clause-steps : goal.returns-in-Failed-clause-steps
+returns-in-Failed-clause-steps g c =
+    let old = c.args.self.now in
+    let piece = c.args.piece.now in
+    let fed = c.feed-fed.result in
+    let fault = c.in-Failed.fault in
+    let feeds = feeds_with old.packets c.feed-fed.follows.lender-at-none piece fed _ c.in-Failed.is c.feed-fed.follows.holds-at-none in
+    let news = c.feed-fed.follows.holds-at-none.news fault (old.sound c.requires.waits) c.in-Failed.is in
+    record {
+      reads = λ used asked h.
+          refused_read old _ (take fed.used piece) c.requires.waits refl refl used asked h fault refl feeds.tells news.not_the_end feeds.reads;
+      leaves = refl;
+      news = λ other none is. subst (λ (f : Fault). ShownByFeed f fed.used piece) (cc) news;
+      offer = refl;
+      limit = refl;
+    }
+
+pub returns-in-More-clause-steps : goal.returns-in-More-clause-steps
+returns-in-More-clause-steps g c =
+    let old = c.args.self.now in
+    let piece = c.args.piece.now in
+    let fed = c.feed-fed.result in
+    let feeds = feeds_with old.packets c.feed-fed.follows.lender-at-none piece fed _ c.in-More.is c.feed-fed.follows.holds-at-none in
+    record {
+      reads = λ used asked h. open_read old _ (take fed.used piece) c.requires.waits refl refl used asked h refl refl feeds.reads;
+      leaves = (search rules, c.requires.waits);
+      news = λ fault none is. absurd (cc);
+      offer = refl;
+      limit = refl;
+    }

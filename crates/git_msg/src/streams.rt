@@ -1,0 +1,208 @@
+//! Requests, read from bytes that come in pieces.
+
+ghost use Rattle.std.specs.Prelude.{◌≡◌, ◌<◌, ◌≤◌, [], None, true, false, length};
+ghost use Rattle.git_pkt.specs.Packets.{seen};
+ghost use Rattle.git_pkt.specs.PacketReader.{fault_of as packet_fault};
+ghost use Rattle.git_msg.specs.RequestReader.{fault_of as reader_fault, is_waiting, kept_so_far, limit_in};
+ghost use Rattle.git_msg.specs.StreamStages.{Brings, HasTaken, stage_brought, takes_bytes};
+
+use crate::limits::Limits;
+use crate::offers::Offer;
+use crate::reader::{RequestReader, Taken};
+use crate::requests::Request;
+use git_pkt::{Fault, Got, Kind, Packet, PacketReader};
+use std::alloc::Allocator;
+
+/// Where a reader of requests stands.
+#[derive(Clone, Copy, Debug)]
+enum Stage {
+    /// Before the first packet of a request.
+    Between,
+    /// After a packet of a request, and before its flush.
+    Within,
+    /// After a flush with nothing before it.
+    Stopped,
+    Failed(Fault),
+}
+
+/// What some bytes of a piece came to.
+#[derive(Drop)]
+pub struct ReadRequest<A: Allocator + Copy> {
+    /// How many bytes of the piece were used.
+    pub used: usize,
+    /// What they brought.
+    pub got: ReadGot<A>,
+}
+
+/// What the bytes used brought.
+#[derive(Drop)]
+pub enum ReadGot<A: Allocator + Copy> {
+    /// Nothing whole yet: all of the piece was used, or the reader reads no more.
+    More,
+    /// A whole request.
+    Request(Request<A>),
+    /// A flush with nothing before it, by which the other end leaves. Nothing after it is read.
+    Stop,
+    /// The first fault of the bytes; the reader stays at it.
+    Failed(Fault),
+}
+
+/// Reads requests, gitprotocol-v2(5), from pieces of any size, against what was offered. Each argument is kept as it comes, within
+/// the limit.
+#[derive(Drop)]
+pub struct RequestStream<A: Allocator + Copy> {
+    packets: PacketReader,
+    requests: RequestReader<A>,
+    stage: Stage,
+    ghost sound: { takes_bytes stage ≡ true → packet_fault packets ≡ None },
+    ghost open_ended: { takes_bytes stage ≡ true → reader_fault requests ≡ None },
+    ghost ready: { takes_bytes stage ≡ true → is_waiting requests ≡ false },
+    ghost taken: { takes_bytes stage ≡ true → ∥ HasTaken requests ∥₁ },
+    ghost within: { kept_so_far requests ≤ limit_in requests },
+}
+
+impl<A: Allocator + Copy> RequestStream<A> {
+    ghost use Rattle.git_msg.specs.RequestStreams.{HasRead, Feeds, Closes, wants_input, offer_of, limit_of, bytes_used};
+    ghost use Rattle.git_msg.specs.RequestStreamSteps.{Steps};
+
+    /// A reader before the first byte. It takes memory from `alloc` when an argument with a text or an object name comes.
+    pub fn new(alloc: A, offer: Offer, limits: Limits) -> RequestStream<A>
+        ensures reads { HasRead [] [] result }
+        ensures waits { wants_input result ≡ true }
+        ensures offer { offer_of result ≡ offer }
+        ensures limit { limit_of result ≡ limits.args }
+    {
+        RequestStream {
+            packets: PacketReader::new(),
+            requests: RequestReader::new(alloc, offer, limits),
+            stage: Stage::Between,
+        }
+    }
+
+    /// The number of bytes used.
+    pub fn position(&self) -> u64
+        ensures { result ≡ bytes_used self.now }
+    {
+        self.packets.position()
+    }
+
+    /// Reads on. It returns after a whole request, at a flush in the place of one, with the whole piece used, or at the first
+    /// fault. Call it again with the bytes that it did not use.
+    pub fn feed(&mut self, piece: &[u8]) -> ReadRequest<A>
+        ensures used { result.used ≤ length piece.now }
+        ensures feeds { Feeds self.old piece.now result self.new }
+    {
+        if let Stage::Failed(fault) = self.stage {
+            return ReadRequest {
+                used: 0,
+                got: ReadGot::Failed(fault),
+            };
+        }
+        let mut used = 0;
+        while used < piece.len() && self.wants_input() {
+            let step = self.step(&piece[used..]);
+            used += step.used;
+            match step.got {
+                ReadGot::More => {}
+                got => return ReadRequest { used, got },
+            }
+        }
+        ReadRequest {
+            used,
+            got: ReadGot::More,
+        }
+    }
+
+    /// Whether bytes are read on: no fault came, and no flush in the place of a request.
+    pub fn wants_input(&self) -> bool
+        ensures { result ≡ wants_input self.now }
+    {
+        matches!(self.stage, Stage::Between | Stage::Within)
+    }
+
+    /// Tells that the input ends here, where more could come. Between two requests that is well; inside one it is refused as
+    /// truncated, at the end of the last whole packet.
+    pub fn close(&mut self) -> Result<(), Fault>
+        requires { wants_input self.old ≡ true }
+        ensures { Closes result self.old self.new }
+    {
+        if let Err(fault) = self.packets.close() {
+            self.stage = Stage::Failed(fault);
+            return Err(fault);
+        }
+        if let Stage::Between = self.stage {
+            return Ok(());
+        }
+        let fault = Fault {
+            kind: Kind::Truncated,
+            offset: self.packets.position(),
+        };
+        self.stage = Stage::Failed(fault);
+        Err(fault)
+    }
+
+    /// Uses bytes up to the end of a packet, or all of them.
+    fn step(&mut self, piece: &[u8]) -> ReadRequest<A>
+        requires waits { wants_input self.old ≡ true }
+        requires some { 0 < length piece.now }
+        ensures used { result.used ≤ length piece.now }
+        ensures steps { Steps self.old piece.now result self.new }
+    {
+        let fed = self.packets.feed(piece);
+        let used = fed.used;
+        match fed.got {
+            Got::More => ReadRequest {
+                used,
+                got: ReadGot::More,
+            },
+            Got::Failed(fault) => {
+                self.stage = Stage::Failed(fault);
+                ReadRequest {
+                    used,
+                    got: ReadGot::Failed(fault),
+                }
+            }
+            Got::Packet(packet, offset) => {
+                let got = take_packet(&mut self.requests, packet, offset);
+                self.stage = stage_after(&got);
+                ReadRequest { used, got }
+            }
+        }
+    }
+}
+
+/// Takes a packet of a request, and keeps its argument, if it is one.
+fn take_packet<A: Allocator + Copy>(
+    requests: &mut RequestReader<A>,
+    packet: Packet<'_>,
+    offset: u64,
+) -> ReadGot<A>
+    requires sound { reader_fault requests.old ≡ None }
+    requires ready { is_waiting requests.old ≡ false }
+    ensures { Brings requests.old (record { packet = seen packet.entry; offset = offset }) result requests.new }
+{
+    match requests.take(packet, offset) {
+        Ok(taken) => match taken {
+            Taken::More => return ReadGot::More,
+            Taken::Argument(argument) => match requests.keep(argument) {
+                Ok(()) => return ReadGot::More,
+                Err(fault) => return ReadGot::Failed(fault),
+            },
+            Taken::Request(request) => return ReadGot::Request(request),
+            Taken::Stop => return ReadGot::Stop,
+        },
+        Err(fault) => return ReadGot::Failed(fault),
+    }
+}
+
+/// Where the reader stands after a packet that brought this.
+fn stage_after<A: Allocator + Copy>(got: &ReadGot<A>) -> Stage
+    ensures { result ≡ stage_brought got.now }
+{
+    match got {
+        ReadGot::More => Stage::Within,
+        ReadGot::Request(_) => Stage::Between,
+        ReadGot::Stop => Stage::Stopped,
+        ReadGot::Failed(fault) => Stage::Failed(*fault),
+    }
+}

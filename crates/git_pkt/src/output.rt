@@ -1,0 +1,66 @@
+//! Where the bytes of a run go: to a writer, or nowhere.
+ghost use Rattle.std.specs.Prelude.{◌≡◌, ◌||◌, List, ℕ, Option, Bool, None, false, OnOk, OnErr, IfErr, is_err};
+ghost use Rattle.std.specs.Io.KnownBytes.{Appends, Keeps};
+ghost use Rattle.git_pkt.specs.Told.{inner_of, has_failed, AppendsFront};
+
+use crate::engine;
+use crate::fault::RunFault;
+use crate::told::Told;
+use std::io::Write;
+
+/// Takes the bytes that a run gives: a [`Told`] writer, or [`Discard`].
+pub trait Output {
+    // The bytes that it holds, where they are known.
+    ghost contents: { Self → Option (List ℕ) };
+    // Whether a write or a flush has failed.
+    ghost failed: { Self → Bool };
+
+    /// Takes all the bytes.
+    ///
+    /// The fault is `WriteFault`, exactly where the writing fails; a front of the bytes was written then.
+    fn send(&mut self, bytes: &[u8]) -> Result<(), RunFault>
+        ensures ok { OnOk result (Appends (contents self.old) (contents self.new) bytes.now) }
+        ensures err { OnErr result (AppendsFront (contents self.old) (contents self.new) bytes.now) }
+        ensures fault { IfErr result (λ fault. fault ≡ RunFault.WriteFault) }
+        ensures failed { failed self.new ≡ (failed self.old || is_err result) };
+
+    /// Flushes what was taken.
+    ///
+    /// The fault is `WriteFault`, exactly where the flush fails.
+    fn flush(&mut self) -> Result<(), RunFault>
+        ensures bytes { Keeps (contents self.old) (contents self.new) }
+        ensures fault { IfErr result (λ fault. fault ≡ RunFault.WriteFault) }
+        ensures failed { failed self.new ≡ (failed self.old || is_err result) };
+}
+
+impl<W: Write> Output for Told<W> {
+    ghost contents = { λ told. W.contents (inner_of told) };
+
+    ghost failed = { λ told. has_failed told };
+
+    fn send(&mut self, bytes: &[u8]) -> Result<(), RunFault> {
+        engine::send(self, bytes)
+    }
+
+    fn flush(&mut self) -> Result<(), RunFault> {
+        engine::flush(self)
+    }
+}
+
+/// Drops all bytes that it takes, and never fails.
+#[derive(Clone, Copy, Debug)]
+pub struct Discard;
+
+impl Output for Discard {
+    ghost contents = { λ discard. None };
+
+    ghost failed = { λ discard. false };
+
+    fn send(&mut self, _bytes: &[u8]) -> Result<(), RunFault> {
+        Ok(())
+    }
+
+    fn flush(&mut self) -> Result<(), RunFault> {
+        Ok(())
+    }
+}

@@ -1,0 +1,149 @@
+# Cases in which all that the real Git's client and its server say to each other is recorded, and `git2show check` judges it: whole, and
+# damaged in many places.
+
+# record FOLDER [OPTION..]: a server of Git, each of whose streams is copied to a file. Our requests know no `unborn`, so Git is not to
+# offer it.
+write_recorder() {
+    cat > bin/record << 'EOF'
+#!/bin/bash
+cd "${0%/*}/.."
+tee requests | GIT_PROTOCOL=version=2 git -c lsrefs.unborn=ignore "${@:2}" upload-pack "$1" | tee responses
+EOF
+    chmod +x bin/record
+}
+
+# The same where each request has a server of its own.
+write_stateless_recorder() {
+    write_stateless
+    cat > bin/stateless-server << 'EOF'
+serve() {
+    GIT_PROTOCOL=version=2 git -c lsrefs.unborn=ignore upload-pack "$@" "$name"
+}
+
+advertise() {
+    : > "$name.requests"
+    serve --http-backend-info-refs < /dev/null | tee "$name.responses"
+}
+
+answer() {
+    tee -a "$name.requests" | serve --stateless-rpc | tee -a "$name.responses"
+    printf 0002 >> "$name.responses"
+}
+EOF
+}
+
+# recorded GIT-WORD..: runs a command of Git over the recorder. Leaves `requests`, `responses`, and the `packs` that Git read.
+recorded() {
+    write_recorder
+    rm -f packs
+    GIT_TRACE_PACKFILE=$room/packs run git -c protocol.version=2 -c protocol.ext.allow=always -c protocol.stateless.allow=always "$@"
+    touch packs
+}
+
+# checks [OPTION..]: that `check` takes what was recorded, and counts the bytes of the packs as Git does.
+checks() {
+    local bytes
+    run git2show check "$@" requests responses
+    expect_status 0
+    expect_same 'standard error' /dev/null err
+    bytes=$(awk '$1 == "end" { bytes += $2 } END { print bytes + 0 }' out)
+    [ "$bytes" = "$(wc -c < packs)" ] || differs "$bytes bytes of packs in place of $(wc -c < packs)" out
+    cp out transcript
+    withstands_damage "$@"
+}
+
+# start_of_packet FILE PLACE: where the packet of a stream begins that has this byte.
+start_of_packet() {
+    awk -v place="$2" '$1 <= place { start = $1 } END { print start + 0 }' "$1.packets"
+}
+
+# damaged FILE PLACE: a stream with another byte at this place.
+damaged() {
+    local byte
+    byte=$(od -A n -t u1 -j "$2" -N 1 "$1")
+    head -c "$2" "$1"
+    printf "\\$(printf %03o $((byte ^ 1)))"
+    tail -c "+$(($2 + 2))" "$1"
+}
+
+# is_refused_well: that the last run of `check` told a fault of one of the streams, in one line.
+is_refused_well() {
+    grep -a -q -x -E 'git2show: (requests|responses): [A-Za-z0-9]+ at [0-9]+' err && [ "$(wc -l < err)" = 1 ]
+}
+
+# withstands_damage [OPTION..]: each stream is damaged at fifty places. It is taken or refused then, and its transcript is the same up
+# to the packet that is damaged.
+withstands_damage() {
+    local stream size number place start
+    for stream in requests responses; do
+        git2show show < $stream > $stream.packets
+        size=$(wc -c < $stream)
+        for number in {0..49}; do
+            place=$((size * number / 50))
+            start=$(start_of_packet $stream $place)
+            cp requests requests.tried
+            cp responses responses.tried
+            head -c "$start" $stream > $stream.tried
+            git2show check "$@" requests.tried responses.tried > before 2> /dev/null || true
+            damaged $stream $place > $stream.tried
+            run git2show check "$@" requests.tried responses.tried
+            cmp -s -n "$(wc -c < before)" before out || differs "another transcript before byte $place of the $stream" out
+            [ "$status" = 0 ] || is_refused_well || differs "status $status after a damage at byte $place of the $stream" err
+        done
+    done
+}
+
+case_check_takes_a_clone() {
+    rm -rf ours
+    recorded clone -q 'ext::record history-sha1' ours
+    checks
+    expect_line 'the transcript' 'request fetch' transcript
+}
+
+case_check_takes_a_clone_of_sha256() {
+    rm -rf ours
+    recorded clone -q 'ext::record history-sha256' ours
+    checks --format sha256
+}
+
+case_check_takes_a_fetch_in_rounds() {
+    grow recorded history-sha1
+    both history-sha1 --no-tags
+    recorded -C ours fetch -q --no-tags 'ext::record recorded.git' '+refs/heads/*:refs/remotes/origin/*'
+    checks
+    expect_line 'the transcript' "ack $(git -C history-sha1 rev-parse main)" transcript
+}
+
+case_check_takes_a_shallow_clone() {
+    rm -rf ours
+    recorded clone -q --depth 1 'ext::record history-sha1' ours
+    checks
+    expect_line 'the transcript' "shallow $(git -C history-sha1 rev-parse main)" transcript
+}
+
+case_check_takes_wanted_references() {
+    both history-sha1 --single-branch --branch topic --no-tags
+    recorded -C ours fetch -q --no-tags 'ext::record history-sha1 -c uploadpack.allowRefInWant=true' \
+        alone:refs/heads/alone
+    checks
+    expect_line 'the transcript' "wanted-ref $(git -C history-sha1 rev-parse alone) refs/heads/alone" transcript
+}
+
+case_check_takes_sessions_without_a_state() {
+    write_stateless_recorder
+    rm -rf ours
+    recorded clone -q "stateless::$room/history-sha1" ours
+    mv history-sha1.requests requests
+    mv history-sha1.responses responses
+    checks --stateless
+}
+
+case_check_tells_an_error_of_the_server() {
+    git init -q ours
+    recorded -C ours fetch -q 'ext::record history-sha1' "$(printf 'f%.0s' {1..40})"
+    run git2show check requests responses
+    expect_status 1
+    grep -a -q -x 'git2show: responses: RemoteError at [0-9]*' err || differs 'another fault' err
+    expect_line 'the transcript' 'request fetch' out
+    withstands_damage
+}
