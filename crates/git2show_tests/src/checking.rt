@@ -31,7 +31,7 @@ const TRANSCRIPT: &[u8] =
 request ls-refs\nref aaaaaaaaaaaaaaaaaaaaaaaaaaaaaaaaaaaaaaaa HEAD\nend 0 0\nrequest fetch\nend 3 0\n";
 
 /// Where the advertisement ends, in the responses and in the transcript.
-const ADVERTISED: (usize, usize) = (100, 125);
+const ADVERTISED: (u32, usize) = (100, 125);
 
 #[test]
 fn faults_are_reported_with_their_stream(rt: HostRuntime) -> Result<(), Fail> {
@@ -91,8 +91,8 @@ const SOUND: Failing = Failing {
 struct Checked {
     answer: Result<(), CheckFault>,
     /// How many reads were made of each stream.
-    requests: u64,
-    responses: u64,
+    requests: u32,
+    responses: u32,
     out: Sink,
 }
 
@@ -115,8 +115,8 @@ fn check_failing(alloc: Global, requests: &[u8], responses: &[u8], failing: Fail
     );
     Checked {
         answer,
-        requests: requests.reads(),
-        responses: responses.reads(),
+        requests: u32::try_from(requests.reads()).unwrap_or(NEVER),
+        responses: u32::try_from(responses.reads()).unwrap_or(NEVER),
         out,
     }
 }
@@ -142,13 +142,7 @@ fn each_failing_read_is_told_after_what_was_heard(rt: HostRuntime) -> Result<(),
     assert_flushed(&rt, &whole.out);
     let mut told = 0;
     for responses in 0..whole.responses {
-        let checked = conversation(
-            rt.alloc(),
-            Failing {
-                responses: responses as u32,
-                ..slow
-            },
-        );
+        let checked = conversation(rt.alloc(), Failing { responses, ..slow });
         assert_eq!(rt; checked.answer, Err(CheckFault::ReadFault));
         assert_eq!(rt; checked.responses, responses.saturating_add(1));
         assert!(rt; told <= checked.out.taken.len());
@@ -158,13 +152,7 @@ fn each_failing_read_is_told_after_what_was_heard(rt: HostRuntime) -> Result<(),
     assert_eq!(rt; told, TRANSCRIPT.len());
     told = ADVERTISED.1;
     for requests in 0..whole.requests {
-        let checked = conversation(
-            rt.alloc(),
-            Failing {
-                requests: requests as u32,
-                ..slow
-            },
-        );
+        let checked = conversation(rt.alloc(), Failing { requests, ..slow });
         assert_eq!(rt; checked.answer, Err(CheckFault::ReadFault));
         assert_eq!(rt; checked.requests, requests.saturating_add(1));
         assert!(rt; told <= checked.out.taken.len());
@@ -196,7 +184,7 @@ fn reads_that_are_spent_are_told(rt: HostRuntime) -> Result<(), Fail> {
     for step in [1, 7, 256] {
         let slow = Failing { step, ..SOUND };
         let whole = conversation(rt.alloc(), slow);
-        let reads = whole.requests.saturating_add(whole.responses);
+        let reads = u64::from(whole.requests).saturating_add(u64::from(whole.responses));
         let enough = conversation(
             rt.alloc(),
             Failing {
@@ -208,7 +196,10 @@ fn reads_that_are_spent_are_told(rt: HostRuntime) -> Result<(), Fail> {
         for turns in 0..reads {
             let checked = conversation(rt.alloc(), Failing { turns, ..slow });
             assert_eq!(rt; checked.answer, Err(CheckFault::ReadLimit));
-            assert_eq!(rt; checked.requests.saturating_add(checked.responses), turns);
+            assert_eq!(rt;
+                u64::from(checked.requests).saturating_add(u64::from(checked.responses)),
+                turns
+            );
             assert_flushed(&rt, &checked.out);
         }
     }
@@ -227,7 +218,7 @@ fn nothing_is_read_before_it_is_due(rt: HostRuntime) -> Result<(), Fail> {
     };
     assert_eq!(rt; checked.answer, Err(CheckFault::Requests(refused)));
     assert_eq!(rt; checked.requests, 23);
-    assert_eq!(rt; checked.responses, ADVERTISED.0 as u64);
+    assert_eq!(rt; checked.responses, ADVERTISED.0);
     assert_eq!(rt; checked.out.taken.len(), ADVERTISED.1);
     let bad = [&RESPONSES[..100], b"0001"].concat(rt.alloc())?;
     let checked = check_failing(rt.alloc(), REQUESTS, bad.as_slice(), slow);
