@@ -21,8 +21,8 @@ heard() {
     done
 }
 
-# listed FOLDER: the lines of a transcript for all references of a repository.
-listed() {
+# told_references FOLDER: the lines of a transcript for all references of a repository.
+told_references() {
     git ls-remote "$1" | sed -e '/\^{}$/d' -e 's/^\([0-9a-f]*\)\t/ref \1 /'
 }
 
@@ -30,7 +30,7 @@ case_our_client_lists_what_git_serves() {
     echo ls-refs > script
     ask history-sha1
     heard 'request ls-refs' 'end 0 0'
-    expect_same 'the references' <(listed history-sha1) <(grep -a '^ref ' transcript)
+    expect_same 'the references' <(told_references history-sha1) <(grep -a '^ref ' transcript)
     [ ! -s pack ] || differs 'a pack that nobody asked for'
 }
 
