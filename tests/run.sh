@@ -1,6 +1,7 @@
 #!/usr/bin/env bash
 # Tests the built program `git2show` from outside: as the real Git calls it (real_git.sh, clones.sh and fetches.sh), and by hand
-# (program.sh); our client, as it asks the real Git (asking.sh); and what both ends of the real Git say, as `check` judges it (recorded.sh).
+# (program.sh); our client, as it asks the real Git (asking.sh); and what both ends of the real Git say, as `check` judges it (recorded.sh); and
+# both of our ends against each other (playing.sh).
 #
 #     tests/run.sh [PROGRAM]
 #
@@ -68,6 +69,7 @@ export PATH=$room/bin:$PATH
 . "$top/tests/asking.sh"
 . "$top/tests/recorded.sh"
 . "$top/tests/program.sh"
+. "$top/tests/playing.sh"
 
 git --version
 write_repositories

@@ -1,4 +1,4 @@
-//! The program `git2show`: shows, checks and serves conversations of Git's wire protocol.
+//! The program `git2show`: shows, checks, serves and plays conversations of Git's wire protocol.
 #![tactic(auto)]
 
 use clap::error::ErrorKind;
@@ -6,12 +6,14 @@ use clap::{Arg, ArgAction, ArgMatches, Command, Error, value_parser};
 use git_client::Ending;
 use git_msg::{Limits, Offer};
 use git_names::Format;
-use git_pkt::{RunFault, Told};
+use git_pkt::{Discard, RunFault, Told};
 use git_server::{ListRepo, Outcome, Repo, Server, serve};
-use git2show_lib::{ProgramFault, TextFault, check, read_repo, report, show};
+use git2show_lib::{
+    ProgramFault, RepositoryReader, TextFault, check, play, read_script, report, show,
+};
 use std::alloc::{AllocError, Global};
 use std::fs::File;
-use std::io::{BufWriter, Stdout};
+use std::io::{BufWriter, Read, Stdout};
 use std::process::ExitCode;
 use std::{env, fs, io};
 
@@ -23,6 +25,9 @@ const TURNS: u64 = 1_073_741_824;
 
 /// The most bytes that the texts of a request's argument lines may have.
 const MOST_KEPT: u32 = 1_073_741_824;
+
+/// The most bytes of a piece in which a played conversation goes over, and as many as it has where nothing else is said.
+const LONGEST_CUT: u32 = 65_536;
 
 /// The status where the command line is refused.
 const BAD_COMMAND_LINE: u8 = 2;
@@ -39,14 +44,15 @@ static FORMATS: [&str; 2] = ["sha1", "sha256"];
 fn command<'a>(alloc: Global) -> Result<Command<'a>, AllocError> {
     Command::new(alloc, "git2show")
         .version("0.1.0")
-        .about("Shows, checks and serves conversations of Git's wire protocol, version 2")
+        .about("Shows, checks, serves and plays conversations of Git's wire protocol, version 2")
         .after_help(STATUSES)
         .subcommand_required(true)
         .subcommand(Command::new(alloc, "show").about(
             "Prints a line for each packet on standard input: its offset, kind, length and payload",
         ))?
         .subcommand(check_command(alloc)?)?
-        .subcommand(serve_command(alloc)?)
+        .subcommand(serve_command(alloc)?)?
+        .subcommand(play_command(alloc)?)
 }
 
 /// What the words after `check` may be.
@@ -73,41 +79,69 @@ fn check_command<'a>(alloc: Global) -> Result<Command<'a>, AllocError> {
                 .default_value("sha1")
                 .help("Object format of the repository"),
         )?
-        .arg(
-            Arg::new(alloc, "stateless")
-                .long("stateless")
-                .action(ArgAction::SetTrue)
-                .help(
-                    "Each response ends with a response-end packet, as where each has its own connection",
-                ),
-        )
+        .arg(stateless_argument(
+            alloc,
+            "Each response ends with a response-end packet, as where each has its own connection",
+        ))
 }
 
 /// What the words after `serve` may be.
 fn serve_command<'a>(alloc: Global) -> Result<Command<'a>, AllocError> {
-    Command::new(alloc, "serve")
-        .about("Answers the ls-refs and fetch requests on standard input, on standard output")
+    let command = Command::new(alloc, "serve").about(
+        "Answers the requests on standard input, on standard output",
+    );
+    with_repository(alloc, command)?.arg(
+        Arg::new(alloc, "limit")
+            .long("limit")
+            .value_name("N")
+            .value_parser(value_parser!(u32).range(..=i64::from(MOST_KEPT)))
+            .help("Refuses a request whose arguments have more than N bytes [usual: 16777216]"),
+    )
+}
+
+/// What the words after `play` may be.
+fn play_command<'a>(alloc: Global) -> Result<Command<'a>, AllocError> {
+    let command = Command::new(alloc, "play").about(
+        "Plays both ends of a conversation in memory, and prints its transcript; the pack's bytes are dropped",
+    );
+    with_repository(alloc, command)?
+        .arg(file_argument(alloc, "script").help("Text of the requests, one argument to a line"))?
         .arg(
-            Arg::new(alloc, "repo")
-                .long("repo")
-                .value_name("FILE")
-                .required(true)
-                .help("Text that lists the references and the objects, one to a line"),
-        )?
-        .arg(
-            Arg::new(alloc, "pack")
-                .long("pack")
-                .value_name("FILE")
-                .required(true)
-                .help("Pack for answers to fetch"),
-        )?
-        .arg(
-            Arg::new(alloc, "limit")
-                .long("limit")
+            Arg::new(alloc, "cut")
+                .long("cut")
                 .value_name("N")
-                .value_parser(value_parser!(u32).range(..=i64::from(MOST_KEPT)))
-                .help("Refuses a request whose arguments have more than N bytes [usual: 16777216]"),
-        )
+                .value_parser(value_parser!(u32).range(1..=i64::from(LONGEST_CUT)))
+                .help("Gives bytes over in pieces of at most N [usual: 65536]"),
+        )?
+        .arg(stateless_argument(
+            alloc,
+            "Each request has a server of its own, and each response ends with a response-end packet",
+        ))
+}
+
+/// A command with the two files of a repository.
+fn with_repository<'a>(alloc: Global, command: Command<'a>) -> Result<Command<'a>, AllocError> {
+    command
+        .arg(file_argument(alloc, "repo").help(
+            "Text that lists the references and the objects, one to a line",
+        ))?
+        .arg(file_argument(alloc, "pack").help("Pack for answers to fetch"))
+}
+
+/// An argument that has to name a file.
+fn file_argument<'a>(alloc: Global, name: &'a str) -> Arg<'a> {
+    Arg::new(alloc, name)
+        .long(name)
+        .value_name("FILE")
+        .required(true)
+}
+
+/// The argument that tells how responses end.
+fn stateless_argument<'a>(alloc: Global, help: &'a str) -> Arg<'a> {
+    Arg::new(alloc, "stateless")
+        .long("stateless")
+        .action(ArgAction::SetTrue)
+        .help(help)
 }
 
 /// Shows the packets of standard input.
@@ -126,10 +160,6 @@ fn run_check(rt: &HostRuntime, matches: &ArgMatches<'_>) -> Result<(), ProgramFa
         .get_str("format")
         .and_then(|name| Format::read(name.as_bytes()))
         .unwrap_or(Format::Sha1);
-    let ending = match matches.get_flag("stateless") {
-        true => Ending::ResponseEnd,
-        false => Ending::FlushOnly,
-    };
     let mut out = Told::new(buffered_output(rt)?);
     let mut piece = [0; PIECE];
     let mut other_piece = [0; PIECE];
@@ -138,7 +168,7 @@ fn run_check(rt: &HostRuntime, matches: &ArgMatches<'_>) -> Result<(), ProgramFa
         &mut requests,
         &mut responses,
         format,
-        ending,
+        ending_of(matches),
         &mut piece,
         &mut other_piece,
         &mut out,
@@ -146,10 +176,26 @@ fn run_check(rt: &HostRuntime, matches: &ArgMatches<'_>) -> Result<(), ProgramFa
     )?)
 }
 
+/// How responses end, by the command line.
+fn ending_of(matches: &ArgMatches<'_>) -> Ending {
+    match matches.get_flag("stateless") {
+        true => Ending::ResponseEnd,
+        false => Ending::FlushOnly,
+    }
+}
+
 /// Opens the file that an argument names.
 fn open(rt: &HostRuntime, matches: &ArgMatches<'_>, argument: &str) -> Result<File, ProgramFault> {
     let path = matches.get_str(argument).unwrap_or("");
-    File::open(rt, path).map_err(|_| ProgramFault::File)
+    File::open(rt, path).map_err(file_fault)
+}
+
+/// What is told of a file that cannot be opened or read.
+fn file_fault(error: io::Error) -> ProgramFault {
+    match error.kind() {
+        io::ErrorKind::OutOfMemory => ProgramFault::OutOfMemory,
+        _ => ProgramFault::File,
+    }
 }
 
 /// Standard output, where what is written goes out by large pieces and at each flush.
@@ -183,15 +229,62 @@ fn run_serve(rt: &HostRuntime, matches: &ArgMatches<'_>) -> Result<(), ProgramFa
     }
 }
 
-/// Reads the files of a repository whole, and then the repository's text.
+/// Plays the script that is named over the repository whose files are named, and writes the transcript to standard output.
+fn run_play(rt: &HostRuntime, matches: &ArgMatches<'_>) -> Result<(), ProgramFault> {
+    let alloc = rt.alloc();
+    let repo = read_repository(rt, matches)?;
+    let script = read_whole(rt, matches, "script")?;
+    let limits = Limits {
+        args: Limits::USUAL,
+    };
+    let requests = match read_script(alloc, &script, repo.format(), limits) {
+        Ok(requests) => requests,
+        Err(TextFault::Bad { line }) => return Err(ProgramFault::Script(line)),
+        Err(TextFault::OutOfMemory) => return Err(ProgramFault::OutOfMemory),
+    };
+    // clap refuses 0 and more than the longest, which is said once more for the prover.
+    let cut = match matches.get_one::<u32>("cut") {
+        Some(cut) => cut.clamp(1, LONGEST_CUT),
+        None => LONGEST_CUT,
+    };
+    let mut out = Told::new(buffered_output(rt)?);
+    Ok(play(
+        alloc,
+        repo,
+        requests,
+        cut as usize,
+        ending_of(matches),
+        &mut out,
+        &mut Discard,
+    )?)
+}
+
+/// Reads the files of a repository: its text by pieces, and its pack whole.
 fn read_repository(rt: &HostRuntime, matches: &ArgMatches<'_>) -> Result<ListRepo, ProgramFault> {
-    let text = read_whole(rt, matches, "repo")?;
+    let reader = read_text(rt, open(rt, matches, "repo")?)?;
     let pack = read_whole(rt, matches, "pack")?;
-    match read_repo(rt.alloc(), &text, pack) {
+    match reader.finish(pack) {
         Ok(repo) => Ok(repo),
         Err(TextFault::Bad { line }) => Err(ProgramFault::Repo(line)),
         Err(TextFault::OutOfMemory) => Err(ProgramFault::OutOfMemory),
     }
+}
+
+/// Reads the text of a repository by pieces.
+fn read_text(rt: &HostRuntime, mut file: File) -> Result<RepositoryReader, ProgramFault> {
+    let mut reader = RepositoryReader::new(rt.alloc());
+    let mut piece = [0; PIECE];
+    for _ in 0..u64::MAX {
+        match file.read(&mut piece) {
+            Ok(0) => return Ok(reader),
+            Ok(count) => reader
+                .feed(&piece[..count])
+                .map_err(|_| ProgramFault::OutOfMemory)?,
+            Err(error) if error.kind() == io::ErrorKind::Interrupted => {}
+            Err(error) => return Err(file_fault(error)),
+        }
+    }
+    Err(ProgramFault::File)
 }
 
 /// Reads the file that an argument names.
@@ -201,13 +294,7 @@ fn read_whole(
     argument: &str,
 ) -> Result<Vec<u8>, ProgramFault> {
     let path = matches.get_str(argument).unwrap_or("");
-    match fs::read(rt, path) {
-        Ok(bytes) => Ok(bytes),
-        Err(error) => Err(match error.kind() {
-            io::ErrorKind::OutOfMemory => ProgramFault::OutOfMemory,
-            _ => ProgramFault::File,
-        }),
-    }
+    fs::read(rt, path).map_err(file_fault)
 }
 
 /// Does what the command line asks for. Answers the status.
@@ -216,6 +303,7 @@ fn run(rt: &HostRuntime, matches: &ArgMatches<'_>) -> u8 {
         Some(("show", _)) => run_show(rt),
         Some(("check", words)) => run_check(rt, words),
         Some(("serve", words)) => run_serve(rt, words),
+        Some(("play", words)) => run_play(rt, words),
         // clap takes no other word for a command.
         _ => return BAD_COMMAND_LINE,
     };

@@ -1,14 +1,14 @@
 -- What one more line adds to what was said.
 use Rattle.std.proofs.Common.{arith, ◌≡◌, ℕ, ◌≤◌, Bool, true, false, Option, Some, None, Result}
 use Rattle.std.proofs.Common.{Ok, Err, List, [], ◌∷◌, ◌++◌, refl, ap, sym, ◌∙◌, subst, length}
-use Rattle.std.specs.Prelude.{All, if◌then◌else◌}
+use Rattle.std.specs.Prelude.{if◌then◌else◌}
 use Rattle.std.proofs.lemmas.List.{append-nil}
 use Rattle.std.proofs.lemmas.List.Elements.{All-push}
 use Rattle.git_names.specs.declared.object_format.Format.{Format}
 use Rattle.git_names.specs.ObjectName.{ObjectName}
 use Rattle.git_msg.specs.declared.Boundary.{Boundary}
 use Rattle.git_msg.specs.References.{Ref}
-use Rattle.git_server.specs.Repository.{Entry, IsNamed, IsOfFormat, IsRising, comes_before}
+use Rattle.git_server.specs.Repository.{Entry, IsOfFormat, IsRising, comes_before}
 use Rattle.git_server.specs.Objects.{AreRising, object_of, precedes}
 use Rattle.git_server.specs.Lists.{Lists}
 use Rattle.git2show_lib.specs.RepositoryLines.{Said, reference, object, ready, boundary}
@@ -260,8 +260,8 @@ said_boundary old new line (Err Refused) fit h = absurd (cc)
 said_boundary old new line (Err OutOfMemory) fit h =
     (tt, λ said holds. ((adds_boundary old (with_boundary old line) line fit refl).holds said holds).may_stand)
 
--- references that have names, where perhaps one more came
-pub named_more : (came : Bool) (old new : List Entry) (entry : Entry) → new ≡ (if came then old ++ entry ∷ [] else old)
-    → All (λ ref. IsNamed ref.name ref.target) old → IsNamed entry.name entry.target → All (λ ref. IsNamed ref.name ref.target) new
-named_more true old new entry is named last = rw is (All-push (λ (ref : Entry). IsNamed ref.name ref.target) old entry named last)
-named_more false old new entry is named last = rw is named
+-- what holds of a list, where perhaps one more came
+pub pushed : {X : Type 0} (P : List X → Type 0) (came : Bool) (old new : List X) (last : X) → new ≡ (if came then old ++ last ∷ [] else old)
+    → P old → P (old ++ last ∷ []) → P new
+pushed P true old new last is before after = rw is after
+pushed P false old new last is before after = rw is before

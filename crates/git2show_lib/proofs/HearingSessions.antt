@@ -19,6 +19,7 @@ use Rattle.git_client.specs.Events.{EventValue, ended}
 use Rattle.git_client.specs.Parts.{Terms, nearest}
 use Rattle.git_client.specs.declared.events.Ending.{Ending}
 use Rattle.git_client.specs.declared.events.Ending.TheVariants.{FlushOnly}
+use Rattle.git_server.specs.Answers.{IsAnswer}
 use Rattle.git_server.specs.BoundaryLaws.{told_keep}
 use Rattle.git_server.specs.ListRepo.{lists_of, state_of}
 use Rattle.git_server.specs.Lists.{Lists}
@@ -34,7 +35,7 @@ use Rattle.git2show_lib.proofs.HearingAnswers.{heard, whole_after}
 -- ---- answers one after the other
 
 -- packets give what they do, and those behind them what they do
-all_give : (t : Terms) (asked : List Asked) (before : List Pkt) (gs hs : List Given) (events later : List EventValue) → GiveAll t asked before gs events
+pub all_give : (t : Terms) (asked : List Asked) (before : List Pkt) (gs hs : List Given) (events later : List EventValue) → GiveAll t asked before gs events
     → GiveAll t asked (nearest gs before) hs later → GiveAll t asked before (gs ++ hs) (events ++ later)
 all_give t asked before [] hs events later e gives =
     subst (λ (l : List EventValue). GiveAll t asked before hs (l ++ later)) (sym e) gives
@@ -47,7 +48,7 @@ all_give t asked before (g ∷ gs) hs events later (now, rest, e, at, others) gi
 )
 
 -- the packets of two lists stand behind those before both
-nearest-append : (gs hs : List Given) (before : List Pkt) → nearest (gs ++ hs) before ≡ nearest hs (nearest gs before)
+pub nearest-append : (gs hs : List Given) (before : List Pkt) → nearest (gs ++ hs) before ≡ nearest hs (nearest gs before)
 nearest-append [] hs before = refl
 nearest-append (g ∷ gs) hs before = nearest-append gs hs (g.packet ∷ before)
 
@@ -60,7 +61,7 @@ pub record Cut (gs : List Given) (front back : List Pkt) : Type 0 where
   pub second_are : packets_of second ≡ back
 
 -- as they do
-cut_at : (gs : List Given) (front back : List Pkt) → packets_of gs ≡ front ++ back → Cut gs front back
+pub cut_at : (gs : List Given) (front back : List Pkt) → packets_of gs ≡ front ++ back → Cut gs front back
 cut_at gs [] back e = record { first = []; second = gs; whole = refl; first_are = refl; second_are = e }
 cut_at [] (p ∷ front) back e = absurd (cc)
 cut_at (g ∷ gs) (p ∷ front) back e =
@@ -75,25 +76,31 @@ cut_at (g ∷ gs) (p ∷ front) back e =
       second_are = c.second_are;
     }
 
-module _ (t : Terms) (repo : Repository) (sound : IsSound repo) (written : CanBeWritten repo) (same : repo.format ≡ t.format)
-    (flush_only : t.ending ≡ FlushOnly) where
-  -- after an answer's flush comes nothing
-  no_end : (packets : List Pkt) → packets ≡ packets ++ end_packets t.ending
-  no_end packets = sym (ap (λ (ending : Ending). packets ++ end_packets ending) flush_only ∙ append-nil packets)
+-- the packets are an answer to each question, in their order, each with what comes after its flush
+abbrev pub AreEnded : Ending → Repository → List Asked → List Pkt → Type 0
+AreEnded ending repo [] packets = packets ≡ []
+AreEnded ending repo (q ∷ asked) packets =
+    (answer : List Pkt) × (more : List Pkt) × (packets ≡ (answer ++ end_packets ending) ++ more) × IsAnswer repo q answer × AreEnded ending repo asked more
 
+-- after an answer's flush comes nothing
+pub ended_by_flush : (repo : Repository) (asked : List Asked) (packets : List Pkt) → AreAnswers repo asked packets → AreEnded FlushOnly repo asked packets
+ended_by_flush repo [] packets none = none
+ended_by_flush repo (q ∷ asked) packets (answer, more, parts, is, rest) =
+    (answer, more, parts ∙ ap (λ (l : List Pkt). l ++ more) (sym (append-nil answer)), is, ended_by_flush repo asked more rest)
+
+module _ (t : Terms) (repo : Repository) (sound : IsSound repo) (written : CanBeWritten repo) (same : repo.format ≡ t.format) where
   -- all answers give what they tell, and then the conversation is whole
   pub all_heard : (asked earlier later : List Asked) (before packets : List Pkt) (gs : List Given) → All (AsksIn t.format) asked
-      → AreAnswers repo asked packets → AreWhole t earlier before → packets_of gs ≡ packets
+      → AreEnded t.ending repo asked packets → AreWhole t earlier before → packets_of gs ≡ packets
       → GiveAll t (earlier ++ (asked ++ later)) before gs (told_all repo asked) × AreWhole t (earlier ++ asked) (nearest gs before)
   all_heard [] earlier later before packets [] asks none before_whole e =
       (refl, subst (λ (l : List Asked). AreWhole t l before) (sym (append-nil earlier)) before_whole)
   all_heard [] earlier later before packets (g ∷ gs) asks none before_whole e = absurd (cc)
   all_heard (q ∷ asked) earlier later before packets gs asks (answer, more, parts, is, rest) before_whole e =
-      let c = cut_at gs answer more (e ∙ parts) in
+      let c = cut_at gs (answer ++ end_packets t.ending) more (e ∙ parts) in
       let one = All-head (AsksIn t.format) q asked asks in
-      let cut = c.first_are ∙ no_end answer in
-      let now = heard t repo earlier q before answer c.first sound written same one is before_whole cut (asked ++ later) in
-      let then = whole_after t repo earlier q before answer c.first sound written same one is before_whole cut in
+      let now = heard t repo earlier q before answer c.first sound written same one is before_whole c.first_are (asked ++ later) in
+      let then = whole_after t repo earlier q before answer c.first sound written same one is before_whole c.first_are in
       let others = all_heard asked (earlier ++ q ∷ []) later (nearest c.first before) more c.second (All-tail (AsksIn t.format) q asked asks) rest then
       c.second_are in
       let behind = subst (λ (l : List Asked). GiveAll t l (nearest c.first before) c.second (told_all repo asked))

@@ -4,31 +4,23 @@ use Rattle.std.specs.Option.{option_copied}
 use Rattle.std.proofs.Common.{arith, ◌≡◌, ℕ, ◌+◌, ◌<◌, ◌≤◌, Bor, Option, Some, None, List, [], ◌∷◌, ◌++◌, refl, ap, sym, ◌∙◌, subst, append_assoc}
 use Rattle.std.proofs.Common.{length, length-append, inl, inr}
 use Rattle.std.proofs.lemmas.Grind.{common_steps}
-use Rattle.std.proofs.lemmas.List.{append-nil}
 use Rattle.std.proofs.lemmas.List.Elements.{All-nil}
 use Rattle.git_names.specs.declared.object_format.Format.{Format}
 use Rattle.git_pkt.specs.Packets.{text_of}
 use Rattle.git_pkt.proofs.Texts.{text_loses_a_line_end}
-use Rattle.git_msg.specs.Texts.{parts_left, parts_of}
 use Rattle.git_msg.proofs.TextParts.{bytes_left}
-use Rattle.git_server.specs.Lists.{Lists, IsRepository}
-use Rattle.git_server.specs.Repository.{IsRising}
-use Rattle.git_server.specs.Objects.{AreRising}
-use Rattle.git2show_lib.specs.RepositoryLines.{Said, Says, SaysNothing, format_line, lines_of}
-use Rattle.git2show_lib.specs.RepositoryText.{Begins, IsFirstBad, IsRepositoryText, MayStand, SayAll, lists_said, WantsMemory}
+use Rattle.git_server.specs.Lists.{Lists}
+use Rattle.git2show_lib.specs.RepositoryLines.{Said, reference, object, ready, boundary, Says, SaysNothing, format_line, lines_of}
+use Rattle.git2show_lib.specs.RepositoryText.{Begins, IsRepositoryText, MayStand, SayAll, WantsMemory}
+use Rattle.git2show_lib.specs.RepositoryText.{boundaries_in, counts_in, first_of, lists_said, objects_in, refs_in}
+use Rattle.git2show_lib.specs.LinesTold.{AreTold, lines_behind, ready_lines}
+use Rattle.git2show_lib.specs.RepositoryProgress.{IsLinesFault}
+use Rattle.git2show_lib.specs.RepositoryFaults.{IsTextFault}
+use Rattle.git2show_lib.specs.declared.repository_text.TextFault.{TextFault}
+use Rattle.git2show_lib.specs.declared.repository_text.TextFault.TheVariants.{Bad, OutOfMemory as OutOfMemoryOfText}
 use Rattle.git2show_lib.specs.Drafts.{Adds, Holds, IsLineFault, empty_lists, with_pack}
 use Rattle.git2show_lib.specs.declared.drafts.LineFault.TheVariants.{Refused, OutOfMemory}
 use Rattle.git2show_lib.proofs.Saying.{one_said}
-
--- some lines were read, and this is left
-pub record Reading (text : List ℕ) (format : Format) (lists : Lists) (line : ℕ) (rest : Option (List ℕ)) : Type 0 where
-  pub before : List (List ℕ)
-  pub whole : lines_of text ≡ before ++ parts_left 10 rest
-  pub count : line ≡ length before
-  pub said : List Said
-  pub begins : Begins format before said
-  pub holds : Holds said lists
-  pub format_is : lists.format ≡ format
 
 nothing_stands : MayStand []
 nothing_stands = record {
@@ -44,17 +36,14 @@ nothing_holds format = record {
   of_format = record { by_refs = All-nil _; by_objects = All-nil _; by_boundaries = All-nil _ };
 }
 
-pub started : (text first : List ℕ) (rest : Option (List ℕ)) (format : Format) (lists : Lists) → lines_of text ≡ first ∷ parts_left 10 rest
-    → first ≡ format_line format → lists ≡ empty_lists format → Reading text format lists 1 rest
-started text first rest format lists lines is empty = record {
-  before = first ∷ [];
-  whole = lines;
-  count = refl;
-  said = [];
-  begins = record { others = []; spelled = ap (λ (l : List ℕ). l ∷ []) is; say_all = tt; may_stand = nothing_stands };
-  holds = subst (Holds []) (sym empty) (nothing_holds format);
-  format_is = ap (λ (l : Lists). l.format) empty;
-}
+pub started : (format : Format) (line : List ℕ) (lists : Lists) → line ≡ format_line format → lists ≡ empty_lists format → AreTold (line ∷ []) lists
+started format line lists is empty =
+    let there : AreTold (line ∷ []) (empty_lists format) = record {
+      said = [];
+      begins = record { others = []; spelled = ap (λ (l : List ℕ). l ∷ []) is; say_all = tt; may_stand = nothing_stands };
+      holds = nothing_holds format;
+    } in
+    subst (AreTold (line ∷ [])) (sym empty) there
 
 say_more : (format : Format) (lines : List (List ℕ)) (said : List Said) (line : List ℕ) (next : Said) → SayAll format lines said → Says format line next
     → SayAll format (lines ++ line ∷ []) (said ++ next ∷ [])
@@ -66,61 +55,86 @@ say_more format (l ∷ ls) [] line next h is = absurd h
 pub length_more : (lines : List (List ℕ)) (line : List ℕ) → length (lines ++ line ∷ []) ≡ length lines + 1
 length_more lines line = grind (arith, common_steps)
 
-pub stepped : (text : List ℕ) (format : Format) (old new : Lists) (line : ℕ) (left this : List ℕ) (next : Option (List ℕ)) (says : Said)
-    → Reading text format old line (Some left) → parts_of 10 left ≡ this ∷ parts_left 10 next → Says format this says → Adds old says new
-    → Reading text format new (line + 1) next
-stepped text format old new line left this next says h lines is adds =
+pub stepped : (lines : List (List ℕ)) (old new : Lists) (line : List ℕ) (says : Said) → AreTold lines old → Says old.format line says
+    → Adds old says new → AreTold (lines ++ line ∷ []) new
+stepped lines old new line says h is adds =
     let held = adds.holds h.said h.holds in
+    let begins : Begins old.format (lines ++ line ∷ []) (h.said ++ says ∷ []) = record {
+      others = h.begins.others ++ line ∷ [];
+      spelled = ap (λ (ls : List (List ℕ)). ls ++ line ∷ []) h.begins.spelled;
+      say_all = say_more old.format h.begins.others h.said line says h.begins.say_all is;
+      may_stand = held.may_stand;
+    } in
     record {
-      before = h.before ++ this ∷ [];
-      whole = h.whole ∙ ap (λ (ls : List (List ℕ)). h.before ++ ls) lines ∙ sym (append_assoc h.before (this ∷ []) (parts_left 10 next));
-      count = ap (λ (n : ℕ). n + 1) h.count ∙ sym (length_more h.before this);
       said = h.said ++ says ∷ [];
-      begins = record {
-        others = h.begins.others ++ this ∷ [];
-        spelled = ap (λ (ls : List (List ℕ)). ls ++ this ∷ []) h.begins.spelled;
-        say_all = say_more format h.begins.others h.said this says h.begins.say_all is;
-        may_stand = held.may_stand;
-      };
+      begins = subst (λ (f : Format). Begins f (lines ++ line ∷ []) (h.said ++ says ∷ [])) (sym adds.same_format) begins;
       holds = held;
-      format_is = adds.same_format ∙ h.format_is;
     }
 
-refused_at : (text : List ℕ) (format : Format) (lists : Lists) (line : ℕ) (left this : List ℕ) (next : Option (List ℕ))
-    → (h : Reading text format lists line (Some left)) → parts_of 10 left ≡ this ∷ parts_left 10 next
-    → ((more : Said) → Says format this more → MayStand (h.said ++ more ∷ []) → ⊥) → IsFirstBad text (line + 1)
-refused_at text format lists line left this next h lines refused = inr (record {
-  format = format;
-  before = h.before;
-  line = this;
-  behind = parts_left 10 next;
-  whole = h.whole ∙ ap (λ (ls : List (List ℕ)). h.before ++ ls) lines;
-  at_number = ap (λ (n : ℕ). n + 1) h.count;
+length_all : (format : Format) (lines : List (List ℕ)) (said : List Said) → SayAll format lines said → length lines ≡ length said
+length_all format [] [] h = refl
+length_all format (l ∷ ls) (s ∷ ss) h = let same = length_all format ls ss h.1 in omega (arith, same)
+length_all format [] (s ∷ ss) h = absurd h
+length_all format (l ∷ ls) [] h = absurd h
+
+length_said : (said : List Said) → length said ≡ length (refs_in said) + length (objects_in said) + length (counts_in said) + length (boundaries_in said)
+length_said [] = refl
+length_said (reference ref ∷ more) = let h = length_said more in omega (arith, h)
+length_said (object id size ∷ more) = let h = length_said more in omega (arith, h)
+length_said (ready count ∷ more) = let h = length_said more in omega (arith, h)
+length_said (boundary line ∷ more) = let h = length_said more in omega (arith, h)
+
+length_counts : (counts : List ℕ) → length counts ≤ 1 → length counts ≡ ready_lines (first_of counts)
+length_counts [] h = refl
+length_counts (count ∷ []) h = refl
+length_counts (count ∷ other ∷ counts) h = absurd (omega (arith, h))
+
+said_behind : (format : Format) (said : List Said) → MayStand said → lines_behind (lists_said format said []) ≡ length said + 1
+said_behind format said may =
+    let all = length_said said in
+    let counts = length_counts (counts_in said) may.one_count in
+    omega (arith, all, counts)
+
+-- the lists tell how many lines say them
+told_lines : (lines : List (List ℕ)) (lists : Lists) → AreTold lines lists → lines_behind lists ≡ length lines
+told_lines lines lists h =
+    let whole = ap length h.begins.spelled in
+    let all = length_all lists.format h.begins.others h.said h.begins.say_all in
+    let behind = said_behind lists.format h.said h.holds.may_stand in
+    let is = ap lines_behind h.holds.lists_are in
+    omega (arith, whole, all, behind, is)
+
+refused_at : (lines : List (List ℕ)) (lists : Lists) (line : List ℕ) (number : ℕ) → (h : AreTold lines lists) → number ≡ lines_behind lists + 1
+    → ((more : Said) → Says lists.format line more → MayStand (h.said ++ more ∷ []) → ⊥) → IsLinesFault (lines ++ line ∷ []) (Bad number)
+refused_at lines lists line number h is refused = inr (record {
+  format = lists.format;
+  before = lines;
+  line = line;
+  behind = [];
+  whole = refl;
+  at_number = is ∙ ap (λ (n : ℕ). n + 1) (told_lines lines lists h);
   said = h.said;
   begins = h.begins;
   refused = refused;
 })
 
-pub says_nothing_at : (text : List ℕ) (format : Format) (lists : Lists) (line : ℕ) (left this : List ℕ) (next : Option (List ℕ))
-    → Reading text format lists line (Some left) → parts_of 10 left ≡ this ∷ parts_left 10 next → SaysNothing format this → IsFirstBad text (line + 1)
-says_nothing_at text format lists line left this next h lines nothing =
-    refused_at text format lists line left this next h lines (λ more is may. nothing more is)
+pub says_nothing_at : (lines : List (List ℕ)) (lists : Lists) (line : List ℕ) (number : ℕ) → number ≡ lines_behind lists + 1
+    → SaysNothing lists.format line → AreTold lines lists → IsLinesFault (lines ++ line ∷ []) (Bad number)
+says_nothing_at lines lists line number is nothing h = refused_at lines lists line number h is (λ more is may. nothing more is)
 
-pub may_not_stand_at : (text : List ℕ) (format : Format) (lists : Lists) (line : ℕ) (left this : List ℕ) (next : Option (List ℕ)) (says : Said)
-    → Reading text format lists line (Some left) → parts_of 10 left ≡ this ∷ parts_left 10 next → Says format this says → IsLineFault lists says Refused
-    → IsFirstBad text (line + 1)
-may_not_stand_at text format lists line left this next says h lines is fault = refused_at text format lists line left this next h lines
-    (λ more also may. fault h.said h.holds (subst (λ (s : Said). MayStand (h.said ++ s ∷ [])) (one_said format this more says also is) may))
+pub may_not_stand_at : (lines : List (List ℕ)) (lists : Lists) (line : List ℕ) (number : ℕ) (says : Said) → number ≡ lines_behind lists + 1
+    → Says lists.format line says → IsLineFault lists says Refused → AreTold lines lists → IsLinesFault (lines ++ line ∷ []) (Bad number)
+may_not_stand_at lines lists line number says at is fault h = refused_at lines lists line number h at
+    (λ more also may. fault h.said h.holds (subst (λ (s : Said). MayStand (h.said ++ s ∷ [])) (one_said lists.format line more says also is) may))
 
-pub memory_ran_out_at : (text : List ℕ) (format : Format) (lists : Lists) (line : ℕ) (left this : List ℕ) (next : Option (List ℕ)) (says : Said)
-    → Reading text format lists line (Some left) → parts_of 10 left ≡ this ∷ parts_left 10 next → Says format this says → IsLineFault lists says OutOfMemory
-    → WantsMemory (lines_of text)
-memory_ran_out_at text format lists line left this next says h lines is fault = record {
-  format = format;
-  before = h.before;
-  line = this;
-  after = parts_left 10 next;
-  whole = h.whole ∙ ap (λ (ls : List (List ℕ)). h.before ++ ls) lines;
+pub memory_ran_out_at : (lines : List (List ℕ)) (lists : Lists) (line : List ℕ) (says : Said)
+    → Says lists.format line says → IsLineFault lists says OutOfMemory → AreTold lines lists → WantsMemory (lines ++ line ∷ [])
+memory_ran_out_at lines lists line says is fault h = record {
+  format = lists.format;
+  before = lines;
+  line = line;
+  after = [];
+  whole = refl;
   said = h.said;
   begins = h.begins;
   next = says;
@@ -129,24 +143,54 @@ memory_ran_out_at text format lists line left this next says h lines is fault = 
   takes_memory = fault.0;
 }
 
-pub no_format_at : (text first : List ℕ) (rest : Option (List ℕ)) → lines_of text ≡ first ∷ parts_left 10 rest
-    → ((format : Format) → first ≡ format_line format → ⊥) → IsFirstBad text 1
-no_format_at text first rest lines none = inl (record { at_first = refl; first = first; others = parts_left 10 rest; whole = lines; no_format = none })
+pub no_format_at : (line : List ℕ) → ((format : Format) → line ≡ format_line format → ⊥) → IsLinesFault (line ∷ []) (Bad 1)
+no_format_at line none = inl (record { at_first = refl; first = line; others = []; whole = refl; no_format = none })
 
-pub whole_repository : (text : List ℕ) (format : Format) (lists : Lists) (line : ℕ) → Reading text format lists line None → IsRepository lists
-whole_repository text format lists line h = record {
-  rising_refs = subst (λ (l : Lists). IsRising l.refs) (sym h.holds.lists_are) h.holds.may_stand.rising_refs;
-  rising_objects = subst (λ (l : Lists). AreRising l.objects) (sym h.holds.lists_are) h.holds.may_stand.rising_objects;
-  of_format = h.holds.of_format;
+-- a fault stays the first with the lines behind it
+pub fault_stays : (lines more : List (List ℕ)) (fault : TextFault) → IsLinesFault lines fault → IsLinesFault (lines ++ more) fault
+fault_stays lines more (Bad number) (inl h) = inl (record {
+  at_first = h.at_first;
+  first = h.first;
+  others = h.others ++ more;
+  whole = ap (λ (ls : List (List ℕ)). ls ++ more) h.whole;
+  no_format = h.no_format;
+})
+fault_stays lines more (Bad number) (inr h) = inr (record {
+  format = h.format;
+  before = h.before;
+  line = h.line;
+  behind = h.behind ++ more;
+  whole = ap (λ (ls : List (List ℕ)). ls ++ more) h.whole ∙ append_assoc h.before (h.line ∷ h.behind) more;
+  at_number = h.at_number;
+  said = h.said;
+  begins = h.begins;
+  refused = h.refused;
+})
+fault_stays lines more OutOfMemoryOfText h = record {
+  format = h.format;
+  before = h.before;
+  line = h.line;
+  after = h.after ++ more;
+  whole = ap (λ (ls : List (List ℕ)). ls ++ more) h.whole ∙ append_assoc h.before (h.line ∷ h.after) more;
+  said = h.said;
+  begins = h.begins;
+  next = h.next;
+  says = h.says;
+  may_stand = h.may_stand;
+  takes_memory = h.takes_memory;
 }
 
-pub whole_text : (text pack : List ℕ) (format : Format) (lists made : Lists) (line : ℕ) → Reading text format lists line None → made ≡ with_pack lists pack
+pub text_fault : (text : List ℕ) (fault : TextFault) → IsLinesFault (lines_of text) fault → IsTextFault text fault
+text_fault text (Bad number) h = h
+text_fault text OutOfMemoryOfText h = h
+
+pub whole_text : (text pack : List ℕ) (lists made : Lists) → AreTold (lines_of text) lists → made ≡ with_pack lists pack
     → IsRepositoryText text pack made
-whole_text text pack format lists made line h is = record {
-  format = format;
+whole_text text pack lists made h is = record {
+  format = lists.format;
   said = h.said;
-  begins = subst (λ (ls : List (List ℕ)). Begins format ls h.said) (sym (h.whole ∙ append-nil h.before)) h.begins;
-  lists_are = is ∙ ap (λ (l : Lists). with_pack l pack) h.holds.lists_are ∙ ap (λ (f : Format). lists_said f h.said pack) h.format_is;
+  begins = h.begins;
+  lists_are = is ∙ ap (λ (l : Lists). with_pack l pack) h.holds.lists_are;
 }
 
 pub cut_shorter : (text : List ℕ) → length (text_of text) ≤ length text
@@ -154,15 +198,6 @@ cut_shorter text = elim (text_loses_a_line_end text) [
   | inl same ↦ omega (arith, ap length same)
   | inr less ↦ omega (arith, ap length less, length-append (text_of text) (10 ∷ []))
 ]
-
--- a line takes a byte at least
-pub room_at_start : (text cut : List ℕ) (rest : Option (Bor (List ℕ))) → cut ≡ text_of text → MatchOption rest (Unit {0}) (λ r. length r.now < length cut)
-    → 1 + bytes_left (option_copied rest) ≤ length text + 1
-room_at_start text cut None is h = omega arith
-room_at_start text cut (Some r) is h =
-    let short = cut_shorter text in
-    let same : length cut ≡ length (text_of text) = ap (λ (t : List ℕ). length t) is in
-    omega (arith, h, short, same)
 
 pub room_behind : (most line : ℕ) (left : List ℕ) (rest : Option (Bor (List ℕ))) → line + (length left + 1) ≤ most + 1
     → MatchOption rest (Unit {0}) (λ r. length r.now < length left) → line + 1 + bytes_left (option_copied rest) ≤ most + 1

@@ -9,9 +9,14 @@ pub mod RepositoryLines
 pub mod RepositoryText
 pub mod DraftLists
 pub mod Drafts
+pub mod LinesTold
+pub mod RepositoryProgress
+pub mod RepositoryReader
 pub mod RepositoryFaults
 pub mod Scripts
 pub mod HeldScripts
 pub mod ScriptLines
 pub mod ScriptFaults
 pub mod ToldAnswers
+pub mod Plays
+pub mod PlaySteps

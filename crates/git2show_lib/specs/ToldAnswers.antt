@@ -1,22 +1,25 @@
 -- What a repository's answer to a question tells a client: the events, however the answer is written and cut.
-use Rattle.std.specs.Prelude.{◌≡◌, ℕ, Bool, true, false, All, Some, List, [], ◌∷◌, ◌++◌, map}
+use Rattle.std.specs.Prelude.{◌≡◌, ℕ, Bool, true, false, not, ◌||◌, if◌then◌else◌, All, Option, Some, None, List, [], ◌∷◌, ◌++◌, map, codes}
 use Rattle.std.specs.List.{filter_map, flat_map}
 use Rattle.std.specs.Option.{ForSome, option_map}
+use Rattle.git_names.specs.ObjectFormat.{name_of as format_name}
 use Rattle.git_names.specs.ObjectName.{ObjectName, IsOid}
 use Rattle.git_names.specs.declared.object_format.Format.{Format}
 use Rattle.git_pkt.specs.Packets.{Pkt, resp_end}
 use Rattle.git_pkt.specs.Splits.{Given}
+use Rattle.git_msg.specs.declared.offers.Offer.{Offer}
 use Rattle.git_msg.specs.declared.Boundary.{Boundary}
 use Rattle.git_msg.specs.declared.Boundary.TheVariants.{Shallow, Unshallow}
 use Rattle.git_msg.specs.Arguments.{IsNameIn}
 use Rattle.git_msg.specs.Asked.{Asked, FetchAsked, LsRefsAsked, ObjectInfoAsked, ls_refs, fetch, object_info}
 use Rattle.git_msg.specs.ResponseLines.{IsSize, Wanted, object_of, wanted_of}
-use Rattle.git_client.specs.Events.{EventValue, reference, ack, nak, ready, shallow, unshallow, wanted_ref, pack, info, ended}
+use Rattle.git_client.specs.Events.{EventValue, capability, offered, reference, ack, nak, ready, shallow, unshallow, wanted_ref, pack, info, ended}
 use Rattle.git_client.specs.declared.events.Ending.{Ending}
 use Rattle.git_client.specs.declared.events.Ending.TheVariants.{FlushOnly, ResponseEnd}
 use Rattle.git_server.specs.Answers.{shown_line, shown_refs}
 use Rattle.git_server.specs.FetchAnswers.{common, negotiates}
 use Rattle.git_server.specs.Repository.{Entry, Repository, found_ref}
+use Rattle.git2show_lib.specs.Scripts.{everything}
 
 -- the references that are shown
 abbrev pub told_refs : Repository → LsRefsAsked → List EventValue
@@ -89,3 +92,32 @@ packets_of gs = map (λ g. g.packet) gs
 -- what the answers to these questions tell, each with its end
 abbrev pub told_all : Repository → List Asked → List EventValue
 told_all repo asked = flat_map (λ q. told_by repo q ++ ended ∷ []) asked
+
+-- a capability without a value, where it is offered
+abbrev pub told_where : Bool → List ℕ → List EventValue
+told_where is_offered key = if is_offered then capability key None ∷ [] else []
+
+-- the features of fetch that are offered
+abbrev pub fetch_features : (shallow ref_in_want : Bool) → Option (List ℕ)
+fetch_features false false = None
+fetch_features true false = Some (codes "shallow")
+fetch_features false true = Some (codes "ref-in-want")
+fetch_features true true = Some (codes "shallow ref-in-want")
+
+-- what the advertisement of an offer tells
+abbrev pub told_offer : Offer → List EventValue
+told_offer offer =
+    capability (codes "agent") (Some (codes "git2/1")) ∷ capability (codes "ls-refs") None
+    ∷ capability (codes "fetch") (fetch_features offer.shallow offer.ref_in_want)
+    ∷ (told_where offer.server_option (codes "server-option")
+    ++ capability (codes "object-format") (Some (format_name offer.format)) ∷ (told_where offer.object_info (codes "object-info") ++ offered ∷ []))
+
+-- what a play of these requests tells: all that is offered, and the answers
+abbrev pub told_play : Format → Repository → List Asked → List EventValue
+told_play format repo asked = told_offer (everything format) ++ told_all repo asked
+
+-- the pack of an answer: that of a fetch which does not negotiate, or for which the repository is ready
+abbrev pub answered_pack : Repository → Asked → List ℕ
+answered_pack repo (ls_refs q) = []
+answered_pack repo (fetch q) = if not (negotiates q) || repo.is_ready q then repo.pack q else []
+answered_pack repo (object_info q) = []

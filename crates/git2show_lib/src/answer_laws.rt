@@ -9,13 +9,21 @@ ghost use Rattle.git_client.specs.Conversation.{GiveAll};
 ghost use Rattle.git_client.specs.Events.{ended};
 ghost use Rattle.git_client.specs.Parts.{Terms, nearest};
 ghost use Rattle.git_client.specs.declared.events.Ending.TheVariants.{FlushOnly};
-ghost use Rattle.git_server.specs.Answers.{IsAnswer};
+ghost use Rattle.git_server.specs.Answers.{IsAnswer, advertisement_of};
 ghost use Rattle.git_server.specs.ListRepo.{lists_of, state_of};
 ghost use Rattle.git_server.specs.Repository.{Repository, IsSound};
 ghost use Rattle.git_server.specs.Sessions.{AreAnswers};
 ghost use Rattle.git_server.specs.declared.list_repo.ListRepo.{ListRepo};
 ghost use Rattle.git2show_lib.specs.RepositoryText.{IsRepositoryText};
-ghost use Rattle.git2show_lib.specs.ToldAnswers.{AsksIn, CanBeWritten, end_packets, packets_of, told_all, told_by};
+ghost use Rattle.git2show_lib.specs.Scripts.{everything};
+ghost use Rattle.git2show_lib.specs.ToldAnswers.{AsksIn, CanBeWritten, end_packets, packets_of, told_all, told_by, told_offer};
+
+/// The advertisement of a server that offers everything is heard as it was meant, whatever is asked later. Then the first answer may follow.
+pub fn heard_offer()
+    ensures heard { (t : Terms) (asked : List Asked) (gs : List Given) → packets_of gs ≡ advertisement_of (everything t.format)
+        → GiveAll t asked [] gs (told_offer (everything t.format)) }
+    ensures whole { (t : Terms) (gs : List Given) → packets_of gs ≡ advertisement_of (everything t.format) → AreWhole t [] (nearest gs []) }
+{}
 
 /// A whole answer is heard as it was meant: after the advertisement and the answers to the questions before, none of its packets is refused,
 /// and it gives just the events that the repository's answers name, however the pack is cut. Then the next answer may follow.

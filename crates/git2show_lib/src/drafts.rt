@@ -1,15 +1,17 @@
 //! What the lines of a repository's text said so far.
 
-ghost use Rattle.std.specs.Prelude.{◌≡◌, ◌↔◌, All, IsTrue, IfOk};
+ghost use Rattle.std.specs.Prelude.{◌≡◌, ◌↔◌, ◌+◌, ◌++◌, ◌∷◌, [], ℕ, List, All, IsTrue, IfOk, MatchResult};
 ghost use Rattle.git_server.specs.ListRepo.{lists_of};
-ghost use Rattle.git_server.specs.Lists.{IsRepository};
-ghost use Rattle.git_server.specs.Repository.{IsNamed};
+ghost use Rattle.git_server.specs.Objects.{AreRising, object_of};
+ghost use Rattle.git_server.specs.Repository.{IsNamed, IsOfFormat, IsRising};
 ghost use Rattle.git_msg.specs.References.{shown_reference};
 ghost use Rattle.git2show_lib.specs.RepositoryLines.{shown};
 ghost use Rattle.git2show_lib.specs.RepositoryText.{entry_of};
-ghost use Rattle.git2show_lib.specs.Drafts.{AddsBoundary, AddsCount, AddsObject, AddsReference, AddsSaid, ComesLast, ComesLastObject, IsFit, empty_lists, with_pack};
+ghost use Rattle.git2show_lib.specs.Drafts.{AddsBoundary, AddsCount, AddsObject, AddsReference, AddsSaid};
+ghost use Rattle.git2show_lib.specs.Drafts.{ComesLast, ComesLastObject, IsFit, empty_lists, with_pack};
 
-use crate::repository_lines::Item;
+use crate::repository_lines::{Item, read_item};
+use crate::repository_text::TextFault;
 use git_msg::{Boundary, Reference};
 use git_names::{Format, Oid};
 use git_server::{ListRepo, RefEntry};
@@ -24,7 +26,7 @@ pub(crate) enum LineFault {
     OutOfMemory,
 }
 
-/// What the lines said so far.
+/// What the lines said so far. With a pack it makes a repository at each moment.
 #[derive(Drop)]
 pub(crate) struct Draft {
     format: Format,
@@ -32,11 +34,18 @@ pub(crate) struct Draft {
     objects: Vec<(Oid, u64)>,
     ready_after: Option<u32>,
     boundaries: Vec<Boundary>,
+    ghost rising: { IsRising refs.items },
+    ghost rising_objects: { AreRising objects.items },
     ghost named: { All (λ ref. IsNamed ref.name ref.target) refs.items },
+    ghost of_format: { All (IsOfFormat format) refs.items },
+    ghost of_objects: { All (λ object. object.0.format ≡ format) objects.items },
+    ghost of_boundaries: { All (λ boundary. (object_of boundary).format ≡ format) boundaries.items },
 }
 
 impl Draft {
     ghost use Rattle.git2show_lib.specs.DraftLists.{drafted};
+    ghost use Rattle.git2show_lib.specs.LinesTold.{AreTold, lines_behind};
+    ghost use Rattle.git2show_lib.specs.RepositoryProgress.{IsLinesFault};
 
     /// Nothing yet.
     pub(crate) fn new(alloc: Global, format: Format) -> Draft
@@ -48,6 +57,36 @@ impl Draft {
             objects: Vec::new(alloc),
             ready_after: None,
             boundaries: Vec::new(alloc),
+        }
+    }
+
+    /// The number of the next line: of those that said this, the first told the format.
+    fn next_line(&self) -> u64
+        ensures { result ≡ lines_behind (drafted self.now) + 1 }
+    {
+        let ready: u64 = match self.ready_after {
+            Some(_) => 1,
+            None => 0,
+        };
+        let refs = self.refs.as_slice().len() as u64;
+        let objects = self.objects.as_slice().len() as u64;
+        let boundaries = self.boundaries.as_slice().len() as u64;
+        refs + objects + boundaries + ready + 2
+    }
+
+    /// Keeps what a further line says, or tells why it is the first that is refused.
+    pub(crate) fn read(&mut self, alloc: Global, line: &[u8]) -> Result<(), TextFault>
+        ensures { (lines : List (List ℕ)) → AreTold lines (drafted self.old)
+            → MatchResult result (λ _. AreTold (lines ++ line.now ∷ []) (drafted self.new)) (IsLinesFault (lines ++ line.now ∷ [])) }
+    {
+        let line_number = self.next_line();
+        let Some(item) = read_item(self.format, line) else {
+            return Err(TextFault::Bad { line: line_number });
+        };
+        match self.keep(alloc, &item) {
+            Ok(()) => Ok(()),
+            Err(LineFault::Refused) => Err(TextFault::Bad { line: line_number }),
+            Err(LineFault::OutOfMemory) => Err(TextFault::OutOfMemory),
         }
     }
 
@@ -65,7 +104,8 @@ impl Draft {
     }
 
     fn keep_reference(&mut self, alloc: Global, reference: &Reference<'_>) -> Result<(), LineFault>
-        requires { IsNamed (shown_reference reference.now).name (shown_reference reference.now).target }
+        requires named { IsNamed (shown_reference reference.now).name (shown_reference reference.now).target }
+        requires of_format { IsOfFormat (drafted self.old).format (entry_of (shown_reference reference.now)) }
         ensures { AddsReference (drafted self.old) (entry_of (shown_reference reference.now)) (drafted self.new) result }
     {
         if !comes_last(&self.refs, reference.name) {
@@ -81,6 +121,7 @@ impl Draft {
     }
 
     fn keep_object(&mut self, id: Oid, size: u64) -> Result<(), LineFault>
+        requires { id.format ≡ (drafted self.old).format }
         ensures { AddsObject (drafted self.old) (id, size) (drafted self.new) result }
     {
         if !comes_last_object(&self.objects, &id) {
@@ -103,6 +144,7 @@ impl Draft {
     }
 
     fn keep_boundary(&mut self, boundary: Boundary) -> Result<(), LineFault>
+        requires { (object_of boundary).format ≡ (drafted self.old).format }
         ensures { AddsBoundary (drafted self.old) boundary (drafted self.new) result }
     {
         match self.boundaries.push(boundary) {
@@ -113,7 +155,6 @@ impl Draft {
 
     /// The repository that the lines said, with this pack.
     pub(crate) fn finish(self, pack: Vec<u8>) -> ListRepo
-        requires { IsRepository (drafted self) }
         ensures { lists_of result ≡ with_pack (drafted self) pack.items }
     {
         let Draft {

@@ -3,9 +3,7 @@
 ghost use Rattle.std.specs.Prelude.{MatchResult};
 ghost use Rattle.git2show_lib.specs.RepositoryFaults.{IsTextFault, IsWholeText};
 
-use crate::drafts::{Draft, LineFault};
-use crate::repository_lines::{read_format, read_item};
-use git_msg::split_at_first;
+use crate::repository_progress::Progress;
 use git_server::ListRepo;
 use std::alloc::Global;
 use thiserror::Error;
@@ -34,24 +32,6 @@ pub enum TextFault {
 pub fn read_repo(alloc: Global, text: &[u8], pack: Vec<u8>) -> Result<ListRepo, TextFault>
     ensures { MatchResult result (IsWholeText text.now pack.items) (IsTextFault text.now) }
 {
-    let (first, mut rest) = split_at_first(git_pkt::text(text), b'\n');
-    let Some(format) = read_format(first) else {
-        return Err(TextFault::Bad { line: 1 });
-    };
-    let mut draft = Draft::new(alloc, format);
-    let mut line: u64 = 1;
-    'lines: while let Some(left) = rest {
-        line += 1;
-        let (this, next) = split_at_first(left, b'\n');
-        let Some(item) = read_item(format, this) else {
-            return Err(TextFault::Bad { line });
-        };
-        match draft.keep(alloc, &item) {
-            Ok(()) => {}
-            Err(LineFault::Refused) => return Err(TextFault::Bad { line }),
-            Err(LineFault::OutOfMemory) => return Err(TextFault::OutOfMemory),
-        }
-        rest = next;
-    }
-    Ok(draft.finish(pack))
+    let (progress, begun) = Progress::Start.with_text(alloc, text);
+    progress.finish(alloc, begun, pack)
 }

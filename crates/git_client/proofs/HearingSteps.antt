@@ -1,5 +1,5 @@
 -- What a call of `feed` adds to the transcript and to the pack, and what it comes to over a piece.
-use Rattle.std.proofs.Common.{arith, ◌≡◌, ℕ, suc, ◌+◌, ◌-◌, ◌≤◌, Bool, true, false, List, [], ◌∷◌, ◌++◌, length, map, take, drop}
+use Rattle.std.proofs.Common.{arith, ◌≡◌, ℕ, suc, ◌+◌, ◌-◌, ◌≤◌, ◌<◌, Bool, true, false, List, [], ◌∷◌, ◌++◌, length, map, take, drop}
 use Rattle.std.proofs.Common.{Option, None, Result, Err, refl, sym, ap, ◌∙◌, subst, append_assoc, append-nil, length-append, length-drop}
 use Rattle.git_pkt.specs.declared.fault.Fault.{Fault}
 use Rattle.git_pkt.specs.declared.fault.RunFault.{RunFault}
@@ -231,6 +231,7 @@ module _ {A : Type 0} where
           all = λ e. refl;
           sound = sound_where_due (phase_of c) due;
           whole = λ none. absurd (cc);
+          moves = λ some. some;
         }
 
     -- a fault was met, and the streams were flushed, of which one may have failed
@@ -283,6 +284,9 @@ module _ {A : Type 0} where
 
       pub heard_sound : fault_of c ≡ None
       heard_sound = sound_after e c (tells_by (EventGot e) is).3
+
+      pub heard_some : 0 < done + heard.used
+      heard_some = omega (arith, (tells_by (EventGot e) is).0)
 
       pub heard_to_question : wants_input c ≡ false → can_ask c ≡ true
       heard_to_question = asks_after e c (tells_by (EventGot e) is).3

@@ -72,10 +72,10 @@ module _ {A : Type 0} where
     pub sound : fault_of new ≡ None
     pub not_ready : can_ask new ≡ false
 
-  says_nothing : (client : Client A) → SaysOn client [] client
+  pub says_nothing : (client : Client A) → SaysOn client [] client
   says_nothing client t h c = subst (λ (given : List ℕ). Converses t (record h { given = given }) client) (sym (append-nil h.given)) c
 
-  says_then : (old middle new : Client A) (u v : List ℕ) → SaysOn old u middle → SaysOn middle v new → SaysOn old (u ++ v) new
+  pub says_then : (old middle new : Client A) (u v : List ℕ) → SaysOn old u middle → SaysOn middle v new → SaysOn old (u ++ v) new
   says_then old middle new u v first second t h c =
       subst (λ (given : List ℕ). Converses t (record h { given = given }) new) (append_assoc h.given u v)
       (second t (record h { given = h.given ++ u }) (first t h c))
@@ -92,7 +92,7 @@ module _ {A : Type 0} where
   }
 
   -- a client that can't ask and has no fault, and gives no packet, owes none
-  gives_no_packet : (sent : Sent) (middle new : Client A) → TellsSent sent middle new → can_ask middle ≡ false → fault_of middle ≡ None
+  pub gives_no_packet : (sent : Sent) (middle new : Client A) → TellsSent sent middle new → can_ask middle ≡ false → fault_of middle ≡ None
       → ((bytes : Bor (List ℕ)) → sent ≡ Packet bytes → ⊥) → (new ≡ middle) × (left_to_say middle ≡ [])
   gives_no_packet (Packet bytes) middle new tells not_ready sound none = absurd (none bytes refl)
   gives_no_packet NeedInput middle new tells not_ready sound none = (tells.1, hearing_owes_nothing middle.phase middle.request tells.0)
@@ -172,7 +172,7 @@ module _ {A : Type 0} where
       (says_nothing middle) asks.no_more
 
   -- all of the question was said, so its response is due
-  hears_next : (old middle new : Client A) (request : Request A) (writer : Flow) → Asks old request middle → Says false middle new writer
+  pub hears_next : (old middle new : Client A) (request : Request A) (writer : Flow) → Asks old request middle → Says false middle new writer
       → wants_input new ≡ true
   hears_next old middle new request writer asks says =
       hears_after_all new.phase new.request says.not_ready says.sound
@@ -189,3 +189,11 @@ module _ {A : Type 0} where
   asks_said (Err WriteFault) old middle new request writer out ready asks told says named =
       asks_giving true old middle new request writer out ready asks.asks says.given says.written (in_part out _ told) says.says says.not_ready
   asks_said (Err fault) old middle new request writer out ready asks told says named = absurd (cc)
+
+  -- the same where all of it was said: just what was given was said
+  pub asks_whole : (old middle new : Client A) (request : Request A) (writer out : Flow) → can_ask old ≡ true → Asks old request middle
+      → WrittenAs false out (asked_line (command_asked (asked_of request))) → (says : Says false middle new writer)
+      → (step : AsksNext false old new request writer out) × (step.given ≡ says.given)
+  unfolding asks_giving
+  asks_whole old middle new request writer out ready asks told says =
+      (asks_giving false old middle new request writer out ready asks.asks says.given says.written told says.says says.not_ready, refl)

@@ -1,5 +1,5 @@
 -- What the steps of a run do: a client hears the next response, and says the next question.
-use Rattle.std.specs.Prelude.{◌≡◌, ℕ, ◌+◌, ◌-◌, ◌≤◌, Bool, true, false, min, List, [], ◌∷◌, ◌++◌, length, take, drop, Some, None, Result, Ok, Err}
+use Rattle.std.specs.Prelude.{◌≡◌, ℕ, ◌+◌, ◌-◌, ◌≤◌, ◌<◌, Bool, true, false, min, List, [], ◌∷◌, ◌++◌, length, take, drop, Some, None, Result, Ok, Err}
 use Rattle.std.specs.Io.KnownBytes.{Consumes}
 use Rattle.git_pkt.specs.Streams.{Flow, WrittenAs, IsTimely}
 use Rattle.git_pkt.specs.PacketReader.{ShownByFeed}
@@ -77,6 +77,7 @@ module _ {A : Type 0} where
     pub all : wants_input new ≡ true → used ≡ length piece
     pub sound : fault_of new ≡ None
     pub whole : wants_input new ≡ false → can_ask new ≡ true
+    pub moves : 0 < length piece → 0 < used
 
   -- a fault was met in the piece
   pub record HearsToFault (fault : Fault) (old new : Client A) (counts counts_after : Counts) (piece : List ℕ) (out packs : Flow) : Type 0 where

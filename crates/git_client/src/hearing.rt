@@ -26,11 +26,13 @@ pub struct Window {
     pub end: usize,
 }
 
-/// How many bytes of the pack and of the progress a response has given.
+/// How many bytes of the pack and of the progress a response has given. A response begins with none.
 #[derive(Clone, Copy, Debug)]
-struct Counts {
-    pack: u64,
-    progress: u64,
+pub struct Counts {
+    /// Those of the pack.
+    pub pack: u64,
+    /// Those of the progress.
+    pub progress: u64,
 }
 
 /// Hears what is due, the advertisement or a response, up to where the client can ask. What waits of the piece is heard
@@ -90,9 +92,11 @@ pub fn hear<R: Read, O: Write, P: Output, A: Allocator + Copy>(
     Ok(left)
 }
 
-/// Hears what a piece says, up to where the client can ask. Answers how many bytes were used. What was said before a fault is
-/// flushed.
-fn hear_piece<O: Write, P: Output, A: Allocator + Copy>(
+/// Hears what a piece says, up to where the client can ask, and counts on from `counts`, those of the response so far. Answers how
+/// many bytes were used. What was said before a fault is flushed.
+///
+/// `Refused` with the first fault of what was heard, and `WriteFault` where a write or a flush fails.
+pub fn hear_piece<O: Write, P: Output, A: Allocator + Copy>(
     client: &mut Client<A>,
     counts: &mut Counts,
     piece: &[u8],

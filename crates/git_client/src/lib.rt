@@ -16,5 +16,5 @@ mod transcript;
 pub use crate::client::Client;
 pub use crate::conversing::{ask_next, converse};
 pub use crate::events::{Ending, Event, Heard, HeardGot, Sent};
-pub use crate::hearing::{Window, hear};
+pub use crate::hearing::{Counts, Window, hear, hear_piece};
 pub use crate::transcript::{write_asked, write_event};

@@ -210,7 +210,7 @@ count_at_most [] = omega arith
 count_at_most (arg ∷ args) = omega (arith, has_text arg, count_at_most args, sum_by-cons (λ a. length (written_text a)) arg args)
 
 -- an argument that may stand in a request fits into a packet
-value_fits : (format : Format) (arg : Arg) → IsInRange format arg → length (written_text arg) < longest_payload
+pub value_fits : (format : Format) (arg : Arg) → IsInRange format arg → length (written_text arg) < longest_payload
 value_fits format symrefs value = omega arith
 value_fits format peel value = omega arith
 value_fits format (ref_prefix prefix) value = omega (arith, value, length-append (codes "ref-prefix ") prefix)

@@ -300,7 +300,7 @@ format_written_of offer Sha256 same = record {
 format_written : (offer : Offer) → IsCapabilityLine offer false (codes "object-format=" ++ format_name offer.format) object_format
 format_written offer = format_written_of offer offer.format refl
 
-meant_when_said : (format : Format) → IsFormatMeant format true
+pub meant_when_said : (format : Format) → IsFormatMeant format true
 meant_when_said Sha1 = tt
 meant_when_said Sha256 = refl
 
@@ -422,31 +422,64 @@ lines_say says_agent says_format c args =
       is_delimited = h.is_delimited;
     }
 
--- what is written of a request is a request for the same
-pub reads_back : (offer : Offer) (limit : ℕ) (says_agent says_format : Bool) (asked : Asked) (gs : List Given) → IsFormatMeant offer.format says_format
-    → takes_command offer (command_asked asked) ≡ true → HasValues offer.format asked → AreOffered offer asked
-    → written_bytes asked ≤ limit → Passes (end_checks asked)
-    → packets_of gs ≡ lines_written says_agent says_format offer.format asked → Asks offer limit gs asked (written_bytes asked)
-reads_back offer limit says_agent says_format asked gs meant taken values offered fits passes h =
+-- the packets are lines and a flush, and the lines ask for this
+pub record ReadsLines (offer : Offer) (limit : ℕ) (asked : Asked) (gs : List Given) : Type 0 where
+  pub front : List Given
+  pub last : Given
+  pub lines : List Line
+  pub of : Command
+  pub whole : gs ≡ front ++ last ∷ []
+  pub ends : last.packet ≡ flush
+  pub taken : AreLines offer limit [] front lines
+  pub once : commands_of lines ≡ of ∷ []
+  pub asked_is : asked ≡ asked_by of (arguments_of lines)
+  pub kept_is : written_bytes asked ≡ kept_in lines
+  pub delimited : has_delimiter lines ≡ true
+
+-- what is written of a request are lines that ask for the same, whatever is judged at its end
+pub lines_read_back : (offer : Offer) (limit : ℕ) (says_agent says_format : Bool) (asked : Asked) (gs : List Given)
+    → IsFormatMeant offer.format says_format → takes_command offer (command_asked asked) ≡ true → HasValues offer.format asked → AreOffered offer asked
+    → written_bytes asked ≤ limit → packets_of gs ≡ lines_written says_agent says_format offer.format asked → ReadsLines offer limit asked gs
+lines_read_back offer limit says_agent says_format asked gs meant taken values offered fits h =
     let c = command_asked asked in
     let args = arguments_in asked in
     let lines = lines_read says_agent says_format c args in
     let texts : AreTexts c offer args = λ k d within. argument_reads c offer _ (values k d within) (offered k d within) in
     let f = lines_finish offer limit c says_agent says_format args gs meant taken texts fits h in
     let says = lines_say says_agent says_format c args in
-    let asks : asked ≡ asked_by c (arguments_of lines) = sym (ap (asked_by c) says.says_arguments ∙ arguments_in_order asked) in
-    let checks : Passes (flush_checks_in true offer lines) =
-    ((c, says.says_commands, subst (λ (a : Asked). Passes (end_checks a)) asks passes), tt) in
     record {
       front = f.front;
       last = f.last;
       lines = lines;
-      command = c;
+      of = c;
       whole = f.whole;
       ends = f.ends;
       taken = f.taken;
       once = says.says_commands;
-      checks = subst (λ (b : Bool). Passes (flush_checks_in b offer lines)) (sym says.is_delimited) checks;
-      asked_is = asks;
+      asked_is = sym (ap (asked_by c) says.says_arguments ∙ arguments_in_order asked);
       kept_is = sym says.has_bytes;
+      delimited = says.is_delimited;
+    }
+
+-- what is written of a request is a request for the same
+pub reads_back : (offer : Offer) (limit : ℕ) (says_agent says_format : Bool) (asked : Asked) (gs : List Given) → IsFormatMeant offer.format says_format
+    → takes_command offer (command_asked asked) ≡ true → HasValues offer.format asked → AreOffered offer asked
+    → written_bytes asked ≤ limit → Passes (end_checks asked)
+    → packets_of gs ≡ lines_written says_agent says_format offer.format asked → Asks offer limit gs asked (written_bytes asked)
+reads_back offer limit says_agent says_format asked gs meant taken values offered fits passes h =
+    let r = lines_read_back offer limit says_agent says_format asked gs meant taken values offered fits h in
+    let checks : Passes (flush_checks_in true offer r.lines) =
+    ((r.of, r.once, subst (λ (a : Asked). Passes (end_checks a)) r.asked_is passes), tt) in
+    record {
+      front = r.front;
+      last = r.last;
+      lines = r.lines;
+      command = r.of;
+      whole = r.whole;
+      ends = r.ends;
+      taken = r.taken;
+      once = r.once;
+      checks = subst (λ (b : Bool). Passes (flush_checks_in b offer r.lines)) (sym r.delimited) checks;
+      asked_is = r.asked_is;
+      kept_is = r.kept_is;
     }

@@ -46,7 +46,7 @@ pub one_key : (text : List ℕ) (a b : Key) → IsWordOf text a → IsWordOf tex
 one_key text a b h k = sym (in_key text a h) ∙ in_key text b k
 
 -- the first word of an argument's text is that of its row
-in_row : (format : Format) (text : List ℕ) (a : Arg) → SaysArgument format text a → row_of text ≡ row_in a
+pub in_row : (format : Format) (text : List ℕ) (a : Arg) → SaysArgument format text a → row_of text ≡ row_in a
 in_row format text symrefs h = ap row_of h
 in_row format text peel h = ap row_of h
 in_row format text (ref_prefix p) h = ap row_of h.0

@@ -13,7 +13,7 @@ use Rattle.git_server.specs.Repository.{Repository, found_ref}
 use Rattle.git_server.specs.Packs.{Manner, whole, broken, IsPackfile}
 use Rattle.git_server.specs.AnsweredRequest.{IsNext}
 use Rattle.git_server.specs.FetchAnswers.{EndsWithBoundary, EndsWithRefs, IsAfter, IsFetchAnswer, IsFetchAnswerBy, IsNegotiated, ack_packet}
-use Rattle.git_server.specs.FetchAnswers.{boundary_packet, common, nak_or_acks, negotiates, ready_lines, wanted_packet}
+use Rattle.git_server.specs.FetchAnswers.{acknowledgments, boundary_packet, common, nak_or_acks, negotiates, ready_lines, shallow_info, wanted_packet, wanted_refs}
 use Rattle.git_server.specs.FetchPlaces.{IsFetchFrom, acknowledgments_from, acks_by, boundary_from}
 use Rattle.git_server.specs.FetchPlaces.{most_fetch, most_packets, place_by, wanted_from}
 use Rattle.git_server.specs.declared.acknowledging.AcknowledgmentsPlace.{AcknowledgmentsPlace}
@@ -26,7 +26,7 @@ use Rattle.git_server.specs.declared.packing.PackPlace.TheVariants.{Header as Pa
 use Rattle.git_server.specs.declared.sections.SectionPlace.{SectionPlace}
 use Rattle.git_server.specs.declared.sections.SectionPlace.TheVariants.{Header, Line}
 use Rattle.git_server.proofs.Flushes.{flushes-append}
-use Rattle.git_server.proofs.PackPackets.{packfile_ends_later, some_packfile}
+use Rattle.git_server.proofs.PackPackets.{broken_packfile_has_none, packfile_ends_later, some_packfile}
 
 -- Of an answer of which nothing was given.
 
@@ -197,3 +197,32 @@ ends_by repo q false packets h = fetch_ends_later repo q (ShallowInfo Header) pa
 
 pub fetch_ends_once : (repo : Repository) (q : FetchAsked) (packets : List Pkt) → IsFetchAnswer whole repo q packets → flushes packets ≡ 1
 fetch_ends_once repo q packets h = ends_by repo q (negotiates q) packets h
+
+-- an answer that breaks off has none
+after_none : (first : List Pkt) (P : List Pkt → Type 0) (packets : List Pkt) → flushes first ≡ 0 → ((others : List Pkt) → P others → flushes others ≡ 0)
+    → IsAfter first P packets → flushes packets ≡ 0
+after_none first P packets none others h = omega (arith, ap flushes h.packets_are, flushes-append first h.others, none, others h.others h.holds)
+
+broken_refs : (repo : Repository) (q : FetchAsked) (packets : List Pkt) → EndsWithRefs broken repo q packets → flushes packets ≡ 0
+broken_refs repo q packets =
+    after_none (wanted_refs repo q.want_refs) (IsPackfile broken (repo.pack q)) packets (wanted_has_none repo q.want_refs Header)
+    (broken_packfile_has_none (repo.pack q))
+
+broken_boundary : (repo : Repository) (q : FetchAsked) (packets : List Pkt) → EndsWithBoundary broken repo q packets → flushes packets ≡ 0
+broken_boundary repo q packets =
+    after_none (shallow_info (repo.boundaries q)) (EndsWithRefs broken repo q) packets (boundary_has_none (repo.boundaries q) Header) (broken_refs repo q)
+
+broken_negotiated : (ready : Bool) (repo : Repository) (q : FetchAsked) (lines packets : List Pkt) → flushes lines ≡ 0
+    → IsNegotiated ready lines broken repo q packets → flushes packets ≡ 0
+broken_negotiated true repo q lines packets none h =
+    let no_flush = flushes-append lines ready_lines in
+    after_none (lines ++ ready_lines) (EndsWithBoundary broken repo q) packets (omega (arith, no_flush, none)) (broken_boundary repo q) h
+broken_negotiated false repo q lines packets none h = absurd h
+
+broken_by : (repo : Repository) (q : FetchAsked) (b : Bool) (packets : List Pkt) → IsFetchAnswerBy b broken repo q packets → flushes packets ≡ 0
+broken_by repo q true packets h =
+    broken_negotiated (repo.is_ready q) repo q (acknowledgments repo q) packets (acknowledgments_have_none repo q AcknowledgmentsHeader) h
+broken_by repo q false packets h = broken_boundary repo q packets h
+
+pub broken_fetch_has_none : (repo : Repository) (q : FetchAsked) (packets : List Pkt) → IsFetchAnswer broken repo q packets → flushes packets ≡ 0
+broken_fetch_has_none repo q packets h = broken_by repo q (negotiates q) packets h

@@ -29,3 +29,4 @@ pub mod OneSession
 pub mod TooLong
 pub mod RunLemmas
 pub mod OneOutcome
+pub mod AtRest

@@ -67,18 +67,18 @@ sizes_end q repo SizesHeader = infos_end repo q.oids
 sizes_end q repo (Object next) = infos_end repo (drop next q.oids)
 
 -- an answer has one flush
-answer_ends : (repo : Repository) (q : Asked) (answer : List Pkt) → IsAnswer repo q answer → flushes answer ≡ 1
+pub answer_ends : (repo : Repository) (q : Asked) (answer : List Pkt) → IsAnswer repo q answer → flushes answer ≡ 1
 answer_ends repo (ls_refs q) answer h = ap flushes h ∙ refs_end q.symrefs q.peel (shown_refs q.ref_prefixes repo.refs)
 answer_ends repo (object_info q) answer h = ap flushes h ∙ sizes_end q repo SizesHeader
 answer_ends repo (fetch q) answer h = fetch_ends_once repo q answer h
 
-answers_end : (repo : Repository) (asked : List Asked) (packets : List Pkt) → AreAnswers repo asked packets → flushes packets ≡ length asked
+pub answers_end : (repo : Repository) (asked : List Asked) (packets : List Pkt) → AreAnswers repo asked packets → flushes packets ≡ length asked
 answers_end repo [] packets h = ap flushes h
 answers_end repo (q ∷ qs) packets (answer, more, e, is, later) =
     omega (arith, ap flushes e, flushes-append answer more, answer_ends repo q answer is, answers_end repo qs more later)
 
 -- packets are spelled in one way
-one_spelling : (ps qs : List Pkt) → AllFit ps → AllFit qs → spelled ps ≡ spelled qs → ps ≡ qs
+pub one_spelling : (ps qs : List Pkt) → AllFit ps → AllFit qs → spelled ps ≡ spelled qs → ps ≡ qs
 one_spelling [] [] h k e = refl
 one_spelling [] (q ∷ qs) h k e = absurd
     (omega (arith, ap length e, length-append (spelling_of q) (spelled qs), length-append (digits_of (length_field q)) (body_of q)))
@@ -97,7 +97,7 @@ option_owes : (offer : Offer) (b : Bool) → flushes (offered_line b (codes "ser
 option_owes offer true = info_owes offer.object_info
 option_owes offer false = info_owes offer.object_info
 
-line_owes : (offer : Offer) (line : AdvertisementLine) → flushes (advertisement_from offer line) ≡ 1
+pub line_owes : (offer : Offer) (line : AdvertisementLine) → flushes (advertisement_from offer line) ≡ 1
 line_owes offer End = refl
 line_owes offer ObjectInfo = refl
 line_owes offer ObjectFormat = info_owes offer.object_info
@@ -107,7 +107,7 @@ line_owes offer LsRefs = option_owes offer offer.server_option
 line_owes offer Agent = option_owes offer offer.server_option
 line_owes offer Version = option_owes offer offer.server_option
 
-owes_flush : {A : Type 0} (offer : Offer) (repo : Repository) (phase : Phase A) (owed : List Pkt) → outcome_in phase ≡ None → Owes offer repo phase owed
+pub owes_flush : {A : Type 0} (offer : Offer) (repo : Repository) (phase : Phase A) (owed : List Pkt) → outcome_in phase ≡ None → Owes offer repo phase owed
     → flushes owed ≡ 0 → reads_in phase ≡ true
 owes_flush offer repo Between owed none owes zero = refl
 owes_flush offer repo Within owed none owes zero = refl

@@ -7,7 +7,7 @@ use Rattle.git_pkt.specs.Packets.{Pkt, flush, flushes, longest_payload}
 use Rattle.git_pkt.specs.Bands.{AreBands, band_packet}
 use Rattle.git_pkt.specs.declared.band.Band.TheVariants.{Pack as PackBand}
 use Rattle.git_server.specs.FetchPlaces.{IsPackfileFrom}
-use Rattle.git_server.specs.Packs.{Manner, whole, broken, IsPackPart, EndsPack, EndsWhole, IsPackfile, packfile_header}
+use Rattle.git_server.specs.Packs.{Manner, whole, broken, IsPackPart, EndsPack, EndsWhole, IsPackfile, pack_source_packet, packfile_header}
 use Rattle.git_server.specs.declared.packing.PackPlace.{PackPlace}
 use Rattle.git_server.specs.declared.packing.PackPlace.TheVariants.{Header, Pack}
 use Rattle.git_server.proofs.Flushes.{flushes-append}
@@ -67,7 +67,7 @@ some_packfile pack Header =
     (packfile_header ∷ (single pack ++ flush ∷ []), record { tail = single pack ++ flush ∷ []; ends = ends_whole pack; packets_are = refl })
 some_packfile pack (Pack offset) = (single (drop offset pack) ++ flush ∷ [], ends_whole (drop offset pack))
 
-bands_have_none : (bytes : List ℕ) (bands : List Pkt) → AreBands PackBand bytes bands → flushes bands ≡ 0
+pub bands_have_none : (bytes : List ℕ) (bands : List Pkt) → AreBands PackBand bytes bands → flushes bands ≡ 0
 bands_have_none bytes [] h = refl
 bands_have_none bytes (p ∷ ps) (part, more, cut, some, few, is, later) = ap (λ (q : Pkt). flushes (q ∷ ps)) is ∙ bands_have_none more ps later
 
@@ -82,3 +82,9 @@ packfile_ends_once pack packets h = ap flushes h.packets_are ∙ pack_ends_once 
 pub packfile_ends_later : (pack : List ℕ) (place : PackPlace) (packets : List Pkt) → IsPackfileFrom whole pack place packets → flushes packets ≡ 1
 packfile_ends_later pack Header packets h = packfile_ends_once pack packets h
 packfile_ends_later pack (Pack offset) packets h = pack_ends_once (drop offset pack) packets h
+
+-- and none where the pack's source failed
+pub broken_packfile_has_none : (pack : List ℕ) (packets : List Pkt) → IsPackfile broken pack packets → flushes packets ≡ 0
+broken_packfile_has_none pack packets h =
+    ap flushes h.packets_are ∙ ap flushes h.ends.packets_are ∙ flushes-append h.ends.bands (pack_source_packet ∷ [])
+    ∙ ap (λ (n : ℕ). n + 0) (bands_have_none h.ends.front h.ends.bands h.ends.are_bands)

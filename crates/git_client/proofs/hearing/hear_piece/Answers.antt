@@ -7,7 +7,7 @@ use Rattle.git_client.specs.RunSteps.{HearsPieceTo}
 use Rattle.git_client.proofs.Alongs.{at_fault}
 use Rattle.git_client.proofs.Phases.{sound_where_due}
 use Rattle.git_client.proofs.HearingSteps.{nothing_heard, heard_all, heard_failed, heard_failed_then}
-use Rattle.git_client.proofs.HearingSteps.{heard_event, heard_event_front, heard_sound, heard_to_question, used_within}
+use Rattle.git_client.proofs.HearingSteps.{heard_event, heard_event_front, heard_sound, heard_some, heard_to_question, used_within}
 use Rattle.git_client.proofs.hearing.hear_piece.Goals as goal
 
 pub loop-used-init : goal.loop-used-init
@@ -15,6 +15,7 @@ loop-used-init g c = record {
   within = search rules;
   sound = sound_where_due _ c.requires.waits;
   stands = λ none. let waits = c.requires.waits in absurd (cc);
+  moves = λ none. let waits = c.requires.waits in absurd (cc);
   out_stays = search rules;
   pack_stays = search rules;
   hears = nothing_heard _ _ _ _ _;
@@ -68,6 +69,8 @@ loop-used-preserved g c =
       sound = heard_sound waits c.loop-used.invariant.within c.loop-used.invariant.hears c.feed-heard.follows.holds-at-none
           _ c.in-Event.is;
       stands = heard_to_question waits c.loop-used.invariant.within c.loop-used.invariant.hears
+          c.feed-heard.follows.holds-at-none _ c.in-Event.is;
+      moves = λ none. heard_some waits c.loop-used.invariant.within c.loop-used.invariant.hears
           c.feed-heard.follows.holds-at-none _ c.in-Event.is;
       out_stays = search rules;
       pack_stays = search rules;

@@ -1,4 +1,4 @@
-use Rattle.std.proofs.Common.{◌≡◌, ◌-◌, ◌≤◌, length, true, false, None}
+use Rattle.std.proofs.Common.{◌≡◌, ◌-◌, ◌≤◌, ◌<◌, length, true, false, None}
 use Rattle.git_pkt.specs.Told.{inner_of, has_failed}
 use Rattle.git_pkt.specs.Streams.{flow}
 use Rattle.git_client.specs.Client.{fault_of, can_ask, wants_input}
@@ -11,6 +11,7 @@ invariant-loop-used g l = record {
   within : l.used ≤ length l.piece;
   sound : fault_of l.client ≡ None;
   stands : wants_input l.client ≡ false → can_ask l.client ≡ true;
+  moves : wants_input l.client ≡ false → 0 < l.used;
   out_stays : has_failed l.out ≡ false;
   pack_stays : g.P.Output.failed l.pack ≡ false;
   hears : HearsPiece false l.fn.client l.client l.fn.counts l.counts l.piece l.used

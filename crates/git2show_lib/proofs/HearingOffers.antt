@@ -1,0 +1,212 @@
+-- The advertisement of a server that offers everything, as a client hears it.
+use Rattle.std.proofs.Common.{arith, ◌≡◌, ℕ, Bool, true, false, List, [], ◌∷◌, ◌++◌, Option, Some, None, Ok, Err, codes, drop, map, refl, ap, sym, ◌∙◌}
+use Rattle.std.proofs.Common.{subst, cond}
+use Rattle.git_names.specs.ObjectFormat.{name_of as format_name}
+use Rattle.git_names.specs.declared.object_format.Format.{Format}
+use Rattle.git_names.specs.declared.object_format.Format.TheVariants.{Sha1, Sha256}
+use Rattle.git_pkt.specs.Packets.{Pkt, flush, delim, resp_end, payload, flushes}
+use Rattle.git_pkt.specs.Splits.{Given}
+use Rattle.git_pkt.specs.declared.fault.Kind.TheVariants.{WrongFormat}
+use Rattle.git_pkt.proofs.Texts.{text_of-line_end}
+use Rattle.git_msg.specs.Advertisement.{is_spoken, noted_of}
+use Rattle.git_msg.specs.Capability.{IsCapability}
+use Rattle.git_msg.specs.Lines.{IsFormatMeant}
+use Rattle.git_msg.specs.Texts.{IsErrorText}
+use Rattle.git_msg.specs.WrittenRequest.{agent_line, format_line, text_line}
+use Rattle.git_msg.specs.Asked.{Asked}
+use Rattle.git_client.specs.Client.{AreWhole}
+use Rattle.git_client.specs.Conversation.{GiveAll}
+use Rattle.git_client.specs.Events.{EventValue, GivesLine, capability, offered}
+use Rattle.git_client.specs.Parts.{Terms, advertisement_of, is_end_due, is_zero, message_of, nearest, terms_of}
+use Rattle.git_client.specs.Places.{capabilities, place_after, version}
+use Rattle.git_client.specs.declared.events.Ending.{Ending}
+use Rattle.git_client.specs.declared.events.Ending.TheVariants.{FlushOnly, ResponseEnd}
+use Rattle.git_client.proofs.Sequences.{gives_more}
+use Rattle.git_server.specs.Answers.{advertisement_of as server_says}
+use Rattle.git2show_lib.specs.Scripts.{everything}
+use Rattle.git2show_lib.specs.ToldAnswers.{packets_of, told_offer}
+use Rattle.git2show_lib.proofs.Hearing.{AnswerGives, given_give, given_whole, no_error}
+
+-- ---- the lines
+
+-- after a line of the advertisement another one may come
+line_due : (format : Format) (ending : Ending) (line : List ℕ) (before : List Pkt) → flushes before ≡ 0
+    → place_after (terms_of format ending) [] (payload line ∷ before)
+    ≡ Some (capabilities (is_spoken (noted_of (payload line ∷ message_of before)) format))
+line_due format FlushOnly line before none = rw none refl
+line_due format ResponseEnd line before none = rw none refl
+
+-- the packets of the lines, the last one first
+abbrev pub lines_said : Format → List Pkt
+lines_said format =
+    text_line (codes "object-info") ∷ format_line format ∷ text_line (codes "server-option") ∷ text_line (codes "fetch=shallow ref-in-want")
+    ∷ text_line (codes "ls-refs") ∷ agent_line ∷ text_line (codes "version 2") ∷ []
+
+-- they say that the format is spoken
+is_said : (format : Format) → is_spoken (noted_of (lines_said format)) format ≡ true
+is_said Sha1 = refl
+is_said Sha256 = refl
+
+-- and that requests name it
+names_format : (format : Format) → (noted_of (flush ∷ lines_said format)).object_format ≡ true
+names_format Sha1 = refl
+names_format Sha256 = refl
+
+-- so it is meant
+pub format_meant : (format : Format) (named : Bool) → named ≡ (noted_of (flush ∷ lines_said format)).object_format → IsFormatMeant format named
+format_meant Sha1 named e = tt
+format_meant Sha256 named e = e ∙ names_format Sha256
+
+-- the line of the format
+format_says : (format : Format) → IsCapability (codes "object-format=" ++ format_name format) (codes "object-format") (Some (format_name format))
+format_says Sha1 = (refl, refl, refl)
+format_says Sha256 = (refl, refl, refl)
+
+-- the flush of the advertisement is that of no response
+no_end : (format : Format) (ending : Ending) → is_end_due ending (flush ∷ lines_said format) ≡ false
+no_end format FlushOnly = refl
+no_end format ResponseEnd = refl
+
+-- a capability line as it is written, and its parts
+record Written : Type 0 where
+  text : List ℕ
+  key : List ℕ
+  value : Option (List ℕ)
+
+abbrev written : List ℕ → List ℕ → Option (List ℕ) → Written
+written text key value = record { text = text; key = key; value = value }
+
+-- the lines after the first
+abbrev offer_lines : Format → List Written
+offer_lines format =
+    written (codes "agent=git2/1") (codes "agent") (Some (codes "git2/1")) ∷ written (codes "ls-refs") (codes "ls-refs") None
+    ∷ written (codes "fetch=shallow ref-in-want") (codes "fetch") (Some (codes "shallow ref-in-want"))
+    ∷ written (codes "server-option") (codes "server-option") None
+    ∷ written (codes "object-format=" ++ format_name format) (codes "object-format") (Some (format_name format))
+    ∷ written (codes "object-info") (codes "object-info") None ∷ []
+
+-- each is a capability line, and no error packet's
+abbrev AreCapabilities : List Written → Type 0
+AreCapabilities [] = Unit {0}
+AreCapabilities (x ∷ xs) = (¬ IsErrorText x.text) × IsCapability x.text x.key x.value × AreCapabilities xs
+
+offer_lines_are : (format : Format) → AreCapabilities (offer_lines format)
+offer_lines_are format = (
+  no_error (codes "agent=git2/1") (λ e. omega arith),
+  (refl, refl, refl),
+  (
+    no_error (codes "ls-refs") (λ e. omega arith),
+    (refl, refl),
+    (
+      no_error (codes "fetch=shallow ref-in-want") (λ e. omega arith),
+      (refl, refl, refl),
+      (
+        no_error (codes "server-option") (λ e. omega arith),
+        (refl, refl),
+        (
+          no_error (codes "object-format=" ++ format_name format) (λ e. omega arith),
+          format_says format,
+          (no_error (codes "object-info") (λ e. omega arith), (refl, refl), tt),
+        ),
+      ),
+    ),
+  ),
+)
+
+-- the packets of a list, the last one first, after those before
+abbrev pushed : List Pkt → List Pkt → List Pkt
+pushed [] before = before
+pushed (p ∷ ps) before = pushed ps (p ∷ before)
+
+module _ (format : Format) (ending : Ending) where
+  -- capability lines give their capabilities, and then the others
+  capabilities_give : (xs : List Written) (line : List ℕ) (before ps : List Pkt) (later : List EventValue) → flushes before ≡ 0 → AreCapabilities xs
+      → AnswerGives (terms_of format ending) [] (pushed (map (λ x. text_line x.text) xs) (payload line ∷ before)) ps later
+      → AnswerGives (terms_of format ending) [] (payload line ∷ before) (map (λ x. text_line x.text) xs ++ ps)
+      (map (λ x. capability x.key x.value) xs ++ later)
+  capabilities_give [] line before ps later none are others = others
+  capabilities_give (x ∷ xs) line before ps later none (clean, is, are) others =
+      let place = capabilities (is_spoken (noted_of (payload line ∷ message_of before)) format) in (
+        capability x.key x.value ∷ [],
+        map (λ x. capability x.key x.value) xs ++ later,
+        refl,
+        record {
+          place = place;
+          is_place = line_due format ending line before none;
+          gives = subst (λ (u : List ℕ). GivesLine place format u (capability x.key x.value ∷ [])) (sym (text_of-line_end x.text))
+              (record { no_error = clean; says = is });
+        },
+        capabilities_give xs (x.text ++ 10 ∷ []) (payload line ∷ before) ps later none are others,
+      )
+
+  -- the flush gives that everything was offered
+  end_gives : AnswerGives (terms_of format ending) [] (lines_said format) (flush ∷ []) (offered ∷ [])
+  end_gives = (
+    offered ∷ [],
+    [],
+    refl,
+    record {
+      place = capabilities (is_spoken (noted_of (lines_said format)) format);
+      is_place = line_due format ending (codes "object-info" ++ 10 ∷ []) (drop 1 (lines_said format)) refl;
+      gives = ap (λ (spoken : Bool). cond spoken (Ok (offered ∷ [])) (Err WrongFormat)) (is_said format);
+    },
+    (refl, record { all_flushes = refl; no_end_due = no_end format ending; no_message = refl }),
+  )
+
+  -- all packets of the advertisement
+  offer_gives : AnswerGives (terms_of format ending) [] [] (server_says (everything format)) (told_offer (everything format))
+  offer_gives = (
+    [],
+    told_offer (everything format),
+    refl,
+    record {
+      place = version;
+      is_place = refl;
+      gives = record { no_error = no_error (codes "version 2") (λ e. omega arith); says = refl };
+    },
+    capabilities_give (offer_lines format) (codes "version 2" ++ 10 ∷ []) [] (flush ∷ []) (offered ∷ []) refl (offer_lines_are format) end_gives,
+  )
+
+-- ---- wherever the packets stand
+
+-- packets stand so wherever they stand
+nearest_pushed : (gs : List Given) (before : List Pkt) → nearest gs before ≡ pushed (packets_of gs) before
+nearest_pushed [] before = refl
+nearest_pushed (g ∷ gs) before = nearest_pushed gs (g.packet ∷ before)
+
+pushed_lines : (format : Format) → pushed (server_says (everything format)) [] ≡ flush ∷ lines_said format
+pushed_lines format = refl
+
+-- the advertisement, the last packet first
+pub nearest_offer : (format : Format) (gs : List Given) → packets_of gs ≡ server_says (everything format) → nearest gs [] ≡ flush ∷ lines_said format
+nearest_offer format gs e = nearest_pushed gs [] ∙ ap (λ (ps : List Pkt). pushed ps []) e ∙ pushed_lines format
+
+-- one packet more leaves a flush before it
+some_more : (p : Pkt) (before : List Pkt) → is_zero (flushes before) ≡ false → is_zero (flushes (p ∷ before)) ≡ false
+some_more flush before some = refl
+some_more delim before some = some
+some_more resp_end before some = some
+some_more (payload line) before some = some
+
+-- what comes after the advertisement's flush leaves it as it is
+pub advertisement_stays : (gs : List Given) (before : List Pkt) → is_zero (flushes before) ≡ false
+    → advertisement_of (nearest gs before) ≡ advertisement_of before
+advertisement_stays [] before some = refl
+advertisement_stays (g ∷ gs) before some =
+    advertisement_stays gs (g.packet ∷ before) (some_more g.packet before some)
+    ∙ ap (λ (none : Bool). cond none (g.packet ∷ advertisement_of before) (advertisement_of before)) some
+
+-- ---- what is heard
+
+module _ (t : Terms) (gs : List Given) (are : packets_of gs ≡ server_says (everything t.format)) where
+  given : AnswerGives t [] [] (packets_of gs) (told_offer (everything t.format))
+  given = subst (λ (ps : List Pkt). AnswerGives t [] [] ps (told_offer (everything t.format))) (sym are) (offer_gives t.format t.ending)
+
+  -- the packets give what is told, whatever is asked later
+  pub offer_heard : (asked : List Asked) → GiveAll t asked [] gs (told_offer (everything t.format))
+  offer_heard asked =
+      gives_more t [] asked [] gs (told_offer (everything t.format)) (given_give t [] [] gs (told_offer (everything t.format)) given)
+
+  -- and then the advertisement is whole
+  pub offer_whole : AreWhole t [] (nearest gs [])
+  offer_whole = given_whole t [] [] gs (told_offer (everything t.format)) given

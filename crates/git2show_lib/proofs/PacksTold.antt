@@ -1,0 +1,78 @@
+-- The packs of the answers.
+use Rattle.std.proofs.Common.{◌≡◌, ℕ, Bool, true, false, not, ◌||◌, cond, flat_map, map, List, [], ◌∷◌, ◌++◌, refl, ap, ◌∙◌}
+use Rattle.std.proofs.lemmas.List.{append-nil}
+use Rattle.git_names.specs.ObjectName.{ObjectName}
+use Rattle.git_msg.specs.declared.Boundary.{Boundary}
+use Rattle.git_msg.specs.declared.Boundary.TheVariants.{Shallow, Unshallow}
+use Rattle.git_msg.specs.Asked.{Asked, FetchAsked, fetch, ls_refs, object_info}
+use Rattle.git_client.specs.Events.{EventValue, ack, ended, info, pack, pack_bytes, reference, wanted_ref}
+use Rattle.git_server.specs.Answers.{shown_line, shown_refs}
+use Rattle.git_server.specs.FetchAnswers.{common, negotiates}
+use Rattle.git_server.specs.Repository.{Repository}
+use Rattle.git2show_lib.specs.ToldAnswers.{answered_pack, found_refs, told_all, told_boundary, told_by, told_common, told_fetch, told_pack, told_ready}
+
+-- the pack of two lists of events
+packs-append : (events later : List EventValue) → pack_bytes (events ++ later) ≡ pack_bytes events ++ pack_bytes later
+packs-append [] later = refl
+packs-append (pack byte ∷ events) later = ap (λ (l : List ℕ). byte ∷ l) (packs-append events later)
+packs-append (event ∷ events) later = packs-append events later
+
+-- events of which none is of the pack
+no_pack : {X : Type 0} (event : X → EventValue) → ((x : X) (later : List EventValue) → pack_bytes (event x ∷ later) ≡ pack_bytes later) → (xs : List X)
+    → pack_bytes (map event xs) ≡ []
+no_pack event none [] = refl
+no_pack event none (x ∷ xs) = none x (map event xs) ∙ no_pack event none xs
+
+-- the bytes of a pack
+pack_is : (bytes : List ℕ) → pack_bytes (map pack bytes) ≡ bytes
+pack_is [] = refl
+pack_is (byte ∷ bytes) = ap (λ (l : List ℕ). byte ∷ l) (pack_is bytes)
+
+no_boundary : (line : Boundary) (later : List EventValue) → pack_bytes (told_boundary line ∷ later) ≡ pack_bytes later
+no_boundary (Shallow id) later = refl
+no_boundary (Unshallow id) later = refl
+
+common_packs : (ids : List ObjectName) → pack_bytes (told_common ids) ≡ []
+common_packs [] = refl
+common_packs (id ∷ ids) = no_pack ack (λ x later. refl) (id ∷ ids)
+
+-- after events without a pack
+after_none : (events later : List EventValue) (bytes : List ℕ) → pack_bytes events ≡ [] → pack_bytes later ≡ bytes → pack_bytes (events ++ later) ≡ bytes
+after_none events later bytes none is = packs-append events later ∙ ap (λ (l : List ℕ). l ++ pack_bytes later) none ∙ is
+
+module _ (repo : Repository) where
+  packfile_packs : (q : FetchAsked) → pack_bytes (told_pack repo q) ≡ repo.pack q
+  packfile_packs q =
+      let lines = map told_boundary (repo.boundaries q) in
+      let refs = map wanted_ref (found_refs repo q.want_refs) in
+      after_none (lines ++ refs) (map pack (repo.pack q)) (repo.pack q)
+      (after_none lines refs [] (no_pack told_boundary no_boundary (repo.boundaries q)) (no_pack wanted_ref (λ x later. refl) (found_refs repo q.want_refs)))
+      (pack_is (repo.pack q))
+
+  ready_packs : (is_ready : Bool) (q : FetchAsked) → pack_bytes (told_ready is_ready repo q) ≡ cond is_ready (repo.pack q) []
+  ready_packs true q = packfile_packs q
+  ready_packs false q = refl
+
+  fetch_packs : (is_negotiated : Bool) (q : FetchAsked)
+      → pack_bytes (told_fetch is_negotiated repo q) ≡ cond (not is_negotiated || repo.is_ready q) (repo.pack q) []
+  fetch_packs true q =
+      after_none (told_common (common repo.has q.haves)) (told_ready (repo.is_ready q) repo q) (cond (repo.is_ready q) (repo.pack q) [])
+      (common_packs (common repo.has q.haves)) (ready_packs (repo.is_ready q) q)
+  fetch_packs false q = packfile_packs q
+
+  -- that of one answer
+  one_pack : (q : Asked) → pack_bytes (told_by repo q) ≡ answered_pack repo q
+  one_pack (ls_refs q) = no_pack (λ entry. reference (shown_line q.symrefs q.peel entry)) (λ x later. refl) (shown_refs q.ref_prefixes repo.refs)
+  one_pack (fetch q) = fetch_packs (negotiates q) q
+  one_pack (object_info q) = no_pack (λ id. info (record { id = id; size = repo.object_size id })) (λ x later. refl) q.oids
+
+  after_pack : (q : Asked) → pack_bytes (told_by repo q ++ ended ∷ []) ≡ answered_pack repo q
+  after_pack q = packs-append (told_by repo q) (ended ∷ []) ∙ append-nil (pack_bytes (told_by repo q)) ∙ one_pack q
+
+  -- those of all answers, one after the other
+  pub all_packs : (asked : List Asked) → pack_bytes (told_all repo asked) ≡ flat_map (answered_pack repo) asked
+  all_packs [] = refl
+  all_packs (q ∷ asked) =
+      packs-append (told_by repo q ++ ended ∷ []) (told_all repo asked)
+      ∙ ap (λ (l : List ℕ). l ++ pack_bytes (told_all repo asked)) (after_pack q)
+      ∙ ap (λ (l : List ℕ). answered_pack repo q ++ l) (all_packs asked)

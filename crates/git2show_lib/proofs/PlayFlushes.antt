@@ -1,0 +1,177 @@
+-- Messages end with their flushes, the questions of a client as well as what a server gives.
+use Rattle.std.proofs.Common.{arith, if◌then◌else◌, ◌≡◌, ℕ, ◌+◌, Bool, true, false, map, List, [], ◌∷◌}
+use Rattle.std.proofs.Common.{◌++◌, length, codes, inl, inr, ◌⊎◌, refl, sym, ap, ◌∙◌, subst, append_assoc, append-nil}
+use Rattle.git_names.specs.declared.object_format.Format.{Format}
+use Rattle.git_pkt.specs.Packets.{Pkt, flush, flushes}
+use Rattle.git_pkt.specs.Splits.{Given}
+use Rattle.git_msg.specs.Arguments.{Arg, written_text}
+use Rattle.git_msg.specs.Asked.{Asked, arguments_in, ls_refs, fetch, object_info}
+use Rattle.git_msg.specs.WrittenRequest.{text_line, where_set, agent_line, format_line, argument_lines, argument_part, lines_written}
+use Rattle.git_msg.specs.declared.offers.Caps.{Caps}
+use Rattle.git_msg.specs.declared.offers.Offer.{Offer}
+use Rattle.git_client.specs.Client.{questions_of}
+use Rattle.git_client.specs.Parts.{nearest}
+use Rattle.git_server.specs.Answers.{advertisement_of, offered_line, fetch_line, IsAnswer}
+use Rattle.git_server.specs.FetchAnswers.{EndsWithBoundary, EndsWithRefs, IsAfter, IsFetchAnswerBy, IsNegotiated, acknowledgments, negotiates}
+use Rattle.git_server.specs.Packs.{IsPackfile, packfile_header, whole}
+use Rattle.git_server.specs.Repository.{Repository}
+use Rattle.git_msg.specs.Asked.{FetchAsked}
+use Rattle.git_server.specs.Sessions.{Setting, AreAnswers, advertised}
+use Rattle.git_server.proofs.AtRest.{EndsWithFlush, packets_of}
+use Rattle.git_server.proofs.Flushes.{flushes-append}
+use Rattle.git_server.proofs.OneSession.{line_owes}
+use Rattle.git_server.specs.declared.advertisement.AdvertisementLine.TheVariants.{Version}
+
+-- ---- lists whose last packet is a flush
+
+pub record LastFlush (qs : List Pkt) : Type 0 where
+  pub front : List Pkt
+  pub is : qs ≡ front ++ flush ∷ []
+
+last_after : (xs ys : List Pkt) → LastFlush ys → LastFlush (xs ++ ys)
+last_after xs ys h = record { front = xs ++ h.front; is = ap (λ (l : List Pkt). xs ++ l) h.is ∙ sym (append_assoc xs h.front (flush ∷ [])) }
+
+last_more : (x : Pkt) (ys : List Pkt) → LastFlush ys → LastFlush (x ∷ ys)
+last_more x ys h = record { front = x ∷ h.front; is = ap (λ (l : List Pkt). x ∷ l) h.is }
+
+last_as : (xs ys : List Pkt) → xs ≡ ys → LastFlush ys → LastFlush xs
+last_as xs ys e h = record { front = h.front; is = e ∙ h.is }
+
+-- a list is empty, or ends with a flush
+abbrev pub Closes : List Pkt → Type 0
+Closes qs = (qs ≡ []) ⊎ LastFlush qs
+
+pub closes_both : (xs ys : List Pkt) → Closes xs → Closes ys → Closes (xs ++ ys)
+closes_both xs ys first (inr h) = inr (last_after xs ys h)
+closes_both xs ys (inl none) (inl e) = inl (ap (λ (l : List Pkt). l ++ ys) none ∙ e)
+closes_both xs ys (inr h) (inl e) = inr (last_as (xs ++ ys) xs (ap (λ (l : List Pkt). xs ++ l) e ∙ append-nil xs) h)
+
+nothing_behind : (f front back : List Pkt) → f ++ flush ∷ [] ≡ front ++ back → flushes back ≡ 0 → back ≡ []
+nothing_behind f [] back e none = absurd (omega (arith, ap flushes e, flushes-append f (flush ∷ []), none))
+nothing_behind [] (x ∷ []) back e none = let h : [] ≡ back = cc in sym h
+nothing_behind [] (x ∷ y ∷ front) back e none = absurd (cc)
+nothing_behind (y ∷ f) (x ∷ front) back e none = let h : f ++ flush ∷ [] ≡ front ++ back = cc in nothing_behind f front back h none
+
+nothing_both : (front back : List Pkt) → [] ≡ front ++ back → back ≡ []
+nothing_both [] back e = sym e
+nothing_both (x ∷ front) back e = absurd (cc)
+
+pub ends_closed : (qs : List Pkt) → Closes qs → EndsWithFlush qs
+ends_closed qs (inl none) front back e zero = nothing_both front back (sym none ∙ e)
+ends_closed qs (inr h) front back e zero = nothing_behind h.front front back (sym h.is ∙ e) zero
+
+-- ---- questions
+
+arguments_none : (args : List Arg) → flushes (map (λ arg. text_line (written_text arg)) args) ≡ 0
+arguments_none [] = refl
+arguments_none (arg ∷ args) = arguments_none args
+
+where_set_last : (b : Bool) (p : Pkt) (others : List Pkt) → LastFlush others → LastFlush (where_set b p others)
+where_set_last true p others h = last_more p others h
+where_set_last false p others h = h
+
+arguments_last : (q : Asked) → LastFlush (argument_part q)
+arguments_last q = last_more _ (argument_lines (arguments_in q)) (record { front = map (λ arg. text_line (written_text arg)) (arguments_in q); is = refl })
+
+arguments_once : (q : Asked) → flushes (argument_part q) ≡ 1
+arguments_once q =
+    omega (arith, flushes-append (map (λ arg. text_line (written_text arg)) (arguments_in q)) (flush ∷ []), arguments_none (arguments_in q))
+
+question_last : (agent object_format : Bool) (format : Format) (q : Asked) → LastFlush (lines_written agent object_format format q)
+question_last agent object_format format q =
+    last_more _ (where_set agent agent_line (where_set object_format (format_line format) (argument_part q)))
+    (where_set_last agent agent_line (where_set object_format (format_line format) (argument_part q))
+    (where_set_last object_format (format_line format) (argument_part q) (arguments_last q)))
+
+question_once : (agent object_format : Bool) (format : Format) (q : Asked) → flushes (lines_written agent object_format format q) ≡ 1
+question_once true true format q = arguments_once q
+question_once true false format q = arguments_once q
+question_once false true format q = arguments_once q
+question_once false false format q = arguments_once q
+
+pub questions_close : (format : Format) (caps : Caps) (asked : List Asked) → Closes (questions_of format caps asked)
+questions_close format caps [] = inl refl
+questions_close format caps (q ∷ qs) =
+    closes_both (lines_written caps.agent caps.object_format format q) (questions_of format caps qs)
+    (inr (question_last caps.agent caps.object_format format q)) (questions_close format caps qs)
+
+pub questions_count : (format : Format) (caps : Caps) (asked : List Asked) → flushes (questions_of format caps asked) ≡ length asked
+questions_count format caps [] = refl
+questions_count format caps (q ∷ qs) =
+    omega (
+      arith,
+      flushes-append (lines_written caps.agent caps.object_format format q) (questions_of format caps qs),
+      question_once caps.agent caps.object_format format q,
+      questions_count format caps qs,
+    )
+
+-- ---- answers
+
+after_last : (first : List Pkt) (P : List Pkt → Type 0) (packets : List Pkt) → ((others : List Pkt) → P others → LastFlush others) → IsAfter first P packets
+    → LastFlush packets
+after_last first P packets ends h = last_as packets (first ++ h.others) h.packets_are (last_after first h.others (ends h.others h.holds))
+
+packfile_last : (pack : List ℕ) (packets : List Pkt) → IsPackfile whole pack packets → LastFlush packets
+packfile_last pack packets h =
+    last_as packets (packfile_header ∷ h.tail) h.packets_are (last_more packfile_header h.tail (record { front = h.ends.bands; is = h.ends.packets_are }))
+
+refs_last : (repo : Repository) (q : FetchAsked) (packets : List Pkt) → EndsWithRefs whole repo q packets → LastFlush packets
+refs_last repo q packets = after_last _ (IsPackfile whole (repo.pack q)) packets (packfile_last (repo.pack q))
+
+boundary_last : (repo : Repository) (q : FetchAsked) (packets : List Pkt) → EndsWithBoundary whole repo q packets → LastFlush packets
+boundary_last repo q packets = after_last _ (EndsWithRefs whole repo q) packets (refs_last repo q)
+
+negotiated_last : (ready : Bool) (repo : Repository) (q : FetchAsked) (lines packets : List Pkt) → IsNegotiated ready lines whole repo q packets
+    → LastFlush packets
+negotiated_last true repo q lines packets h = after_last _ (EndsWithBoundary whole repo q) packets (boundary_last repo q) h
+negotiated_last false repo q lines packets h = record { front = lines; is = h }
+
+fetch_last : (repo : Repository) (q : FetchAsked) (b : Bool) (packets : List Pkt) → IsFetchAnswerBy b whole repo q packets → LastFlush packets
+fetch_last repo q true packets h = negotiated_last (repo.is_ready q) repo q (acknowledgments repo q) packets h
+fetch_last repo q false packets h = boundary_last repo q packets h
+
+answer_last : (repo : Repository) (q : Asked) (packets : List Pkt) → IsAnswer repo q packets → LastFlush packets
+answer_last repo (ls_refs q) packets h = record { front = _; is = h }
+answer_last repo (object_info q) packets h = record { front = _ ∷ _; is = h }
+answer_last repo (fetch q) packets h = fetch_last repo q (negotiates q) packets h
+
+answers_close : (repo : Repository) (asked : List Asked) (packets : List Pkt) → AreAnswers repo asked packets → Closes packets
+answers_close repo [] packets h = inl h
+answers_close repo (q ∷ qs) packets (answer, more, e, is, later) =
+    subst Closes (sym e) (closes_both answer more (inr (answer_last repo q answer is)) (answers_close repo qs more later))
+
+offered_last : (offer : Offer) → LastFlush (advertisement_of offer)
+offered_last offer =
+    let ends : List Pkt = offered_line offer.object_info (codes "object-info") ++ flush ∷ [] in
+    let format : List Pkt = format_line offer.format ∷ ends in
+    let option : List Pkt = offered_line offer.server_option (codes "server-option") ++ format in
+    let last = last_after (offered_line offer.object_info (codes "object-info")) (flush ∷ []) (record { front = []; is = refl }) in
+    last_more (text_line (codes "version 2")) (agent_line ∷ text_line (codes "ls-refs") ∷ fetch_line offer ∷ option)
+    (last_more agent_line (text_line (codes "ls-refs") ∷ fetch_line offer ∷ option) (last_more (text_line (codes "ls-refs")) (fetch_line offer ∷ option)
+    (last_more (fetch_line offer) option
+    (last_after (offered_line offer.server_option (codes "server-option")) format (last_more (format_line offer.format) ends last)))))
+
+advertised_close : (s : Setting) (b : Bool) → s.advertise ≡ b → Closes (advertised s)
+advertised_close s true e = subst (λ (b : Bool). Closes (if b then advertisement_of s.offer else [])) (sym e) (inr (offered_last s.offer))
+advertised_close s false e = subst (λ (b : Bool). Closes (if b then advertisement_of s.offer else [])) (sym e) (inl refl)
+
+pub given_close : (s : Setting) (asked : List Asked) (answers : List Pkt) → AreAnswers s.repo asked answers → Closes (advertised s ++ answers)
+given_close s asked answers h = closes_both (advertised s) answers (advertised_close s s.advertise refl) (answers_close s.repo asked answers h)
+
+-- an advertisement has one flush
+advertised_by : (s : Setting) (b : Bool) → s.advertise ≡ b → b ≡ true → flushes (advertised s) ≡ 1
+advertised_by s true e is =
+    subst (λ (b : Bool). flushes (if b then advertisement_of s.offer else []) ≡ 1) (sym e) (line_owes s.offer Version)
+advertised_by s false e is = absurd (cc)
+
+pub advertises_once : (s : Setting) → s.advertise ≡ true → flushes (advertised s) ≡ 1
+advertises_once s is = advertised_by s s.advertise refl is
+
+-- ---- packets, the nearest first
+
+pub flushes_nearest : (gs : List Given) (before : List Pkt) → flushes (nearest gs before) ≡ flushes (packets_of gs) + flushes before
+flushes_nearest [] before = omega arith
+flushes_nearest (g ∷ gs) before = one g.packet refl (flushes_nearest gs (g.packet ∷ before)) where
+  one : (p : Pkt) → g.packet ≡ p → flushes (nearest gs (g.packet ∷ before)) ≡ flushes (packets_of gs) + flushes (g.packet ∷ before)
+      → flushes (nearest gs (g.packet ∷ before)) ≡ flushes (g.packet ∷ packets_of gs) + flushes before
+  one p e h = omega (arith, h, flushes-append (g.packet ∷ []) (packets_of gs), flushes-append (g.packet ∷ []) before)

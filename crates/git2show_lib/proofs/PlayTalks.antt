@@ -1,0 +1,273 @@
+-- A server of a play: how it stands to what was said to it, by how many messages it gave.
+use Rattle.std.proofs.Common.{arith, ◌≡◌, ◌≢◌, ◌⊎◌, inl, inr, ℕ, zero, suc, ◌+◌, ◌≤◌, ◌<◌, true, false, not, List, [], ◌∷◌, ◌++◌, Option, Some, None}
+use Rattle.std.proofs.Common.{refl, sym, ap, ◌∙◌, subst, append_assoc, append-nil}
+use Rattle.std.proofs.lemmas.Bool.{cases_lt}
+use Rattle.std.proofs.lemmas.Grind.{flat_map-append}
+use Rattle.git_pkt.specs.Packets.{Pkt, flush, resp_end, flushes, spelling_of}
+use Rattle.git_pkt.specs.Splits.{Given, SpellsAll}
+use Rattle.git_client.specs.Client.{spelled}
+use Rattle.git_client.specs.Parts.{nearest, is_end_due, is_zero}
+use Rattle.git_client.specs.declared.events.Ending.TheVariants.{ResponseEnd}
+use Rattle.git_server.specs.Answers.{AllFit}
+use Rattle.git_server.specs.Repository.{RepoState}
+use Rattle.git_server.specs.Server.{StandsBy, outcome_of, wants_input as waits_for_input}
+use Rattle.git_server.specs.Sessions.{Setting, IsAnswered, IsEnding, Stream, advertised}
+use Rattle.git_server.specs.declared.outcome.Outcome.{Outcome}
+use Rattle.git_server.specs.declared.server.Server.{Server}
+use Rattle.git_server.proofs.AtRest.{at_rest, all_used, few_asked, front_of, packets_of, tail_flushes}
+use Rattle.git_server.proofs.Flushes.{flushes-append}
+use Rattle.git_server.proofs.Going.{no_outcome, owes_some}
+use Rattle.git_server.proofs.OneSession.{answers_end, one_spelling, owes_flush}
+use Rattle.git_server.proofs.Sent.{is_whole}
+use Rattle.git_server.proofs.SessionLaws.{all_answered, every_moment}
+use Rattle.git2show_lib.specs.PlaySteps.{IsSpent, Settled, Stands}
+use Rattle.git2show_lib.specs.Plays.{IsDone, IsTalk, Talk}
+use Rattle.git2show_lib.proofs.PlayFlushes.{Closes, LastFlush, closes_both, ends_closed, flushes_nearest, given_close}
+
+pub spelled-append : (ps qs : List Pkt) → spelled (ps ++ qs) ≡ spelled ps ++ spelled qs
+spelled-append ps qs = flat_map-append spelling_of ps qs
+
+abbrev pub talk_of : List ℕ → List ℕ → Talk
+talk_of said given = record { said = said; given = given }
+
+-- all was given that is due for what was said
+pub record Rests (s : Setting) (count : ℕ) (said given : List ℕ) : Type 0 where
+  pub talk : IsTalk s (talk_of said given)
+  pub done : IsAnswered s said given
+  pub packets : List Pkt
+  pub given_is : given ≡ spelled packets
+  pub fit : AllFit packets
+  pub closed : Closes packets
+  pub counted : flushes packets ≡ count
+
+module _ {R A : Type 0} (state : R → RepoState) (s : Setting) (qs : List Pkt) (closes : Closes qs) (said given : List ℕ) (server : Server R A)
+    (st : Stands state s said given server) (is : said ≡ spelled qs) where
+  -- all messages but the last one were given
+  abbrev pub Quota : Type 0
+  Quota = (ps : List Pkt) → AllFit ps → given ≡ spelled ps → flushes qs + flushes (advertised s) ≤ flushes ps + 1
+
+  quiet_by : Quota → (o : Option Outcome) → outcome_of server ≡ o → StandsBy o s st.used false given server → o ≡ None → st.unused ≡ []
+  quiet_by quota None none (_, h) same =
+      let (owed, owes) = owes_some server.offer s.repo server.phase in
+      let whole = is_whole s h.asked h.sent owed (h.is_sent owed owes) in
+      let stream : Stream s st.used h.asked h.left h.rest = record { packets = h.packets; splits = h.reads.splits; requests = h.requests } in
+      let parts = sym (flushes-append h.sent owed) ∙ ap flushes whole.parts ∙ flushes-append (advertised s) whole.answers in
+      let count = answers_end s.repo h.asked whole.answers whole.answered in
+      let many = quota h.sent h.fit h.given_is in
+      elim (cases_lt (flushes owed) 1) [
+        | inl few ↦ st.keeps (owes_flush server.offer s.repo server.phase owed none owes (omega (arith, few)))
+        | inr some ↦ (all_used s qs st.used st.unused (sym is ∙ st.parts) (ends_closed qs closes) h.asked h.left h.rest stream
+            (omega (arith, some, parts, count, many))).none_unused
+      ]
+  quiet_by quota (Some outcome) some h same = absurd (cc)
+
+  -- a server that goes on has thrown nothing away
+  pub quiet : Quota → outcome_of server ≡ None → st.unused ≡ []
+  quiet quota none = quiet_by quota (outcome_of server) refl st.runs.stands none
+
+  -- so it is settled
+  pub settle : Quota → Settled state s said given server
+  settle quota = record {
+    used = st.used;
+    unused = st.unused;
+    parts = st.parts;
+    runs = st.runs;
+    settled = quiet quota;
+    in_time = st.in_time;
+  }
+
+module _ {R A : Type 0} (state : R → RepoState) (s : Setting) (qs : List Pkt) (closes : Closes qs) (said given : List ℕ) (server : Server R A)
+    (st : Settled state s said given server) (is : said ≡ spelled qs) where
+  -- what was given so far: no more messages than are due
+  pub record Gave : Type 0 where
+    pub packets : List Pkt
+    pub fit : AllFit packets
+    pub given_is : given ≡ spelled packets
+    pub few : flushes packets ≤ flushes qs + flushes (advertised s)
+
+  gave_by : (o : Option Outcome) → outcome_of server ≡ o → StandsBy o s st.used false given server → Gave
+  gave_by None none (_, h) =
+      let (owed, owes) = owes_some server.offer s.repo server.phase in
+      let whole = is_whole s h.asked h.sent owed (h.is_sent owed owes) in
+      let stream : Stream s st.used h.asked h.left h.rest = record { packets = h.packets; splits = h.reads.splits; requests = h.requests } in
+      let few = few_asked s qs st.used st.unused (sym is ∙ st.parts) (ends_closed qs closes) h.asked h.left h.rest stream in
+      let parts = sym (flushes-append h.sent owed) ∙ ap flushes whole.parts ∙ flushes-append (advertised s) whole.answers in
+      let count = answers_end s.repo h.asked whole.answers whole.answered in
+      record { packets = h.sent; fit = h.fit; given_is = h.given_is; few = omega (arith, few, parts, count) }
+  gave_by (Some outcome) some h =
+      let (owed, owes) = owes_some server.offer s.repo server.phase in
+      let e : IsEnding s st.used false given outcome owed = h owed owes in
+      let few = few_asked s qs st.used st.unused (sym is ∙ st.parts) (ends_closed qs closes) e.asked e.left e.rest e.stream in
+      let tail = tail_flushes s e.left outcome (e.sent ++ owed) e.parts in
+      let tail_parts = flushes-append e.sent owed in
+      let parts = flushes-append (advertised s ++ e.answers) e.sent in
+      let answer_parts = flushes-append (advertised s) e.answers in
+      let count = answers_end s.repo e.asked e.answers e.answered in
+      record {
+        packets = (advertised s ++ e.answers) ++ e.sent;
+        fit = e.fit;
+        given_is = e.given_is;
+        few = omega (arith, few, tail, tail_parts, parts, answer_parts, count);
+      }
+
+  pub gave : Gave
+  gave = gave_by (outcome_of server) refl st.runs.stands
+
+  talk_by : (o : Option Outcome) → outcome_of server ≡ o → StandsBy o s st.used false given server → IsTalk s (talk_of said given)
+  talk_by None none h =
+      elim (every_moment state server s st.used false given st.runs) [
+        | inl goes ↦ record { used = st.used; unused = st.unused; parts = st.parts; runs = inl (st.settled none, goes.1) }
+        | inr ends ↦ record { used = st.used; unused = st.unused; parts = st.parts; runs = inr ends }
+      ]
+  talk_by (Some outcome) some h =
+      let (owed, owes) = owes_some server.offer s.repo server.phase in
+      record { used = st.used; unused = st.unused; parts = st.parts; runs = inr (outcome, owed, h owed owes) }
+
+  pub talk : IsTalk s (talk_of said given)
+  talk = talk_by (outcome_of server) refl st.runs.stands
+
+  -- a server that gives nothing more
+  pub done : IsSpent state server → IsDone s (talk_of said given)
+  done (inl waits) = record {
+    used = st.used;
+    unused = st.unused;
+    parts = st.parts;
+    done = inl (st.settled (no_outcome server.phase waits), all_answered state server s st.used false given st.runs waits);
+  }
+  done (inr (outcome, ends)) = record { used = st.used; unused = st.unused; parts = st.parts; done = inr (outcome, ends s st.used false given st.runs) }
+
+  -- all messages were given
+  abbrev pub Enough : Type 0
+  Enough = (ps : List Pkt) → AllFit ps → given ≡ spelled ps → flushes qs + flushes (advertised s) ≤ flushes ps
+
+  pub waits_on : Enough → waits_for_input server ≡ true
+  waits_on enough =
+      (at_rest state server s qs st.used st.unused given st.runs (sym is ∙ st.parts) (ends_closed qs closes) enough st.in_time).waits
+
+  pub rests : Enough → Rests s (flushes qs + flushes (advertised s)) said given
+  rests enough =
+      let rest = at_rest state server s qs st.used st.unused given st.runs (sym is ∙ st.parts) (ends_closed qs closes) enough st.in_time in
+      let used_all : st.used ≡ said = sym (st.parts ∙ ap (λ (l : List ℕ). st.used ++ l) rest.all ∙ append-nil st.used) in
+      let all : IsAnswered s said given =
+      subst (λ (l : List ℕ). IsAnswered s l given) used_all (all_answered state server s st.used false given st.runs rest.waits) in
+      let so_far = gave in
+      let same : so_far.packets ≡ advertised s ++ all.answers =
+      one_spelling so_far.packets (advertised s ++ all.answers) so_far.fit all.fit (sym so_far.given_is ∙ all.given_is) in
+      let many = enough (advertised s ++ all.answers) all.fit all.given_is in
+      record {
+        talk = talk;
+        done = all;
+        packets = advertised s ++ all.answers;
+        given_is = all.given_is;
+        fit = all.fit;
+        closed = given_close s all.asked all.answers all.answered;
+        counted = omega (arith, many, so_far.few, ap flushes same);
+      }
+
+  -- ---- as far as a client heard it: after whole messages, with a packet behind
+
+  module _ (heard unheard : List ℕ) (gs : List Given) (before tail : List Pkt) (spells : SpellsAll 0 heard gs []) (no_flush : flushes tail ≡ 0)
+      (parts : heard ++ unheard ≡ spelled before ++ (given ++ spelled tail))
+      (counted : flushes (packets_of gs) ≡ flushes before + (flushes qs + flushes (advertised s))) where
+    in_all : (ps : List Pkt) → given ≡ spelled ps → heard ++ unheard ≡ spelled (before ++ (ps ++ tail))
+    in_all ps given_is =
+        parts ∙ ap (λ (l : List ℕ). spelled before ++ (l ++ spelled tail)) given_is
+        ∙ ap (λ (l : List ℕ). spelled before ++ l) (sym (spelled-append ps tail)) ∙ sym (spelled-append before (ps ++ tail))
+
+    pub enough_heard : Enough
+    enough_heard ps fit given_is =
+        let front = front_of 0 heard unheard [] gs (before ++ (ps ++ tail)) spells (in_all ps given_is) in
+        omega (
+          arith,
+          counted,
+          no_flush,
+          ap flushes front.parts,
+          flushes-append before (ps ++ tail),
+          flushes-append ps tail,
+          flushes-append (packets_of gs) front.more,
+        )
+
+    -- what is unheard is packets without a flush
+    pub record IsBehind (ps : List Pkt) : Type 0 where
+      pub more : List Pkt
+      pub all : before ++ (ps ++ tail) ≡ packets_of gs ++ more
+      pub unheard_is : unheard ≡ spelled more
+      pub none : flushes more ≡ 0
+
+    pub behind : (r : Rests s (flushes qs + flushes (advertised s)) said given) → IsBehind r.packets
+    behind r =
+        let front = front_of 0 heard unheard [] gs (before ++ (r.packets ++ tail)) spells (in_all r.packets r.given_is) in
+        record {
+          more = front.more;
+          all = front.parts;
+          unheard_is = front.left_is;
+          none = omega (
+            arith,
+            counted,
+            no_flush,
+            r.counted,
+            ap flushes front.parts,
+            flushes-append before (r.packets ++ tail),
+            flushes-append r.packets tail,
+            flushes-append (packets_of gs) front.more,
+          );
+        }
+
+-- where all messages end with a flush, nothing is unheard
+pub nothing_unheard : (before ps front more : List Pkt) (unheard : List ℕ) → Closes before → Closes ps → before ++ (ps ++ []) ≡ front ++ more
+    → unheard ≡ spelled more → flushes more ≡ 0 → unheard ≡ []
+nothing_unheard before ps front more unheard first second all is none =
+    let closed = closes_both before (ps ++ []) first (closes_both ps [] second (inl refl)) in
+    is ∙ ap spelled (ends_closed (before ++ (ps ++ [])) closed front more all none)
+
+-- ---- with a response end behind
+
+-- a flush and a response end: with the first goes the second
+end_or_nothing : (f front more : List Pkt) → (f ++ flush ∷ []) ++ resp_end ∷ [] ≡ front ++ more → flushes more ≡ 0
+    → (more ≡ []) ⊎ (front ≡ f ++ flush ∷ [])
+end_or_nothing f [] more e none =
+    absurd (omega (arith, ap flushes e, flushes-append (f ++ flush ∷ []) (resp_end ∷ []), flushes-append f (flush ∷ []), none))
+end_or_nothing [] (x ∷ []) more e none = inr (let same : flush ≡ x = cc in ap (λ (p : Pkt). p ∷ []) (sym same))
+end_or_nothing [] (x ∷ y ∷ []) more e none = inl (let nothing : [] ≡ more = cc in sym nothing)
+end_or_nothing [] (x ∷ y ∷ z ∷ front) more e none = absurd (cc)
+end_or_nothing (y ∷ f) (x ∷ front) more e none =
+    let tails : (f ++ flush ∷ []) ++ resp_end ∷ [] ≡ front ++ more = cc in
+    let heads : y ≡ x = cc in
+    elim (end_or_nothing f front more tails none) [
+      | inl nothing ↦ inl nothing
+      | inr same ↦ inr (ap (λ (l : List Pkt). x ∷ l) same ∙ ap (λ (p : Pkt). p ∷ (f ++ flush ∷ [])) (sym heads))
+    ]
+
+nearest_last : (gs : List Given) (before f : List Pkt) (p : Pkt) → packets_of gs ≡ f ++ p ∷ [] → (r : List Pkt) × (nearest gs before ≡ p ∷ r)
+nearest_last [] before [] p e = absurd (cc)
+nearest_last [] before (y ∷ f) p e = absurd (cc)
+nearest_last (g ∷ []) before [] p e = (before, let same : g.packet ≡ p = cc in ap (λ (x : Pkt). x ∷ before) same)
+nearest_last (g ∷ k ∷ gs) before [] p e = absurd (cc)
+nearest_last (g ∷ gs) before (y ∷ f) p e = nearest_last gs (g.packet ∷ before) f p (let tails : packets_of gs ≡ f ++ p ∷ [] = cc in tails)
+
+not_zero : (n : ℕ) → 0 < n → not (is_zero n) ≡ true
+not_zero zero some = absurd (omega (arith, some))
+not_zero (suc n) some = refl
+
+ends_due : (gs : List Given) (f : List Pkt) → packets_of gs ≡ f ++ flush ∷ [] → 1 < flushes (packets_of gs) → is_end_due ResponseEnd (nearest gs []) ≡ true
+ends_due gs f e many =
+    let (r, is) = nearest_last gs [] f flush e in
+    ap (is_end_due ResponseEnd) is ∙ not_zero (flushes r) (omega (arith, many, flushes_nearest gs [], ap flushes is))
+
+-- where a message ends with a flush, and a response end comes behind, a client that owes no response end has heard it
+pub no_end_unheard : (before ps : List Pkt) (gs : List Given) (more : List Pkt) (unheard : List ℕ) → LastFlush ps
+    → before ++ (ps ++ resp_end ∷ []) ≡ packets_of gs ++ more → unheard ≡ spelled more → flushes more ≡ 0 → 1 < flushes (packets_of gs)
+    → is_end_due ResponseEnd (nearest gs []) ≡ false → unheard ≡ []
+no_end_unheard before ps gs more unheard last all is none many not_due =
+    let joined : ((before ++ last.front) ++ flush ∷ []) ++ resp_end ∷ [] ≡ packets_of gs ++ more =
+    ap (λ (l : List Pkt). l ++ resp_end ∷ []) (append_assoc before last.front (flush ∷ []) ∙ ap (λ (l : List Pkt). before ++ l) (sym last.is))
+    ∙ append_assoc before ps (resp_end ∷ []) ∙ all in
+    elim (end_or_nothing (before ++ last.front) (packets_of gs) more joined none) [
+      | inl nothing ↦ is ∙ ap spelled nothing
+      | inr same ↦ absurd (let due = ends_due gs (before ++ last.front) same many in let no : true ≡ false = sym due ∙ not_due in cc)
+    ]
+
+-- a closed list with a flush ends with one
+pub last_of_closed : (ps : List Pkt) → Closes ps → 0 < flushes ps → LastFlush ps
+last_of_closed ps (inl none) some = absurd (omega (arith, ap flushes none, some))
+last_of_closed ps (inr last) some = last

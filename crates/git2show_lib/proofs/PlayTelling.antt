@@ -1,0 +1,129 @@
+-- A packet said to a server, piece by piece.
+use Rattle.std.proofs.Common.{arith, ◌≡◌, ◌≢◌, ℕ, suc, ◌+◌, ◌-◌, ◌<◌, ◌≤◌, Bool, true, false}
+use Rattle.std.proofs.Common.{IsTrue, cond, length, take, drop, min, List, [], ◌∷◌, ◌++◌, Option, Some, None}
+use Rattle.std.proofs.Common.{refl, sym, ap, ◌∙◌, subst, append_assoc, append-nil, length-append, length-drop, take-append-drop, inl, inr}
+use Rattle.std.proofs.Math.Seq.{take-add, take-length}
+use Rattle.std.proofs.lemmas.List.{drop-drop, drop_all, length-take, length-take-le, nil_from_length}
+use Rattle.std.proofs.lemmas.Bool.{cases_lt}
+use Rattle.std.proofs.lemmas.Grind.{common_steps}
+use Rattle.git_pkt.specs.declared.fault.Fault.{Fault}
+use Rattle.git_pkt.specs.declared.fault.Kind.TheVariants.{StreamTooLong}
+use Rattle.git_pkt.proofs.Pieces.{left_of}
+use Rattle.git_server.specs.Repository.{RepoState}
+use Rattle.git_server.specs.Server.{Running, outcome_of, wants_input}
+use Rattle.git_server.specs.ServerCalls.{Goes, StopsInTime}
+use Rattle.git_server.specs.Sessions.{Setting}
+use Rattle.git_server.specs.declared.outcome.Outcome.TheVariants.{Refused}
+use Rattle.git_server.specs.declared.server.Server.{Server}
+use Rattle.git2show_lib.specs.PlaySteps.{Stands}
+
+-- ---- the next piece of a packet
+
+pub front_of_front : (u k : ℕ) (xs : List ℕ) → u ≤ length (take k xs) → take u (take k xs) ≡ take u xs
+front_of_front u k xs few =
+    let size = length-take k xs in
+    grind (arith, common_steps)
+
+-- what is left of a packet after so many bytes, and the next piece of it
+abbrev pub left_after : List ℕ → ℕ → List ℕ
+left_after packet done = take (length packet - done) (drop done packet)
+
+abbrev pub next_piece : List ℕ → ℕ → ℕ → List ℕ
+next_piece packet done k = take k (left_after packet done)
+
+module _ (packet : List ℕ) (done k u : ℕ) (within : done ≤ length packet) (few : u ≤ length (next_piece packet done k)) where
+  pub piece_fits : done + u ≤ length packet
+  piece_fits = omega (arith, few, length-take k (left_after packet done), ap length (left_of packet done within), length-drop done packet)
+
+  pub piece_joined : take done packet ++ take u (next_piece packet done k) ≡ take (done + u) packet
+  piece_joined =
+      ap (λ (l : List ℕ). take done packet ++ l) (front_of_front u k (left_after packet done) few ∙ ap (take u) (left_of packet done within))
+      ∙ sym (take-add done u packet)
+
+-- a piece of some bytes is there while some are left
+pub piece_some : (packet : List ℕ) (done k cut : ℕ) → done < length packet → 0 < cut → k ≡ min cut (length (left_after packet done))
+    → 0 < length (next_piece packet done k)
+piece_some packet done k cut less some is =
+    omega (arith, less, some, is, length-take k (left_after packet done), ap length (left_of packet done (omega (arith, less))), length-drop done packet)
+
+-- what falls while one wants input, or stops wanting it
+abbrev pub turns_left : Bool → ℕ → ℕ
+turns_left wants left = cond wants (suc left) 0
+
+pub fewer_turns : (wants : Bool) (before left : ℕ) → (wants ≡ true → left < before) → turns_left wants left < turns_left true before
+fewer_turns true before left less = omega (arith, less refl)
+fewer_turns false before left less = omega arith
+
+some_left : (xs ys : List ℕ) → xs ≢ [] → xs ++ ys ≢ []
+some_left [] ys some none = some refl
+some_left (x ∷ xs) ys some none = cc
+
+module _ {R A : Type 0} (state : R → RepoState) where
+  -- a server stands so while a packet is said to it, of which this is left
+  pub record Telling (s : Setting) (said given left : List ℕ) (server : Server R A) : Type 0 where
+    pub used : List ℕ
+    pub unused : List ℕ
+    pub parts : said ≡ used ++ unused
+    pub runs : Running state s used false given server
+    pub keeps : wants_input server ≡ true → unused ≡ []
+    pub in_time : (fault : Fault) → outcome_of server ≡ Some (Refused fault) → fault.kind ≡ StreamTooLong → unused ++ left ≢ []
+
+  pub telling_begins : (s : Setting) (said given packet : List ℕ) (server : Server R A) → Stands state s said given server
+      → Telling s (said ++ take 0 packet) given (drop 0 packet) server
+  telling_begins s said given packet server h = record {
+    used = h.used;
+    unused = h.unused;
+    parts = append-nil said ∙ h.parts;
+    runs = h.runs;
+    keeps = h.keeps;
+    in_time = λ fault is late. some_left h.unused packet (h.in_time fault is late);
+  }
+
+  module _ (packet : List ℕ) (done k u : ℕ) (within : done ≤ length packet) (few : u ≤ length (next_piece packet done k)) (old new : Server R A) where
+    pub telling_on : wants_input old ≡ true → Goes state (take u (next_piece packet done k)) [] old new
+        → StopsInTime state old u (next_piece packet done k) (outcome_of new) → (s : Setting) (said given : List ℕ)
+        → Telling s (said ++ take done packet) given (drop done packet) old → Telling s (said ++ take (done + u) packet) given (drop (done + u) packet) new
+    telling_on wants goes in_time s said given h =
+        let piece = next_piece packet done k in
+        let none : h.unused ≡ [] = h.keeps wants in
+        let all : said ++ take done packet ≡ h.used = h.parts ∙ ap (λ (l : List ℕ). h.used ++ l) none ∙ append-nil h.used in
+        let on : Running state s (h.used ++ take u piece) false given new =
+        subst (λ (l : List ℕ). Running state s (h.used ++ take u piece) false l new) (append-nil given) (goes s h.used false given h.runs) in
+        record {
+          used = h.used ++ take u piece;
+          unused = [];
+          parts = ap (λ (l : List ℕ). said ++ l) (sym (piece_joined packet done k u within few)) ∙ sym (append_assoc said (take done packet) (take u piece))
+              ∙ ap (λ (l : List ℕ). l ++ take u piece) all ∙ sym (append-nil (h.used ++ take u piece));
+          runs = on;
+          keeps = λ _. refl;
+          in_time = λ fault is late nothing.
+              let less = in_time s h.used false given h.runs wants fault is late in
+              absurd (omega (
+                arith,
+                less,
+                length-take k (left_after packet done),
+                ap length (left_of packet done within),
+                length-drop done packet,
+                ap length nothing,
+                length-drop (done + u) packet,
+              ));
+        }
+
+  pub telling_ends : (s : Setting) (said given packet : List ℕ) (done : ℕ) (server : Server R A) → (done < length packet → wants_input server ≡ false)
+      → Telling s (said ++ take done packet) given (drop done packet) server → Stands state s (said ++ packet) (given ++ []) server
+  telling_ends s said given packet done server stops h =
+      let whole : said ++ packet ≡ h.used ++ (h.unused ++ drop done packet) =
+      ap (λ (l : List ℕ). said ++ l) (sym (take-append-drop done packet)) ∙ sym (append_assoc said (take done packet) (drop done packet))
+      ∙ ap (λ (l : List ℕ). l ++ drop done packet) h.parts ∙ append_assoc h.used h.unused (drop done packet) in
+      record {
+        used = h.used;
+        unused = h.unused ++ drop done packet;
+        parts = whole;
+        runs = subst (λ (l : List ℕ). Running state s h.used false l server) (sym (append-nil given)) h.runs;
+        keeps = λ wants. ap (λ (l : List ℕ). l ++ drop done packet) (h.keeps wants)
+            ∙ drop_all done packet (elim (cases_lt done (length packet)) [
+              | inl less ↦ absurd (let no = stops less in cc)
+              | inr all ↦ all
+            ]);
+        in_time = h.in_time;
+      }

@@ -1,0 +1,293 @@
+-- What a play tells that ended well.
+use Rattle.std.proofs.Common.{arith, ◌≡◌, inl, inr, ℕ, Bool, true, false, All, flat_map, map, List, [], ◌∷◌, ◌++◌, Option, Some, None, Ok}
+use Rattle.std.proofs.Common.{refl, ap, sym, ◌∙◌, subst}
+use Rattle.std.specs.List.{filter_map, cons_option}
+use Rattle.std.proofs.lemmas.List.{append-nil, append_cancel_right}
+use Rattle.std.proofs.lemmas.List.Elements.{All-cons, All-head, All-map, All-nil, All-tail, All-weaker}
+use Rattle.git_names.specs.ObjectName.{ObjectName}
+use Rattle.git_names.specs.declared.object_format.Format.{Format}
+use Rattle.git_pkt.specs.Packets.{Pkt, flush, resp_end}
+use Rattle.git_pkt.specs.Splits.{Given, SpellsAll}
+use Rattle.git_msg.specs.declared.arguments.Command.{Command}
+use Rattle.git_msg.specs.declared.arguments.Command.TheVariants.{LsRefs, Fetch, ObjectInfo}
+use Rattle.git_msg.specs.declared.offers.Caps.{Caps}
+use Rattle.git_msg.specs.declared.requests.Request.{Request}
+use Rattle.git_msg.specs.Advertisement.{noted_of, takes_command}
+use Rattle.git_msg.specs.Arguments.{Arg, IsNameIn, IsValue, deepen, deepen_not, deepen_relative, deepen_since, have, is_offered, object_id, shallow, want_ref}
+use Rattle.git_msg.specs.Asked.{Asked, HasValues, arguments_in, fetch, have_in, haves_of, ls_refs, object_id_in, object_info, oids_of}
+use Rattle.git_msg.specs.HeldRequest.{asked_of, format_of}
+use Rattle.git_msg.specs.Lines.{IsFormatMeant}
+use Rattle.git_msg.proofs.ArgumentsInOrder.{arguments_in_order}
+use Rattle.git_msg.proofs.RoundTrip.{meant_when_said}
+use Rattle.git_msg.proofs.WholeRequests.{lines_have_no_flush}
+use Rattle.git_client.specs.Client.{History, questions_of, said_of, spelled}
+use Rattle.git_client.specs.Conversation.{GiveAll, HasNoted, IsConversation, Sounds}
+use Rattle.git_client.specs.Events.{EventValue, pack_bytes}
+use Rattle.git_client.specs.Parts.{Terms, advertisement_of, nearest, terms_of}
+use Rattle.git_client.specs.Transcript.{transcript_of}
+use Rattle.git_client.specs.declared.events.Ending.{Ending}
+use Rattle.git_client.specs.declared.events.Ending.TheVariants.{FlushOnly, ResponseEnd}
+use Rattle.git_client.proofs.Determined.{one_event_list, one_note}
+use Rattle.git_server.specs.Answers.{AllFit, advertisement_of as server_says}
+use Rattle.git_server.specs.Repository.{IsSound, Repository, RepoState}
+use Rattle.git_server.specs.Sessions.{AreAnswers, IsAnswered, Setting, Stream}
+use Rattle.git_server.proofs.Sent.{spelled_both}
+use Rattle.git2show_lib.specs.Plays.{IsWholePlay, Played, Talk, said_each, setting_of, with_end}
+use Rattle.git2show_lib.specs.Scripts.{everything}
+use Rattle.git2show_lib.specs.ToldAnswers.{AsksIn, CanBeWritten, told_all, told_offer, told_play}
+use Rattle.git2show_lib.proofs.HearingOffers.{advertisement_stays, format_meant, lines_said, nearest_offer, offer_heard, offer_whole}
+use Rattle.git2show_lib.proofs.HearingSessions.{AreEnded, all_give, all_heard, cut_at, ended_by_flush, nearest-append}
+use Rattle.git2show_lib.proofs.RequestsHeard.{HaveValues, IsLeft, IsTail, requests_are, written_all}
+use Rattle.git2show_lib.proofs.SpelledPackets.{are_spelled, fit_both, fit_front, front_are, packets_are, requests_fit}
+
+-- ---- the object names of a question that an answer repeats
+
+-- the values that are object names of the format
+names_in : (format : Format) (command : Command) (named : Arg → Option ObjectName)
+    → ((arg : Arg) (id : ObjectName) → named arg ≡ Some id → IsValue command format arg → IsNameIn format id) → (args : List Arg)
+    → All (IsValue command format) args → All (IsNameIn format) (filter_map named args)
+names_in format command named is [] values = All-nil (IsNameIn format)
+names_in format command named is (arg ∷ args) values =
+    go (names_in format command named is args (All-tail (IsValue command format) arg args values)) (named arg) refl where
+      go : All (IsNameIn format) (filter_map named args) → (found : Option ObjectName) → named arg ≡ found
+          → All (IsNameIn format) (cons_option found (filter_map named args))
+      go others None e = others
+      go others (Some id) e =
+          All-cons (IsNameIn format) id (filter_map named args) (is arg id e (All-head (IsValue command format) arg args values)) others
+
+have_named : (format : Format) (command : Command) (arg : Arg) (id : ObjectName) → have_in arg ≡ Some id → IsValue command format arg → IsNameIn format id
+have_named format command (have name) id e value = let same : name ≡ id = cc in subst (IsNameIn format) same value.1
+have_named format command arg id e value = absurd (cc)
+
+object_named : (format : Format) (command : Command) (arg : Arg) (id : ObjectName) → object_id_in arg ≡ Some id → IsValue command format arg
+    → IsNameIn format id
+object_named format command (object_id name) id e value = let same : name ≡ id = cc in subst (IsNameIn format) same value.1
+object_named format command arg id e value = absurd (cc)
+
+asks_in : (format : Format) (q : Asked) → HasValues format q → AsksIn format q
+asks_in format (ls_refs q) values = tt
+asks_in format (fetch q) values =
+    subst (All (IsNameIn format)) (ap haves_of (arguments_in_order (fetch q)))
+    (names_in format Fetch have_in (have_named format Fetch) (arguments_in (fetch q)) values)
+asks_in format (object_info q) values =
+    subst (All (IsNameIn format)) (ap oids_of (arguments_in_order (object_info q)))
+    (names_in format ObjectInfo object_id_in (object_named format ObjectInfo) (arguments_in (object_info q)) values)
+
+-- ---- what a server reads that offers everything
+
+takes_all : (format : Format) (command : Command) → takes_command (everything format) command ≡ true
+takes_all format LsRefs = refl
+takes_all format Fetch = refl
+takes_all format ObjectInfo = refl
+
+offers_all : (format : Format) (arg : Arg) → is_offered (everything format) arg ≡ true
+offers_all format (shallow id) = refl
+offers_all format (deepen depth) = refl
+offers_all format deepen_relative = refl
+offers_all format (deepen_since time) = refl
+offers_all format (deepen_not revision) = refl
+offers_all format (want_ref name) = refl
+offers_all format arg = refl
+
+-- the requests that it reads of written requests are those
+stream_asks : (format : Format) (ending : Ending) (limit : ℕ) (state : RepoState) (advertise says_agent says_format : Bool) (asked others : List Asked)
+    (used : List ℕ) (left : List Given) (rest : List ℕ) (tail : List Pkt) → IsFormatMeant format says_format → HaveValues asked
+    → used ≡ spelled (written_all says_agent says_format format asked ++ tail) → AllFit tail → IsTail tail → IsLeft left
+    → Stream (setting_of (terms_of format ending) limit state advertise) used others left rest → (others ≡ asked) × All (HasValues format) asked
+stream_asks format ending limit state advertise says_agent says_format asked others used left rest tail meant values e fit is over stream =
+    let ps = written_all says_agent says_format format asked ++ tail in
+    let spells = are_spelled used ps (fit_both (written_all says_agent says_format format asked) tail
+    (requests_fit says_agent says_format format asked values) fit) e in
+    requests_are (setting_of (terms_of format ending) limit state advertise) says_agent says_format meant (takes_all format) (offers_all format)
+    asked others stream.packets left tail values (packets_are used ps stream.packets rest spells stream.splits) is over stream.requests
+
+-- packets and nothing after them
+spelled_alone : (bytes : List ℕ) (ps : List Pkt) → bytes ≡ spelled ps → bytes ≡ spelled (ps ++ [])
+spelled_alone bytes ps e = e ∙ ap spelled (sym (append-nil ps))
+
+-- ---- what a client notes and hears
+
+-- a whole conversation has its events
+heard_so : (t : Terms) (asked : List Asked) (used : List ℕ) (events : List EventValue) (c : IsConversation t asked used events)
+    → Sounds t asked used c.given events
+heard_so t asked used events c = record {
+  given = c.given;
+  rest = [];
+  more = [];
+  splits = c.splits;
+  cut = sym (append-nil c.given);
+  gives = c.gives;
+  stops = tt;
+}
+
+-- what was advertised says that the format is meant
+meant_after : (t : Terms) (asked : List Asked) (used more : List ℕ) (events : List EventValue) (caps : Caps) → IsConversation t asked used events
+    → HasNoted t asked used caps → AllFit (server_says (everything t.format)) → used ≡ spelled (server_says (everything t.format)) ++ more
+    → IsFormatMeant t.format caps.object_format
+meant_after t asked used more events caps c noted fit e =
+    let (front, back, whole, are) =
+    front_are 0 (server_says (everything t.format)) more c.given [] fit
+    (subst (λ (bytes : List ℕ). SpellsAll 0 bytes c.given []) e c.splits.spelled) c.splits.ends in
+    let own : HasNoted t asked used (noted_of (advertisement_of (nearest c.given []))) = (c.given, events, heard_so t asked used events c, refl) in
+    let said = flush ∷ lines_said t.format in
+    let order : nearest c.given [] ≡ nearest back said =
+    ap (λ (l : List Given). nearest l []) whole ∙ nearest-append front back [] ∙ ap (nearest back) (nearest_offer t.format front are) in
+    let same : caps ≡ noted_of said =
+    one_note t asked used caps (noted_of (advertisement_of (nearest c.given []))) noted own
+    ∙ ap (λ (l : List Pkt). noted_of (advertisement_of l)) order ∙ ap noted_of (advertisement_stays back said refl) in
+    format_meant t.format caps.object_format (ap (λ (k : Caps). k.object_format) same)
+
+-- what is heard of the advertisement and the answers is what they tell
+events_told : (t : Terms) (repo : Repository) (asked : List Asked) (answers : List Pkt) (used : List ℕ) (events : List EventValue) → IsSound repo
+    → CanBeWritten repo → repo.format ≡ t.format → All (HasValues t.format) asked → AreEnded t.ending repo asked answers
+    → AllFit (server_says (everything t.format) ++ answers) → used ≡ spelled (server_says (everything t.format) ++ answers)
+    → IsConversation t asked used events → events ≡ told_play t.format repo asked
+events_told t repo asked answers used events sound written same values are fit e conversation =
+    let offer = server_says (everything t.format) in
+    let first_events = told_offer (everything t.format) in
+    let s = are_spelled used (offer ++ answers) fit e in
+    let c = cut_at s.given offer answers s.are in
+    let heard = offer_heard t c.first c.first_are asked in
+    let asks : All (AsksIn t.format) asked = λ k d within. asks_in t.format _ (values k d within) in
+    let answered = (all_heard t repo sound written same asked [] [] (nearest c.first []) answers c.second asks are
+    (offer_whole t c.first c.first_are) c.second_are).0 in
+    let later : GiveAll t asked (nearest c.first []) c.second (told_all repo asked) =
+    subst (λ (l : List Asked). GiveAll t l (nearest c.first []) c.second (told_all repo asked)) (append-nil asked) answered in
+    let all : GiveAll t asked [] s.given (first_events ++ told_all repo asked) =
+    subst (λ (l : List Given). GiveAll t asked [] l (first_events ++ told_all repo asked)) (sym c.whole)
+    (all_give t asked [] c.first c.second first_events (told_all repo asked) heard later) in
+    one_event_list t asked used events (first_events ++ told_all repo asked) (conversation.given, heard_so t asked used events conversation)
+    (s.given, record { given = s.given; rest = []; more = []; splits = s.splits; cut = sym (append-nil s.given); gives = all; stops = tt })
+
+-- ---- each ending
+
+-- the values of a question may stand there, where its object names have some format
+abbrev HasOwn : Asked → Type 0
+HasOwn q = (format : Format) × HasValues format q
+
+module _ (format : Format) (limit : ℕ) (state : RepoState) where
+  -- the packets of the answers of servers that answer one request each
+  record EachTold (later : List Talk) (asked : List Asked) : Type 0 where
+    packets : List Pkt
+    fit : AllFit packets
+    bytes : flat_map with_end later ≡ spelled packets
+    are : AreEnded ResponseEnd state.answers asked packets
+    in_format : All (HasValues format) asked
+
+  abbrev silent : Setting
+  silent = setting_of (terms_of format ResponseEnd) limit state false
+
+  each_told : (caps : Caps) → IsFormatMeant format caps.object_format → (later : List Talk) (asked : List Asked)
+      → map (λ talk. talk.said) later ≡ said_each (terms_of format ResponseEnd) caps asked
+      → All (λ talk. IsAnswered silent talk.said talk.given) later → HaveValues asked → EachTold later asked
+  each_told caps meant [] [] said all values = record { packets = []; fit = tt; bytes = refl; are = refl; in_format = All-nil (HasValues format) }
+  each_told caps meant [] (q ∷ asked) said all values = absurd (cc)
+  each_told caps meant (talk ∷ later) [] said all values = absurd (cc)
+  each_told caps meant (talk ∷ later) (q ∷ asked) said all values =
+      let question = questions_of format caps (q ∷ []) in
+      let now : talk.said ≡ spelled question = cc in
+      let behind : map (λ talk. talk.said) later ≡ said_each (terms_of format ResponseEnd) caps asked = cc in
+      let a = All-head (λ (talk : Talk). IsAnswered silent talk.said talk.given) talk later all in
+      let one = All-cons HasOwn q [] (All-head HasOwn q asked values) (All-nil HasOwn) in
+      let read = stream_asks format ResponseEnd limit state false caps.agent caps.object_format (q ∷ []) a.asked talk.said a.left a.rest [] meant one
+      (spelled_alone talk.said question now) tt (inl refl)
+      (inl (lines_have_no_flush silent.offer limit [] a.left a.begins.lines a.begins.taken)) a.stream in
+      let (answer, more, parts, is, none) = subst (λ (l : List Asked). AreAnswers state.answers l a.answers) read.0 a.answered in
+      let own : a.answers ≡ answer = parts ∙ ap (λ (l : List Pkt). answer ++ l) none ∙ append-nil answer in
+      let then = each_told caps meant later asked behind (All-tail (λ (talk : Talk). IsAnswered silent talk.said talk.given) talk later all)
+      (All-tail HasOwn q asked values) in
+      let whole = answer ++ resp_end ∷ [] in
+      record {
+        packets = whole ++ then.packets;
+        fit = fit_both whole then.packets (fit_both answer (resp_end ∷ []) (subst AllFit own a.fit) (omega arith, tt)) then.fit;
+        bytes = ap (λ (bytes : List ℕ). (bytes ++ spelled (resp_end ∷ [])) ++ flat_map with_end later) (a.given_is ∙ ap spelled own)
+            ∙ ap (λ (bytes : List ℕ). bytes ++ flat_map with_end later) (sym (spelled_both answer (resp_end ∷ [])))
+            ∙ ap (λ (bytes : List ℕ). spelled whole ++ bytes) then.bytes ∙ sym (spelled_both whole then.packets);
+        are = (answer, then.packets, refl, is, then.are);
+        in_format = All-cons (HasValues format) q asked (All-head (HasValues format) q [] read.1) then.in_format;
+      }
+
+module _ {A : Type 0} (format : Format) (limit : ℕ) (state : RepoState) (sound : IsSound state.answers) (written : CanBeWritten state.answers)
+    (same : state.answers.format ≡ format) where
+  -- one server answers all requests
+  told_by_flush : (rest : List (Request A)) (h : History) → HaveValues h.asked → IsWholePlay (terms_of format FlushOnly) limit state rest h
+      → h.events ≡ told_play format state.answers h.asked
+  told_by_flush rest h values p =
+      let t = terms_of format FlushOnly in
+      let repo = state.answers in
+      let caps = p.run.said.caps in
+      let a = p.sessions.answered in
+      let said = p.served.said caps p.run.said.noted in
+      let offer = server_says (everything format) in
+      let used : h.used ≡ spelled (offer ++ a.answers) =
+      sym (append-nil h.used) ∙ p.served.gave ∙ ap (λ (l : List Talk). p.first.given ++ flat_map with_end l) said.0 ∙ append-nil p.first.given
+      ∙ a.given_is in
+      let meant = meant_after t h.asked h.used (spelled a.answers) h.events caps p.run.whole p.run.said.noted (fit_front offer a.answers a.fit)
+      (used ∙ spelled_both offer a.answers) in
+      let messages = written_all caps.agent caps.object_format format h.asked in
+      let wrote : p.first.said ≡ spelled (written_all caps.agent caps.object_format format h.asked ++ flush ∷ []) =
+      said.1 ∙ p.run.said.said ∙ ap (λ (left : Bool). spelled (said_of format caps h.asked left)) p.run.leaves in
+      let questions : p.sessions.questions ≡ spelled (messages ++ []) =
+      append_cancel_right p.sessions.questions (spelled messages) (spelled (flush ∷ [])) (sym p.sessions.parts ∙ wrote ∙ spelled_both messages (flush ∷ []))
+      ∙ ap spelled (sym (append-nil messages)) in
+      let read = stream_asks format FlushOnly limit state true caps.agent caps.object_format h.asked a.asked p.sessions.questions a.left a.rest []
+      meant values questions tt (inl refl)
+      (inl (lines_have_no_flush (everything format) limit [] a.left a.begins.lines a.begins.taken)) a.stream in
+      let answered : AreAnswers repo h.asked a.answers = subst (λ (l : List Asked). AreAnswers repo l a.answers) read.0 a.answered in
+      events_told t repo h.asked a.answers h.used h.events sound written same read.1 (ended_by_flush repo h.asked a.answers answered) a.fit used
+      p.run.whole
+
+  -- the first server only advertises, and each request has a server of its own
+  told_by_ends : (rest : List (Request A)) (h : History) → HaveValues h.asked → IsWholePlay (terms_of format ResponseEnd) limit state rest h
+      → h.events ≡ told_play format state.answers h.asked
+  told_by_ends rest h values p =
+      let t = terms_of format ResponseEnd in
+      let repo = state.answers in
+      let caps = p.run.said.caps in
+      let said = p.served.said caps p.run.said.noted in
+      let offer = server_says (everything format) in
+      let first = p.sessions.0 in
+      let none = stream_asks format ResponseEnd limit state true false true [] first.asked p.first.said first.left first.rest []
+      (meant_when_said format) (All-nil HasOwn) said.0 tt (inl refl)
+      (inl (lines_have_no_flush (everything format) limit [] first.left first.begins.lines first.begins.taken)) first.stream in
+      let silence : first.answers ≡ [] = subst (λ (l : List Asked). AreAnswers repo l first.answers) none.0 first.answered in
+      let only : offer ++ first.answers ≡ offer = ap (λ (l : List Pkt). offer ++ l) silence ∙ append-nil offer in
+      let fit : AllFit offer = subst AllFit only first.fit in
+      let used : h.used ≡ spelled offer ++ flat_map with_end p.later =
+      sym (append-nil h.used) ∙ p.served.gave ∙ ap (λ (bytes : List ℕ). bytes ++ flat_map with_end p.later) (first.given_is ∙ ap spelled only) in
+      let meant = meant_after t h.asked h.used (flat_map with_end p.later) h.events caps p.run.whole p.run.said.noted fit used in
+      let each = each_told format limit state caps meant p.later h.asked said.1 p.sessions.1 values in
+      events_told t repo h.asked each.packets h.used h.events sound written same each.in_format each.are (fit_both offer each.packets fit each.fit)
+      (used ∙ ap (λ (bytes : List ℕ). spelled offer ++ bytes) each.bytes ∙ sym (spelled_both offer each.packets)) p.run.whole
+
+  -- either ending
+  told_whole : (ending : Ending) (rest : List (Request A)) (h : History) → HaveValues h.asked
+      → IsWholePlay (terms_of format ending) limit state rest h → h.events ≡ told_play format state.answers h.asked
+  told_whole FlushOnly rest h values p = told_by_flush rest h values p
+  told_whole ResponseEnd rest h values p = told_by_ends rest h values p
+
+-- ---- what is given
+
+-- the advertisement has no pack
+no_pack_offered : (format : Format) (later : List EventValue) → pack_bytes (told_offer (everything format) ++ later) ≡ pack_bytes later
+no_pack_offered format later = refl
+
+pub as_told : {A : Type 0} (t : Terms) (limit : ℕ) (state : RepoState) (requests : List (Request A)) (done : Unit {0}) (read given : List (List ℕ))
+    → Played t limit state requests (Ok done) read given → IsSound state.answers → CanBeWritten state.answers → state.answers.format ≡ t.format
+    → All (λ request. HasValues (format_of request) (asked_of request)) requests
+    → given ≡ transcript_of (map asked_of requests) (told_play t.format state.answers (map asked_of requests))
+    ∷ pack_bytes (told_all state.answers (map asked_of requests)) ∷ []
+as_told {A = A} t limit state requests done read given p sound written same values =
+    let h = p.h in
+    let repo = state.answers in
+    let all : requests ≡ p.asked.front =
+    p.asked.all ∙ ap (λ (l : List (Request A)). p.asked.front ++ l) p.ends.run.all ∙ append-nil p.asked.front in
+    let asked : h.asked ≡ map asked_of requests = p.asked.asked ∙ ap (map asked_of) (sym all) in
+    let own : All (λ (request : Request A). HasOwn (asked_of request)) requests =
+    All-weaker (λ (request : Request A). HasValues (format_of request) (asked_of request)) (λ (request : Request A). HasOwn (asked_of request))
+    (λ request values. (format_of request, values)) requests values in
+    let events = told_whole t.format limit state sound written same t.ending p.rest h
+    (subst HaveValues (sym asked) (All-map HasOwn asked_of requests own)) p.ends in
+    let told = told_play t.format repo in
+    p.told ∙ ap (λ (l : List EventValue). transcript_of h.asked l ∷ pack_bytes l ∷ []) events
+    ∙ ap (λ (l : List Asked). transcript_of l (told l) ∷ pack_bytes (told l) ∷ []) asked

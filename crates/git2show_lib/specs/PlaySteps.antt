@@ -1,0 +1,134 @@
+-- What the steps of a play do to the client, to the server that it hears, and to what was said between them.
+use Rattle.std.specs.Prelude.{◌≡◌, ◌≢◌, ◌⊎◌, ℕ, Bool, true, false, List, [], ◌∷◌, ◌++◌, Some, None, Result, Ok, Err}
+use Rattle.git_pkt.specs.Packets.{resp_end}
+use Rattle.git_pkt.specs.Streams.{Flow, flow, WrittenAs, IsTimely}
+use Rattle.git_pkt.specs.declared.fault.Fault.{Fault}
+use Rattle.git_pkt.specs.declared.fault.Kind.TheVariants.{StreamTooLong}
+use Rattle.git_pkt.specs.declared.fault.RunFault.{RunFault}
+use Rattle.git_pkt.specs.declared.fault.RunFault.TheVariants.{WriteFault, Refused as RefusedRun}
+use Rattle.git_msg.specs.declared.requests.Request.{Request}
+use Rattle.git_client.specs.Client.{can_ask, fault_of, spelled, wants_input}
+use Rattle.git_client.specs.RunSteps.{GoesAlong, AsksNext, AsksNot, Says, no_counts}
+use Rattle.git_client.specs.declared.client.Client.{Client}
+use Rattle.git_client.specs.declared.hearing.Counts.{Counts}
+use Rattle.git_server.specs.Repository.{RepoState}
+use Rattle.git_server.specs.Server.{Running, outcome_of, wants_input as waits_for_input}
+use Rattle.git_server.specs.ServerCalls.{EndsAs as EndsServer}
+use Rattle.git_server.specs.Sessions.{Setting}
+use Rattle.git_server.specs.declared.outcome.Outcome.{Outcome}
+use Rattle.git_server.specs.declared.outcome.Outcome.TheVariants.{Refused}
+use Rattle.git_server.specs.declared.server.Server.{Server}
+
+-- where what is said to a server goes: to no stream
+abbrev pub silent : Flow
+silent = flow None None
+
+-- the packet after an answer of a server that answers one request alone
+abbrev pub end_of : Bool → List ℕ
+end_of true = spelled (resp_end ∷ [])
+end_of false = []
+
+module _ {R A : Type 0} (state : R → RepoState) where
+  -- a server stands so to what was said to it, of which it used a front, and to what it gave; it throws bytes away only where it waits for none
+  pub record Stands (s : Setting) (said given : List ℕ) (server : Server R A) : Type 0 where
+    pub used : List ℕ
+    pub unused : List ℕ
+    pub parts : said ≡ used ++ unused
+    pub runs : Running state s used false given server
+    pub keeps : waits_for_input server ≡ true → unused ≡ []
+    pub in_time : (fault : Fault) → outcome_of server ≡ Some (Refused fault) → fault.kind ≡ StreamTooLong → unused ≢ []
+
+  -- however it stood, it stands so with these bytes said and given
+  abbrev pub StandsOn : Server R A → List ℕ → List ℕ → Server R A → Type 0
+  StandsOn old said given new =
+      (s : Setting) (said_before given_before : List ℕ) → Stands s said_before given_before old → Stands s (said_before ++ said) (given_before ++ given) new
+
+  -- after whole requests were said a server stands so: it used all of them, or its session ended after a front
+  pub record Settled (s : Setting) (said given : List ℕ) (server : Server R A) : Type 0 where
+    pub used : List ℕ
+    pub unused : List ℕ
+    pub parts : said ≡ used ++ unused
+    pub runs : Running state s used false given server
+    pub settled : outcome_of server ≡ None → unused ≡ []
+    pub in_time : (fault : Fault) → outcome_of server ≡ Some (Refused fault) → fault.kind ≡ StreamTooLong → unused ≢ []
+
+  -- however it stood so, it does with these bytes given
+  abbrev pub GivesOn : Server R A → List ℕ → Server R A → Type 0
+  GivesOn old given new =
+      (s : Setting) (said given_before : List ℕ) → Settled s said given_before old → Settled s said (given_before ++ given) new
+
+  -- a server gives nothing more: it waits, or its session ended
+  abbrev pub IsSpent : Server R A → Type 0
+  IsSpent server = (waits_for_input server ≡ true) ⊎ ((outcome : Outcome) × EndsServer state server outcome)
+
+  -- a server gave these bytes, of which the client used a front, and what that says was written
+  pub record Hears (broken : Bool) (old new : Client A) (counts counts_after : Counts) (server after : Server R A) (end unheard : List ℕ)
+      (out packs : Flow) : Type 0 where
+    pub lines : List ℕ
+    pub packed : List ℕ
+    pub given : List ℕ
+    pub used : List ℕ
+    pub parts : given ++ end ≡ used ++ unheard
+    pub told : WrittenAs broken out lines
+    pub sent : WrittenAs broken packs packed
+    pub client_goes : GoesAlong old new counts counts_after used lines packed
+    pub server_goes : GivesOn server given after
+
+  -- the client heard the server, up to where it can ask, or the server gives nothing more
+  pub record HearsOut (old new : Client A) (counts counts_after : Counts) (server after : Server R A) (out packs : Flow) : Type 0 where
+    pub unheard : List ℕ
+    pub hears : Hears false old new counts counts_after server after [] unheard out packs
+    pub due : wants_input new ≡ true → (unheard ≡ []) × IsSpent after
+    pub asks : wants_input new ≡ false → can_ask new ≡ true
+
+  -- a fault was met
+  pub record HearsFault (fault : Fault) (ended : Bool) (old new : Client A) (counts counts_after : Counts) (server after : Server R A)
+      (end unheard : List ℕ) (out packs : Flow) : Type 0 where
+    pub hears : Hears false old new counts counts_after server after end unheard out packs
+    pub told : fault_of new ≡ Some fault
+    pub timely : IsTimely fault.kind ended unheard
+    pub done : ended ≡ true → IsSpent after
+
+  -- how a server was heard
+  abbrev pub HearsServerTo : Result (Unit {0}) RunFault → Client A → Client A → Counts → Counts → Server R A → Server R A → Flow → Flow → Type 0
+  HearsServerTo (Ok done) old new counts counts_after server after out packs = HearsOut old new counts counts_after server after out packs
+  HearsServerTo (Err WriteFault) old new counts counts_after server after out packs =
+      (unheard : List ℕ) × Hears true old new counts counts_after server after [] unheard out packs
+  HearsServerTo (Err (RefusedRun fault)) old new counts counts_after server after out packs =
+      (unheard : List ℕ) × HearsFault fault false old new counts counts_after server after [] unheard out packs
+  HearsServerTo (Err fault) old new counts counts_after server after out packs = ⊥
+
+  -- a message was heard whole: with the packet after it, where one comes
+  pub record HearsMessage (alone : Bool) (old new : Client A) (server after : Server R A) (out packs : Flow) : Type 0 where
+    pub counts : Counts
+    pub unheard : List ℕ
+    pub hears : Hears false old new no_counts counts server after (end_of alone) unheard out packs
+    pub asks : can_ask new ≡ true
+
+  -- how it was heard
+  abbrev pub HearsMessageTo : Result (Unit {0}) RunFault → Bool → Client A → Client A → Server R A → Server R A → Flow → Flow → Type 0
+  HearsMessageTo (Ok done) alone old new server after out packs = HearsMessage alone old new server after out packs
+  HearsMessageTo (Err WriteFault) alone old new server after out packs =
+      (counts : Counts) × (unheard : List ℕ) × Hears true old new no_counts counts server after (end_of alone) unheard out packs
+  HearsMessageTo (Err (RefusedRun fault)) alone old new server after out packs =
+      (ended : Bool) × (counts : Counts) × (unheard : List ℕ)
+      × HearsFault fault ended old new no_counts counts server after (end_of alone) unheard out packs
+  HearsMessageTo (Err fault) alone old new server after out packs = ⊥
+
+  -- all that a client owes was said to the server
+  pub record TellsAll (old new : Client A) (server after : Server R A) : Type 0 where
+    pub says : Says false old new silent
+    pub server_goes : StandsOn server says.given [] after
+
+  -- a request was asked, and said to the server
+  pub record AsksServer (old new : Client A) (request : Request A) (server after : Server R A) (out : Flow) : Type 0 where
+    pub asks : AsksNext false old new request silent out
+    pub waits : wants_input new ≡ true
+    pub server_goes : StandsOn server asks.given [] after
+
+  -- how it was asked
+  abbrev pub AsksServerTo : Result (Unit {0}) RunFault → Client A → Client A → Request A → Server R A → Server R A → Flow → Type 0
+  AsksServerTo (Ok done) old new request server after out = AsksServer old new request server after out
+  AsksServerTo (Err WriteFault) old new request server after out = AsksNext true old new request silent out
+  AsksServerTo (Err (RefusedRun fault)) old new request server after out = AsksNot fault old new request silent out × (after ≡ server)
+  AsksServerTo (Err fault) old new request server after out = ⊥

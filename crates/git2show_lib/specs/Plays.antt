@@ -1,0 +1,131 @@
+-- What a play of both ends against each other comes to: what the client asked and heard, and the sessions of the servers that
+-- answered it.
+use Rattle.std.specs.Prelude.{◌≡◌, ◌⊎◌, ℕ, Bool, true, false, All, List, [], ◌∷◌, ◌++◌, map, flat_map, Result, Ok, Err}
+use Rattle.git_pkt.specs.Packets.{Pkt, flush, resp_end}
+use Rattle.git_pkt.specs.declared.fault.Fault.{Fault}
+use Rattle.git_pkt.specs.declared.fault.RunFault.{RunFault}
+use Rattle.git_pkt.specs.declared.fault.RunFault.TheVariants.{ReadFault, WriteFault, ReadLimit, Refused}
+use Rattle.git_msg.specs.Asked.{Asked}
+use Rattle.git_msg.specs.declared.offers.Caps.{Caps}
+use Rattle.git_msg.specs.declared.requests.Request.{Request}
+use Rattle.git_client.specs.Client.{History, questions_of, spelled}
+use Rattle.git_client.specs.Conversation.{HasEvents, HasNoted}
+use Rattle.git_client.specs.Events.{pack_bytes}
+use Rattle.git_client.specs.Parts.{Terms}
+use Rattle.git_client.specs.Runs.{HasAsked, HasSaid, IsMalformed, IsRefusedRequest, IsWholeRun}
+use Rattle.git_client.specs.Transcript.{transcript_of}
+use Rattle.git_client.specs.declared.events.Ending.{Ending}
+use Rattle.git_client.specs.declared.events.Ending.TheVariants.{FlushOnly, ResponseEnd}
+use Rattle.git_server.specs.Repository.{RepoState}
+use Rattle.git_server.specs.Sessions.{Setting, GoesOn, IsAnswered, IsEnding, IsSession}
+use Rattle.git_server.specs.declared.outcome.Outcome.{Outcome}
+use Rattle.git2show_lib.specs.Scripts.{everything}
+
+-- ---- the sessions
+
+-- a server of this repository that offers everything, and advertises first where it is asked to
+abbrev pub setting_of : Terms → ℕ → RepoState → Bool → Setting
+setting_of t limit state advertise = record {
+  offer = everything t.format;
+  limit = limit;
+  advertise = advertise;
+  repo = state.answers;
+  failures = state.failures;
+}
+
+-- what was said to a server, and what it gave
+pub record Talk : Type 0 where
+  pub said : List ℕ
+  pub given : List ℕ
+
+-- a server goes on with all that was said to it, or its session ended after a front of that
+pub record IsTalk (s : Setting) (talk : Talk) : Type 0 where
+  pub used : List ℕ
+  pub unused : List ℕ
+  pub parts : talk.said ≡ used ++ unused
+  pub runs : ((unused ≡ []) × GoesOn s used talk.given)
+      ⊎ ((outcome : Outcome) × (owed : List Pkt) × IsEnding s used false talk.given outcome owed)
+
+-- a server gave all that it gives: it waits for more, or its session ended after a front of what was said to it
+pub record IsDone (s : Setting) (talk : Talk) : Type 0 where
+  pub used : List ℕ
+  pub unused : List ℕ
+  pub parts : talk.said ≡ used ++ unused
+  pub done : ((unused ≡ []) × IsAnswered s used talk.given) ⊎ ((outcome : Outcome) × IsSession s used false talk.given outcome)
+
+-- what the client gets of a server that answers one request alone: all that it gave, and after it a response end
+abbrev pub with_end : Talk → List ℕ
+with_end talk = talk.given ++ spelled (resp_end ∷ [])
+
+-- who answers: one server alone, or one that only advertises and then one for each question, which is said to it
+abbrev pub AreSaid : Ending → (first : Talk) (later : List Talk) (said : List ℕ) (questions : List (List ℕ)) → Type 0
+AreSaid FlushOnly first later said questions = (later ≡ []) × (first.said ≡ said)
+AreSaid ResponseEnd first later said questions = (first.said ≡ []) × (map (λ talk. talk.said) later ≡ questions)
+
+-- the bytes of each question as it is said, where this was advertised
+abbrev pub said_each : Terms → Caps → List Asked → List (List ℕ)
+said_each t caps asked = map (λ q. spelled (questions_of t.format caps (q ∷ []))) asked
+
+-- what was said to the servers, and what the client used is a front of what they gave
+pub record AreServed (t : Terms) (h : History) (unheard : List ℕ) (first : Talk) (later : List Talk) : Type 0 where
+  pub said : (caps : Caps) → HasNoted t h.asked h.used caps → AreSaid t.ending first later h.given (said_each t caps h.asked)
+  pub gave : h.used ++ unheard ≡ first.given ++ flat_map with_end later
+
+-- the sessions stand so: that of the first server, and those of the others
+abbrev pub AreAll : (Setting → Talk → Type 0) → Terms → ℕ → RepoState → Talk → List Talk → Type 0
+AreAll Stands t limit state first later =
+    Stands (setting_of t limit state true) first × All (Stands (setting_of t limit state false)) later
+
+-- a server answered all questions that were said to it, and after them it was told by a flush that the client leaves
+pub record IsAnsweredAndLeft (s : Setting) (talk : Talk) : Type 0 where
+  pub questions : List ℕ
+  pub parts : talk.said ≡ questions ++ spelled (flush ∷ [])
+  pub answered : IsAnswered s questions talk.given
+  pub talks : IsTalk s talk
+
+-- each server gave all that its session gives for what it was asked
+abbrev pub AreWholeSessions : Ending → Terms → ℕ → RepoState → Talk → List Talk → Type 0
+AreWholeSessions FlushOnly t limit state first later = IsAnsweredAndLeft (setting_of t limit state true) first
+AreWholeSessions ResponseEnd t limit state first later = AreAll (λ s talk. IsAnswered s talk.said talk.given) t limit state first later
+
+-- ---- how a play ended
+
+module _ {A : Type 0} where
+  -- each request was asked, answered and heard whole, and all that was given was heard
+  pub record IsWholePlay (t : Terms) (limit : ℕ) (state : RepoState) (rest : List (Request A)) (h : History) : Type 0 where
+    pub first : Talk
+    pub later : List Talk
+    pub run : IsWholeRun t rest h
+    pub served : AreServed t h [] first later
+    pub sessions : AreWholeSessions t.ending t limit state first later
+
+  -- what was heard is refused for its first fault, truncated only where the servers give nothing more; or the next request is
+  pub record IsRefusedPlay (t : Terms) (limit : ℕ) (state : RepoState) (rest : List (Request A)) (h : History) (fault : Fault) : Type 0 where
+    pub first : Talk
+    pub later : List Talk
+    pub unheard : List ℕ
+    pub ended : Bool
+    pub fault_is : IsMalformed t ended unheard h fault ⊎ IsRefusedRequest t rest h fault
+    pub stays : h.left ≡ false
+    pub said : HasSaid t h
+    pub served : AreServed t h unheard first later
+    pub sessions : AreAll IsTalk t limit state first later
+    pub done : ended ≡ true → (unheard ≡ []) × AreAll IsDone t limit state first later
+
+  abbrev pub EndsAs : Terms → ℕ → RepoState → Result (Unit {0}) RunFault → List (Request A) → History → Type 0
+  EndsAs t limit state (Ok done) rest h = IsWholePlay t limit state rest h
+  EndsAs t limit state (Err (Refused fault)) rest h = IsRefusedPlay t limit state rest h fault
+  EndsAs t limit state (Err WriteFault) rest h = Unit {0}
+  EndsAs t limit state (Err ReadFault) rest h = ⊥
+  EndsAs t limit state (Err ReadLimit) rest h = ⊥
+
+  -- what a play of these requests gives: the transcript of what was asked and heard, and what came of packs
+  pub record Played (t : Terms) (limit : ℕ) (state : RepoState) (requests : List (Request A)) (result : Result (Unit {0}) RunFault)
+      (read given : List (List ℕ)) : Type 0 where
+    pub h : History
+    pub rest : List (Request A)
+    pub nothing_read : read ≡ []
+    pub told : given ≡ transcript_of h.asked h.events ∷ pack_bytes h.events ∷ []
+    pub heard : HasEvents t h.asked h.used h.events
+    pub asked : HasAsked requests rest h
+    pub ends : EndsAs t limit state result rest h

@@ -1,0 +1,245 @@
+//! Both ends against each other in memory: the client asks requests of a server of a repository, and hears its answers.
+
+ghost use Rattle.std.specs.Prelude.{◌≡◌, ◌<◌, ◌||◌, ◌∷◌, [], ◌++◌, length, true, false, None, IsTrue, IfErr, is_err};
+ghost use Rattle.git_pkt.specs.Told.{inner_of, has_failed};
+ghost use Rattle.git_pkt.specs.Engine.{FailsAs, IsShownBy};
+ghost use Rattle.git_pkt.specs.Streams.{flow, is_broken, Moves, WrittenAs};
+ghost use Rattle.git_client.specs.Client.{can_ask, fault_of, wants_input};
+ghost use Rattle.git_client.specs.Parts.{terms_of};
+ghost use Rattle.git_client.specs.RunSteps.{HearsPieceTo, no_counts};
+ghost use Rattle.git_server.specs.Server.{outcome_of};
+ghost use Rattle.git2show_lib.specs.Plays.{Played, setting_of};
+ghost use Rattle.git2show_lib.specs.PlaySteps.{AsksServerTo, HearsMessageTo, HearsServerTo, Stands, StandsOn, TellsAll};
+ghost use Rattle.git2show_lib.specs.Scripts.{everything};
+
+use git_client::{Client, Counts, Ending, Sent, hear_piece, write_asked};
+use git_msg::{Limits, Offer, Request};
+use git_names::Format;
+use git_pkt::{Output, RunFault, Told, flush};
+use git_server::{Pulled, Repo, Server};
+use std::alloc::Allocator;
+use std::io::Write;
+
+/// Hears one whole packet in pieces of at most `cut` bytes, up to where the client can ask. Answers how many bytes were used.
+fn hear_packet<O: Write, P: Output, A: Allocator + Copy>(
+    client: &mut Client<A>,
+    counts: &mut Counts,
+    packet: &[u8],
+    cut: usize,
+    out: &mut Told<O>,
+    pack: &mut P,
+) -> Result<usize, RunFault>
+    requires waits { wants_input client.old ≡ true }
+    requires cut { 0 < cut }
+    requires sound_out { has_failed out.old ≡ false }
+    requires sound_pack { P.failed pack.old ≡ false }
+    ensures heard { HearsPieceTo result client.old client.new counts.old counts.new packet.now
+        (flow (O.contents (inner_of out.old)) (O.contents (inner_of out.new)))
+        (flow (P.contents pack.old) (P.contents pack.new)) }
+    ensures fault { IfErr result (IsShownBy ⊥ (IsTrue (has_failed out.new || P.failed pack.new)) ⊥) }
+    ensures told { FailsAs result false (has_failed out.new || P.failed pack.new) }
+{
+    let mut used = 0;
+    while used < packet.len() && client.wants_input() {
+        let left = &packet[used..];
+        let piece = &left[..cut.min(left.len())];
+        used += hear_piece(client, counts, piece, out, pack)?;
+    }
+    Ok(used)
+}
+
+/// Hears what a server gives, up to where the client can ask or the server gives nothing more.
+fn hear_server<R: Repo, O: Write, P: Output, A: Allocator + Copy>(
+    client: &mut Client<A>,
+    counts: &mut Counts,
+    server: &mut Server<R, A>,
+    cut: usize,
+    out: &mut Told<O>,
+    pack: &mut P,
+) -> Result<(), RunFault>
+    requires waits { wants_input client.old ≡ true }
+    requires cut { 0 < cut }
+    requires sound_out { has_failed out.old ≡ false }
+    requires sound_pack { P.failed pack.old ≡ false }
+    ensures heard { HearsServerTo R.state result client.old client.new counts.old counts.new server.old server.new
+        (flow (O.contents (inner_of out.old)) (O.contents (inner_of out.new)))
+        (flow (P.contents pack.old) (P.contents pack.new)) }
+    ensures fault { IfErr result (IsShownBy ⊥ (IsTrue (has_failed out.new || P.failed pack.new)) ⊥) }
+    ensures told { FailsAs result false (has_failed out.new || P.failed pack.new) }
+{
+    while client.wants_input() {
+        match server.pull() {
+            Pulled::Packet(packet) => {
+                hear_packet(client, counts, packet, cut, out, pack)?;
+            }
+            Pulled::NeedInput => return Ok(()),
+            Pulled::Finished(_) => return Ok(()),
+        }
+    }
+    Ok(())
+}
+
+/// Hears a message of a server, the advertisement or a response, and after it a response end where the server answers one request
+/// alone. Both writers are flushed.
+///
+/// `Refused` with the first fault of what was heard, truncated where the server gives nothing more and more is due; `WriteFault` where a
+/// write or a flush fails.
+fn hear_message<R: Repo, O: Write, P: Output, A: Allocator + Copy>(
+    client: &mut Client<A>,
+    server: &mut Server<R, A>,
+    alone: bool,
+    cut: usize,
+    out: &mut Told<O>,
+    pack: &mut P,
+) -> Result<(), RunFault>
+    requires waits { wants_input client.old ≡ true }
+    requires cut { 0 < cut }
+    requires sound_out { has_failed out.old ≡ false }
+    requires sound_pack { P.failed pack.old ≡ false }
+    ensures heard { HearsMessageTo R.state result alone client.old client.new server.old server.new
+        (flow (O.contents (inner_of out.old)) (O.contents (inner_of out.new)))
+        (flow (P.contents pack.old) (P.contents pack.new)) }
+    ensures fault { IfErr result (IsShownBy ⊥ (IsTrue (has_failed out.new || P.failed pack.new)) ⊥) }
+    ensures told { FailsAs result false (has_failed out.new || P.failed pack.new) }
+{
+    let mut counts = Counts {
+        pack: 0,
+        progress: 0,
+    };
+    hear_server(client, &mut counts, server, cut, out, pack)?;
+    if alone && client.wants_input() {
+        hear_packet(client, &mut counts, b"0002", cut, out, pack)?;
+    }
+    flush(out)?;
+    pack.flush()?;
+    if client.wants_input() {
+        return Err(RunFault::Refused(client.close()));
+    }
+    Ok(())
+}
+
+/// Says one packet to a server, in pieces of at most `cut` bytes. Bytes for which the server does not wait any more are dropped.
+fn tell_packet<R: Repo, A: Allocator + Copy>(server: &mut Server<R, A>, packet: &[u8], cut: usize)
+    requires cut { 0 < cut }
+    ensures told { StandsOn R.state server.old packet.now [] server.new }
+{
+    let mut used = 0;
+    while used < packet.len() && server.wants_input() {
+        let left = &packet[used..];
+        let piece = &left[..cut.min(left.len())];
+        used += server.feed(piece);
+    }
+}
+
+/// Says all that the client owes to a server.
+fn tell_all<R: Repo, A: Allocator + Copy>(
+    client: &mut Client<A>,
+    server: &mut Server<R, A>,
+    cut: usize,
+)
+    requires cut { 0 < cut }
+    requires speaks { can_ask client.old ≡ false }
+    requires sound { fault_of client.old ≡ None }
+    ensures told { TellsAll R.state client.old client.new server.old server.new }
+{
+    while let Sent::Packet(packet) = client.pull() {
+        tell_packet(server, packet, cut);
+    }
+}
+
+/// Asks a request of a server. The request's line of the transcript is written to `out`; one that is refused is not asked, and has no line.
+fn ask_server<R: Repo, O: Write, A: Allocator + Copy>(
+    client: &mut Client<A>,
+    request: Request<A>,
+    server: &mut Server<R, A>,
+    cut: usize,
+    out: &mut Told<O>,
+) -> Result<(), RunFault>
+    requires ready { can_ask client.old ≡ true }
+    requires cut { 0 < cut }
+    requires sound_out { has_failed out.old ≡ false }
+    ensures asked { AsksServerTo R.state result client.old client.new request server.old server.new
+        (flow (O.contents (inner_of out.old)) (O.contents (inner_of out.new))) }
+    ensures fault { IfErr result (IsShownBy ⊥ (IsTrue (has_failed out.new)) ⊥) }
+    ensures told { FailsAs result false (has_failed out.new) }
+{
+    let command = request.command();
+    if let Err((_, fault)) = client.ask(request) {
+        return Err(RunFault::Refused(fault));
+    }
+    write_asked(out, command)?;
+    tell_all(client, server, cut);
+    Ok(())
+}
+
+/// An offer of everything.
+fn offer_of_everything(format: Format) -> Offer
+    ensures { result ≡ everything format }
+{
+    Offer {
+        format,
+        shallow: true,
+        ref_in_want: true,
+        object_info: true,
+        server_option: true,
+    }
+}
+
+/// Plays both ends against each other in memory: a client of the repository's format asks the requests in their order of a server of
+/// the repository that offers everything, by gitprotocol-v2(5), and each hears the other in pieces of at most `cut` bytes. Where each
+/// response ends with its flush alone one server answers all requests, and the client leaves it after the last. Where a response
+/// end comes after each, the first server only advertises, and each request is answered by one that does not, and then the client gets
+/// the response end. A server keeps arguments in memory from `alloc`, up to the usual limit for each request.
+///
+/// The client's transcript is written to `out`, and what came of packs, in order, to `pack`. Both are flushed after each response.
+///
+/// `Refused` with the first fault of what the client heard, truncated where the server gives nothing more and more is due, or with
+/// what [`Client::ask`] refused of a request; `WriteFault` where a write or a flush fails. No other fault is met.
+pub fn play<R: Repo + Drop, O: Write, P: Output, A: Allocator + Copy>(
+    alloc: A,
+    repo: R,
+    requests: Vec<Request<A>>,
+    cut: usize,
+    ending: Ending,
+    out: &mut Told<O>,
+    pack: &mut P,
+) -> Result<(), RunFault>
+    requires cut { 0 < cut }
+    requires sound_out { has_failed out.old ≡ false }
+    requires sound_pack { P.failed pack.old ≡ false }
+    ensures played { Moves (is_broken result)
+        (Played (terms_of (R.state repo).answers.format ending) Limits.USUAL (R.state repo) requests.items result) []
+        (flow (O.contents (inner_of out.old)) (O.contents (inner_of out.new)) ∷ flow (P.contents pack.old) (P.contents pack.new) ∷ []) }
+    ensures fault { IfErr result (IsShownBy ⊥ (IsTrue (has_failed out.new || P.failed pack.new)) ⊥) }
+    ensures told { FailsAs result false (has_failed out.new || P.failed pack.new) }
+{
+    let format = repo.format();
+    let mut client = Client::new(format, ending);
+    let mut server = new_server(alloc, repo, true);
+    hear_message(&mut client, &mut server, false, cut, out, pack)?;
+    let alone = ending == Ending::ResponseEnd;
+    for request in requests {
+        if alone {
+            server = new_server(alloc, server.into_repo(), false);
+        }
+        ask_server(&mut client, request, &mut server, cut, out)?;
+        hear_message(&mut client, &mut server, alone, cut, out, pack)?;
+    }
+    if !alone {
+        client.leave();
+        tell_all(&mut client, &mut server, cut);
+    }
+    Ok(())
+}
+
+/// A server that offers everything.
+fn new_server<R: Repo, A: Allocator + Copy>(alloc: A, repo: R, advertise: bool) -> Server<R, A>
+    ensures begins { Stands R.state (setting_of (terms_of (R.state repo).answers.format Ending.FlushOnly) Limits.USUAL (R.state repo) advertise) [] [] result }
+    ensures goes_on { outcome_of result ≡ None }
+{
+    let offer = offer_of_everything(repo.format());
+    let limits = Limits {
+        args: Limits::USUAL,
+    };
+    Server::new(alloc, repo, offer, limits, advertise)
+}
