@@ -136,7 +136,7 @@ case_play_of_each_object_format() {
     local format
     write_played
     for format in sha1 sha256; do
-        cp $format.repo played.repo
+        grep -a -v '[^ -~]' $format.repo > played.repo # others are escaped in a transcript
         play < <(printf 'ls-refs\nsymrefs\npeel\n')
         expect 0 <(capabilities $format; printf '%s\n' offered 'request ls-refs'; grep '^ref ' played.repo; echo 'end 0 0') /dev/null
     done
