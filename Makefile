@@ -1,11 +1,42 @@
 # RT is the command of the Rattle kit.
 RT ?= rt
 
-.PHONY: run test test-program audit cases bench
+# Where `make install` installs, below DESTDIR where that is given; and the built program and library that it takes.
+PREFIX ?= /usr/local
+PROGRAM ?= crates/git2show/out/git2show
+LIBRARY ?= crates/gitwire/out/libgitwire.a
+KIT = $(shell dirname "$$($(RT) doc)")
+
+.PHONY: run library install test test-program audit cases bench
 
 # Proves and builds the program, and shows a recorded conversation of Git.
 run:
 	@cd crates/git2show && $(RT) run -- show < ../../sample/conversation.pkt
+
+# Proves and builds the library for programs in C. What it takes memory by is in the kit's own archive, which a program has to
+# link as well; `make install` puts both into one.
+library:
+	@cd crates/gitwire && $(RT) lib
+
+# Installs the program with its manual page, and the library with its header and what pkg-config tells of it: a C program is
+# then built with `pkg-config --cflags --libs gitwire` and nothing of this folder. What was built is taken as it is.
+install: prefix = $(abspath $(PREFIX))
+install: to = $(DESTDIR)$(prefix)
+install: $(PROGRAM) $(LIBRARY)
+	@install -D -m 755 "$(PROGRAM)" "$(to)/bin/git2show"
+	@install -D -m 644 docs/git2show.1 "$(to)/share/man/man1/git2show.1"
+	@install -D -m 644 include/gitwire.h "$(to)/include/gitwire.h"
+	@install -D -m 644 gitwire.pc.in "$(to)/lib/pkgconfig/gitwire.pc"
+	@sed -i 's|@PREFIX@|$(prefix)|' "$(to)/lib/pkgconfig/gitwire.pc"
+	@install -D -m 644 "$(LIBRARY)" "$(to)/lib/libgitwire.a"
+	@objects=$$(mktemp -d) && (cd "$$objects" && ar x "$(KIT)/c/liblibc_c.a") && \
+		ar qs "$(to)/lib/libgitwire.a" "$$objects"/*.o && rm -r "$$objects"
+
+$(PROGRAM):
+	@cd crates/git2show && $(RT) run -- --version > /dev/null
+
+$(LIBRARY):
+	@cd crates/gitwire && $(RT) lib
 
 # The merge gate: every proof from nothing, the edits that must fail, the tests and the programs. Its last line is the
 # gate's own.
@@ -34,4 +65,5 @@ bench:
 	@cd crates/bench_client && $(RT) run < stdin > /dev/null
 	@cd crates/bench_names && $(RT) run > /dev/null
 	@cd crates/git2show && $(RT) run -- show < ../../sample/conversation.pkt > /dev/null
+	@cd crates/gitwire && $(RT) lib > /dev/null
 	@bench/run.sh

@@ -1,9 +1,10 @@
 #!/usr/bin/env bash
 # Measures the Rattle programs against the C programs beside this script and the real Git, and prints a table.
 #
-#     bench/run.sh [BENCH_PACKETS [GIT2SHOW [BENCH_NAMES [BENCH_CLIENT]]]]
+#     bench/run.sh [BENCH_PACKETS [GIT2SHOW [BENCH_NAMES [BENCH_CLIENT [LIBRARY]]]]]
 #
-# The arguments are the paths of the Rattle programs; without them, where `rt run` leaves them in this repository.
+# The arguments are the paths of the Rattle programs and of the library for C; without them, where `rt run` and `rt lib` leave them
+# in this repository.
 # `bench/run.sh --c-only` measures the C programs and Git alone; without a git the rows `serve`, `check` and `fetch` are left out. The streams
 # lie in a new folder of /tmp (or of $BENCH_FOLDER), which is removed at the end, and take 5 GB. Times are wall-clock
 # seconds, the best of five runs that alternate; a ratio is C's time by ours, so 1.00 is as fast as C and more is faster.
@@ -23,6 +24,7 @@ our_packets=${1:-$top/crates/bench_packets/out/bench_packets}
 our_show=${2:-$top/crates/git2show/out/git2show}
 our_names=${3:-$top/crates/bench_names/out/bench_names}
 our_client=${4:-$top/crates/bench_client/out/bench_client}
+our_library=${5:-$top/crates/gitwire/out/libgitwire.a}
 
 stop() {
     echo "bench/run.sh: $*" >&2
@@ -33,12 +35,17 @@ if [ -z "$c_only" ]; then
     for program in "$our_packets" "$our_show" "$our_names" "$our_client"; do
         [ -x "$program" ] || stop "no program $program: run 'rt run' in its crate first"
     done
+    [ -f "$our_library" ] || stop "no library $our_library: run 'make library' first"
 fi
 
 mkdir -p "$out"
 for program in packets show names client generate ask bands check; do
     ${CC:-gcc} -O3 -Wall -Wextra -o "$out/$program" "$top/bench/$program.c"
 done
+if [ -z "$c_only" ]; then
+    ${CC:-gcc} -O3 -Wall -Wextra -I"$top/include" -o "$out/calls" "$top/bench/calls.c" "$our_library" \
+        "$(dirname "$("${RT:-rt}" doc)")/c/liblibc_c.a"
+fi
 
 streams=$(mktemp -d "${BENCH_FOLDER:-/tmp}/git2show-bench.XXXXXX")
 trap 'rm -rf "$streams"' EXIT
@@ -99,6 +106,8 @@ same_output() {
     for stream in large small; do
         [ "$("$our_packets" < "$streams/$stream")" = "$("$out/packets" < "$streams/$stream")" ] ||
             stop "bench_packets and packets.c differ on the stream '$stream'"
+        [ "$("$our_packets" copied < "$streams/$stream")" = "$("$out/calls" < "$streams/$stream")" ] ||
+            stop "bench_packets and calls.c differ on the stream '$stream'"
         [ "$("$our_client" < "$streams/${stream}_pack")" = "$("$out/client" < "$streams/${stream}_pack")" ] ||
             stop "bench_client and client.c differ on the stream '${stream}_pack'"
     done
@@ -135,6 +144,13 @@ echo
 printf '%-34s %22s   %22s   %6s\n' '' 'C' 'Rattle' 'ratio'
 measure 'packets, 65,515 bytes, 1 GB' large "$out/packets" "$our_packets"
 measure 'packets, 50 bytes, 200 MB' small "$out/packets" "$our_packets"
+# Here C's time is that of the same library, called from C.
+if [ -z "$c_only" ]; then
+    measure 'calls of C, 65,515 bytes, 1 GB' large "$out/calls" "$our_packets"
+    measure 'calls of C, 50 bytes, 200 MB' small "$out/calls" "$our_packets"
+    measure 'calls of C, copied, 65,515 bytes' large "$out/calls" "$our_packets" copied
+    measure 'calls of C, copied, 50 bytes' small "$out/calls" "$our_packets" copied
+fi
 measure 'client, 65,515 bytes, 1 GB' large_pack "$out/client" "$our_client"
 measure 'client, 50 bytes, 200 MB' small_pack "$out/client" "$our_client"
 measure 'show, 65,515 text, 1 GB' large "$out/show" "$our_show" show

@@ -1,13 +1,14 @@
 #!/usr/bin/env bash
 # Tests the built program `git2show` from outside: as the real Git calls it (real_git.sh, clones.sh and fetches.sh), and by hand
 # (program.sh); our client, as it asks the real Git (asking.sh); and what both ends of the real Git say, as `check` judges it (recorded.sh); and
-# both of our ends against each other (playing.sh).
+# both of our ends against each other (playing.sh). And the library for programs in C, as the examples use it (library.sh).
 #
-#     tests/run.sh [PROGRAM]
+#     tests/run.sh [PROGRAM [LIBRARY]]
 #
-# PROGRAM is the program to test; without it, what the gate or `make run` left in this repository, which is built first where
-# it is missing or older than a source. Where there is no git, Debian's package is installed. Each failed case is told as it
-# fails; the last line is 'N passed, N failed', and the status is 1 where one failed.
+# PROGRAM is the program to test, and LIBRARY the static library; without them, what the gate, `make run` and `make library` left
+# in this repository, which is built first where it is missing or older than a source. Where there is no git, no C compiler or no
+# valgrind, Debian's package is installed. Each failed case is told as it fails; the last line is 'N passed, N failed', and the
+# status is 1 where one failed.
 set -eu -o pipefail
 shopt -s inherit_errexit
 export LC_ALL=C TZ=UTC
@@ -20,13 +21,14 @@ stop() {
     exit 1
 }
 
-install_git() {
+# install_packages NAME..: Debian's packages of these names.
+install_packages() {
     export DEBIAN_FRONTEND=noninteractive
-    timeout 600 apt-get update >&2 && timeout 600 apt-get install -y git < /dev/null >&2
+    timeout 600 apt-get update >&2 && timeout 600 apt-get install -y "$@" < /dev/null >&2
 }
 
 is_current() {
-    [ -x "$1" ] && [ -z "$(find "$top"/crates/*/src -name '*.rt' -newer "$1" -print -quit)" ]
+    [ -f "$1" ] && [ -z "$(find "$top"/crates/*/src -name '*.rt' -newer "$1" -print -quit)" ]
 }
 
 # built CRATE: prints where the crate's program lies. `rt` has no word that builds a program and does not run it, so the run is
@@ -38,14 +40,34 @@ built() {
     echo "$it"
 }
 
+# built_library CRATE: prints where the crate's static library lies. The gate proves it and builds none, so it is built here, over
+# the libraries that the gate built.
+built_library() {
+    local it=$top/crates/$1/out/lib$1.a
+    is_current "$it" || {
+        RT=${RT:-rt} "$top/tests/built_libraries.py" >&2 || true
+        (cd "$top/crates/$1" && timeout 3600 "${RT:-rt}" lib < /dev/null >&2) || true
+    }
+    is_current "$it" || stop "the library $1 could not be built"
+    echo "$it"
+}
+
 if [ $# -gt 0 ]; then
     program=$(realpath -m "$1")
 else
     program=$(built git2show)
 fi
+if [ $# -gt 1 ]; then
+    library=$(realpath -m "$2")
+else
+    library=$(built_library gitwire)
+fi
 fetcher=$(built example_fetch)
 [ -x "$program" ] || stop "no program $program"
-command -v git > /dev/null || install_git || stop "no git, and it could not be installed"
+[ -f "$library" ] || stop "no library $library"
+command -v git > /dev/null || install_packages git || stop "no git, and it could not be installed"
+command -v gcc > /dev/null || install_packages gcc libc6-dev || stop "no C compiler, and it could not be installed"
+command -v valgrind > /dev/null || install_packages valgrind || echo 'no valgrind, and it could not be installed: nothing is run under it' >&2
 
 room=$(mktemp -d "${TMPDIR:-/tmp}/git2show-tests.XXXXXX")
 trap 'rm -rf "$room"' EXIT
@@ -53,6 +75,7 @@ cd "$room"
 
 # Nobody's own configuration takes part, nor a repository that the folder happens to lie in.
 unset "${!GIT_@}" XDG_CONFIG_HOME
+own_home=$HOME
 export HOME=$room/home GIT_CONFIG_NOSYSTEM=1 GIT_CEILING_DIRECTORIES=${room%/*}
 mkdir "$HOME"
 
@@ -70,8 +93,10 @@ export PATH=$room/bin:$PATH
 . "$top/tests/recorded.sh"
 . "$top/tests/program.sh"
 . "$top/tests/playing.sh"
+. "$top/tests/library.sh"
 
 git --version
 write_repositories
 write_histories
+write_examples
 run_cases

@@ -1,17 +1,22 @@
 //! Counts the packets of standard input and the bytes of their payloads, and prints one line,
 //! `packets bytes checksum`, or tells the first fault. This is `PacketReader` as a caller uses it, for
-//! `bench/run.sh` to measure beside `bench/packets.c`.
+//! `bench/run.sh` to measure beside `bench/packets.c`. With a word after its name it copies each payload
+//! into a room of its own, as the library for C does, to be measured beside `bench/calls.c`.
 #![tactic(auto)]
 
 ghost use Rattle.std.specs.Prelude.{◌≡◌, ◌+◌, ◌%◌, ◌^◌, length};
 ghost use Rattle.git_pkt.specs.Packets.{body_of, seen};
 
 use git_pkt::{Fault, Got, Packet, PacketReader};
+use std::env;
 use std::io::{self, Read};
 use std::process::ExitCode;
 
 /// How many bytes of input are read at a time.
 const PIECE_BYTES: usize = 65_536;
+
+/// How many bytes a payload has at the most.
+const PAYLOAD_BYTES: usize = 65_516;
 
 /// What is told of a stream; each number wraps at 2^64, as it does in C.
 #[derive(Clone, Copy, Debug)]
@@ -55,14 +60,32 @@ impl Counts {
     }
 }
 
+/// The same packet, whose payload is lent by the room if it fits there.
+fn copied<'a>(packet: Packet<'a>, room: &'a mut [u8]) -> Packet<'a>
+    ensures { seen result ≡ seen packet.entry }
+{
+    match packet {
+        Packet::Payload(payload) if payload.len() <= room.len() => {
+            room[..payload.len()].copy_from_slice(payload);
+            Packet::Payload(&room[..payload.len()])
+        }
+        _ => packet,
+    }
+}
+
 /// Counts the packets that a piece makes whole.
-fn count_piece(reader: &mut PacketReader, piece: &[u8], counts: &mut Counts) -> Result<(), Fault> {
+fn count_piece(
+    reader: &mut PacketReader,
+    piece: &[u8],
+    room: &mut [u8],
+    counts: &mut Counts,
+) -> Result<(), Fault> {
     let mut rest = piece;
     while !rest.is_empty() {
         let fed = reader.feed(rest);
         match fed.got {
             Got::More => return Ok(()),
-            Got::Packet(packet, _) => counts.add(packet),
+            Got::Packet(packet, _) => counts.add(copied(packet, room)),
             Got::Failed(fault) => return Err(fault),
         }
         rest = &rest[fed.used..];
@@ -79,6 +102,8 @@ fn refuse(rt: &impl Eprint, fault: Fault) -> io::Result<ExitCode> {
 fn main(rt: HostRuntime) -> io::Result<ExitCode> {
     let mut input = rt.stdin();
     let mut piece = vec![in rt.alloc(); 0; PIECE_BYTES]?;
+    let copies = env::args(&rt)?.count() > 1;
+    let mut room = vec![in rt.alloc(); 0; if copies { PAYLOAD_BYTES } else { 0 }]?;
     let mut reader = PacketReader::new();
     let mut counts = Counts::none();
     for _ in 0..u64::MAX {
@@ -86,7 +111,12 @@ fn main(rt: HostRuntime) -> io::Result<ExitCode> {
         if count == 0 {
             break;
         }
-        if let Err(fault) = count_piece(&mut reader, &piece[..count], &mut counts) {
+        if let Err(fault) = count_piece(
+            &mut reader,
+            &piece[..count],
+            room.as_mut_slice(),
+            &mut counts,
+        ) {
             return refuse(&rt, fault);
         }
     }

@@ -2,8 +2,8 @@
 #![tactic(auto)]
 
 use git_msg::{Limits, Offer};
+use git_repository::read_repo;
 use git_server::{ListRepo, Outcome, Pulled, Repo, Server};
-use git2show_lib::read_repo;
 use std::alloc::Global;
 use std::io;
 use std::io::{BufRead, BufReader, ErrorKind, Write};

@@ -7,10 +7,9 @@ use git_client::Ending;
 use git_msg::{Limits, Offer};
 use git_names::Format;
 use git_pkt::{Discard, RunFault, Told};
+use git_repository::{RepositoryReader, TextFault};
 use git_server::{ListRepo, Outcome, Repo, Server, serve};
-use git2show_lib::{
-    ProgramFault, RepositoryReader, TextFault, check, play, read_script, report, show,
-};
+use git2show_lib::{ProgramFault, check, play, read_script, report, show};
 use std::alloc::{AllocError, Global};
 use std::fs::File;
 use std::io::{BufWriter, Read, Stdout};

@@ -27,8 +27,8 @@ use Rattle.git_server.specs.Objects.{object_cmp, size_among}
 use Rattle.git_server.specs.Repository.{Entry, IsSound, Repository}
 use Rattle.git_server.specs.Sessions.{AreAnswers}
 use Rattle.git_server.specs.declared.list_repo.ListRepo.{ListRepo}
-use Rattle.git2show_lib.specs.RepositoryLines.{Said, boundary, object, ready, reference}
-use Rattle.git2show_lib.specs.RepositoryText.{IsRepositoryText, SayAll, boundaries_in, entry_of, objects_in, refs_in}
+use Rattle.git_repository.specs.RepositoryLines.{Said, boundary, object, ready, reference}
+use Rattle.git_repository.specs.RepositoryText.{IsRepositoryText, SayAll, boundaries_in, entry_of, objects_in, refs_in}
 use Rattle.git2show_lib.specs.ToldAnswers.{AsksIn, IsEntryOfNames, CanBeWritten, end_packets, packets_of, told_all, told_by}
 use Rattle.git2show_lib.proofs.HearingAnswers.{heard, whole_after}
 

@@ -1,13 +1,6 @@
 pub mod CheckRuns
 pub mod Sendings
 pub mod Printing
-pub mod Saying
-pub mod Rising
-pub mod Drafting
-pub mod TextPieces
-pub mod Reading
-pub mod Progressing
-pub mod TextLaws
 pub mod ScriptLists
 pub mod Scripting
 pub mod ScriptReading

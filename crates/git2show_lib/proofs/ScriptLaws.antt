@@ -8,10 +8,10 @@ use Rattle.git_msg.specs.declared.arguments.Command.TheVariants.{LsRefs, Fetch, 
 use Rattle.git_msg.specs.Arguments.{Arg, IsNoArgument, ReadsAs, name_of}
 use Rattle.git_msg.specs.Asked.{Asked}
 use Rattle.git_msg.proofs.Rows.{argument_or_fault, one_argument}
-use Rattle.git2show_lib.specs.RepositoryLines.{lines_of}
+use Rattle.git_repository.specs.RepositoryLines.{lines_of}
+use Rattle.git_repository.proofs.TextLaws.{earlier_in}
 use Rattle.git2show_lib.specs.Scripts.{ScriptLine, blank, command, argument, FollowAll, HasBadScriptLine, IsScript, MayFollow}
 use Rattle.git2show_lib.specs.Scripts.{nearest, requests_in}
-use Rattle.git2show_lib.proofs.TextLaws.{earlier_in}
 
 one_command : (c d : Command) → name_of c ≡ name_of d → c ≡ d
 one_command LsRefs LsRefs e = refl

@@ -1,19 +1,39 @@
 -- The lines of a script, read one by one.
-use Rattle.std.proofs.Common.{arith, ◌≡◌, ℕ, ◌+◌, ◌≤◌, Option, Some, List, [], ◌∷◌, ◌++◌, refl, ap, sym, ◌∙◌, subst, append_assoc, length}
+use Rattle.std.specs.Prelude.{MatchOption}
+use Rattle.std.specs.Option.{option_copied}
+use Rattle.std.proofs.Common.{arith, ◌≡◌, ℕ, ◌+◌, ◌<◌, ◌≤◌, Bor, Option, Some, None, List, [], ◌∷◌, ◌++◌, refl, ap, sym, ◌∙◌, subst, append_assoc}
+use Rattle.std.proofs.Common.{length, length-append, inl, inr}
+use Rattle.std.proofs.lemmas.Grind.{common_steps}
 use Rattle.git_pkt.specs.Packets.{text_of}
+use Rattle.git_pkt.proofs.Texts.{text_loses_a_line_end}
 use Rattle.git_msg.specs.Texts.{parts_left, parts_of}
 use Rattle.git_msg.specs.declared.offers.Offer.{Offer}
 use Rattle.git_msg.proofs.TextParts.{bytes_left}
-use Rattle.git2show_lib.specs.RepositoryLines.{lines_of}
+use Rattle.git_repository.specs.RepositoryLines.{lines_of}
 use Rattle.git2show_lib.specs.Scripts.{ScriptLine, FollowAll, MayFollow, nearest}
 use Rattle.git2show_lib.specs.HeldScripts.{Held, Holds, TakesLine, nothing_held}
-use Rattle.git2show_lib.proofs.Reading.{cut_shorter, length_more}
 use Rattle.git2show_lib.proofs.ScriptLists.{follow_more}
 use Rattle.git2show_lib.proofs.Scripting.{holds_nothing}
+
+-- a text without its line end is no longer
+cut_shorter : (text : List ℕ) → length (text_of text) ≤ length text
+cut_shorter text = elim (text_loses_a_line_end text) [
+  | inl same ↦ omega (arith, ap length same)
+  | inr less ↦ omega (arith, ap length less, length-append (text_of text) (10 ∷ []))
+]
 
 -- a line takes a byte at least
 pub room_at_all : (text cut : List ℕ) → cut ≡ text_of text → 0 + bytes_left (Some cut) ≤ length text + 1
 room_at_all text cut is = omega (arith, cut_shorter text, ap length is)
+
+-- and so do those behind it
+pub room_behind : (most line : ℕ) (left : List ℕ) (rest : Option (Bor (List ℕ))) → line + (length left + 1) ≤ most + 1
+    → MatchOption rest (Unit {0}) (λ r. length r.now < length left) → line + 1 + bytes_left (option_copied rest) ≤ most + 1
+room_behind most line left None room h = omega (arith, room)
+room_behind most line left (Some r) room h = omega (arith, room, h)
+
+length_more : (lines : List (List ℕ)) (line : List ℕ) → length (lines ++ line ∷ []) ≡ length lines + 1
+length_more lines line = grind (arith, common_steps)
 
 -- the lines that are left begin with this one
 whole_at : (text left this : List ℕ) (before : List (List ℕ)) (next : Option (List ℕ)) → lines_of text ≡ before ++ parts_left 10 (Some left)

@@ -22,11 +22,11 @@ use Rattle.git_msg.proofs.ArgumentsInOrder.{asked_snoc}
 use Rattle.git_msg.proofs.Rows.{argument_or_fault, one_argument}
 use Rattle.git_msg.proofs.Values.{added_or_refused}
 use Rattle.git_msg.proofs.WrittenNames.{named_in}
+use Rattle.git_repository.specs.declared.text_faults.LineFault.{LineFault}
+use Rattle.git_repository.specs.declared.text_faults.LineFault.TheVariants.{Refused, OutOfMemory}
 use Rattle.git2show_lib.specs.Scripts.{ScriptLine, blank, command, argument, MayFollow, kept_after, nearest, open_after, requests_in}
 use Rattle.git2show_lib.specs.HeldScripts.{Held, AddsArgument, Begins, FitsIn, GoesOn, HasOpen, Holds, IsBeginFault, IsLineFault, IsOpenAs, TakesLine}
 use Rattle.git2show_lib.specs.HeldScripts.{nothing_held, with_requests}
-use Rattle.git2show_lib.specs.declared.drafts.LineFault.{LineFault}
-use Rattle.git2show_lib.specs.declared.drafts.LineFault.TheVariants.{Refused, OutOfMemory}
 use Rattle.git2show_lib.proofs.ScriptLists.{Cut, cut_of, nearest_more, requests_blank, requests_cut, requests_of_cut}
 
 -- an argument that a text says may stand in a request

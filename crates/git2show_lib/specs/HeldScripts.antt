@@ -5,9 +5,9 @@ use Rattle.git_msg.specs.declared.arguments.Command.{Command}
 use Rattle.git_msg.specs.declared.requests.Request.{Request}
 use Rattle.git_msg.specs.Arguments.{Arg, ReadsAs, TakesMemory as TakesMemoryFor, name_of, written_text}
 use Rattle.git_msg.specs.HeldRequest.{IsEmpty, Keeps, asked_of, command_of, format_of, kept_of, limit_of}
+use Rattle.git_repository.specs.declared.text_faults.LineFault.{LineFault}
+use Rattle.git_repository.specs.declared.text_faults.LineFault.TheVariants.{Refused, OutOfMemory}
 use Rattle.git2show_lib.specs.Scripts.{ScriptLine, MayFollow, TakesMemory, kept_after, nearest, open_after, requests_in}
-use Rattle.git2show_lib.specs.declared.drafts.LineFault.{LineFault}
-use Rattle.git2show_lib.specs.declared.drafts.LineFault.TheVariants.{Refused, OutOfMemory}
 
 -- what is offered, the limit, the requests so far, and whether the last of them is open
 pub record Held (A : Type 0) : Type 0 where

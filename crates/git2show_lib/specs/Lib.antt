@@ -5,14 +5,6 @@ pub mod Reports
 pub mod CheckFaults
 pub mod CheckSteps
 pub mod CheckedStreams
-pub mod RepositoryLines
-pub mod RepositoryText
-pub mod DraftLists
-pub mod Drafts
-pub mod LinesTold
-pub mod RepositoryProgress
-pub mod RepositoryReader
-pub mod RepositoryFaults
 pub mod Scripts
 pub mod HeldScripts
 pub mod ScriptLines

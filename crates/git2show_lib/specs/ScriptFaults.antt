@@ -3,10 +3,10 @@ use Rattle.std.specs.Prelude.{◌≡◌, ℕ, List, All, map}
 use Rattle.git_names.specs.declared.object_format.Format.{Format}
 use Rattle.git_msg.specs.declared.requests.Request.{Request}
 use Rattle.git_msg.specs.HeldRequest.{asked_of, format_of, limit_of}
-use Rattle.git2show_lib.specs.RepositoryLines.{lines_of}
+use Rattle.git_repository.specs.RepositoryLines.{lines_of}
+use Rattle.git_repository.specs.declared.text_faults.TextFault.{TextFault}
+use Rattle.git_repository.specs.declared.text_faults.TextFault.TheVariants.{Bad, OutOfMemory}
 use Rattle.git2show_lib.specs.Scripts.{HasBadScriptLine, IsScript, WantsScriptMemory, everything}
-use Rattle.git2show_lib.specs.declared.repository_text.TextFault.{TextFault}
-use Rattle.git2show_lib.specs.declared.repository_text.TextFault.TheVariants.{Bad, OutOfMemory}
 
 -- the text says these requests, whose object names have the format and whose arguments have the limit
 pub record IsWholeScript {A : Type 0} (format : Format) (limit : ℕ) (text : List ℕ) (requests : List (Request A)) : Type 0 where

@@ -5,7 +5,7 @@ use Rattle.git_msg.specs.declared.offers.Offer.{Offer}
 use Rattle.git_msg.specs.declared.arguments.Command.{Command}
 use Rattle.git_msg.specs.Arguments.{Arg, ReadsAs, TakesMemory as TakesMemoryFor, name_of, written_text}
 use Rattle.git_msg.specs.Asked.{Asked, asked_by}
-use Rattle.git2show_lib.specs.RepositoryLines.{lines_of}
+use Rattle.git_repository.specs.RepositoryLines.{lines_of}
 
 -- what a line is: an empty one, which ends a request; a command, which begins one; an argument of the request that is open
 pub data ScriptLine : Type 0 where

@@ -14,7 +14,7 @@ ghost use Rattle.git_server.specs.ListRepo.{lists_of, state_of};
 ghost use Rattle.git_server.specs.Repository.{Repository, IsSound};
 ghost use Rattle.git_server.specs.Sessions.{AreAnswers};
 ghost use Rattle.git_server.specs.declared.list_repo.ListRepo.{ListRepo};
-ghost use Rattle.git2show_lib.specs.RepositoryText.{IsRepositoryText};
+ghost use Rattle.git_repository.specs.RepositoryText.{IsRepositoryText};
 ghost use Rattle.git2show_lib.specs.Scripts.{everything};
 ghost use Rattle.git2show_lib.specs.ToldAnswers.{AsksIn, CanBeWritten, end_packets, packets_of, told_all, told_by, told_offer};
 

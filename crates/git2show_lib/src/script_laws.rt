@@ -3,7 +3,7 @@
 ghost use Rattle.std.specs.Prelude.{◌≡◌, ℕ, List};
 ghost use Rattle.git_msg.specs.declared.offers.Offer.{Offer};
 ghost use Rattle.git_msg.specs.Asked.{Asked};
-ghost use Rattle.git2show_lib.specs.RepositoryLines.{lines_of};
+ghost use Rattle.git_repository.specs.RepositoryLines.{lines_of};
 ghost use Rattle.git2show_lib.specs.Scripts.{HasBadScriptLine, IsScript};
 
 /// A text is one script at most.

@@ -6,10 +6,10 @@ ghost use Rattle.git_msg.specs.declared.arguments.Command.{Command};
 ghost use Rattle.git2show_lib.specs.Scripts.{everything};
 ghost use Rattle.git2show_lib.specs.HeldScripts.{AddsArgument, Begins, IsBeginFault, IsLineFault, TakesLine, nothing_held};
 
-use crate::drafts::LineFault;
 use git_msg::{Command, Limits, Offer, Request, read_argument};
 use git_names::Format;
 use git_pkt::Kind;
+use git_repository::LineFault;
 use std::alloc::Global;
 
 /// What the lines said so far.

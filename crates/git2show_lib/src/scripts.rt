@@ -3,11 +3,10 @@
 ghost use Rattle.std.specs.Prelude.{MatchResult};
 ghost use Rattle.git2show_lib.specs.ScriptFaults.{IsScriptFault, IsWholeScript};
 
-use crate::drafts::LineFault;
-use crate::repository_text::TextFault;
 use crate::script_lines::Script;
 use git_msg::{Limits, Request, split_at_first};
 use git_names::Format;
+use git_repository::{LineFault, TextFault};
 use std::alloc::Global;
 
 /// Reads the text of a script: the requests that a client is to ask, one after another.

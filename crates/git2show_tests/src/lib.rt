@@ -11,6 +11,8 @@ mod escapes;
 #[cfg(test)]
 mod faults;
 #[cfg(test)]
+mod meeting;
+#[cfg(test)]
 mod names;
 #[cfg(test)]
 mod packs;

@@ -1,5 +1,5 @@
 //! How a bad repository text is told.
-use git2show_lib::TextFault;
+use git_repository::TextFault;
 use std::test::Fail;
 
 #[test]

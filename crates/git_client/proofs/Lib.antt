@@ -8,6 +8,7 @@ pub mod Sequences
 pub mod Questions
 pub mod Carries
 pub mod CanAsk
+pub mod EventSizes
 pub mod Taken
 pub mod Twice
 pub mod Held

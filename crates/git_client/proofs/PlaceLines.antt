@@ -206,7 +206,7 @@ line_is place format text events says = of_read place format text events (line_r
 abbrev pub IsOfBand : List ℕ → List ℕ → List EventValue → Type 0
 IsOfBand first bytes events = (events ≡ map pack first) ⊎ ((first ≡ []) × (events ≡ map progress bytes))
 
-band_of : (first second third : Bool) (bytes : List ℕ) (events : List EventValue)
+pub band_of : (first second third : Bool) (bytes : List ℕ) (events : List EventValue)
     → cond first (Ok (map pack bytes)) (cond second (Ok (map progress bytes)) (cond third (Err RemoteFatal) (Err BadBand))) ≡ Ok events
     → IsOfBand (cond first bytes []) bytes events
 band_of true second third bytes events says = inl (cc)

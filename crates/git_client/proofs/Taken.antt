@@ -1,5 +1,5 @@
 -- What the client has done once a packet is settled.
-use Rattle.std.proofs.Common.{◌≡◌, ◌⊎◌, inl, inr, ℕ, ◌<◌, true, false, List, [], ◌∷◌, take, drop, map}
+use Rattle.std.proofs.Common.{arith, ◌≡◌, ◌⊎◌, inl, inr, ℕ, ◌<◌, true, false, List, [], ◌∷◌, take, drop, map}
 use Rattle.std.proofs.Common.{Some, None, Result, Ok, Err, MatchResult, refl, ap, sym, ◌∙◌, subst}
 use Rattle.git_names.specs.declared.object_format.Format.{Format}
 use Rattle.git_pkt.specs.Packets.{Pkt, Spells, flush, delim, resp_end, payload, seen, text_of, body_of}
@@ -32,6 +32,7 @@ use Rattle.git_client.specs.declared.phase.Turn.{Turn}
 use Rattle.git_client.specs.declared.client.Client.{Client}
 use Rattle.git_client.specs.declared.client.Outcome.{Outcome}
 use Rattle.git_client.specs.declared.client.Outcome.TheVariants.{Failed as FailedNow}
+use Rattle.git_client.proofs.EventSizes.{events_fit}
 use Rattle.git_client.proofs.PlaceLines.{line_is, band_is}
 use Rattle.git_client.proofs.PlacePackets.{one_if, said_by, said_if, said_unless}
 use Rattle.git_client.proofs.Refusals.{TellsFault, is_own, why_refused}
@@ -164,6 +165,7 @@ module _ {A : Type 0} where
         hears = hears_packet old new due (take used piece) g turn b judged goes now caps;
         leaves = leaves turn.said used piece new said some b.shut
             (subst (StandsOn turn.said) (sym now) (stands_after turn.said body turn.next goes turns));
+        fits = events_fit (format_of old) (ending_of old) (place_due (caps_of old) (format_of old) due) g.packet (events_at turn.said body) judged.gives b.held.fits;
       }
 
   taken_badly : (old new : Client A) (due : Due) (piece : List ℕ) (used : ℕ) (g : Given) (kind : Kind) → HearsPacket old new due (take used piece) g
@@ -177,6 +179,7 @@ module _ {A : Type 0} where
         comes = refl;
         hears = hears_refused old new due (take used piece) g kind b judged failed caps;
         leaves = (ap fault_in failed, shown_by_packet g.packet (record { kind = kind; offset = g.offset }) used piece why);
+        fits = omega arith;
       }
 
   -- the reader has read a packet, and what was done after it left the reader alone
@@ -235,4 +238,5 @@ module _ {A : Type 0} where
     comes = refl;
     hears = hears_failed old new due (take used piece) f b told now caps;
     leaves = (ap fault_in now, shown);
+    fits = omega arith;
   }

@@ -1,8 +1,8 @@
 -- What a client stands for: what it was asked to ask, the bytes that it used, the events that it handed out and the bytes
 -- that it gave.
-use Rattle.std.specs.Prelude.{◌≡◌, ◌≢◌, ◌⊎◌, ℕ, suc, ◌+◌, ◌-◌, ◌<◌, Bool, true, false, List, [], ◌∷◌, ◌++◌, length, take, drop, flat_map, Option, Some, None, Result, Ok, Err}
+use Rattle.std.specs.Prelude.{◌≡◌, ◌≢◌, ◌⊎◌, ℕ, suc, ◌+◌, ◌-◌, ◌<◌, ◌≤◌, Bool, true, false, List, [], ◌∷◌, ◌++◌, length, take, drop, flat_map, Option, Some, None, Result, Ok, Err}
 use Rattle.git_names.specs.declared.object_format.Format.{Format}
-use Rattle.git_pkt.specs.Packets.{Pkt, flush, payload, Spells, spelling_of, text_of, flushes}
+use Rattle.git_pkt.specs.Packets.{Pkt, flush, payload, Spells, spelling_of, text_of, flushes, longest_payload}
 use Rattle.git_pkt.specs.Splits.{Given, Splits}
 use Rattle.git_pkt.specs.Faults.{StopsBy}
 use Rattle.git_pkt.specs.PacketReader.{Reads, position_of, ShownByFeed, is_open, held_of, fault_of as reader_fault_of}
@@ -22,7 +22,7 @@ use Rattle.git_msg.specs.declared.requests.Request.{Request}
 use Rattle.git_client.specs.Parts.{Terms, Part, opening, advertisement, listing, sections, informing, closing}
 use Rattle.git_client.specs.Parts.{nearest, advertisement_of, message_of, is_end_due, part_of}
 use Rattle.git_client.specs.Sections.{is_empty, is_header_due, section_of, lines_of, allowed_after, told_by}
-use Rattle.git_client.specs.Events.{EventValue}
+use Rattle.git_client.specs.Events.{EventValue, all_parts_length}
 use Rattle.git_client.specs.Conversation.{GiveAll, RefusesAt, HasDue}
 use Rattle.git_client.specs.Turns.{takes_packets, fault_in, is_ready, has_left_in, is_asking, left_in, question_in, values_of, events_at, Fits, after_acknowledgments}
 use Rattle.git_client.specs.declared.sections.Section.{Section}
@@ -447,3 +447,4 @@ module _ {A : Type 0} where
     pub comes : Comes step.outcome events new
     pub hears : HearsOn old (take step.used piece) events new
     pub leaves : LeavesStep step.outcome step.used piece new
+    pub fits : all_parts_length events ≤ longest_payload

@@ -1,6 +1,8 @@
 -- What a packet gives, and what refuses it, by the place where it stands.
-use Rattle.std.specs.Prelude.{◌≡◌, ◌≢◌, ◌⊎◌, ℕ, suc, ◌==◌, ◌||◌, true, false, List, [], ◌∷◌, ◌++◌, Option, Result, Ok, Err, codes, map}
+use Rattle.std.specs.Prelude.{◌≡◌, ◌≢◌, ◌⊎◌, ℕ, suc, ◌+◌, ◌==◌, ◌||◌, true, false, List, [], ◌∷◌, ◌++◌, length, sum_by, Option, Result, Ok, Err, codes, map}
 use Rattle.std.specs.Prelude.{if◌then◌else◌}
+use Rattle.std.specs.Option.{option_map_or}
+use Rattle.git_names.specs.ObjectFormat.{digits_of}
 use Rattle.git_names.specs.ObjectName.{ObjectName, IsNoObjectName}
 use Rattle.git_names.specs.declared.object_format.Format.{Format}
 use Rattle.git_pkt.specs.Packets.{Pkt, flush, delim, resp_end, payload, text_of}
@@ -156,3 +158,21 @@ abbrev pub pack_bytes : List EventValue → List ℕ
 pack_bytes [] = []
 pack_bytes (pack byte ∷ events) = byte ∷ pack_bytes events
 pack_bytes (event ∷ events) = pack_bytes events
+
+-- how many bytes the parts of an event have, its object names as digits
+abbrev pub parts_length : EventValue → ℕ
+parts_length (capability key value) = length key + option_map_or length value 0
+parts_length (reference ref) =
+    digits_of ref.id.format + length ref.name + option_map_or length ref.target 0 + option_map_or (λ id. digits_of id.format) ref.peeled 0
+parts_length (ack id) = digits_of id.format
+parts_length (shallow id) = digits_of id.format
+parts_length (unshallow id) = digits_of id.format
+parts_length (wanted_ref wanted) = digits_of wanted.id.format + length wanted.name
+parts_length (pack byte) = 1
+parts_length (progress byte) = 1
+parts_length (info told) = digits_of told.id.format
+parts_length event = 0
+
+-- how many bytes the parts of all of them have
+abbrev pub all_parts_length : List EventValue → ℕ
+all_parts_length events = sum_by parts_length events

@@ -1,6 +1,6 @@
 //! What a client says: the requests that it is handed, packet by packet, and the flush at leaving.
 
-ghost use Rattle.std.specs.Prelude.{◌≡◌, ◌≢◌, true, MatchResult};
+ghost use Rattle.std.specs.Prelude.{◌≡◌, ◌≢◌, ◌≤◌, length, true, MatchResult};
 ghost use Rattle.std.specs.Borrow.{sem};
 ghost use Rattle.std.specs.Io.BufRead.{Rests};
 ghost use Rattle.git_pkt.specs.PacketReader.{held_of};
@@ -17,7 +17,7 @@ use git_pkt::{Fault, Kind, Packet, put};
 use std::alloc::Allocator;
 
 impl<A: Allocator + Copy> Client<A> {
-    ghost use Rattle.git_client.specs.Client.{Asks, RefusesToAsk, Leaves, Pulls, Puts, ask_checks, can_ask, fault_of, left_to_say, caps_of, format_of, phase_of, reader_of};
+    ghost use Rattle.git_client.specs.Client.{Asks, RefusesToAsk, Leaves, Pulls, Puts, given_by, ask_checks, can_ask, fault_of, left_to_say, caps_of, format_of, phase_of, reader_of};
     ghost use Rattle.git_client.specs.contracts.client.Client.{the_row};
 
     /// Asks: from now on the packets of the request are to be pulled, and then its response is due. Refused in this order, at
@@ -53,6 +53,7 @@ impl<A: Allocator + Copy> Client<A> {
     /// left to do. Each packet is given once.
     pub fn pull(&mut self) -> Sent<'_>
         ensures* after { sem 𝓛 (Rests (the_row A.row A.Allocator) self.entry (λ new. Pulls self.old result new)) }
+        ensures fits { length (given_by result) ≤ 65520 }
     {
         match self.phase {
             Phase::Hearing(_) => Sent::NeedInput,
@@ -116,7 +117,8 @@ impl<A: Allocator + Copy> Client<A> {
 
     /// What the hold has.
     fn held(&self) -> &[u8]
-        ensures { result.now ≡ held_of (reader_of self.now) }
+        ensures value { result.now ≡ held_of (reader_of self.now) }
+        ensures fits { length result.now ≤ 65520 }
     {
         self.reader.hold().as_slice()
     }

@@ -19,6 +19,7 @@ pub mod Formats
 pub mod Giving
 pub mod Breaking
 pub mod Owing
+pub mod Advertisements
 pub mod SessionLaws
 pub mod Flushes
 pub mod PackPackets

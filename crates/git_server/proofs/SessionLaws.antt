@@ -1,5 +1,5 @@
 -- What a server's moments and its end are, without the server.
-use Rattle.std.proofs.Common.{◌≡◌, ℕ, Bool, true, List, [], Option, Some, None, refl, sym, ap, ◌∙◌, append-nil, subst, inl, inr}
+use Rattle.std.proofs.Common.{arith, ◌≡◌, ℕ, Bool, true, List, [], Option, Some, None, refl, sym, ap, ◌∙◌, append-nil, subst, inl, inr}
 use Rattle.git_server.specs.Repository.{Repository, RepoState}
 use Rattle.git_server.specs.Answers.{AllFit, spelled}
 use Rattle.git_server.specs.Sessions.{Setting, IsTail, IsEnding, IsAnswered, IsRunning, IsSession}
@@ -100,4 +100,5 @@ ends_now {A = A} state server outcome turn =
       goes = goes_nowhere state server;
       tells = (ap outcome_in is, nothing, refl, λ s used over given r. its_end state server s used over given r outcome (ap outcome_in is) nothing);
       outcome = stays_as (outcome_of server) (outcome_of server) refl;
+      fits = omega arith;
     }

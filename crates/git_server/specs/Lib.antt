@@ -6,6 +6,7 @@ pub mod ToldBoundary
 pub mod BoundaryLaws
 pub mod ListRepo
 pub mod Faulty
+pub mod SharedRepo
 pub mod FetchAnswers
 pub mod Answers
 pub mod Admission

@@ -1,9 +1,11 @@
 -- What a clause sees of a `ListRepo`.
-use Rattle.std.specs.Prelude.{filter, length}
+use Rattle.std.specs.Prelude.{◌≡◌, ◌<◌, filter, length}
 use Rattle.git_server.specs.declared.list_repo.ListRepo.{ListRepo}
-use Rattle.git_server.specs.Repository.{RepoState}
+use Rattle.git_msg.specs.Asked.{FetchAsked}
+use Rattle.git_server.specs.BoundaryLaws.{told_keep, told_unshallow}
+use Rattle.git_server.specs.Repository.{IsSound, RepoState}
 use Rattle.git_server.specs.Lists.{Lists}
-use Rattle.git_server.specs.Objects.{has_object, size_among}
+use Rattle.git_server.specs.Objects.{has_object, object_of, size_among}
 use Rattle.git_server.specs.ToldBoundary.{boundary_for, is_enough}
 
 -- the lists that it is made of
@@ -31,3 +33,17 @@ state_of repo = record {
   };
   failures = 0;
 }
+
+-- what holds of its answers
+pub is_sound : (repo : ListRepo) → IsSound (state_of repo).answers
+is_sound repo = record {
+  rising = repo.rising;
+  named = repo.named;
+  of_format = repo.of_format;
+  boundaries_of_format = λ request. told_keep (λ line. (object_of line).format ≡ repo.format) repo.boundaries.items request repo.of_boundaries;
+  unshallow = λ request. told_unshallow repo.boundaries.items request;
+}
+
+-- its pack is short enough
+pub is_short : (repo : ListRepo) (request : FetchAsked) → length ((state_of repo).answers.pack request) < 9223372036854775808
+is_short repo request = repo.short

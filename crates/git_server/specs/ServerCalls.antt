@@ -1,5 +1,5 @@
 -- What each call does to all that a server used and gave.
-use Rattle.std.specs.Prelude.{◌≡◌, ◌⊎◌, ℕ, ◌<◌, Bool, true, List, [], ◌∷◌, ◌++◌, length, Option, Some, None}
+use Rattle.std.specs.Prelude.{◌≡◌, ◌⊎◌, ℕ, ◌<◌, ◌≤◌, Bool, true, List, [], ◌∷◌, ◌++◌, length, Option, Some, None}
 use Rattle.git_pkt.specs.Packets.{Pkt, spelling_of}
 use Rattle.git_pkt.specs.Splits.{Given}
 use Rattle.git_pkt.specs.PacketReader.{ReadsOn, held_of}
@@ -91,6 +91,7 @@ module _ {R A : Type 0} where
     pub goes : Goes state [] (given_by pulled) old new
     pub tells : TellsPulled state old pulled new
     pub outcome : IsAfterPull (outcome_of old) (outcome_of new)
+    pub fits : length (given_by pulled) ≤ 65520
 
   -- the reader used these bytes, which gave these packets; the offer and the repository are as they were
   pub record ReadsFor (state : R → RepoState) (old : Server R A) (used : List ℕ) (packets : List Given) (new : Server R A) : Type 0 where

@@ -21,9 +21,11 @@ mod requests;
 mod run;
 mod sections;
 mod server;
+mod shared_repo;
 mod shown;
 mod wanting;
 
+pub use advertisement::put_advertisement;
 pub use entry::RefEntry;
 pub use faulty::Faulty;
 pub use list_repo::{ListRepo, RepoFault};
@@ -31,3 +33,4 @@ pub use outcome::Outcome;
 pub use repo::{PackFault, Repo};
 pub use run::serve;
 pub use server::{Pulled, Server};
+pub use shared_repo::SharedRepo;

@@ -143,23 +143,29 @@ impl ListRepo {
             pack,
         }
     }
+
+    /// Reads bytes of the pack as [`Repo::pack_read`] does, and answers how many. Those who share the repository may read too.
+    pub(crate) fn read_pack(&self, offset: u64, out: &mut [u8]) -> usize
+        requires room { 0 < length out.old }
+        ensures part { IsPackPart (lists_of self.now).pack offset result out.new }
+        ensures fills { result ≡ min (length (lists_of self.now).pack - offset) (length out.old) }
+    {
+        let at = (offset as usize).min(self.pack.len());
+        let rest = &self.pack[at..];
+        let count = rest.len().min(out.len());
+        out[..count].copy_from_slice(&rest[..count]);
+        count
+    }
 }
 
 impl Repo for ListRepo {
-    ghost use Rattle.git_server.specs.BoundaryLaws.{told_keep, told_unshallow};
-    ghost use Rattle.git_server.specs.ListRepo.{lists_of, state_of};
+    ghost use Rattle.git_server.specs.ListRepo.{is_short, is_sound, lists_of, state_of};
 
     ghost state = { state_of };
 
-    ghost sound = { λ repo. record {
-      rising = repo.rising;
-      named = repo.named;
-      of_format = repo.of_format;
-      boundaries_of_format = λ request. told_keep (λ line. (object_of line).format ≡ repo.format) repo.boundaries.items request repo.of_boundaries;
-      unshallow = λ request. told_unshallow repo.boundaries.items request;
-    } };
+    ghost sound = { is_sound };
 
-    ghost short = { λ repo request. repo.short };
+    ghost short = { is_short };
 
     fn format(&self) -> Format {
         self.format
@@ -223,11 +229,7 @@ impl Repo for ListRepo {
         ensures fills { result ≡ Ok (min (length (lists_of self.old).pack - offset) (length out.old)) }
         ensures same { self.new ≡ self.old }
     {
-        let at = (offset as usize).min(self.pack.len());
-        let rest = &self.pack[at..];
-        let count = rest.len().min(out.len());
-        out[..count].copy_from_slice(&rest[..count]);
-        Ok(count)
+        Ok(self.read_pack(offset, out))
     }
 }
 

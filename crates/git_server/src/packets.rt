@@ -1,13 +1,15 @@
-//! What is written into the packet reader's hold.
+//! What is written into a hold.
 
 ghost use Rattle.std.specs.Prelude.{◌≡◌, ◌≤◌, ◌<◌, ◌+◌, ◌++◌, length, false};
-ghost use Rattle.git_pkt.specs.Packets.{body_of, seen, longest_payload};
+ghost use Rattle.git_pkt.specs.Digits.{digits_of};
+ghost use Rattle.git_pkt.specs.Packets.{body_of, seen, spelling_of, longest_payload};
 ghost use Rattle.git_pkt.specs.PacketReader.{is_open};
 ghost use Rattle.git_msg.specs.WrittenRequest.{text_line};
 ghost use Rattle.git_server.specs.WrittenPackets.{Writes};
 
 use git_msg::put_line;
-use git_pkt::{Packet, PacketReader, put};
+use git_names::lower_digit;
+use git_pkt::{Hold, Packet, PacketReader, append, put};
 
 /// Makes the hold the packet's spelling, between two packets that are read.
 pub(crate) fn write_packet(reader: &mut PacketReader, packet: Packet<'_>)
@@ -25,4 +27,35 @@ pub(crate) fn write_line(reader: &mut PacketReader, word: &[u8], value: &[u8])
     ensures { Writes reader.old (text_line (word.now ++ value.now)) reader.new }
 {
     put_line(reader.lend(), word, value);
+}
+
+/// Appends the packet's spelling, for which there is room.
+pub(crate) fn append_packet(hold: &mut Hold, packet: Packet<'_>)
+    requires { length hold.old.items + length (spelling_of (seen packet)) ≤ 65520 }
+    ensures { hold.new.items ≡ hold.old.items ++ spelling_of (seen packet.entry) }
+{
+    match packet {
+        Packet::Flush => append_spelling(hold, 0, b""),
+        Packet::Delim => append_spelling(hold, 1, b""),
+        Packet::RespEnd => append_spelling(hold, 2, b""),
+        Packet::Payload(payload) => append_spelling(hold, payload.len() + 4, payload),
+    }
+}
+
+// Appends four digits and the bytes after them.
+fn append_spelling(hold: &mut Hold, field: usize, body: &[u8])
+    requires digits { field < 65536 }
+    requires room { length hold.old.items + 4 + length body.now ≤ 65520 }
+    ensures { hold.new.items ≡ hold.old.items ++ (digits_of field ++ body.now) }
+{
+    append(
+        hold,
+        &[
+            lower_digit(field / 4096),
+            lower_digit(field / 256 % 16),
+            lower_digit(field / 16 % 16),
+            lower_digit(field % 16),
+        ],
+    );
+    append(hold, body);
 }

@@ -177,6 +177,8 @@ impl<R: Repo, A: Allocator + Copy> Server<R, A> {
     }
 
     /// The next packet to be sent, or what to do in its place.
+    ///
+    /// No packet has more than 65,520 bytes.
     pub fn pull(&mut self) -> Pulled<'_>
         ensures* { sem 𝓛 (Rests (the_row R.row A.row A.Allocator) self.entry (λ new. Pulls R.state self.old result new)) }
     {
@@ -204,7 +206,8 @@ impl<R: Repo, A: Allocator + Copy> Server<R, A> {
 
     // The packet in the hold.
     fn packet(&self) -> &[u8]
-        ensures { result.now ≡ held_of self.now.reader }
+        ensures held { result.now ≡ held_of self.now.reader }
+        ensures fits { length result.now ≤ 65520 }
     {
         self.reader.hold().as_slice()
     }

@@ -4,8 +4,8 @@ use crate::runs::Run;
 use crate::setup::{MANY, TURNS, limits, offer};
 use crate::trouble::Trouble;
 use git_pkt::{Fault, Told};
+use git_repository::{TextFault, read_repo};
 use git_server::{Faulty, ListRepo, Outcome, Pulled, Repo, Server, serve};
-use git2show_lib::{TextFault, read_repo};
 use std::alloc::{AllocError, Global};
 use test_streams::Pieces;
 

@@ -10,8 +10,9 @@ use crate::trouble::Trouble;
 use git_msg::{Argument, Caps, Command, read_argument, read_capability, read_reference};
 use git_names::{Format, Oid, RefName};
 use git_pkt::{Hold, Packet, put, text};
+use git_repository::{TextFault, read_repo};
 use git_server::Repo;
-use git2show_lib::{TextFault, read_repo, read_script};
+use git2show_lib::read_script;
 use std::alloc::{AllocError, Global};
 
 /// What is done with each text.

@@ -37,5 +37,6 @@ returns-in_default g c =
             c.loop-used.invariant.within c.loop-used.invariant.hears takes.hears;
         leaves = leaves_then c.take-step.result.outcome c.args.piece.now c.loop-used.used c.take-step.result.used new c.in_default.not-More
             c.loop-used.invariant.within takes.leaves;
+        fits = takes.fits;
       };
     }

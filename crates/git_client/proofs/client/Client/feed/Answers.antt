@@ -1,7 +1,8 @@
-use Rattle.std.proofs.Common.{arith, ◌≡◌, ◌≢◌, ◌∙◌, sym, refl, ℕ, zero, suc, ◌<◌, List, [], ◌∷◌, length, map, drop, subst, take, true, Some}
+use Rattle.std.proofs.Common.{arith, ◌≡◌, ◌≢◌, ◌≤◌, ◌∙◌, ap, sym, refl, ℕ, zero, suc, ◌<◌, List, [], ◌∷◌, length, map, drop, subst, take, true, Some}
+use Rattle.git_pkt.specs.Packets.{longest_payload}
 use Rattle.git_pkt.specs.PacketReader.{held_of}
 use Rattle.git_pkt.specs.declared.fault.Fault.{Fault}
-use Rattle.git_client.specs.Events.{EventValue, pack, progress, turns_of}
+use Rattle.git_client.specs.Events.{EventValue, pack, progress, turns_of, all_parts_length}
 use Rattle.git_client.specs.Turns.{takes_packets, fault_in, events_at, values_of, Fits}
 use Rattle.git_client.specs.Client.{Feeds, HearsOn, Takes, LeavesAfter, StandsAfter, phase_of, reader_of, said_last, can_ask, wants_input}
 use Rattle.git_client.specs.declared.events.Event.{Event}
@@ -71,9 +72,20 @@ module _ {A : Type 0} where
       }
   feeds_event old new piece used outcome event wants is takes shows = absurd (cc)
 
+  -- its parts lie in the packet that gave it
+  event_fits : (old new : Client A) (piece : List ℕ) (used : ℕ) (outcome : Outcome) (event : Event) → outcome ≡ EventNow
+      → Takes old piece (record { used = used; outcome = outcome }) new
+      → values_of event ≡ events_at (said_last new) (drop 4 (held_of (reader_of new))) → all_parts_length (values_of event) ≤ longest_payload
+  event_fits old new piece used EventNow event is takes shows = omega (arith, takes.fits, ap all_parts_length (takes.comes.0 ∙ sym shows))
+  event_fits old new piece used outcome event is takes shows = absurd (cc)
+
 pub returns-in-Event : goal.returns-in-Event
 returns-in-Event g c =
+    let step = c.advance-step.result in
     let feeds =
-    feeds_event c.args.self.now c.advance-step.new.self c.args.piece.now c.advance-step.result.used c.advance-step.result.outcome c.event.result
+    feeds_event c.args.self.now c.advance-step.new.self c.args.piece.now step.used step.outcome c.event.result
     (sym c.wants_input.ensures.value ∙ c.if-not-wants_input.false) c.in-Event.is c.advance-step.ensures.takes c.event.ensures in
-    ((refl, (λ _. tt), feeds), record { after = tt; used = c.advance-step.ensures.used })
+    let fits =
+    event_fits c.args.self.now c.advance-step.new.self c.args.piece.now step.used step.outcome c.event.result c.in-Event.is
+    c.advance-step.ensures.takes c.event.ensures in
+    ((refl, (λ _. tt), feeds), record { after = tt; used = c.advance-step.ensures.used; fits = fits })

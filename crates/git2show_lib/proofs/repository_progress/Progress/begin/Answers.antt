@@ -1,6 +1,0 @@
-use Rattle.git2show_lib.specs.DraftLists.{drafted}
-use Rattle.git2show_lib.proofs.Reading.{started}
-use Rattle.git2show_lib.proofs.repository_progress.Progress.begin.Goals as goal
-
-pub returns-in-Some : goal.returns-in-Some
-returns-in-Some c = started c.in-Some.format c.args.line.now (drafted c.new.result) c.in-Some.ensures c.new.ensures

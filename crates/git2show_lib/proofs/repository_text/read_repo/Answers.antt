@@ -1,5 +1,0 @@
-use Rattle.std.proofs.Common.{refl, []}
-use Rattle.git2show_lib.proofs.repository_text.read_repo.Goals as goal
-
-pub returns : goal.returns
-returns c = c.finish.ensures c.args.text.now (c.with_text-progress.ensures.reads [] refl)

@@ -1,5 +1,0 @@
-use Rattle.git2show_lib.proofs.TextLaws.{one_repository}
-use Rattle.git2show_lib.proofs.repository_text_laws.one_repository.Goals as goal
-
-pub returns : goal.returns
-returns c = one_repository

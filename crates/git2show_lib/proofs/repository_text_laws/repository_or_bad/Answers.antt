@@ -1,5 +1,0 @@
-use Rattle.git2show_lib.proofs.TextLaws.{repository_or_bad}
-use Rattle.git2show_lib.proofs.repository_text_laws.repository_or_bad.Goals as goal
-
-pub returns : goal.returns
-returns c = repository_or_bad

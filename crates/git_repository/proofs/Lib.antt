@@ -1,0 +1,7 @@
+pub mod Saying
+pub mod Rising
+pub mod Drafting
+pub mod TextPieces
+pub mod Reading
+pub mod Progressing
+pub mod TextLaws

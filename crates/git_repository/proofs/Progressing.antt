@@ -1,0 +1,196 @@
+-- How far the lines of a text are read, and what a further piece changes.
+use Rattle.std.proofs.Common.{true, false, ◌==◌, ◌≢◌, ◌<◌, ◌≤◌, Bor, Option, Some, None, ◌≡◌, ℕ, List, [], ◌∷◌, ◌++◌}
+use Rattle.std.proofs.Common.{refl, ap, sym, ◌∙◌, subst, append_assoc, length, length-append, arith}
+use Rattle.std.proofs.lemmas.List.{append-nil}
+use Rattle.std.proofs.lemmas.Bool.Decides.{nat_tests}
+use Rattle.git_pkt.specs.Packets.{text_of}
+use Rattle.std.specs.Prelude.{MatchOption}
+use Rattle.std.specs.Option.{option_copied}
+use Rattle.git_msg.proofs.TextParts.{bytes_left}
+use Rattle.git_msg.specs.Texts.{IsCutAt, parts_left, parts_of}
+use Rattle.git_server.specs.Lists.{Lists}
+use Rattle.git_repository.specs.RepositoryLines.{lines_of}
+use Rattle.git_repository.specs.declared.text_faults.TextFault.{TextFault}
+use Rattle.git_repository.specs.declared.drafts.Draft.{Draft}
+use Rattle.git_repository.specs.DraftLists.{drafted}
+use Rattle.git_repository.specs.LinesTold.{AreTold}
+use Rattle.git_repository.specs.RepositoryProgress.{HasFailed, HasRead, IsBegun, IsLinesFault, Stands}
+use Rattle.git_repository.specs.declared.repository_progress.Progress.{Progress}
+use Rattle.git_repository.specs.declared.repository_progress.Progress.TheVariants.{Start, Lines, Failed}
+use Rattle.git_repository.proofs.Reading.{fault_stays}
+use Rattle.git_repository.proofs.TextPieces.{by_line, by_line_end, first_part, last_among, none_at_all, parts_behind, parts_joined, text_ends}
+
+begun_self : (progress : Progress) (line : List ℕ) → IsBegun progress line line
+begun_self Start line = refl
+begun_self (Lines draft) line = refl
+begun_self (Failed fault) line = tt
+
+-- these lines were read, and this one has begun
+pub begun_behind : (progress : Progress) (held : List ℕ) (lines all : List (List ℕ)) → HasRead progress lines → all ≡ lines ++ held ∷ []
+    → Stands progress held all
+begun_behind progress held lines all h is = record { ended = lines; begun = held; whole = is; read = h; is_begun = begun_self progress held }
+
+-- a line was read, and the rest is behind it
+pub stand_behind : (progress : Progress) (held : List ℕ) (lines : List (List ℕ)) (line text rest : List ℕ) → parts_of 10 text ≡ line ∷ parts_of 10 rest
+    → Stands progress held ((lines ++ line ∷ []) ++ parts_of 10 rest) → Stands progress held (lines ++ parts_of 10 text)
+stand_behind progress held lines line text rest parts h =
+    subst (Stands progress held) (append_assoc lines (line ∷ []) (parts_of 10 rest) ∙ ap (λ (ls : List (List ℕ)). lines ++ ls) (sym parts)) h
+
+-- behind a fault all else is passed over
+failed_behind : (fault : TextFault) (held : List ℕ) (lines : List (List ℕ)) (first : List ℕ) (others all : List (List ℕ)) → IsLinesFault lines fault
+    → all ≡ lines ++ first ∷ others → Stands (Failed fault) held all
+failed_behind fault held lines first others all h is =
+    let last = last_among first others in
+    record {
+      ended = lines ++ last.front;
+      begun = last.last;
+      whole = is ∙ ap (λ (ls : List (List ℕ)). lines ++ ls) last.is ∙ sym (append_assoc lines last.front (last.last ∷ []));
+      read = fault_stays lines last.front fault h;
+      is_begun = tt;
+    }
+
+pub failed_text : (fault : TextFault) (held : List ℕ) (lines : List (List ℕ)) (text : List ℕ) → IsLinesFault lines fault
+    → Stands (Failed fault) held (lines ++ parts_of 10 text)
+failed_text fault held lines text h =
+    let some = first_part text in
+    failed_behind fault held lines some.first some.others (lines ++ parts_of 10 text) h (ap (λ (ls : List (List ℕ)). lines ++ ls) some.is)
+
+pub failed_stays : (progress : Progress) (held text piece : List ℕ) → HasFailed progress → Stands progress held (parts_of 10 text)
+    → Stands progress held (parts_of 10 (text ++ piece))
+failed_stays Start held text piece f h = absurd f
+failed_stays (Lines draft) held text piece f h = absurd f
+failed_stays (Failed fault) held text piece f h =
+    let some = first_part piece in
+    failed_behind fault held h.ended (h.begun ++ some.first) some.others (parts_of 10 (text ++ piece)) h.read
+    (parts_joined text piece h.ended h.begun some.first some.others h.whole some.is)
+
+pub no_lines_read : (lines : List (List ℕ)) (line : List ℕ) → HasRead Start (lines ++ line ∷ []) → ⊥
+no_lines_read lines line h = let long = sym (length-append lines (line ∷ [])) ∙ ap length h in omega (arith, long)
+
+-- while no line was refused, what is held is the line that has begun
+begun_of : (progress : Progress) (held begun : List ℕ) → (HasFailed progress → ⊥) → IsBegun progress held begun → held ≡ begun
+begun_of Start held begun f h = h
+begun_of (Lines draft) held begun f h = h
+begun_of (Failed fault) held begun f h = absurd (f tt)
+
+pub held_of : (progress : Progress) (held : List ℕ) (lines : List (List ℕ)) → (HasFailed progress → ⊥) → (h : Stands progress held lines)
+    → lines ≡ h.ended ++ held ∷ []
+held_of progress held lines f h = h.whole ∙ ap (λ (l : List ℕ). h.ended ++ l ∷ []) (sym (begun_of progress held h.begun f h.is_begun))
+
+-- a piece at the start of a line
+pub piece_behind : (progress : Progress) (held text piece : List ℕ) (lines : List (List ℕ)) → parts_of 10 text ≡ lines ++ [] ∷ []
+    → Stands progress held (lines ++ parts_of 10 piece) → Stands progress held (parts_of 10 (text ++ piece))
+piece_behind progress held text piece lines parts h = subst (Stands progress held) (sym (parts_behind text piece lines parts)) h
+
+-- a piece in the line that has begun
+pub piece_within : (progress : Progress) (held text piece line rest : List ℕ) (lines : List (List ℕ)) (begun : List ℕ) → parts_of 10 text ≡ lines ++ begun ∷ []
+    → parts_of 10 piece ≡ line ∷ parts_of 10 rest → Stands progress held ((lines ++ (begun ++ line) ∷ []) ++ parts_of 10 rest)
+    → Stands progress held (parts_of 10 (text ++ piece))
+piece_within progress held text piece line rest lines begun parts cut h =
+    subst (Stands progress held) (append_assoc lines ((begun ++ line) ∷ []) (parts_of 10 rest)
+    ∙ sym (parts_joined text piece lines begun line (parts_of 10 rest) parts cut)) h
+
+pub some_lines : (text : List ℕ) → lines_of text ≡ [] → ⊥
+some_lines text e = let some = first_part (text_of text) in none_at_all some.first some.others (sym some.is ∙ e)
+
+-- the end of a text of which no line has ended
+pub end_at_start : (text held : List ℕ) → Stands Start held (parts_of 10 text) → held ∷ [] ≡ lines_of text
+end_at_start text held h =
+    let none : h.ended ≡ [] = h.read in
+    let line : held ≡ h.begun = h.is_begun in
+    elim (text_ends text h.ended h.begun h.whole) [
+      | by_line is first ↦ sym (is ∙ ap (λ (ls : List (List ℕ)). ls ++ h.begun ∷ []) none ∙ ap (λ (l : List ℕ). l ∷ []) (sym line))
+      | by_line_end is empty ↦ absurd (some_lines text (is ∙ none))
+    ]
+
+-- the end of a text behind a line end
+pub end_behind : (draft : Draft) (text held : List ℕ) → held ≡ [] → Stands (Lines draft) held (parts_of 10 text) → AreTold (lines_of text) (drafted draft)
+end_behind draft text held empty h =
+    let line : held ≡ h.begun = h.is_begun in
+    let read : AreTold h.ended (drafted draft) = h.read in
+    elim (text_ends text h.ended h.begun h.whole) [
+      | by_line is first ↦
+          absurd (none_at_all _ _ (sym read.begins.spelled ∙ first (sym line ∙ empty)))
+      | by_line_end is none ↦ subst (λ (ls : List (List ℕ)). AreTold ls (drafted draft)) (sym is) read
+    ]
+
+-- the end of a text in a line
+pub end_within : (draft : Draft) (text held : List ℕ) → (held ≡ [] → ⊥) → (h : Stands (Lines draft) held (parts_of 10 text))
+    → h.ended ++ held ∷ [] ≡ lines_of text
+end_within draft text held some h =
+    let line : held ≡ h.begun = h.is_begun in
+    elim (text_ends text h.ended h.begun h.whole) [
+      | by_line is first ↦ ap (λ (l : List ℕ). h.ended ++ l ∷ []) line ∙ sym is
+      | by_line_end is none ↦ absurd (some (line ∙ none))
+    ]
+
+-- the end of a text behind a fault
+pub end_failed : (fault : TextFault) (text held : List ℕ) → Stands (Failed fault) held (parts_of 10 text) → IsLinesFault (lines_of text) fault
+end_failed fault text held h =
+    let read : IsLinesFault h.ended fault = h.read in
+    elim (text_ends text h.ended h.begun h.whole) [
+      | by_line is first ↦ subst (λ (ls : List (List ℕ)). IsLinesFault ls fault) (sym is) (fault_stays h.ended (h.begun ∷ []) fault read)
+      | by_line_end is none ↦ subst (λ (ls : List (List ℕ)). IsLinesFault ls fault) (sym is) read
+    ]
+
+-- further lines of a text were read, and behind them stand this line and what is left
+pub record ReadsOn (text : List ℕ) (lines : List (List ℕ)) (line : List ℕ) (rest : Option (List ℕ)) (lists : Lists) : Type 0 where
+  pub more : List (List ℕ)
+  pub whole : parts_of 10 text ≡ more ++ line ∷ parts_left 10 rest
+  pub told : AreTold (lines ++ more) lists
+
+pub at_first : (text : List ℕ) (lines : List (List ℕ)) (line : List ℕ) (rest : Option (List ℕ)) (lists : Lists)
+    → parts_of 10 text ≡ line ∷ parts_left 10 rest → AreTold lines lists → ReadsOn text lines line rest lists
+at_first text lines line rest lists cut h =
+    record { more = []; whole = cut; told = subst (λ (ls : List (List ℕ)). AreTold ls lists) (sym (append-nil lines)) h }
+
+pub reads_line : (text : List ℕ) (lines : List (List ℕ)) (line left next : List ℕ) (rest : Option (List ℕ)) (old new : Lists)
+    → ReadsOn text lines line (Some left) old → parts_of 10 left ≡ next ∷ parts_left 10 rest
+    → ((ls : List (List ℕ)) → AreTold ls old → AreTold (ls ++ line ∷ []) new) → ReadsOn text lines next rest new
+reads_line text lines line left next rest old new h cut step = record {
+  more = h.more ++ line ∷ [];
+  whole = h.whole ∙ ap (λ (ls : List (List ℕ)). h.more ++ line ∷ ls) cut ∙ sym (append_assoc h.more (line ∷ []) (next ∷ parts_left 10 rest));
+  told = subst (λ (ls : List (List ℕ)). AreTold ls new) (append_assoc lines h.more (line ∷ [])) (step (lines ++ h.more) h.told);
+}
+
+pub reads_bad_line : (text : List ℕ) (lines : List (List ℕ)) (line held : List ℕ) (left : List ℕ) (old : Lists) (fault : TextFault)
+    → ReadsOn text lines line (Some left) old → ((ls : List (List ℕ)) → AreTold ls old → IsLinesFault (ls ++ line ∷ []) fault)
+    → Stands (Failed fault) held (lines ++ parts_of 10 text)
+reads_bad_line text lines line held left old fault h step =
+    subst (Stands (Failed fault) held) (append_assoc (lines ++ h.more) (line ∷ []) (parts_of 10 left)
+    ∙ append_assoc lines h.more (line ∷ parts_of 10 left) ∙ ap (λ (ls : List (List ℕ)). lines ++ ls) (sym h.whole))
+    (failed_text fault held ((lines ++ h.more) ++ line ∷ []) left (step (lines ++ h.more) h.told))
+
+pub reads_all : (text : List ℕ) (lines : List (List ℕ)) (line : List ℕ) (draft : Draft) → ReadsOn text lines line None (drafted draft)
+    → Stands (Lines draft) line (lines ++ parts_of 10 text)
+reads_all text lines line draft h =
+    begun_behind (Lines draft) line (lines ++ h.more) (lines ++ parts_of 10 text) h.told
+    (ap (λ (ls : List (List ℕ)). lines ++ ls) h.whole ∙ sym (append_assoc lines h.more (line ∷ [])))
+
+pub cut_within : (text before : List ℕ) (rest : Option (List ℕ)) → IsCutAt 10 text before rest → length before ≤ length text
+cut_within text before None h = let same = ap length h.0 in omega (arith, same)
+cut_within text before (Some after) h = let long = ap length h.spelled ∙ length-append before (10 ∷ after) in omega (arith, long)
+
+pub rest_within : (text : List ℕ) (rest : Option (Bor (List ℕ))) → MatchOption rest (Unit {0}) (λ r. length r.now < length text)
+    → bytes_left (option_copied rest) ≤ length text
+rest_within text None h = omega arith
+rest_within text (Some r) h = omega (arith, h)
+
+nothing : (xs : List ℕ) → length xs ≡ 0 → xs ≡ []
+nothing [] e = refl
+nothing (x ∷ xs) e = absurd (omega (arith, e))
+
+-- a piece that ends no line
+pub piece_alone : (progress : Progress) (held text piece line : List ℕ) (lines : List (List ℕ)) (begun : List ℕ) → parts_of 10 text ≡ lines ++ begun ∷ []
+    → parts_of 10 piece ≡ line ∷ [] → held ≡ begun ++ line → HasRead progress lines → Stands progress held (parts_of 10 (text ++ piece))
+piece_alone progress held text piece line lines begun parts cut is h =
+    begun_behind progress held lines (parts_of 10 (text ++ piece)) h
+    (parts_joined text piece lines begun line [] parts cut ∙ ap (λ (l : List ℕ). lines ++ l ∷ []) (sym is))
+
+pub empty_of : (xs : List ℕ) → true ≡ (length xs == 0) → xs ≡ []
+empty_of [] e = refl
+empty_of (x ∷ xs) e = let zero : length (x ∷ xs) ≡ 0 = grind (arith, nat_tests) in absurd (omega (arith, zero))
+
+pub some_of : (xs : List ℕ) → false ≡ (length xs == 0) → xs ≡ [] → ⊥
+some_of [] e same = let no : length {A = ℕ} [] ≢ 0 = grind (arith, nat_tests) in no refl
+some_of (x ∷ xs) e same = let long : length (x ∷ xs) ≡ length {A = ℕ} [] = ap length same in omega (arith, long)

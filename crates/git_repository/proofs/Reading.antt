@@ -1,0 +1,181 @@
+-- The lines of a repository's text, read one by one.
+use Rattle.std.proofs.Common.{arith, ◌≡◌, ℕ, ◌+◌, ◌≤◌, List, [], ◌∷◌, ◌++◌, refl, ap, sym, ◌∙◌, subst, append_assoc, length, inl, inr}
+use Rattle.std.proofs.lemmas.List.Elements.{All-nil}
+use Rattle.git_names.specs.declared.object_format.Format.{Format}
+use Rattle.git_server.specs.Lists.{Lists}
+use Rattle.git_repository.specs.RepositoryLines.{Said, reference, object, ready, boundary, Says, SaysNothing, format_line, lines_of}
+use Rattle.git_repository.specs.RepositoryText.{Begins, IsRepositoryText, MayStand, SayAll, WantsMemory}
+use Rattle.git_repository.specs.RepositoryText.{boundaries_in, counts_in, first_of, lists_said, objects_in, refs_in}
+use Rattle.git_repository.specs.LinesTold.{AreTold, lines_behind, ready_lines}
+use Rattle.git_repository.specs.RepositoryProgress.{IsLinesFault}
+use Rattle.git_repository.specs.RepositoryFaults.{IsTextFault}
+use Rattle.git_repository.specs.declared.text_faults.TextFault.{TextFault}
+use Rattle.git_repository.specs.declared.text_faults.TextFault.TheVariants.{Bad, OutOfMemory as OutOfMemoryOfText}
+use Rattle.git_repository.specs.Drafts.{Adds, Holds, IsLineFault, empty_lists, with_pack}
+use Rattle.git_repository.specs.declared.text_faults.LineFault.TheVariants.{Refused, OutOfMemory}
+use Rattle.git_repository.proofs.Saying.{one_said}
+
+nothing_stands : MayStand []
+nothing_stands = record {
+  rising_refs = λ k d below. absurd (omega (arith, below));
+  rising_objects = λ k d below. absurd (omega (arith, below));
+  one_count = omega arith;
+}
+
+nothing_holds : (format : Format) → Holds [] (empty_lists format)
+nothing_holds format = record {
+  lists_are = refl;
+  may_stand = nothing_stands;
+  of_format = record { by_refs = All-nil _; by_objects = All-nil _; by_boundaries = All-nil _ };
+}
+
+pub started : (format : Format) (line : List ℕ) (lists : Lists) → line ≡ format_line format → lists ≡ empty_lists format → AreTold (line ∷ []) lists
+started format line lists is empty =
+    let there : AreTold (line ∷ []) (empty_lists format) = record {
+      said = [];
+      begins = record { others = []; spelled = ap (λ (l : List ℕ). l ∷ []) is; say_all = tt; may_stand = nothing_stands };
+      holds = nothing_holds format;
+    } in
+    subst (AreTold (line ∷ [])) (sym empty) there
+
+say_more : (format : Format) (lines : List (List ℕ)) (said : List Said) (line : List ℕ) (next : Said) → SayAll format lines said → Says format line next
+    → SayAll format (lines ++ line ∷ []) (said ++ next ∷ [])
+say_more format [] [] line next h is = (is, tt)
+say_more format (l ∷ ls) (s ∷ ss) line next h is = (h.0, say_more format ls ss line next h.1 is)
+say_more format [] (s ∷ ss) line next h is = absurd h
+say_more format (l ∷ ls) [] line next h is = absurd h
+
+pub stepped : (lines : List (List ℕ)) (old new : Lists) (line : List ℕ) (says : Said) → AreTold lines old → Says old.format line says
+    → Adds old says new → AreTold (lines ++ line ∷ []) new
+stepped lines old new line says h is adds =
+    let held = adds.holds h.said h.holds in
+    let begins : Begins old.format (lines ++ line ∷ []) (h.said ++ says ∷ []) = record {
+      others = h.begins.others ++ line ∷ [];
+      spelled = ap (λ (ls : List (List ℕ)). ls ++ line ∷ []) h.begins.spelled;
+      say_all = say_more old.format h.begins.others h.said line says h.begins.say_all is;
+      may_stand = held.may_stand;
+    } in
+    record {
+      said = h.said ++ says ∷ [];
+      begins = subst (λ (f : Format). Begins f (lines ++ line ∷ []) (h.said ++ says ∷ [])) (sym adds.same_format) begins;
+      holds = held;
+    }
+
+length_all : (format : Format) (lines : List (List ℕ)) (said : List Said) → SayAll format lines said → length lines ≡ length said
+length_all format [] [] h = refl
+length_all format (l ∷ ls) (s ∷ ss) h = let same = length_all format ls ss h.1 in omega (arith, same)
+length_all format [] (s ∷ ss) h = absurd h
+length_all format (l ∷ ls) [] h = absurd h
+
+length_said : (said : List Said) → length said ≡ length (refs_in said) + length (objects_in said) + length (counts_in said) + length (boundaries_in said)
+length_said [] = refl
+length_said (reference ref ∷ more) = let h = length_said more in omega (arith, h)
+length_said (object id size ∷ more) = let h = length_said more in omega (arith, h)
+length_said (ready count ∷ more) = let h = length_said more in omega (arith, h)
+length_said (boundary line ∷ more) = let h = length_said more in omega (arith, h)
+
+length_counts : (counts : List ℕ) → length counts ≤ 1 → length counts ≡ ready_lines (first_of counts)
+length_counts [] h = refl
+length_counts (count ∷ []) h = refl
+length_counts (count ∷ other ∷ counts) h = absurd (omega (arith, h))
+
+said_behind : (format : Format) (said : List Said) → MayStand said → lines_behind (lists_said format said []) ≡ length said + 1
+said_behind format said may =
+    let all = length_said said in
+    let counts = length_counts (counts_in said) may.one_count in
+    omega (arith, all, counts)
+
+-- the lists tell how many lines say them
+told_lines : (lines : List (List ℕ)) (lists : Lists) → AreTold lines lists → lines_behind lists ≡ length lines
+told_lines lines lists h =
+    let whole = ap length h.begins.spelled in
+    let all = length_all lists.format h.begins.others h.said h.begins.say_all in
+    let behind = said_behind lists.format h.said h.holds.may_stand in
+    let is = ap lines_behind h.holds.lists_are in
+    omega (arith, whole, all, behind, is)
+
+refused_at : (lines : List (List ℕ)) (lists : Lists) (line : List ℕ) (number : ℕ) → (h : AreTold lines lists) → number ≡ lines_behind lists + 1
+    → ((more : Said) → Says lists.format line more → MayStand (h.said ++ more ∷ []) → ⊥) → IsLinesFault (lines ++ line ∷ []) (Bad number)
+refused_at lines lists line number h is refused = inr (record {
+  format = lists.format;
+  before = lines;
+  line = line;
+  behind = [];
+  whole = refl;
+  at_number = is ∙ ap (λ (n : ℕ). n + 1) (told_lines lines lists h);
+  said = h.said;
+  begins = h.begins;
+  refused = refused;
+})
+
+pub says_nothing_at : (lines : List (List ℕ)) (lists : Lists) (line : List ℕ) (number : ℕ) → number ≡ lines_behind lists + 1
+    → SaysNothing lists.format line → AreTold lines lists → IsLinesFault (lines ++ line ∷ []) (Bad number)
+says_nothing_at lines lists line number is nothing h = refused_at lines lists line number h is (λ more is may. nothing more is)
+
+pub may_not_stand_at : (lines : List (List ℕ)) (lists : Lists) (line : List ℕ) (number : ℕ) (says : Said) → number ≡ lines_behind lists + 1
+    → Says lists.format line says → IsLineFault lists says Refused → AreTold lines lists → IsLinesFault (lines ++ line ∷ []) (Bad number)
+may_not_stand_at lines lists line number says at is fault h = refused_at lines lists line number h at
+    (λ more also may. fault h.said h.holds (subst (λ (s : Said). MayStand (h.said ++ s ∷ [])) (one_said lists.format line more says also is) may))
+
+pub memory_ran_out_at : (lines : List (List ℕ)) (lists : Lists) (line : List ℕ) (says : Said)
+    → Says lists.format line says → IsLineFault lists says OutOfMemory → AreTold lines lists → WantsMemory (lines ++ line ∷ [])
+memory_ran_out_at lines lists line says is fault h = record {
+  format = lists.format;
+  before = lines;
+  line = line;
+  after = [];
+  whole = refl;
+  said = h.said;
+  begins = h.begins;
+  next = says;
+  says = is;
+  may_stand = fault.1 h.said h.holds;
+  takes_memory = fault.0;
+}
+
+-- a fault stays the first with the lines behind it
+pub fault_stays : (lines more : List (List ℕ)) (fault : TextFault) → IsLinesFault lines fault → IsLinesFault (lines ++ more) fault
+fault_stays lines more (Bad number) (inl h) = inl (record {
+  at_first = h.at_first;
+  first = h.first;
+  others = h.others ++ more;
+  whole = ap (λ (ls : List (List ℕ)). ls ++ more) h.whole;
+  no_format = h.no_format;
+})
+fault_stays lines more (Bad number) (inr h) = inr (record {
+  format = h.format;
+  before = h.before;
+  line = h.line;
+  behind = h.behind ++ more;
+  whole = ap (λ (ls : List (List ℕ)). ls ++ more) h.whole ∙ append_assoc h.before (h.line ∷ h.behind) more;
+  at_number = h.at_number;
+  said = h.said;
+  begins = h.begins;
+  refused = h.refused;
+})
+fault_stays lines more OutOfMemoryOfText h = record {
+  format = h.format;
+  before = h.before;
+  line = h.line;
+  after = h.after ++ more;
+  whole = ap (λ (ls : List (List ℕ)). ls ++ more) h.whole ∙ append_assoc h.before (h.line ∷ h.after) more;
+  said = h.said;
+  begins = h.begins;
+  next = h.next;
+  says = h.says;
+  may_stand = h.may_stand;
+  takes_memory = h.takes_memory;
+}
+
+pub text_fault : (text : List ℕ) (fault : TextFault) → IsLinesFault (lines_of text) fault → IsTextFault text fault
+text_fault text (Bad number) h = h
+text_fault text OutOfMemoryOfText h = h
+
+pub whole_text : (text pack : List ℕ) (lists made : Lists) → AreTold (lines_of text) lists → made ≡ with_pack lists pack
+    → IsRepositoryText text pack made
+whole_text text pack lists made h is = record {
+  format = lists.format;
+  said = h.said;
+  begins = h.begins;
+  lists_are = is ∙ ap (λ (l : Lists). with_pack l pack) h.holds.lists_are;
+}

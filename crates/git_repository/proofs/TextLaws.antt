@@ -1,0 +1,184 @@
+-- A text is one repository, or has one first bad line.
+use Rattle.std.proofs.Common.{arith, ◌≡◌, ℕ, ◌+◌, ◌<◌, ◌≤◌, true, List, [], ◌∷◌, ◌++◌, refl, ap, sym, ◌∙◌, subst, append_assoc, length, get_or, inl, inr}
+use Rattle.std.specs.List.{AllAdjacentBelow}
+use Rattle.std.proofs.lemmas.Grind.{common_steps}
+use Rattle.std.proofs.lemmas.Bool.{cases_lt}
+use Rattle.std.proofs.lemmas.List.{append-nil}
+use Rattle.git_names.specs.declared.object_format.Format.{Format}
+use Rattle.git_names.specs.declared.object_format.Format.TheVariants.{Sha1, Sha256}
+use Rattle.git_names.specs.ObjectName.{ObjectName}
+use Rattle.git_server.specs.Repository.{Entry, IsRising, comes_before}
+use Rattle.git_server.specs.Objects.{AreRising, precedes}
+use Rattle.git_server.specs.Lists.{Lists}
+use Rattle.git_msg.proofs.ReferenceLaws.{same_heads}
+use Rattle.git_repository.specs.RepositoryLines.{Said, reference, object, ready, boundary, Says, format_line, lines_of}
+use Rattle.git_repository.specs.RepositoryText.{Begins, HasBadLine, HasNoFormat, IsFirstBad, IsRepositoryText}
+use Rattle.git_repository.specs.RepositoryText.{MayStand, SayAll, counts_in, entry_of, lists_said, objects_in, refs_in}
+use Rattle.git_repository.proofs.Saying.{one_said}
+
+one_format : (f g : Format) → format_line f ≡ format_line g → f ≡ g
+one_format Sha1 Sha1 e = refl
+one_format Sha256 Sha256 e = refl
+one_format Sha1 Sha256 e = let h : length (format_line Sha1) ≡ length (format_line Sha256) = ap (λ (t : List ℕ). length t) e in absurd (omega (arith, h))
+one_format Sha256 Sha1 e = let h : length (format_line Sha256) ≡ length (format_line Sha1) = ap (λ (t : List ℕ). length t) e in absurd (omega (arith, h))
+
+one_of_all : (format : Format) (lines : List (List ℕ)) (a b : List Said) → SayAll format lines a → SayAll format lines b → a ≡ b
+one_of_all format [] [] [] h k = refl
+one_of_all format (l ∷ ls) (s ∷ ss) (t ∷ ts) h k =
+    ap (λ (x : Said). x ∷ ss) (one_said format l s t h.0 k.0) ∙ ap (λ (xs : List Said). t ∷ xs) (one_of_all format ls ss ts h.1 k.1)
+one_of_all format [] (s ∷ ss) b h k = absurd h
+one_of_all format [] [] (t ∷ ts) h k = absurd k
+one_of_all format (l ∷ ls) [] b h k = absurd h
+one_of_all format (l ∷ ls) (s ∷ ss) [] h k = absurd k
+
+one_beginning : (f g : Format) (lines : List (List ℕ)) (a b : List Said) → Begins f lines a → Begins g lines b → (f ≡ g) × (a ≡ b)
+one_beginning f g lines a b h k =
+    let same = same_heads (format_line f) (format_line g) h.others k.others (sym h.spelled ∙ k.spelled) in
+    let format = one_format f g same.0 in
+    let there : SayAll g k.others a = subst (λ (x : Format). SayAll x k.others a) format (subst (λ (ls : List (List ℕ)). SayAll f ls a) same.1 h.say_all) in
+    (format, one_of_all g k.others a b there k.say_all)
+
+pub one_repository : (text pack : List ℕ) (a b : Lists) → IsRepositoryText text pack a → IsRepositoryText text pack b → a ≡ b
+one_repository text pack a b h k =
+    let same = one_beginning h.format k.format (lines_of text) h.said k.said h.begins k.begins in
+    h.lists_are ∙ ap (λ (f : Format). lists_said f h.said pack) same.0 ∙ ap (λ (s : List Said). lists_said k.format s pack) same.1 ∙ sym k.lists_are
+
+module _ {X : Type 0} where
+  front_of : (xs ys : List X) (k : ℕ) (d : X) → k < length xs → get_or (xs ++ ys) k d ≡ get_or xs k d
+  front_of xs ys k d h = grind (arith, common_steps)
+
+  longer : (xs ys : List X) → length xs ≤ length (xs ++ ys)
+  longer xs ys = grind (arith, common_steps)
+
+  rising_front : (R : X → X → Type 0) (xs ys : List X) → AllAdjacentBelow R (xs ++ ys) (length (xs ++ ys)) → AllAdjacentBelow R xs (length xs)
+  rising_front R xs ys rising k d below =
+      let long = longer xs ys in
+      let h = rising k d (omega (arith, below, long)) in
+      let there : R (get_or xs k d) (get_or (xs ++ ys) (k + 1) d) =
+      subst (λ (y : X). R y (get_or (xs ++ ys) (k + 1) d)) (front_of xs ys k d (omega (arith, below))) h in
+      subst (λ (y : X). R (get_or xs k d) y) (front_of xs ys (k + 1) d below) there
+
+refs_joined : (a b : List Said) → refs_in (a ++ b) ≡ refs_in a ++ refs_in b
+refs_joined [] b = refl
+refs_joined (reference ref ∷ more) b = ap (λ (xs : List Entry). entry_of ref ∷ xs) (refs_joined more b)
+refs_joined (object id size ∷ more) b = refs_joined more b
+refs_joined (ready count ∷ more) b = refs_joined more b
+refs_joined (boundary line ∷ more) b = refs_joined more b
+
+objects_joined : (a b : List Said) → objects_in (a ++ b) ≡ objects_in a ++ objects_in b
+objects_joined [] b = refl
+objects_joined (reference ref ∷ more) b = objects_joined more b
+objects_joined (object id size ∷ more) b = ap (λ (xs : List (ObjectName × ℕ)). (id, size) ∷ xs) (objects_joined more b)
+objects_joined (ready count ∷ more) b = objects_joined more b
+objects_joined (boundary line ∷ more) b = objects_joined more b
+
+counts_joined : (a b : List Said) → counts_in (a ++ b) ≡ counts_in a ++ counts_in b
+counts_joined [] b = refl
+counts_joined (reference ref ∷ more) b = counts_joined more b
+counts_joined (object id size ∷ more) b = counts_joined more b
+counts_joined (ready count ∷ more) b = ap (λ (xs : List ℕ). count ∷ xs) (counts_joined more b)
+counts_joined (boundary line ∷ more) b = counts_joined more b
+
+-- the first of lines that may stand may stand
+stand_front : (a b : List Said) → MayStand (a ++ b) → MayStand a
+stand_front a b h =
+    let count : length (counts_in a ++ counts_in b) ≤ 1 = subst (λ (xs : List ℕ). length xs ≤ 1) (counts_joined a b) h.one_count in
+    let long = longer (counts_in a) (counts_in b) in
+    record {
+      rising_refs = rising_front (λ a b. comes_before a.name b.name ≡ true) (refs_in a) (refs_in b) (subst IsRising (refs_joined a b) h.rising_refs);
+      rising_objects = rising_front (λ a b. precedes a.0 b.0 ≡ true) (objects_in a) (objects_in b) (subst AreRising (objects_joined a b) h.rising_objects);
+      one_count = omega (arith, count, long);
+    }
+
+-- what lines say, cut at one of them
+record Cut (format : Format) (before : List (List ℕ)) (line : List ℕ) (said : List Said) : Type 0 where
+  front : List Said
+  next : Said
+  back : List Said
+  whole : said ≡ front ++ next ∷ back
+  front_said : SayAll format before front
+  next_said : Says format line next
+
+cut_at : (format : Format) (before : List (List ℕ)) (line : List ℕ) (behind : List (List ℕ)) (said : List Said)
+    → SayAll format (before ++ line ∷ behind) said → Cut format before line said
+cut_at format [] line behind (s ∷ ss) h = record { front = []; next = s; back = ss; whole = refl; front_said = tt; next_said = h.0 }
+cut_at format (l ∷ ls) line behind (s ∷ ss) h =
+    let more = cut_at format ls line behind ss h.1 in
+    record {
+      front = s ∷ more.front;
+      next = more.next;
+      back = more.back;
+      whole = ap (λ (xs : List Said). s ∷ xs) more.whole;
+      front_said = (h.0, more.front_said);
+      next_said = more.next_said;
+    }
+cut_at format [] line behind [] h = absurd h
+cut_at format (l ∷ ls) line behind [] h = absurd h
+
+-- lines that begin a text have no bad line among them
+begins_or_bad : (format : Format) (lines : List (List ℕ)) (said : List Said) (number : ℕ) → Begins format lines said → HasBadLine lines number → ⊥
+begins_or_bad format lines said number h bad =
+    let split : lines ≡ format_line bad.format ∷ (bad.begins.others ++ bad.line ∷ bad.behind) =
+    bad.whole ∙ ap (λ (ls : List (List ℕ)). ls ++ bad.line ∷ bad.behind) bad.begins.spelled in
+    let same = same_heads (format_line format) (format_line bad.format) h.others (bad.begins.others ++ bad.line ∷ bad.behind) (sym h.spelled ∙ split) in
+    let there : SayAll bad.format (bad.begins.others ++ bad.line ∷ bad.behind) said =
+    subst (λ (f : Format). SayAll f (bad.begins.others ++ bad.line ∷ bad.behind) said) (one_format format bad.format same.0)
+    (subst (λ (ls : List (List ℕ)). SayAll format ls said) same.1 h.say_all) in
+    let cut = cut_at bad.format bad.begins.others bad.line bad.behind said there in
+    let front : cut.front ≡ bad.said = one_of_all bad.format bad.begins.others cut.front bad.said cut.front_said bad.begins.say_all in
+    let stands : MayStand ((cut.front ++ cut.next ∷ []) ++ cut.back) =
+    subst MayStand (cut.whole ∙ sym (append_assoc cut.front (cut.next ∷ []) cut.back)) h.may_stand in
+    bad.refused cut.next cut.next_said (subst (λ (xs : List Said). MayStand (xs ++ cut.next ∷ [])) front
+    (stand_front (cut.front ++ cut.next ∷ []) cut.back stands))
+
+begins_or_no_format : (format : Format) (lines more whole : List (List ℕ)) (said : List Said) (number : ℕ) → Begins format lines said
+    → whole ≡ lines ++ more → HasNoFormat whole number → ⊥
+begins_or_no_format format lines more whole said number h is bad =
+    bad.no_format format (same_heads bad.first (format_line format) bad.others (h.others ++ more)
+    (sym bad.whole ∙ is ∙ ap (λ (ls : List (List ℕ)). ls ++ more) h.spelled)).0
+
+pub repository_or_bad : (text pack : List ℕ) (lists : Lists) (number : ℕ) → IsRepositoryText text pack lists → IsFirstBad text number → ⊥
+repository_or_bad text pack lists number h (inl bad) =
+    begins_or_no_format h.format (lines_of text) [] (lines_of text) h.said number h.begins (sym (append-nil (lines_of text))) bad
+repository_or_bad text pack lists number h (inr bad) = begins_or_bad h.format (lines_of text) h.said number h.begins bad
+
+-- of two cuts of one list, the earlier lies in the front of the later
+pub earlier_in : (a : List (List ℕ)) (x : List ℕ) (xs b : List (List ℕ)) (y : List ℕ) (ys : List (List ℕ)) → a ++ x ∷ xs ≡ b ++ y ∷ ys → length a < length b
+    → (rest : List (List ℕ)) × (b ≡ a ++ x ∷ rest)
+earlier_in [] x xs [] y ys e l = absurd (omega (arith, l))
+earlier_in [] x xs (c ∷ b) y ys e l = (b, ap (λ (z : List ℕ). z ∷ b) (sym (same_heads x c xs (b ++ y ∷ ys) e).0))
+earlier_in (d ∷ a) x xs [] y ys e l = absurd (omega (arith, l))
+earlier_in (d ∷ a) x xs (c ∷ b) y ys e l =
+    let same = same_heads d c (a ++ x ∷ xs) (b ++ y ∷ ys) e in
+    let more = earlier_in a x xs b y ys same.1 (omega (arith, l)) in
+    (more.0, ap (λ (z : List ℕ). z ∷ b) (sym same.0) ∙ ap (λ (zs : List (List ℕ)). d ∷ zs) more.1)
+
+not_earlier : (lines : List (List ℕ)) (n m : ℕ) → HasBadLine lines n → HasBadLine lines m → n < m → ⊥
+not_earlier lines n m h k low =
+    let at = h.at_number in
+    let there = k.at_number in
+    let inside = earlier_in h.before h.line h.behind k.before k.line k.behind (sym h.whole ∙ k.whole) (omega (arith, at, there, low)) in
+    begins_or_bad k.format k.before k.said n k.begins (record {
+      format = h.format;
+      before = h.before;
+      line = h.line;
+      behind = inside.0;
+      whole = inside.1;
+      at_number = h.at_number;
+      said = h.said;
+      begins = h.begins;
+      refused = h.refused;
+    })
+
+pub one_first_bad : (text : List ℕ) (n m : ℕ) → IsFirstBad text n → IsFirstBad text m → n ≡ m
+one_first_bad text n m (inl h) (inl k) = h.at_first ∙ sym k.at_first
+one_first_bad text n m (inl h) (inr k) = absurd (begins_or_no_format k.format k.before (k.line ∷ k.behind) (lines_of text) k.said n k.begins k.whole h)
+one_first_bad text n m (inr h) (inl k) = absurd (begins_or_no_format h.format h.before (h.line ∷ h.behind) (lines_of text) h.said m h.begins h.whole k)
+one_first_bad text n m (inr h) (inr k) =
+    elim (cases_lt n m) [
+      | inl low ↦ absurd (not_earlier (lines_of text) n m h k low)
+      | inr high ↦ elim (cases_lt m n) [
+        | inl below ↦ absurd (not_earlier (lines_of text) m n k h below)
+        | inr above ↦ omega (arith, high, above)
+      ]
+    ]

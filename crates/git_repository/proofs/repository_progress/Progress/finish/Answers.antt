@@ -1,0 +1,15 @@
+use Rattle.git_server.specs.ListRepo.{lists_of}
+use Rattle.git_repository.specs.DraftLists.{drafted}
+use Rattle.git_repository.proofs.Progressing.{some_lines}
+use Rattle.git_repository.proofs.Reading.{text_fault, whole_text}
+use Rattle.git_repository.proofs.repository_progress.Progress.finish.Goals as goal
+
+pub returns-in-Lines : goal.returns-in-Lines
+returns-in-Lines c text h =
+    whole_text text c.args.pack.items (drafted c.in-Lines.draft) (lists_of c.finish.result) (c.in-Lines.ensures text h) c.finish.ensures
+
+pub returns-in-Failed : goal.returns-in-Failed
+returns-in-Failed c text h = text_fault text c.in-Failed.fault (c.in-Failed.ensures text h)
+
+pub returns-in-Start : goal.returns-in-Start
+returns-in-Start c text h = absurd (some_lines text (c.in-Start.ensures text h))

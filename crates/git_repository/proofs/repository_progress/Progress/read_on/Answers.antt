@@ -1,0 +1,47 @@
+use Rattle.std.proofs.Common.{arith}
+use Rattle.std.specs.Option.{option_copied}
+use Rattle.git_repository.specs.DraftLists.{drafted}
+use Rattle.git_repository.proofs.Progressing.{at_first, cut_within, rest_within, reads_all, reads_bad_line, reads_line}
+use Rattle.git_repository.proofs.repository_progress.Progress.read_on.Goals as goal
+
+pub lines-init : goal.lines-init
+lines-init c = record {
+  reads = λ lines h. at_first c.args.text.now lines c.split_at_first.result.0.now (option_copied c.split_at_first.result.1) (drafted c.args.draft)
+      c.split_at_first.ensures.parts h;
+  within = cut_within c.args.text.now c.split_at_first.result.0.now (option_copied c.split_at_first.result.1) c.split_at_first.ensures.cut;
+  room = rest_within c.args.text.now c.split_at_first.result.1 c.split_at_first.ensures.shorter;
+}
+
+pub returns-in-Err : goal.returns-in-Err
+returns-in-Err c =
+    let now = rw c.in-Some.is at c.lines.invariant in
+    record {
+      reads = λ lines h.
+          reads_bad_line c.args.text.now lines c.lines.line.now _ c.in-Some.left.now (drafted c.lines.draft) c.in-Err.fault
+          (now.reads lines h) c.in-Err.ensures;
+      within = now.within;
+    }
+
+pub lines-preserved : goal.lines-preserved
+lines-preserved c =
+    let now = rw c.in-Some.is at c.lines.invariant in
+    record {
+      reads = λ lines h.
+          reads_line c.args.text.now lines c.lines.line.now c.in-Some.left.now c.split_at_first-in-Some.result.0.now
+          (option_copied c.split_at_first-in-Some.result.1) (drafted c.lines.draft) (drafted c.read.new.self) (now.reads lines h)
+          c.split_at_first-in-Some.ensures.parts c.in_default-read.ensures;
+      within =
+          let short = cut_within c.in-Some.left.now c.split_at_first-in-Some.result.0.now (option_copied c.split_at_first-in-Some.result.1)
+          c.split_at_first-in-Some.ensures.cut in
+          let room = now.room in
+          omega (arith, short, room);
+      room =
+          let less = rest_within c.in-Some.left.now c.split_at_first-in-Some.result.1 c.split_at_first-in-Some.ensures.shorter in
+          let room = now.room in
+          omega (arith, less, room);
+    }
+
+pub returns : goal.returns
+returns c =
+    let now = rw c.in_default.is at c.lines.invariant in
+    record { reads = λ lines h. reads_all c.args.text.now lines c.lines.line.now c.lines.draft (now.reads lines h); within = now.within }

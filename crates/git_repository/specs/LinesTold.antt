@@ -1,0 +1,21 @@
+-- Lines that begin a repository's text, and the lists that they say.
+use Rattle.std.specs.Prelude.{ℕ, ◌+◌, List, Option, Some, None, length}
+use Rattle.git_server.specs.Lists.{Lists}
+use Rattle.git_repository.specs.RepositoryLines.{Said}
+use Rattle.git_repository.specs.RepositoryText.{Begins}
+use Rattle.git_repository.specs.Drafts.{Holds}
+
+-- the lines begin a text, and say these lists
+pub record AreTold (lines : List (List ℕ)) (lists : Lists) : Type 0 where
+  pub said : List Said
+  pub begins : Begins lists.format lines said
+  pub holds : Holds said lists
+
+-- how many lines a ready line is
+abbrev pub ready_lines : Option ℕ → ℕ
+ready_lines None = 0
+ready_lines (Some count) = 1
+
+-- how many lines say the lists, with the first, which tells the format
+abbrev pub lines_behind : Lists → ℕ
+lines_behind lists = length lists.refs + length lists.objects + length lists.boundaries + ready_lines lists.ready_after + 1

@@ -1,0 +1,62 @@
+-- The lines of a repository's text, and what each says.
+use Rattle.std.specs.Prelude.{◌≡◌, ℕ, ◌<◌, ◌≤◌, ◌^◌, List, ◌∷◌, ◌++◌, codes}
+use Rattle.git_names.specs.declared.object_format.Format.{Format}
+use Rattle.git_names.specs.ObjectFormat.{name_of}
+use Rattle.git_names.specs.ObjectName.{ObjectName, IsObjectName}
+use Rattle.git_pkt.specs.Packets.{text_of}
+use Rattle.git_msg.specs.declared.Boundary.{Boundary}
+use Rattle.git_msg.specs.declared.Boundary.TheVariants.{Shallow, Unshallow}
+use Rattle.git_msg.specs.References.{Ref, IsReferenceLine, shown_reference}
+use Rattle.git_msg.specs.Texts.{Follows, parts_of}
+use Rattle.git_msg.specs.Numbers.{IsNumber}
+use Rattle.git_repository.specs.declared.repository_lines.Item.{Item}
+use Rattle.git_repository.specs.declared.repository_lines.Item.TheVariants.{Reference, Object, ReadyAfter, BoundaryLine}
+
+-- what a line says of a repository: a reference, an object with its size, after how many common objects it is ready,
+-- a line of its shallow boundary
+pub data Said : Type 0 where
+  reference : Ref → Said
+  object : ObjectName → ℕ → Said
+  ready : ℕ → Said
+  boundary : Boundary → Said
+
+-- what a borrowed one shows
+abbrev pub shown : Item → Said
+shown (Reference ref) = reference (shown_reference ref)
+shown (Object id size) = object id size
+shown (ReadyAfter count) = ready count
+shown (BoundaryLine line) = boundary line
+
+-- the lines of a text, between LFs; the last may lack its LF
+abbrev pub lines_of : List ℕ → List (List ℕ)
+lines_of text = parts_of 10 (text_of text)
+
+abbrev pub format_line : Format → List ℕ
+format_line format = codes "format " ++ name_of format
+
+-- an object name, a space and a size
+pub record IsSizedObject (format : Format) (id : ObjectName) (size : ℕ) (text : List ℕ) : Type 0 where
+  pub name : List ℕ
+  pub number : List ℕ
+  pub spelled : text ≡ name ++ 32 ∷ number
+  pub name_is : IsObjectName format name id
+  pub number_is : IsNumber number size
+  pub in_range : size < 2 ^ 64
+
+-- a number of objects, from 1 on
+pub record IsCount (count : ℕ) (text : List ℕ) : Type 0 where
+  pub number_is : IsNumber text count
+  pub from_one : 0 < count
+  pub at_most : count ≤ 2147483647
+
+-- what a line after the first says
+abbrev pub Says : Format → List ℕ → Said → Type 0
+Says format line (reference ref) = Follows (codes "ref ") (λ text. IsReferenceLine format text ref) line
+Says format line (object id size) = Follows (codes "object ") (IsSizedObject format id size) line
+Says format line (ready count) = Follows (codes "ready ") (IsCount count) line
+Says format line (boundary (Shallow id)) = Follows (codes "shallow ") (λ text. IsObjectName format text id) line
+Says format line (boundary (Unshallow id)) = Follows (codes "unshallow ") (λ text. IsObjectName format text id) line
+
+-- the line says nothing of a repository of this format
+abbrev pub SaysNothing : Format → List ℕ → Type 0
+SaysNothing format line = (said : Said) → ¬ Says format line said

@@ -1,0 +1,194 @@
+//! What the lines of a repository's text said so far.
+
+ghost use Rattle.std.specs.Prelude.{◌≡◌, ◌↔◌, ◌+◌, ◌++◌, ◌∷◌, [], ℕ, List, All, IsTrue, IfOk, MatchResult};
+ghost use Rattle.git_server.specs.ListRepo.{lists_of};
+ghost use Rattle.git_server.specs.Objects.{AreRising, object_of};
+ghost use Rattle.git_server.specs.Repository.{IsNamed, IsOfFormat, IsRising};
+ghost use Rattle.git_msg.specs.References.{shown_reference};
+ghost use Rattle.git_repository.specs.RepositoryLines.{shown};
+ghost use Rattle.git_repository.specs.RepositoryText.{entry_of};
+ghost use Rattle.git_repository.specs.Drafts.{AddsBoundary, AddsCount, AddsObject, AddsReference, AddsSaid};
+ghost use Rattle.git_repository.specs.Drafts.{ComesLast, ComesLastObject, IsFit, empty_lists, with_pack};
+
+use crate::repository_lines::{Item, read_item};
+use crate::text_faults::{LineFault, TextFault};
+use git_msg::{Boundary, Reference};
+use git_names::{Format, Oid};
+use git_server::{ListRepo, RefEntry};
+use std::alloc::{AllocError, Global};
+
+/// What the lines said so far. With a pack it makes a repository at each moment.
+#[derive(Drop)]
+pub(crate) struct Draft {
+    format: Format,
+    refs: Vec<RefEntry>,
+    objects: Vec<(Oid, u64)>,
+    ready_after: Option<u32>,
+    boundaries: Vec<Boundary>,
+    ghost rising: { IsRising refs.items },
+    ghost rising_objects: { AreRising objects.items },
+    ghost named: { All (λ ref. IsNamed ref.name ref.target) refs.items },
+    ghost of_format: { All (IsOfFormat format) refs.items },
+    ghost of_objects: { All (λ object. object.0.format ≡ format) objects.items },
+    ghost of_boundaries: { All (λ boundary. (object_of boundary).format ≡ format) boundaries.items },
+}
+
+impl Draft {
+    ghost use Rattle.git_repository.specs.DraftLists.{drafted};
+    ghost use Rattle.git_repository.specs.LinesTold.{AreTold, lines_behind};
+    ghost use Rattle.git_repository.specs.RepositoryProgress.{IsLinesFault};
+
+    /// Nothing yet.
+    pub(crate) fn new(alloc: Global, format: Format) -> Draft
+        ensures { drafted result ≡ empty_lists format }
+    {
+        Draft {
+            format,
+            refs: Vec::new(alloc),
+            objects: Vec::new(alloc),
+            ready_after: None,
+            boundaries: Vec::new(alloc),
+        }
+    }
+
+    /// The number of the next line: of those that said this, the first told the format.
+    fn next_line(&self) -> u64
+        ensures { result ≡ lines_behind (drafted self.now) + 1 }
+    {
+        let ready: u64 = match self.ready_after {
+            Some(_) => 1,
+            None => 0,
+        };
+        let refs = self.refs.as_slice().len() as u64;
+        let objects = self.objects.as_slice().len() as u64;
+        let boundaries = self.boundaries.as_slice().len() as u64;
+        refs + objects + boundaries + ready + 2
+    }
+
+    /// Keeps what a further line says, or tells why it is the first that is refused.
+    pub(crate) fn read(&mut self, alloc: Global, line: &[u8]) -> Result<(), TextFault>
+        ensures { (lines : List (List ℕ)) → AreTold lines (drafted self.old)
+            → MatchResult result (λ _. AreTold (lines ++ line.now ∷ []) (drafted self.new)) (IsLinesFault (lines ++ line.now ∷ [])) }
+    {
+        let line_number = self.next_line();
+        let Some(item) = read_item(self.format, line) else {
+            return Err(TextFault::Bad { line: line_number });
+        };
+        match self.keep(alloc, &item) {
+            Ok(()) => Ok(()),
+            Err(LineFault::Refused) => Err(TextFault::Bad { line: line_number }),
+            Err(LineFault::OutOfMemory) => Err(TextFault::OutOfMemory),
+        }
+    }
+
+    /// Keeps what a line says, or answers that it may not stand after the lines before it.
+    pub(crate) fn keep(&mut self, alloc: Global, item: &Item<'_>) -> Result<(), LineFault>
+        requires { IsFit (drafted self.old).format (shown item.now) }
+        ensures { AddsSaid (drafted self.old) (shown item.now) (drafted self.new) result }
+    {
+        match item {
+            Item::Reference(reference) => self.keep_reference(alloc, reference),
+            Item::Object(id, size) => self.keep_object(*id, *size),
+            Item::ReadyAfter(count) => self.keep_count(*count),
+            Item::BoundaryLine(boundary) => self.keep_boundary(*boundary),
+        }
+    }
+
+    fn keep_reference(&mut self, alloc: Global, reference: &Reference<'_>) -> Result<(), LineFault>
+        requires named { IsNamed (shown_reference reference.now).name (shown_reference reference.now).target }
+        requires of_format { IsOfFormat (drafted self.old).format (entry_of (shown_reference reference.now)) }
+        ensures { AddsReference (drafted self.old) (entry_of (shown_reference reference.now)) (drafted self.new) result }
+    {
+        if !comes_last(&self.refs, reference.name) {
+            return Err(LineFault::Refused);
+        }
+        let Ok(entry) = make_entry(alloc, reference) else {
+            return Err(LineFault::OutOfMemory);
+        };
+        match self.refs.push(entry) {
+            Ok(()) => Ok(()),
+            Err(_) => Err(LineFault::OutOfMemory),
+        }
+    }
+
+    fn keep_object(&mut self, id: Oid, size: u64) -> Result<(), LineFault>
+        requires { id.format ≡ (drafted self.old).format }
+        ensures { AddsObject (drafted self.old) (id, size) (drafted self.new) result }
+    {
+        if !comes_last_object(&self.objects, &id) {
+            return Err(LineFault::Refused);
+        }
+        match self.objects.push((id, size)) {
+            Ok(()) => Ok(()),
+            Err(_) => Err(LineFault::OutOfMemory),
+        }
+    }
+
+    fn keep_count(&mut self, count: u32) -> Result<(), LineFault>
+        ensures { AddsCount (drafted self.old) count (drafted self.new) result }
+    {
+        if self.ready_after.is_some() {
+            return Err(LineFault::Refused);
+        }
+        self.ready_after = Some(count);
+        Ok(())
+    }
+
+    fn keep_boundary(&mut self, boundary: Boundary) -> Result<(), LineFault>
+        requires { (object_of boundary).format ≡ (drafted self.old).format }
+        ensures { AddsBoundary (drafted self.old) boundary (drafted self.new) result }
+    {
+        match self.boundaries.push(boundary) {
+            Ok(()) => Ok(()),
+            Err(_) => Err(LineFault::OutOfMemory),
+        }
+    }
+
+    /// The repository that the lines said, with this pack.
+    pub(crate) fn finish(self, pack: Vec<u8>) -> ListRepo
+        ensures { lists_of result ≡ with_pack (drafted self) pack.items }
+    {
+        let Draft {
+            format,
+            refs,
+            objects,
+            ready_after,
+            boundaries,
+        } = self;
+        ListRepo::of_lists(format, refs, objects, ready_after, boundaries, pack)
+    }
+}
+
+/// The entry of a reference, whose texts are copied.
+fn make_entry(alloc: Global, reference: &Reference<'_>) -> Result<RefEntry, AllocError>
+    requires { IsNamed (shown_reference reference.now).name (shown_reference reference.now).target }
+    ensures { IfOk result (λ entry. entry ≡ entry_of (shown_reference reference.now)) }
+{
+    RefEntry::copied(
+        alloc,
+        reference.name,
+        reference.id,
+        reference.target,
+        reference.peeled,
+    )
+}
+
+/// Whether the name comes after those of the references.
+fn comes_last(refs: &[RefEntry], name: &[u8]) -> bool
+    ensures { IsTrue result ↔ ComesLast refs.now name.now }
+{
+    if refs.is_empty() {
+        return true;
+    }
+    refs[refs.len() - 1].name().cmp(name).is_lt()
+}
+
+/// Whether the object name comes after those of the objects.
+fn comes_last_object(objects: &[(Oid, u64)], id: &Oid) -> bool
+    ensures { IsTrue result ↔ ComesLastObject objects.now id.now }
+{
+    if objects.is_empty() {
+        return true;
+    }
+    objects[objects.len() - 1].0.cmp(id).is_lt()
+}

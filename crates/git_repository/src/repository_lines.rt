@@ -1,0 +1,86 @@
+//! The lines of a repository's text.
+
+ghost use Rattle.std.specs.Prelude.{◌≡◌, ◌≢◌, ℕ, MatchOption};
+ghost use Rattle.git_names.specs.declared.object_format.Format.{Format};
+ghost use Rattle.git_names.specs.ObjectName.{ObjectName};
+ghost use Rattle.git_repository.specs.RepositoryLines.{IsCount, IsSizedObject, Says, SaysNothing, format_line, shown};
+
+use git_msg::{Boundary, Reference, after, read_number, read_reference};
+use git_names::{Format, Oid};
+
+/// The most common objects that a repository may want before it is ready.
+const MOST_COMMON: u64 = 2_147_483_647;
+
+/// What a line says of the repository.
+#[derive(Clone, Copy, Debug)]
+pub(crate) enum Item<'a> {
+    /// It has this reference.
+    Reference(Reference<'a>),
+    /// It has this object, of this size in bytes.
+    Object(Oid, u64),
+    /// It is ready after so many common objects.
+    ReadyAfter(u32),
+    /// This is a line of its shallow boundary.
+    BoundaryLine(Boundary),
+}
+
+/// The format that the first line tells.
+pub(crate) fn read_format(line: &[u8]) -> Option<Format>
+    ensures { MatchOption result ((format : Format) → line.now ≢ format_line format) (λ format. line.now ≡ format_line format) }
+{
+    Format::read(after(line, b"format ")?)
+}
+
+/// What a further line says.
+pub(crate) fn read_item(format: Format, line: &[u8]) -> Option<Item<'_>>
+    ensures { MatchOption result (SaysNothing format line.now) (λ item. Says format line.now (shown item)) }
+{
+    if let Some(text) = after(line, b"ref ") {
+        return match read_reference(format, text) {
+            Ok(reference) => Some(Item::Reference(reference)),
+            Err(_) => None,
+        };
+    }
+    if let Some(text) = after(line, b"object ") {
+        let (id, size) = read_object(format, text)?;
+        return Some(Item::Object(id, size));
+    }
+    if let Some(text) = after(line, b"ready ") {
+        let count = read_count(text)?;
+        return Some(Item::ReadyAfter(count));
+    }
+    if let Some(text) = after(line, b"shallow ") {
+        let id = Oid::read(format, text).ok()?;
+        return Some(Item::BoundaryLine(Boundary::Shallow(id)));
+    }
+    if let Some(text) = after(line, b"unshallow ") {
+        let id = Oid::read(format, text).ok()?;
+        return Some(Item::BoundaryLine(Boundary::Unshallow(id)));
+    }
+    None
+}
+
+/// An object name, a space and a size.
+fn read_object(format: Format, text: &[u8]) -> Option<(Oid, u64)>
+    ensures { MatchOption result ((id : ObjectName) (size : ℕ) → ¬ IsSizedObject format id size text.now)
+        (λ object. IsSizedObject format object.0 object.1 text.now) }
+{
+    if text.len() < format.digits() {
+        return None;
+    }
+    let (name, rest) = text.split_at(format.digits());
+    let id = Oid::read(format, name).ok()?;
+    let size = read_number(after(rest, b" ")?)?;
+    Some((id, size))
+}
+
+/// A number of objects, from 1 on.
+fn read_count(text: &[u8]) -> Option<u32>
+    ensures { MatchOption result ((count : ℕ) → ¬ IsCount count text.now) (λ count. IsCount count text.now) }
+{
+    let count = read_number(text)?;
+    if count == 0 || count > MOST_COMMON {
+        return None;
+    }
+    Some(count as u32)
+}

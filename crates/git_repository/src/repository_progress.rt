@@ -1,0 +1,161 @@
+//! How far the lines of a repository's text are read.
+
+ghost use Rattle.std.specs.Prelude.{◌≡◌, ◌↔◌, ◌+◌, ◌≤◌, ◌++◌, ◌∷◌, [], ℕ, List, IsTrue, MatchResult, length, vec_capacity};
+ghost use Rattle.git_msg.specs.Texts.{parts_of};
+ghost use Rattle.git_repository.specs.RepositoryFaults.{IsTextFault, IsWholeText};
+ghost use Rattle.git_repository.specs.RepositoryLines.{lines_of};
+
+use crate::drafts::Draft;
+use crate::repository_lines::read_format;
+use crate::text_faults::TextFault;
+use git_msg::split_at_first;
+use git_server::ListRepo;
+use std::alloc::Global;
+
+/// What the lines that have ended said.
+#[derive(Drop)]
+pub(crate) enum Progress {
+    /// None has ended.
+    Start,
+    /// They begin the text of a repository.
+    Lines(Draft),
+    /// One of them is the first that is refused. Nothing of the others is kept.
+    Failed(TextFault),
+}
+
+impl Progress {
+    ghost use Rattle.git_repository.specs.RepositoryProgress.{HasFailed, HasRead, Stands};
+
+    /// Whether a line was refused.
+    pub(crate) fn has_failed(&self) -> bool
+        ensures { IsTrue result ↔ HasFailed self.now }
+    {
+        match self {
+            Progress::Failed(_) => true,
+            Progress::Start | Progress::Lines(_) => false,
+        }
+    }
+
+    /// After the first line.
+    fn begin(alloc: Global, line: &[u8]) -> Progress
+        ensures { HasRead result (line.now ∷ []) }
+    {
+        match read_format(line) {
+            Some(format) => Progress::Lines(Draft::new(alloc, format)),
+            None => Progress::Failed(TextFault::Bad { line: 1 }),
+        }
+    }
+
+    /// After a further line.
+    pub(crate) fn with_line(self, alloc: Global, line: &[u8]) -> Progress
+        ensures { (lines : List (List ℕ)) → HasRead self lines → HasRead result (lines ++ line.now ∷ []) }
+    {
+        match self {
+            Progress::Start => Progress::begin(alloc, line),
+            Progress::Lines(mut draft) => match draft.read(alloc, line) {
+                Ok(()) => Progress::Lines(draft),
+                Err(fault) => Progress::Failed(fault),
+            },
+            Progress::Failed(fault) => Progress::Failed(fault),
+        }
+    }
+
+    /// After the lines that end in the text, with the line that it leaves open.
+    pub(crate) fn with_text<'a>(self, alloc: Global, text: &'a [u8]) -> (Progress, &'a [u8])
+        ensures reads { (lines : List (List ℕ)) → HasRead self lines → Stands result.0 result.1.now (lines ++ parts_of 10 text.now) }
+        ensures within { length result.1.now ≤ length text.now }
+    {
+        let (first, rest) = split_at_first(text, b'\n');
+        let Some(left) = rest else {
+            return (self, first);
+        };
+        match self.with_line(alloc, first) {
+            Progress::Lines(draft) => Progress::read_on(draft, alloc, left),
+            Progress::Failed(fault) => (Progress::Failed(fault), first),
+            Progress::Start => (Progress::Start, first),
+        }
+    }
+
+    /// After the further lines that end in the text, with the line that it leaves open.
+    fn read_on<'a>(mut draft: Draft, alloc: Global, text: &'a [u8]) -> (Progress, &'a [u8])
+        ensures reads { (lines : List (List ℕ)) → HasRead (Progress.Lines draft) lines → Stands result.0 result.1.now (lines ++ parts_of 10 text.now) }
+        ensures within { length result.1.now ≤ length text.now }
+    {
+        let (mut line, mut rest) = split_at_first(text, b'\n');
+        'lines: while let Some(left) = rest {
+            if let Err(fault) = draft.read(alloc, line) {
+                return (Progress::Failed(fault), line);
+            }
+            let (next_line, next) = split_at_first(left, b'\n');
+            line = next_line;
+            rest = next;
+        }
+        (Progress::Lines(draft), line)
+    }
+
+    /// After a piece of the text, behind the open line. What it leaves open is the open line then.
+    pub(crate) fn with_piece(self, alloc: Global, begun: &mut Vec<u8>, piece: &[u8]) -> Progress
+        requires { length begun.old.items + length piece.now ≤ vec_capacity begun.old }
+        ensures { (text : List ℕ) (lines : List (List ℕ)) → parts_of 10 text ≡ lines ++ begun.old.items ∷ [] → HasRead self lines
+            → Stands result begun.new.items (parts_of 10 (text ++ piece.now)) }
+    {
+        if begun.as_slice().is_empty() {
+            let (progress, left) = self.with_text(alloc, piece);
+            append(begun, left);
+            return progress;
+        }
+        let (line, rest) = split_at_first(piece, b'\n');
+        append(begun, line);
+        let Some(rest) = rest else {
+            return self;
+        };
+        let progress = self.with_line(alloc, begun);
+        begun.clear();
+        let (progress, left) = progress.with_text(alloc, rest);
+        append(begun, left);
+        progress
+    }
+
+    /// After the last line, which is the open one if it has a byte or is the only one.
+    fn with_end(self, alloc: Global, begun: &[u8]) -> Progress
+        ensures { (text : List ℕ) → Stands self begun.now (parts_of 10 text) → HasRead result (lines_of text) }
+    {
+        match self {
+            Progress::Start => Progress::begin(alloc, begun),
+            Progress::Lines(draft) => {
+                if begun.is_empty() {
+                    return Progress::Lines(draft);
+                }
+                Progress::Lines(draft).with_line(alloc, begun)
+            }
+            Progress::Failed(fault) => Progress::Failed(fault),
+        }
+    }
+
+    /// The repository of the text, or why it is none.
+    pub(crate) fn finish(
+        self,
+        alloc: Global,
+        begun: &[u8],
+        pack: Vec<u8>,
+    ) -> Result<ListRepo, TextFault>
+        ensures { (text : List ℕ) → Stands self begun.now (parts_of 10 text)
+            → MatchResult result (IsWholeText text pack.items) (IsTextFault text) }
+    {
+        match self.with_end(alloc, begun) {
+            Progress::Lines(draft) => Ok(draft.finish(pack)),
+            Progress::Failed(fault) => Err(fault),
+            // No text is without a line.
+            Progress::Start => Err(TextFault::Bad { line: 1 }),
+        }
+    }
+}
+
+/// Appends bytes for which there is room.
+fn append(begun: &mut Vec<u8>, bytes: &[u8])
+    requires { length begun.old.items + length bytes.now ≤ vec_capacity begun.old }
+    ensures items { begun.new.items ≡ begun.old.items ++ bytes.now }
+    ensures capacity { vec_capacity begun.old ≤ vec_capacity begun.new }
+{
+    let _ = begun.extend_from_slice(bytes);
+}

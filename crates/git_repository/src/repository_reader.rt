@@ -1,0 +1,64 @@
+//! A repository that is a few lists, read from a text that comes in pieces.
+
+ghost use Rattle.std.specs.Prelude.{◌++◌, [], ℕ, List, MatchResult, OnErr, OnOk};
+ghost use Rattle.git_repository.specs.RepositoryFaults.{IsTextFault, IsWholeText};
+
+use crate::repository_progress::Progress;
+use crate::text_faults::TextFault;
+use git_server::ListRepo;
+use std::alloc::{AllocError, Global};
+use std::mem;
+
+/// Reads the text of a repository in pieces, however it is cut: what [`crate::read_repo`] reads from a whole one.
+///
+/// It keeps what the lines said, and of the text no more than the line that a piece left open.
+#[derive(Drop)]
+pub struct RepositoryReader {
+    alloc: Global,
+    progress: Progress,
+    /// What came of the line that has not ended. Nothing more comes to it once a line was refused.
+    begun: Vec<u8>,
+}
+
+impl RepositoryReader {
+    ghost use Rattle.git_repository.specs.RepositoryReader.{Reads};
+
+    /// A reader that was fed nothing.
+    pub fn new(alloc: Global) -> RepositoryReader
+        ensures { Reads result [] }
+    {
+        RepositoryReader {
+            alloc,
+            progress: Progress::Start,
+            begun: Vec::new(alloc),
+        }
+    }
+
+    /// Takes a further piece of the text.
+    ///
+    /// Room for the piece beside the open line is made first: where memory for it runs out, the reader is as it was.
+    pub fn feed(&mut self, piece: &[u8]) -> Result<(), AllocError>
+        ensures fed { OnOk result ((text : List ℕ) → Reads self.old text → Reads self.new (text ++ piece.now)) }
+        ensures stays { OnErr result ((text : List ℕ) → Reads self.old text → Reads self.new text) }
+    {
+        if self.progress.has_failed() {
+            return Ok(());
+        }
+        self.begun.reserve(piece.len())?;
+        let progress = mem::replace(&mut self.progress, Progress::Start);
+        self.progress = progress.with_piece(self.alloc, &mut self.begun, piece);
+        Ok(())
+    }
+
+    /// The repository of the whole text, whose pack for each request is `pack`, or why it is none.
+    pub fn finish(self, pack: Vec<u8>) -> Result<ListRepo, TextFault>
+        ensures { (text : List ℕ) → Reads self text → MatchResult result (IsWholeText text pack.items) (IsTextFault text) }
+    {
+        let RepositoryReader {
+            alloc,
+            progress,
+            begun,
+        } = self;
+        progress.finish(alloc, &begun, pack)
+    }
+}

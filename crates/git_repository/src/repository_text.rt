@@ -1,0 +1,23 @@
+//! A repository that is a few lists, read from a text.
+
+ghost use Rattle.std.specs.Prelude.{MatchResult};
+ghost use Rattle.git_repository.specs.RepositoryFaults.{IsTextFault, IsWholeText};
+
+use crate::repository_progress::Progress;
+use crate::text_faults::TextFault;
+use git_server::ListRepo;
+use std::alloc::Global;
+
+/// Reads the text of a repository, whose pack for each request is `pack`.
+///
+/// The first line is `format sha1` or `format sha256`. The others say, in any order of kinds: `ref`, a space and a
+/// reference line of ls-refs, gitprotocol-v2(5); `object`, an object name and a size in bytes; `ready` and the number of
+/// common objects, once at the most; `shallow` or `unshallow` and an object name. Lines are parted by LF, which the last
+/// may lack. References rise strictly by their names, and objects by theirs. The first line that is none of these, or
+/// may not stand after those before it, is `Bad`.
+pub fn read_repo(alloc: Global, text: &[u8], pack: Vec<u8>) -> Result<ListRepo, TextFault>
+    ensures { MatchResult result (IsWholeText text.now pack.items) (IsTextFault text.now) }
+{
+    let (progress, begun) = Progress::Start.with_text(alloc, text);
+    progress.finish(alloc, begun, pack)
+}

@@ -1,0 +1,26 @@
+//! Why a text that is read line by line is refused.
+
+use thiserror::Error;
+
+/// Why a text could not be read.
+#[derive(Clone, Copy, Debug, PartialEq, Eq, Error)]
+pub enum TextFault {
+    /// A line says nothing that may stand there.
+    #[error("bad line {line}")]
+    Bad {
+        /// Which line, counted from 1.
+        line: u64,
+    },
+    /// Memory ran out at a line that takes some. With the lines before it that line begins a text.
+    #[error("OutOfMemory")]
+    OutOfMemory,
+}
+
+/// Why a line is not kept. With the line's number it is a [`TextFault`].
+#[derive(Clone, Copy, Debug, PartialEq, Eq)]
+pub enum LineFault {
+    /// It may not stand after the lines before it.
+    Refused,
+    /// Memory ran out.
+    OutOfMemory,
+}

@@ -1,0 +1,74 @@
+-- How long the texts are that C is shown of an event.
+use Rattle.std.proofs.Common.{arith, ◌≡◌, ℕ, ◌+◌, ◌*◌, ◌≤◌, List, [], ◌∷◌, ◌++◌, length, take, Option, Some, None, refl, map, length-append, length-take}
+use Rattle.std.specs.Option.{option_copied, option_map_or}
+use Rattle.std.proofs.lemmas.List.Sums.{sum_by-cons}
+use Rattle.git_names.specs.ObjectFormat.{digits_of, width_of}
+use Rattle.git_names.specs.ObjectName.{ObjectName, hex_of, hex_text}
+use Rattle.git_names.specs.declared.object_format.Format.{Format}
+use Rattle.git_names.specs.declared.object_format.Format.TheVariants.{Sha1, Sha256}
+use Rattle.git_client.specs.Events.{EventValue, all_parts_length, parts_length, pack, progress}
+use Rattle.git_client.specs.Turns.{values_of}
+use Rattle.git_client.specs.declared.events.Event.{Event}
+use Rattle.git_client.specs.declared.events.Event.TheVariants as Event
+use Rattle.gitwire.specs.EventsTold.{Parts, bytes_shown, digits_shown, parts_of, text_shown}
+
+hex_length : (bytes : List ℕ) → length (hex_text bytes) ≡ 2 * length bytes
+unfolding hex_text
+hex_length [] = omega arith
+hex_length (byte ∷ bytes) = omega (arith, hex_length bytes)
+
+digits_of_bytes : (format : Format) (bytes : List ℕ) → length (hex_text (take (width_of format) bytes)) ≤ digits_of format
+digits_of_bytes Sha1 bytes = omega (arith, hex_length (take 20 bytes), length-take 20 bytes)
+digits_of_bytes Sha256 bytes = omega (arith, hex_length (take 32 bytes), length-take 32 bytes)
+
+digits_fit : (id : ObjectName) → length (hex_of id) ≤ digits_of id.format
+digits_fit id = digits_of_bytes id.format id.bytes
+
+digits_fit_in : (id : Option ObjectName) → length (digits_shown id) ≤ option_map_or (λ (o : ObjectName). digits_of o.format) id 0
+digits_fit_in None = omega arith
+digits_fit_in (Some id) = digits_fit id
+
+text_length : (text : Option (List ℕ)) → length (text_shown text) ≡ option_map_or length text 0
+text_length None = refl
+text_length (Some text) = refl
+
+shown_length : (p : Parts) → length (bytes_shown p) ≡ length (digits_shown p.id) + length p.name + length (text_shown p.text) + length (digits_shown p.peeled)
+shown_length p =
+    let id = digits_shown p.id in
+    let text = text_shown p.text in
+    omega (
+      arith,
+      length-append (id ++ p.name ++ text) (digits_shown p.peeled),
+      length-append (id ++ p.name) text,
+      length-append id p.name,
+    )
+
+-- bytes of a band have a part of one byte each
+each_one : (event : ℕ → EventValue) (bytes : List ℕ) → ((byte : ℕ) → parts_length (event byte) ≡ 1) → all_parts_length (map event bytes) ≡ length bytes
+each_one event [] one = refl
+each_one event (byte ∷ bytes) one =
+    let more : all_parts_length (map event (byte ∷ bytes)) ≡ parts_length (event byte) + all_parts_length (map event bytes) =
+    sum_by-cons parts_length (event byte) (map event bytes) in
+    omega (arith, more, one byte, each_one event bytes one)
+
+-- they are no longer than the parts of the event
+pub shown_fits : (event : Event) → length (bytes_shown (parts_of event)) ≤ all_parts_length (values_of event)
+shown_fits (Event.Capability c) = omega (arith, shown_length (parts_of (Event.Capability c)), text_length (option_copied c.value))
+shown_fits (Event.Reference id name target peeled) = omega (
+  arith,
+  shown_length (parts_of (Event.Reference id name target peeled)),
+  digits_fit id.now,
+  text_length (option_copied target),
+  digits_fit_in (option_copied peeled),
+)
+shown_fits (Event.Ack id) = omega (arith, shown_length (parts_of (Event.Ack id)), digits_fit id.now)
+shown_fits (Event.Shallow id) = omega (arith, shown_length (parts_of (Event.Shallow id)), digits_fit id.now)
+shown_fits (Event.Unshallow id) = omega (arith, shown_length (parts_of (Event.Unshallow id)), digits_fit id.now)
+shown_fits (Event.WantedRef id name) = omega (arith, shown_length (parts_of (Event.WantedRef id name)), digits_fit id.now)
+shown_fits (Event.Info id size) = omega (arith, shown_length (parts_of (Event.Info id size)), digits_fit id.now)
+shown_fits (Event.Pack bytes) = omega (arith, shown_length (parts_of (Event.Pack bytes)), each_one pack bytes.now (λ byte. refl))
+shown_fits (Event.Progress bytes) = omega (arith, shown_length (parts_of (Event.Progress bytes)), each_one progress bytes.now (λ byte. refl))
+shown_fits Event.Offered = omega arith
+shown_fits Event.Nak = omega arith
+shown_fits Event.Ready = omega arith
+shown_fits Event.Ended = omega arith

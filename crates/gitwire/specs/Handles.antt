@@ -1,0 +1,40 @@
+-- What the handles have.
+use Rattle.std.specs.Prelude.{Option}
+use Rattle.std.specs.Global.{Global}
+use Rattle.git_pkt.specs.declared.reader.PacketReader.{PacketReader}
+use Rattle.git_msg.specs.declared.requests.Request.{Request}
+use Rattle.git_msg.specs.declared.streams.RequestStream.{RequestStream}
+use Rattle.git_server.specs.declared.server.Server.{Server}
+use Rattle.git_server.specs.declared.shared_repo.SharedRepo.{SharedRepo}
+use Rattle.git_client.specs.declared.client.Client.{Client}
+use Rattle.gitwire.specs.Machines.{machine_as, packet_reader_of, request_reader_of, request_of, repository_of, server_of, client_of}
+use Rattle.gitwire.specs.declared.handles.GitwirePacketReader.{GitwirePacketReader}
+use Rattle.gitwire.specs.declared.handles.GitwireRequestReader.{GitwireRequestReader}
+use Rattle.gitwire.specs.declared.handles.GitwireRequest.{GitwireRequest}
+use Rattle.gitwire.specs.declared.handles.GitwireRepository.{GitwireRepository}
+use Rattle.gitwire.specs.declared.handles.GitwireServer.{GitwireServer}
+use Rattle.gitwire.specs.declared.handles.GitwireClient.{GitwireClient}
+
+-- the packet reader of a handle
+abbrev pub packet_reader_in : GitwirePacketReader → Option PacketReader
+packet_reader_in handle = machine_as packet_reader_of handle.handle.held.machine
+
+-- the request reader of a handle
+abbrev pub request_reader_in : GitwireRequestReader → Option (RequestStream Global)
+request_reader_in handle = machine_as request_reader_of handle.handle.held.machine
+
+-- the request of a handle
+abbrev pub request_in : GitwireRequest → Option (Request Global)
+request_in handle = machine_as request_of handle.handle.held.machine
+
+-- the repository of a handle
+abbrev pub repository_in : GitwireRepository → Option SharedRepo
+repository_in handle = machine_as repository_of handle.handle.held.machine
+
+-- the server of a handle
+abbrev pub server_in : GitwireServer → Option (Server SharedRepo Global)
+server_in handle = machine_as server_of handle.handle.held.machine
+
+-- the client of a handle
+abbrev pub client_in : GitwireClient → Option (Client Global)
+client_in handle = machine_as client_of handle.handle.held.machine

@@ -1,0 +1,16 @@
+pub mod ClientTold
+pub mod EventsTold
+pub mod FaultsTold
+pub mod Handles
+pub mod Held
+pub mod Machines
+pub mod Numbers
+pub mod Offers
+pub mod PacketsTold
+pub mod RepositoryTold
+pub mod RequestReaderTold
+pub mod RequestsTold
+pub mod Rooms
+pub mod ServerTold
+pub mod Told
+pub mod WrittenForC

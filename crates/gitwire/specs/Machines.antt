@@ -1,0 +1,51 @@
+-- What a machine is.
+use Rattle.std.specs.Prelude.{Option, Some, None, Bool, true, is_some}
+use Rattle.std.specs.Global.{Global}
+use Rattle.git_pkt.specs.declared.reader.PacketReader.{PacketReader}
+use Rattle.git_msg.specs.declared.requests.Request.{Request}
+use Rattle.git_msg.specs.declared.streams.RequestStream.{RequestStream}
+use Rattle.git_server.specs.declared.server.Server.{Server}
+use Rattle.git_server.specs.declared.shared_repo.SharedRepo.{SharedRepo}
+use Rattle.git_client.specs.declared.client.Client.{Client}
+use Rattle.gitwire.specs.declared.machine.Machine.{Machine}
+
+-- the packet reader that a machine is
+abbrev pub packet_reader_of : Machine → Option PacketReader
+packet_reader_of (Machine.PacketReader packet_reader) = Some packet_reader.value
+packet_reader_of other = None
+
+-- the request reader that a machine is
+abbrev pub request_reader_of : Machine → Option (RequestStream Global)
+request_reader_of (Machine.RequestReader request_reader) = Some request_reader.value
+request_reader_of other = None
+
+-- the request that a machine is
+abbrev pub request_of : Machine → Option (Request Global)
+request_of (Machine.Request request) = Some request
+request_of other = None
+
+-- the repository that a machine is
+abbrev pub repository_of : Machine → Option SharedRepo
+repository_of (Machine.Repository repository) = Some repository
+repository_of other = None
+
+-- the server that a machine is
+abbrev pub server_of : Machine → Option (Server SharedRepo Global)
+server_of (Machine.Server server) = Some server.value
+server_of other = None
+
+-- the client that a machine is
+abbrev pub client_of : Machine → Option (Client Global)
+client_of (Machine.Client client) = Some client.value
+client_of other = None
+
+module _ {X : Type 0} where
+  -- what a handle has, read as one kind of machine
+  abbrev pub machine_as : (Machine → Option X) → Option Machine → Option X
+  machine_as read None = None
+  machine_as read (Some machine) = read machine
+
+  -- a handle has this kind of machine or none
+  abbrev pub is_none_or : (Machine → Option X) → Option Machine → Bool
+  is_none_or read None = true
+  is_none_or read (Some machine) = is_some (read machine)

@@ -1,0 +1,83 @@
+-- What C is told of a packet reader's calls.
+use Rattle.std.specs.Prelude.{◌≡◌, ℕ, ◌+◌, ◌≤◌, ◌<◌, true, false, List, [], length, Option, Some, None}
+use Rattle.git_pkt.specs.Packets.{longest_payload}
+use Rattle.git_pkt.specs.PacketReader.{Feeds, Reads, ReadsOn, fault_of, is_open, open_length, position_of}
+use Rattle.git_pkt.specs.declared.fault.Fault.{Fault}
+use Rattle.git_pkt.specs.declared.fault.Kind.TheVariants.{Truncated}
+use Rattle.git_pkt.specs.declared.packet.Packet.TheVariants.{Flush, Delim, RespEnd, Payload}
+use Rattle.git_pkt.specs.declared.reader.Fed.{Fed}
+use Rattle.git_pkt.specs.declared.reader.Got.{Got}
+use Rattle.git_pkt.specs.declared.reader.Got.TheVariants.{More, Packet, Failed}
+use Rattle.git_pkt.specs.declared.reader.PacketReader.{PacketReader}
+use Rattle.gitwire.specs.Rooms.{put_before}
+use Rattle.gitwire.specs.Told.{telling, telling_fault, telling_packet, telling_used, what_number}
+use Rattle.gitwire.specs.declared.told.GitwireTold.{GitwireTold}
+use Rattle.gitwire.specs.declared.told.What.TheVariants as What
+
+-- a reader of a stream of which nothing has come, or none where memory ran out
+abbrev pub Begins : ℕ → Option PacketReader → Type 0
+Begins told None = told ≡ what_number What.OutOfMemory
+Begins told (Some reader) = (told ≡ what_number What.Done) × Reads reader 0 [] [] [] × (fault_of reader ≡ None)
+
+-- what C is told of an answer
+abbrev pub told_of : ℕ → Got → GitwireTold
+told_of used More = telling_used used What.More
+told_of used (Packet Flush offset) = telling_packet used offset 0 What.Flush
+told_of used (Packet Delim offset) = telling_packet used offset 0 What.Delim
+told_of used (Packet RespEnd offset) = telling_packet used offset 0 What.ResponseEnd
+told_of used (Packet (Payload bytes) offset) = telling_packet used offset (length bytes.now) What.Payload
+told_of used (Failed fault) = telling_fault used fault
+
+-- the room: a payload stands at its front
+abbrev pub filled_by : Got → List ℕ → List ℕ
+filled_by More room = room
+filled_by (Packet Flush offset) room = room
+filled_by (Packet Delim offset) room = room
+filled_by (Packet RespEnd offset) room = room
+filled_by (Packet (Payload bytes) offset) room = put_before bytes.now room
+filled_by (Failed fault) room = room
+
+-- the reader reads on, and C is told what came
+pub record FeedsTold (old : PacketReader) (piece room : List ℕ) (told : GitwireTold) (filled : List ℕ) (new : PacketReader) : Type 0 where
+  pub fed : Fed
+  pub feeds : Feeds old piece fed new
+  pub told_is : told ≡ told_of fed.used fed.got
+  pub room_is : filled ≡ filled_by fed.got room
+
+-- nothing happens where the room is too small for the longest payload
+pub record FeedsInRoom (old : PacketReader) (piece room : List ℕ) (told : GitwireTold) (filled : List ℕ) (new : PacketReader) : Type 0 where
+  pub small : length room < longest_payload → (told ≡ telling What.RoomTooSmall) × (filled ≡ room) × (new ≡ old)
+  pub large : longest_payload ≤ length room → FeedsTold old piece room told filled new
+
+-- a handle that is fed
+abbrev pub FeedsIn : Option PacketReader → List ℕ → List ℕ → GitwireTold → List ℕ → Option PacketReader → Type 0
+FeedsIn None piece room told filled new = (told ≡ telling What.NoHandle) × (filled ≡ room) × (new ≡ None)
+FeedsIn (Some old) piece room told filled new = (reader : PacketReader) × (new ≡ Some reader) × FeedsInRoom old piece room told filled reader
+
+-- a fault at the end: the one that the reader had, or that a packet is cut off
+pub record FailsAtEnd (old : PacketReader) (fault : Fault) (new : PacketReader) : Type 0 where
+  pub stays : fault_of new ≡ Some fault
+  pub repeats : (earlier : Fault) → fault_of old ≡ Some earlier → (fault ≡ earlier) × (new ≡ old)
+  pub truncated : fault_of old ≡ None → (is_open old ≡ true) × (fault.kind ≡ Truncated) × (fault.offset + open_length old ≡ position_of old)
+
+-- how a stream ends: well, between packets, or with a fault
+abbrev pub Ends : PacketReader → Option Fault → PacketReader → Type 0
+Ends old None new = (new ≡ old) × (fault_of old ≡ None) × (is_open old ≡ false)
+Ends old (Some fault) new = FailsAtEnd old fault new
+
+-- what C is told of the end
+abbrev pub told_of_end : Option Fault → GitwireTold
+told_of_end None = telling What.Done
+told_of_end (Some fault) = telling_fault 0 fault
+
+-- the stream ends, and C is told how
+pub record ClosesTold (old : PacketReader) (told : GitwireTold) (new : PacketReader) : Type 0 where
+  pub fault : Option Fault
+  pub ends : Ends old fault new
+  pub carries : ReadsOn old [] [] new
+  pub told_is : told ≡ told_of_end fault
+
+-- a handle that is closed
+abbrev pub ClosesIn : Option PacketReader → GitwireTold → Option PacketReader → Type 0
+ClosesIn None told new = (told ≡ telling What.NoHandle) × (new ≡ None)
+ClosesIn (Some old) told new = (reader : PacketReader) × (new ≡ Some reader) × ClosesTold old told reader

@@ -1,0 +1,101 @@
+-- What C is told of a request reader's calls.
+use Rattle.std.specs.Prelude.{◌≡◌, ◌⊎◌, ℕ, ◌<◌, ◌≤◌, true, false, List, [], length, Option, Some, None, Result, Ok, Err}
+use Rattle.std.specs.Global.{Global}
+use Rattle.git_names.specs.declared.object_format.Format.TheVariants as Format
+use Rattle.git_pkt.specs.declared.fault.Fault.{Fault}
+use Rattle.git_msg.specs.Arguments.{most_limit}
+use Rattle.git_msg.specs.HeldRequest.{IsEmpty}
+use Rattle.git_msg.specs.RequestStreams.{Closes, Feeds, HasRead, limit_of, offer_of, wants_input}
+use Rattle.git_msg.specs.declared.arguments.Command.TheVariants as Command
+use Rattle.git_msg.specs.declared.requests.Request.{Request}
+use Rattle.git_msg.specs.declared.streams.ReadGot.{ReadGot}
+use Rattle.git_msg.specs.declared.streams.ReadGot.TheVariants.{More, Request as RequestGot, Stop, Failed}
+use Rattle.git_msg.specs.declared.streams.ReadRequest.{ReadRequest}
+use Rattle.git_msg.specs.declared.streams.RequestStream.{RequestStream}
+use Rattle.gitwire.specs.Offers.{offer_meant}
+use Rattle.gitwire.specs.RequestsTold.{HasOrNone}
+use Rattle.gitwire.specs.Told.{telling, telling_fault, telling_used, what_number}
+use Rattle.gitwire.specs.declared.offer.GitwireOffer.{GitwireOffer}
+use Rattle.gitwire.specs.declared.told.GitwireTold.{GitwireTold}
+use Rattle.gitwire.specs.declared.told.What.TheVariants as What
+
+-- the offer has no format, or the limit is more than one may be
+abbrev pub MeanNoReader : GitwireOffer → ℕ → Type 0
+MeanNoReader offer limit = (offer_meant offer ≡ None) ⊎ (most_limit < limit)
+
+-- the reader is one before the first byte, of the offer and the limit that are meant
+pub record MeanReader (offer : GitwireOffer) (limit : ℕ) (reader : RequestStream Global) : Type 0 where
+  pub offer_is : offer_meant offer ≡ Some (offer_of reader)
+  pub in_range : limit ≤ most_limit
+  pub limit_is : limit_of reader ≡ limit
+  pub reads : HasRead [] [] reader
+  pub waits : wants_input reader ≡ true
+
+-- a reader is made, or nothing changes
+abbrev pub MakesReader : GitwireOffer → ℕ → Option (RequestStream Global) → ℕ → Option (RequestStream Global) → Type 0
+MakesReader offer limit old told new =
+    (MeanNoReader offer limit × (told ≡ what_number What.BadValue) × (new ≡ old))
+    ⊎ ((reader : RequestStream Global) × MeanReader offer limit reader × HasOrNone told reader new)
+
+-- what C is told of an answer
+abbrev pub telling_read : ℕ → ReadGot Global → GitwireTold
+telling_read used More = telling_used used What.More
+telling_read used (RequestGot request) = telling_used used What.Request
+telling_read used Stop = telling_used used What.Stop
+telling_read used (Failed fault) = telling_fault used fault
+
+-- the request of a handle after an answer: a new one takes the place of the old one
+abbrev pub request_after : ReadGot Global → Request Global → Request Global
+request_after More held = held
+request_after (RequestGot request) held = request
+request_after Stop held = held
+request_after (Failed fault) held = held
+
+-- the reader reads on, and C is told what came
+pub record FeedsTold (old : RequestStream Global) (piece : List ℕ) (held : Request Global) (told : GitwireTold)
+    (new : RequestStream Global) (kept : Request Global) : Type 0 where
+  pub read : ReadRequest Global
+  pub within : read.used ≤ length piece
+  pub feeds : Feeds old piece read new
+  pub told_is : told ≡ telling_read read.used read.got
+  pub request : kept ≡ request_after read.got held
+
+-- what a handle for requests has when a reader is fed: its own, or an empty one where it has none
+abbrev pub Holds : Option (Request Global) → Request Global → Type 0
+Holds None held = IsEmpty Command.LsRefs Format.Sha1 0 held
+Holds (Some request) held = held ≡ request
+
+-- a reader and a handle for its requests; where there is no memory for that one's first request, nothing is read
+abbrev pub FeedsHandle : RequestStream Global → List ℕ → Option (Request Global) → GitwireTold
+    → Option (RequestStream Global) → Option (Request Global) → Type 0
+FeedsHandle old piece request told new kept =
+    ((request ≡ None) × (told ≡ telling What.OutOfMemory) × (new ≡ Some old) × (kept ≡ None))
+    ⊎ ((held : Request Global) × Holds request held × (reader : RequestStream Global) × (new ≡ Some reader)
+    × (next : Request Global) × (kept ≡ Some next) × FeedsTold old piece held told reader next)
+
+-- a handle that is fed
+abbrev pub FeedsIn : Option (RequestStream Global) → List ℕ → Option (Request Global) → GitwireTold
+    → Option (RequestStream Global) → Option (Request Global) → Type 0
+FeedsIn None piece request told new kept = (told ≡ telling What.NoHandle) × (new ≡ None) × (kept ≡ request)
+FeedsIn (Some old) piece request told new kept = FeedsHandle old piece request told new kept
+
+-- done, or refused at an offset
+abbrev pub telling_end : Result (Unit {0}) Fault → GitwireTold
+telling_end (Ok done) = telling What.Done
+telling_end (Err fault) = telling_fault 0 fault
+
+-- the input ends, and C is told how
+pub record TellsClose (old : RequestStream Global) (told : GitwireTold) (new : RequestStream Global) : Type 0 where
+  pub ended : Result (Unit {0}) Fault
+  pub closes : Closes ended old new
+  pub told_is : told ≡ telling_end ended
+
+-- the input may end only where more could come
+pub record ClosesTold (old : RequestStream Global) (told : GitwireTold) (new : RequestStream Global) : Type 0 where
+  pub now : wants_input old ≡ true → TellsClose old told new
+  pub not_now : wants_input old ≡ false → (told ≡ telling What.NotNow) × (new ≡ old)
+
+-- a handle that is closed
+abbrev pub ClosesIn : Option (RequestStream Global) → GitwireTold → Option (RequestStream Global) → Type 0
+ClosesIn None told new = (told ≡ telling What.NoHandle) × (new ≡ None)
+ClosesIn (Some old) told new = (reader : RequestStream Global) × (new ≡ Some reader) × ClosesTold old told reader

@@ -1,0 +1,104 @@
+-- What C is told of a server's calls.
+use Rattle.std.specs.Prelude.{◌≡◌, ◌⊎◌, ℕ, ◌≤◌, ◌<◌, Bool, true, false, List, [], length, take, Option, Some, None, IsSome}
+use Rattle.std.specs.Global.{Global}
+use Rattle.git_names.specs.declared.object_format.Format.{Format}
+use Rattle.git_msg.specs.Arguments.{most_limit}
+use Rattle.git_msg.specs.declared.offers.Offer.{Offer}
+use Rattle.git_server.specs.Server.{Running, outcome_of, repo_of, wants_input}
+use Rattle.git_server.specs.ServerCalls.{Closes, Goes, Pulls, StopsInTime}
+use Rattle.git_server.specs.SharedRepo.{shared_by, shared_state}
+use Rattle.git_server.specs.declared.outcome.Outcome.TheVariants.{Flush, Closed, Refused}
+use Rattle.git_server.specs.declared.server.Pulled.{Pulled}
+use Rattle.git_server.specs.declared.server.Pulled.TheVariants.{Packet, NeedInput, Finished}
+use Rattle.git_server.specs.declared.server.Server.{Server}
+use Rattle.git_server.specs.declared.shared_repo.SharedRepo.{SharedRepo}
+use Rattle.gitwire.specs.Rooms.{put_before}
+use Rattle.gitwire.specs.Told.{telling, telling_fault, telling_packet, telling_used, what_number}
+use Rattle.gitwire.specs.declared.told.GitwireTold.{GitwireTold}
+use Rattle.gitwire.specs.declared.told.What.TheVariants as What
+
+-- all that the protocol has, for object names of this format
+abbrev pub whole_offer : Format → Offer
+whole_offer format = record { format = format; shallow = true; ref_in_want = true; object_info = true; server_option = true }
+
+-- a server at the beginning of its session over the repository, which offers all
+pub record Starts (repository : SharedRepo) (limit : ℕ) (advertise : Bool) (server : Server SharedRepo Global) : Type 0 where
+  pub running : Running shared_state
+      (record {
+        offer = whole_offer (shared_state repository).answers.format;
+        limit = limit;
+        advertise = advertise;
+        repo = (shared_state repository).answers;
+        failures = (shared_state repository).failures;
+      }) [] false [] server
+  pub shares : shared_by (repo_of server) ≡ shared_by repository
+
+-- such a server, where the limit may be; or none, also where memory ran out
+abbrev pub Begins : SharedRepo → ℕ → Bool → ℕ → Option (Server SharedRepo Global) → Type 0
+Begins repository limit advertise told None =
+    ((told ≡ what_number What.BadValue) × (most_limit < limit)) ⊎ ((told ≡ what_number What.OutOfMemory) × (limit ≤ most_limit))
+Begins repository limit advertise told (Some server) = (told ≡ what_number What.Done) × (limit ≤ most_limit) × Starts repository limit advertise server
+
+-- a server over the repository of a handle
+abbrev pub BeginsOver : Option SharedRepo → ℕ → Bool → ℕ → Option (Server SharedRepo Global) → Type 0
+BeginsOver None limit advertise told server = (told ≡ what_number What.NoHandle) × (server ≡ None)
+BeginsOver (Some repository) limit advertise told server = Begins repository limit advertise told server
+
+-- the server uses bytes of the piece, and C is told how many
+pub record FeedsTold (old : Server SharedRepo Global) (piece : List ℕ) (told : GitwireTold) (new : Server SharedRepo Global) : Type 0 where
+  pub used : ℕ
+  pub told_is : told ≡ telling_used used What.More
+  pub within : used ≤ length piece
+  pub goes : Goes shared_state (take used piece) [] old new
+  pub whole : wants_input new ≡ true → used ≡ length piece
+  pub moves : wants_input old ≡ true → 0 < length piece → (0 < used) ⊎ IsSome (outcome_of new)
+  pub in_time : StopsInTime shared_state old used piece (outcome_of new)
+  pub stays : wants_input old ≡ false → (used ≡ 0) × (new ≡ old)
+  pub nothing : length piece ≡ 0 → (used ≡ 0) × (new ≡ old)
+
+-- a handle that is fed
+abbrev pub FeedsIn : Option (Server SharedRepo Global) → List ℕ → GitwireTold → Option (Server SharedRepo Global) → Type 0
+FeedsIn None piece told new = (told ≡ telling What.NoHandle) × (new ≡ None)
+FeedsIn (Some old) piece told new = (server : Server SharedRepo Global) × (new ≡ Some server) × FeedsTold old piece told server
+
+-- the input ends where the server waits for it
+pub record ClosesTold (old : Server SharedRepo Global) (told : ℕ) (new : Server SharedRepo Global) : Type 0 where
+  pub due : wants_input old ≡ true → (told ≡ what_number What.Done) × Closes shared_state old new × IsSome (outcome_of new)
+  pub not_now : wants_input old ≡ false → (told ≡ what_number What.NotNow) × (new ≡ old)
+
+-- a handle that is closed
+abbrev pub ClosesIn : Option (Server SharedRepo Global) → ℕ → Option (Server SharedRepo Global) → Type 0
+ClosesIn None told new = (told ≡ what_number What.NoHandle) × (new ≡ None)
+ClosesIn (Some old) told new = (server : Server SharedRepo Global) × (new ≡ Some server) × ClosesTold old told server
+
+-- what C is told of what is pulled
+abbrev pub told_of : Pulled → GitwireTold
+told_of (Packet bytes) = telling_packet 0 0 (length bytes.now) What.Packet
+told_of NeedInput = telling What.NeedInput
+told_of (Finished Flush) = telling What.EndedByFlush
+told_of (Finished Closed) = telling What.EndedByClose
+told_of (Finished (Refused fault)) = telling_fault 0 fault
+
+-- the room: a packet stands at its front
+abbrev pub filled_by : Pulled → List ℕ → List ℕ
+filled_by (Packet bytes) room = put_before bytes.now room
+filled_by NeedInput room = room
+filled_by (Finished outcome) room = room
+
+-- the server gives a packet or says what to do in its place, and C is told so
+pub record PullsTold (old : Server SharedRepo Global) (room : List ℕ) (told : GitwireTold) (filled : List ℕ) (new : Server SharedRepo Global) : Type 0 where
+  pub pulled : Pulled
+  pub pulls : Pulls shared_state old pulled new
+  pub told_is : told ≡ told_of pulled
+  pub room_is : filled ≡ filled_by pulled room
+
+-- nothing happens where the room is too small for the longest packet
+pub record PullsInRoom (old : Server SharedRepo Global) (room : List ℕ) (told : GitwireTold) (filled : List ℕ) (new : Server SharedRepo Global) : Type 0 where
+  pub small : length room < 65520 → (told ≡ telling What.RoomTooSmall) × (filled ≡ room) × (new ≡ old)
+  pub large : 65520 ≤ length room → PullsTold old room told filled new
+
+-- a handle from which is pulled
+abbrev pub PullsIn : Option (Server SharedRepo Global) → List ℕ → GitwireTold → List ℕ → Option (Server SharedRepo Global) → Type 0
+PullsIn None room told filled new = (told ≡ telling What.NoHandle) × (filled ≡ room) × (new ≡ None)
+PullsIn (Some old) room told filled new =
+    (server : Server SharedRepo Global) × (new ≡ Some server) × PullsInRoom old room told filled server

@@ -1,0 +1,359 @@
+//! A client that C holds.
+
+ghost use Rattle.std.specs.Prelude.{◌≡◌, None, MatchResult, slice_get};
+ghost use Rattle.gitwire.specs.ClientTold.{AsksIn, BeginsBy, CapsIn, CapsTold, ClosesIn, ClosesTold, FeedsIn, FeedsInRoom};
+ghost use Rattle.gitwire.specs.ClientTold.{LeavesIn, LeavesRequest, LeavesTold, MessageIn, MessageTold, PullsIn, PullsInRoom, TakesRequest, endings};
+ghost use Rattle.gitwire.specs.Handles.{client_in, request_in};
+ghost use Rattle.gitwire.specs.Numbers.{formats};
+
+use crate::event::{EventParts, GitwireEvent};
+use crate::handles::{GitwireClient, GitwireRequest};
+use crate::machine::Machine;
+use crate::numbers::format_numbered;
+use crate::told::{GitwireTold, What};
+use git_client::{Client, Ending, HeardGot, Sent};
+use git_msg::{Command, Limits, Request};
+use git_names::Format;
+use git_pkt::LONGEST_PACKET;
+use std::alloc::Global;
+use std::mem::replace;
+
+/// How many bytes the parts of an event have at the most: those of the longest payload.
+const LONGEST_PARTS: usize = 65_516;
+
+/// What was noted of an advertisement.
+#[repr(C)]
+#[derive(Clone, Copy, Debug)]
+pub struct GitwireCaps {
+    /// The key `agent`.
+    pub agent: bool,
+    /// The command `ls-refs`.
+    pub ls_refs: bool,
+    /// The command `fetch`.
+    pub fetch: bool,
+    /// The word `shallow` in a value of `fetch`.
+    pub shallow: bool,
+    /// The word `ref-in-want` in a value of `fetch`.
+    pub ref_in_want: bool,
+    /// The key `server-option`.
+    pub server_option: bool,
+    /// The command `object-info`.
+    pub object_info: bool,
+    /// The key `object-format`, with any value or none.
+    pub object_format: bool,
+    /// The line `object-format=sha1`.
+    pub sha1: bool,
+    /// The line `object-format=sha256`.
+    pub sha256: bool,
+}
+
+/// Makes the handle's client a new one, before the first byte of the advertisement. What it had before is freed. `Done`; or
+/// `BadValue`, for a number that stands for no format or no ending, or `OutOfMemory`, and the handle has none.
+#[unsafe(no_mangle)]
+pub extern "C" fn gitwire_client_new(
+    alloc: Global,
+    client: &mut GitwireClient,
+    format: u8,
+    ending: u8,
+) -> u8
+    ensures { BeginsBy (slice_get formats format) (slice_get endings ending) result (client_in client.new) }
+{
+    *client = GitwireClient::none(alloc);
+    let Some(format) = format_numbered(format) else {
+        return What::BadValue.number();
+    };
+    let Some(ending) = ending_numbered(ending) else {
+        return What::BadValue.number();
+    };
+    let Ok(made) = Box::new(alloc, Client::new(format, ending)) else {
+        return What::OutOfMemory.number();
+    };
+    let Ok(made) = Box::new(alloc, Machine::Client(made)) else {
+        return What::OutOfMemory.number();
+    };
+    *client = GitwireClient::of(made);
+    What::Done.number()
+}
+
+/// The ending of this number.
+fn ending_numbered(number: u8) -> Option<Ending>
+    ensures { result ≡ slice_get endings number }
+{
+    match number {
+        0 => Some(Ending::FlushOnly),
+        1 => Some(Ending::ResponseEnd),
+        _ => None,
+    }
+}
+
+/// Reads on, to the next event, and writes its texts to the front of the room. `More`, `Failed` or the event: `Capability` to
+/// `Ended`; `NoHandle`; and `RoomTooSmall` where the room has less than 65,516 bytes.
+#[unsafe(no_mangle)]
+pub extern "C" fn gitwire_client_feed(
+    alloc: Global,
+    client: &mut GitwireClient,
+    piece: &[u8],
+    room: &mut [u8],
+) -> GitwireEvent
+    ensures { FeedsIn (client_in client.old) piece.now room.old result room.new (client_in client.new) }
+{
+    let taken = replace(client, GitwireClient::none(alloc));
+    let Some(mut machine) = taken.into_machine() else {
+        return GitwireEvent::none(0, What::NoHandle);
+    };
+    let Machine::Client(inner) = &mut *machine else {
+        unreachable!()
+    };
+    let told = feed(inner, piece, room);
+    *client = GitwireClient::of(machine);
+    told
+}
+
+fn feed(client: &mut Client<Global>, piece: &[u8], room: &mut [u8]) -> GitwireEvent
+    ensures { FeedsInRoom client.old piece.now room.old result room.new client.new }
+{
+    if room.len() < LONGEST_PARTS {
+        return GitwireEvent::none(0, What::RoomTooSmall);
+    }
+    let heard = client.feed(piece);
+    match heard.got {
+        HeardGot::More => GitwireEvent::none(heard.used, What::More),
+        HeardGot::Event(event) => EventParts::of(event).show(heard.used, room),
+        HeardGot::Failed(fault) => GitwireEvent::of_fault(heard.used, fault),
+    }
+}
+
+/// What is to be done next: `Packet`, and the packet to be sent is at the front of the room, `NeedInput`, `CanAsk`, `Finished` or
+/// `Failed`; `NoHandle`; and `RoomTooSmall` where the room has less than 65,520 bytes.
+#[unsafe(no_mangle)]
+pub extern "C" fn gitwire_client_pull(
+    alloc: Global,
+    client: &mut GitwireClient,
+    room: &mut [u8],
+) -> GitwireTold
+    ensures { PullsIn (client_in client.old) room.old result room.new (client_in client.new) }
+{
+    let taken = replace(client, GitwireClient::none(alloc));
+    let Some(mut machine) = taken.into_machine() else {
+        return GitwireTold::of(What::NoHandle);
+    };
+    let Machine::Client(inner) = &mut *machine else {
+        unreachable!()
+    };
+    let told = pull(inner, room);
+    *client = GitwireClient::of(machine);
+    told
+}
+
+fn pull(client: &mut Client<Global>, room: &mut [u8]) -> GitwireTold
+    ensures { PullsInRoom client.old room.old result room.new client.new }
+{
+    if room.len() < LONGEST_PACKET {
+        return GitwireTold::of(What::RoomTooSmall);
+    }
+    match client.pull() {
+        Sent::Packet(bytes) => {
+            room[..bytes.len()].copy_from_slice(bytes);
+            GitwireTold::of_packet(0, 0, bytes.len(), What::Packet)
+        }
+        Sent::NeedInput => GitwireTold::of(What::NeedInput),
+        Sent::CanAsk => GitwireTold::of(What::CanAsk),
+        Sent::Finished => GitwireTold::of(What::Finished),
+        Sent::Failed(fault) => GitwireTold::of_fault(0, fault),
+    }
+}
+
+/// Asks for what the handle of a request has. `Done`, and that handle has none; or `NotNow`, where the client cannot ask, or
+/// `Failed`, and the request stays there; or `NoHandle`, where one of the two has nothing.
+#[unsafe(no_mangle)]
+pub extern "C" fn gitwire_client_ask(
+    alloc: Global,
+    client: &mut GitwireClient,
+    request: &mut GitwireRequest,
+) -> GitwireTold
+    ensures { AsksIn (client_in client.old) (request_in request.old) result (client_in client.new) (request_in request.new) }
+{
+    let taken = replace(client, GitwireClient::none(alloc));
+    let Some(mut machine) = taken.into_machine() else {
+        return GitwireTold::of(What::NoHandle);
+    };
+    let taken_request = replace(request, GitwireRequest::none(alloc));
+    let Some(mut asked) = taken_request.into_machine() else {
+        *client = GitwireClient::of(machine);
+        return GitwireTold::of(What::NoHandle);
+    };
+    let Machine::Client(inner) = &mut *machine else {
+        unreachable!()
+    };
+    let Machine::Request(held) = &mut *asked else {
+        unreachable!()
+    };
+    let answer = ask(alloc, inner, held);
+    *client = GitwireClient::of(machine);
+    match answer {
+        Ok(()) => GitwireTold::of(What::Done),
+        Err(told) => {
+            *request = GitwireRequest::of(asked);
+            told
+        }
+    }
+}
+
+/// Asks for what the handle of a request has. Where the client takes it, an empty request stands in its place.
+fn ask(
+    alloc: Global,
+    client: &mut Client<Global>,
+    held: &mut Request<Global>,
+) -> Result<(), GitwireTold>
+    ensures { MatchResult result (λ _. TakesRequest client.old held.old client.new)
+        (λ told. LeavesRequest client.old held.old told client.new held.new) }
+{
+    if !client.can_ask() {
+        return Err(GitwireTold::of(What::NotNow));
+    }
+    let empty = Request::new(alloc, Command::LsRefs, Format::Sha1, Limits { args: 0 });
+    let request = replace(held, empty);
+    match client.ask(request) {
+        Ok(()) => Ok(()),
+        Err((request, fault)) => {
+            *held = request;
+            Err(GitwireTold::of_fault(0, fault))
+        }
+    }
+}
+
+/// Leaves: the flush that ends the conversation is to be pulled. `Done`, `NotNow` where the client cannot ask, or `NoHandle`.
+#[unsafe(no_mangle)]
+pub extern "C" fn gitwire_client_leave(alloc: Global, client: &mut GitwireClient) -> u8
+    ensures { LeavesIn (client_in client.old) result (client_in client.new) }
+{
+    let taken = replace(client, GitwireClient::none(alloc));
+    let Some(mut machine) = taken.into_machine() else {
+        return What::NoHandle.number();
+    };
+    let Machine::Client(inner) = &mut *machine else {
+        unreachable!()
+    };
+    let told = leave(inner);
+    *client = GitwireClient::of(machine);
+    told
+}
+
+fn leave(client: &mut Client<Global>) -> u8
+    ensures { LeavesTold client.old result client.new }
+{
+    if !client.can_ask() {
+        return What::NotNow.number();
+    }
+    client.leave();
+    What::Done.number()
+}
+
+/// Tells that the input ends here. `Failed`, where more was due; `NotNow` where the client does not wait for input: then all is
+/// well, or the conversation has failed already; or `NoHandle`.
+#[unsafe(no_mangle)]
+pub extern "C" fn gitwire_client_close(alloc: Global, client: &mut GitwireClient) -> GitwireTold
+    ensures { ClosesIn (client_in client.old) result (client_in client.new) }
+{
+    let taken = replace(client, GitwireClient::none(alloc));
+    let Some(mut machine) = taken.into_machine() else {
+        return GitwireTold::of(What::NoHandle);
+    };
+    let Machine::Client(inner) = &mut *machine else {
+        unreachable!()
+    };
+    let told = close(inner);
+    *client = GitwireClient::of(machine);
+    told
+}
+
+fn close(client: &mut Client<Global>) -> GitwireTold
+    ensures { ClosesTold client.old result client.new }
+{
+    if !client.wants_input() {
+        return GitwireTold::of(What::NotNow);
+    }
+    GitwireTold::of_fault(0, client.close())
+}
+
+/// Writes what the server said of the fault that ended the conversation to the front of the room. `Done`, `Nothing` where it said
+/// nothing, `RoomTooSmall` or `NoHandle`.
+#[unsafe(no_mangle)]
+pub extern "C" fn gitwire_client_message(
+    alloc: Global,
+    client: &mut GitwireClient,
+    room: &mut [u8],
+) -> GitwireTold
+    ensures { MessageIn (client_in client.old) room.old result room.new (client_in client.new) }
+{
+    let taken = replace(client, GitwireClient::none(alloc));
+    let Some(machine) = taken.into_machine() else {
+        return GitwireTold::of(What::NoHandle);
+    };
+    let Machine::Client(inner) = &*machine else {
+        unreachable!()
+    };
+    let told = message(inner, room);
+    *client = GitwireClient::of(machine);
+    told
+}
+
+fn message(client: &Client<Global>, room: &mut [u8]) -> GitwireTold
+    ensures { MessageTold client.now room.old result room.new }
+{
+    let Some(message) = client.message() else {
+        return GitwireTold::of(What::Nothing);
+    };
+    if room.len() < message.len() {
+        return GitwireTold::of(What::RoomTooSmall);
+    }
+    room[..message.len()].copy_from_slice(message);
+    GitwireTold::of_packet(0, 0, message.len(), What::Done)
+}
+
+/// What was noted of the advertisement so far. `Done`, or `NoHandle`: then nothing is written.
+#[unsafe(no_mangle)]
+pub extern "C" fn gitwire_client_caps(
+    alloc: Global,
+    client: &mut GitwireClient,
+    caps: &mut GitwireCaps,
+) -> u8
+    ensures { CapsIn (client_in client.old) caps.old result caps.new (client_in client.new) }
+{
+    let taken = replace(client, GitwireClient::none(alloc));
+    let Some(machine) = taken.into_machine() else {
+        return What::NoHandle.number();
+    };
+    let Machine::Client(inner) = &*machine else {
+        unreachable!()
+    };
+    *caps = noted(inner);
+    *client = GitwireClient::of(machine);
+    What::Done.number()
+}
+
+fn noted(client: &Client<Global>) -> GitwireCaps
+    ensures { CapsTold client.now result }
+{
+    let caps = client.caps();
+    GitwireCaps {
+        agent: caps.agent,
+        ls_refs: caps.ls_refs,
+        fetch: caps.fetch,
+        shallow: caps.shallow,
+        ref_in_want: caps.ref_in_want,
+        server_option: caps.server_option,
+        object_info: caps.object_info,
+        object_format: caps.object_format,
+        sha1: caps.sha1,
+        sha256: caps.sha256,
+    }
+}
+
+/// Frees the client. The handle has none from then on.
+#[unsafe(no_mangle)]
+pub extern "C" fn gitwire_client_free(alloc: Global, client: &mut GitwireClient)
+    ensures { client_in client.new ≡ None }
+{
+    drop(replace(client, GitwireClient::none(alloc)));
+}

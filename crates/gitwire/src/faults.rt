@@ -1,0 +1,74 @@
+//! The names and texts of faults, by their numbers.
+
+ghost use Rattle.gitwire.specs.FaultsTold.{IsKindOf, TellsName, TellsText};
+
+use crate::rooms::put_bytes;
+use git_pkt::{Fault, Kind};
+
+/// Writes the fault's name to the front of the room, as `Truncated`, and says how long it is: 0 where no fault has the number, or
+/// the room is too small.
+#[unsafe(no_mangle)]
+pub extern "C" fn gitwire_fault_name(fault: u8, room: &mut [u8]) -> usize
+    ensures { TellsName fault room.old result room.new }
+{
+    let Some(kind) = kind_of(fault) else {
+        return 0;
+    };
+    put_bytes(kind.name().as_bytes(), room)
+}
+
+/// Writes what users see of the fault to the front of the room, as `Truncated at 994`, and says how long it is: 0 where no fault
+/// has the number, or the room is too small.
+#[unsafe(no_mangle)]
+pub extern "C" fn gitwire_fault_text(fault: u8, offset: u64, room: &mut [u8]) -> usize
+    ensures { TellsText fault offset room.old result room.new }
+{
+    let Some(kind) = kind_of(fault) else {
+        return 0;
+    };
+    let text = Fault { kind, offset }.text();
+    put_bytes(text.as_bytes(), room)
+}
+
+/// The kind of fault that has the number.
+fn kind_of(number: u8) -> Option<Kind>
+    ensures { IsKindOf number result }
+{
+    match number {
+        1 => Some(Kind::BadDigit),
+        2 => Some(Kind::BadLength),
+        3 => Some(Kind::TooLong),
+        4 => Some(Kind::Truncated),
+        5 => Some(Kind::StreamTooLong),
+        6 => Some(Kind::NoBand),
+        7 => Some(Kind::BadBand),
+        8 => Some(Kind::BadCapability),
+        9 => Some(Kind::UnknownCommand),
+        10 => Some(Kind::TwoCommands),
+        11 => Some(Kind::NoCommand),
+        12 => Some(Kind::NotAdvertised),
+        13 => Some(Kind::BadObjectName),
+        14 => Some(Kind::BadRefName),
+        15 => Some(Kind::BadNumber),
+        16 => Some(Kind::DeepenConflict),
+        17 => Some(Kind::NoWants),
+        18 => Some(Kind::NoSize),
+        19 => Some(Kind::WrongFormat),
+        20 => Some(Kind::UnknownArgument),
+        21 => Some(Kind::TooMuchKept),
+        22 => Some(Kind::UnexpectedPacket),
+        23 => Some(Kind::RemoteError),
+        24 => Some(Kind::UnknownRef),
+        25 => Some(Kind::NotOurs),
+        26 => Some(Kind::PackSource),
+        27 => Some(Kind::NotVersion2),
+        28 => Some(Kind::UnexpectedSection),
+        29 => Some(Kind::BadLine),
+        30 => Some(Kind::OutOfMemory),
+        31 => Some(Kind::RemoteFatal),
+        32 => Some(Kind::ReadFault),
+        33 => Some(Kind::WriteFault),
+        34 => Some(Kind::ReadLimit),
+        _ => None,
+    }
+}

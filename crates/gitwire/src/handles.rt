@@ -1,0 +1,224 @@
+//! What C holds: for each of the library's values a handle that has one, or none.
+
+ghost use Rattle.std.specs.Prelude.{◌≡◌, None, MatchOption, IsSome, true};
+ghost use Rattle.gitwire.specs.Machines.{is_none_or, packet_reader_of, request_reader_of, request_of, repository_of, server_of, client_of};
+
+use crate::held::Handle;
+use crate::machine::Machine;
+use std::alloc::Global;
+
+/// A packet reader, or none.
+#[repr(C)]
+#[derive(Drop)]
+pub struct GitwirePacketReader {
+    handle: Handle,
+    ghost kind: { is_none_or packet_reader_of handle.held.machine ≡ true },
+}
+
+impl GitwirePacketReader {
+    ghost use Rattle.gitwire.specs.Handles.{packet_reader_in};
+
+    pub(crate) fn none(alloc: Global) -> GitwirePacketReader
+        ensures { packet_reader_in result ≡ None }
+    {
+        GitwirePacketReader {
+            handle: Handle::none(alloc),
+        }
+    }
+
+    pub(crate) fn of(machine: Box<Machine, Global>) -> GitwirePacketReader
+        requires { IsSome (packet_reader_of machine.value) }
+        ensures { packet_reader_in result ≡ packet_reader_of machine.value }
+    {
+        GitwirePacketReader {
+            handle: Handle::of(machine),
+        }
+    }
+
+    pub(crate) fn into_machine(self) -> Option<Box<Machine, Global>>
+        ensures { MatchOption result (packet_reader_in self ≡ None)
+            (λ machine. (packet_reader_in self ≡ packet_reader_of machine.value) × IsSome (packet_reader_of machine.value)) }
+    {
+        self.handle.into_machine()
+    }
+}
+
+/// A reader of requests, or none.
+#[repr(C)]
+#[derive(Drop)]
+pub struct GitwireRequestReader {
+    handle: Handle,
+    ghost kind: { is_none_or request_reader_of handle.held.machine ≡ true },
+}
+
+impl GitwireRequestReader {
+    ghost use Rattle.gitwire.specs.Handles.{request_reader_in};
+
+    pub(crate) fn none(alloc: Global) -> GitwireRequestReader
+        ensures { request_reader_in result ≡ None }
+    {
+        GitwireRequestReader {
+            handle: Handle::none(alloc),
+        }
+    }
+
+    pub(crate) fn of(machine: Box<Machine, Global>) -> GitwireRequestReader
+        requires { IsSome (request_reader_of machine.value) }
+        ensures { request_reader_in result ≡ request_reader_of machine.value }
+    {
+        GitwireRequestReader {
+            handle: Handle::of(machine),
+        }
+    }
+
+    pub(crate) fn into_machine(self) -> Option<Box<Machine, Global>>
+        ensures { MatchOption result (request_reader_in self ≡ None)
+            (λ machine. (request_reader_in self ≡ request_reader_of machine.value) × IsSome (request_reader_of machine.value)) }
+    {
+        self.handle.into_machine()
+    }
+}
+
+/// A request, or none.
+#[repr(C)]
+#[derive(Drop)]
+pub struct GitwireRequest {
+    handle: Handle,
+    ghost kind: { is_none_or request_of handle.held.machine ≡ true },
+}
+
+impl GitwireRequest {
+    ghost use Rattle.gitwire.specs.Handles.{request_in};
+
+    pub(crate) fn none(alloc: Global) -> GitwireRequest
+        ensures { request_in result ≡ None }
+    {
+        GitwireRequest {
+            handle: Handle::none(alloc),
+        }
+    }
+
+    pub(crate) fn of(machine: Box<Machine, Global>) -> GitwireRequest
+        requires { IsSome (request_of machine.value) }
+        ensures { request_in result ≡ request_of machine.value }
+    {
+        GitwireRequest {
+            handle: Handle::of(machine),
+        }
+    }
+
+    pub(crate) fn into_machine(self) -> Option<Box<Machine, Global>>
+        ensures { MatchOption result (request_in self ≡ None)
+            (λ machine. (request_in self ≡ request_of machine.value) × IsSome (request_of machine.value)) }
+    {
+        self.handle.into_machine()
+    }
+}
+
+/// A repository that many servers may share, or none.
+#[repr(C)]
+#[derive(Drop)]
+pub struct GitwireRepository {
+    handle: Handle,
+    ghost kind: { is_none_or repository_of handle.held.machine ≡ true },
+}
+
+impl GitwireRepository {
+    ghost use Rattle.gitwire.specs.Handles.{repository_in};
+
+    pub(crate) fn none(alloc: Global) -> GitwireRepository
+        ensures { repository_in result ≡ None }
+    {
+        GitwireRepository {
+            handle: Handle::none(alloc),
+        }
+    }
+
+    pub(crate) fn of(machine: Box<Machine, Global>) -> GitwireRepository
+        requires { IsSome (repository_of machine.value) }
+        ensures { repository_in result ≡ repository_of machine.value }
+    {
+        GitwireRepository {
+            handle: Handle::of(machine),
+        }
+    }
+
+    pub(crate) fn into_machine(self) -> Option<Box<Machine, Global>>
+        ensures { MatchOption result (repository_in self ≡ None)
+            (λ machine. (repository_in self ≡ repository_of machine.value) × IsSome (repository_of machine.value)) }
+    {
+        self.handle.into_machine()
+    }
+}
+
+/// A server, or none.
+#[repr(C)]
+#[derive(Drop)]
+pub struct GitwireServer {
+    handle: Handle,
+    ghost kind: { is_none_or server_of handle.held.machine ≡ true },
+}
+
+impl GitwireServer {
+    ghost use Rattle.gitwire.specs.Handles.{server_in};
+
+    pub(crate) fn none(alloc: Global) -> GitwireServer
+        ensures { server_in result ≡ None }
+    {
+        GitwireServer {
+            handle: Handle::none(alloc),
+        }
+    }
+
+    pub(crate) fn of(machine: Box<Machine, Global>) -> GitwireServer
+        requires { IsSome (server_of machine.value) }
+        ensures { server_in result ≡ server_of machine.value }
+    {
+        GitwireServer {
+            handle: Handle::of(machine),
+        }
+    }
+
+    pub(crate) fn into_machine(self) -> Option<Box<Machine, Global>>
+        ensures { MatchOption result (server_in self ≡ None)
+            (λ machine. (server_in self ≡ server_of machine.value) × IsSome (server_of machine.value)) }
+    {
+        self.handle.into_machine()
+    }
+}
+
+/// A client, or none.
+#[repr(C)]
+#[derive(Drop)]
+pub struct GitwireClient {
+    handle: Handle,
+    ghost kind: { is_none_or client_of handle.held.machine ≡ true },
+}
+
+impl GitwireClient {
+    ghost use Rattle.gitwire.specs.Handles.{client_in};
+
+    pub(crate) fn none(alloc: Global) -> GitwireClient
+        ensures { client_in result ≡ None }
+    {
+        GitwireClient {
+            handle: Handle::none(alloc),
+        }
+    }
+
+    pub(crate) fn of(machine: Box<Machine, Global>) -> GitwireClient
+        requires { IsSome (client_of machine.value) }
+        ensures { client_in result ≡ client_of machine.value }
+    {
+        GitwireClient {
+            handle: Handle::of(machine),
+        }
+    }
+
+    pub(crate) fn into_machine(self) -> Option<Box<Machine, Global>>
+        ensures { MatchOption result (client_in self ≡ None)
+            (λ machine. (client_in self ≡ client_of machine.value) × IsSome (client_of machine.value)) }
+    {
+        self.handle.into_machine()
+    }
+}

@@ -1,0 +1,112 @@
+//! A machine behind a pointer whose type C may see, or none.
+
+ghost use Rattle.std.specs.Prelude.{◌≡◌, Option, Some, None, IsSome, MatchOption, is_some};
+ghost use Rattle.gitwire.specs.declared.machine.Machine.{Machine};
+ghost use Rattle.gitwire.specs.Held.{held_owns, machine_coded};
+
+use crate::machine::Machine;
+use crate::parts::Parts;
+use std::alloc::Global;
+use std::marker::Model;
+use std::ptr::null_mut;
+
+/// A machine on the heap, or none. It cannot be dropped: what has one is taken apart, and what has none is left.
+#[repr(C)]
+pub(crate) struct Held {
+    at: *mut u8,
+    alloc: Global,
+    pub(crate) ghost machine: { Option Machine } by { machine_coded },
+}
+
+impl Model for Held {
+    ghost also_owns = { λ h. held_owns h.alloc h.at h.machine };
+}
+
+impl Held {
+    fn none(alloc: Global) -> Held
+        ensures { result.machine ≡ None }
+    {
+        Held {
+            at: null_mut(),
+            alloc,
+        }
+    }
+
+    fn of_parts(parts: Parts<Machine, Global>) -> Held
+        ensures { result.machine ≡ Some parts.value }
+    {
+        let Parts { ptr, alloc } = parts;
+        Held {
+            at: ptr as *mut u8,
+            alloc,
+        }
+    }
+
+    fn into_parts(self) -> Parts<Machine, Global>
+        requires { IsSome self.machine }
+        ensures { self.machine ≡ Some result.value }
+    {
+        let Held { at, alloc } = self;
+        Parts {
+            ptr: at as *mut Machine,
+            alloc,
+        }
+    }
+
+    /// Takes apart what has no machine, since nothing is to be freed then.
+    fn leave(self)
+        requires { self.machine ≡ None }
+    {
+        let Held {
+            at: _at,
+            alloc: _alloc,
+        } = self;
+    }
+}
+
+unsafe impl Send for Held {}
+
+/// What each handle of C is: a machine or none, and which of the two. It frees its machine when it is dropped.
+#[repr(C)]
+pub(crate) struct Handle {
+    held: Held,
+    is_made: bool,
+    ghost tells: { is_made ≡ is_some held.machine },
+}
+
+impl Handle {
+    pub(crate) fn none(alloc: Global) -> Handle
+        ensures { result.held.machine ≡ None }
+    {
+        Handle {
+            held: Held::none(alloc),
+            is_made: false,
+        }
+    }
+
+    pub(crate) fn of(machine: Box<Machine, Global>) -> Handle
+        ensures { result.held.machine ≡ Some machine.value }
+    {
+        Handle {
+            held: Held::of_parts(Parts::of(machine)),
+            is_made: true,
+        }
+    }
+
+    pub(crate) fn into_machine(self) -> Option<Box<Machine, Global>>
+        ensures { MatchOption result (self.held.machine ≡ None) (λ machine. self.held.machine ≡ Some machine.value) }
+    {
+        let Handle { held, is_made } = self;
+        if !is_made {
+            held.leave();
+            return None;
+        }
+        Some(held.into_parts().into_box())
+    }
+}
+
+impl Drop for Handle {
+    fn drop(self) {
+        drop(self.into_machine());
+    }
+}

@@ -1,0 +1,22 @@
+//! What follows from the definitions alone: each law is the contract of a function without parameters.
+
+ghost use Rattle.std.specs.Prelude.{◌≡◌, ℕ, Bool, List};
+ghost use Rattle.gitwire.specs.Offers.{offer_meant};
+ghost use Rattle.gitwire.specs.WrittenForC.{Advertises, IsDetermined, MeansAck, MeansBand, MeansBoundary, MeansError, MeansInfo, MeansLine, MeansPacket, MeansReference, MeansWanted};
+ghost use Rattle.gitwire.specs.declared.offer.GitwireOffer.{GitwireOffer};
+ghost use Rattle.gitwire.specs.declared.told.GitwireTold.{GitwireTold};
+
+/// What a writer tells, and what it leaves in the room, follow from the values that C gives and the room.
+pub fn writers_tell_one_thing()
+    ensures packet { (kind : ℕ) (payload : List ℕ) → IsDetermined (MeansPacket kind payload) }
+    ensures band { (band : ℕ) (bytes : List ℕ) → IsDetermined (MeansBand band bytes) }
+    ensures line { (text : List ℕ) → IsDetermined (MeansLine text) }
+    ensures error { (message : List ℕ) → IsDetermined (MeansError message) }
+    ensures reference { (format : ℕ) (id name target peeled : List ℕ) → IsDetermined (MeansReference format id name target peeled) }
+    ensures ack { (format : ℕ) (id : List ℕ) → IsDetermined (MeansAck format id) }
+    ensures boundary { (format : ℕ) (shallow : Bool) (id : List ℕ) → IsDetermined (MeansBoundary format shallow id) }
+    ensures wanted { (format : ℕ) (id name : List ℕ) → IsDetermined (MeansWanted format id name) }
+    ensures info { (format : ℕ) (id : List ℕ) (has_size : Bool) (size : ℕ) → IsDetermined (MeansInfo format id has_size size) }
+    ensures advertisement { (offer : GitwireOffer) (room : List ℕ) (told other : GitwireTold) (filled others : List ℕ)
+        → Advertises (offer_meant offer) room told filled → Advertises (offer_meant offer) room other others → (told ≡ other) × (filled ≡ others) }
+{}

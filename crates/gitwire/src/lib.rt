@@ -1,0 +1,35 @@
+//! Git's wire protocol, for programs in C: each export calls a library's method, and adds nothing to it.
+#![tactic(auto)]
+
+mod client;
+mod event;
+mod faults;
+mod handles;
+mod held;
+pub mod laws;
+mod line_writers;
+mod machine;
+mod numbers;
+mod offer;
+mod packets;
+mod parts;
+mod repository;
+mod request;
+mod request_items;
+mod request_reader;
+mod rooms;
+mod server;
+mod threads;
+mod told;
+mod writers;
+mod written;
+
+pub use client::GitwireCaps;
+pub use event::GitwireEvent;
+pub use handles::{
+    GitwireClient, GitwirePacketReader, GitwireRepository, GitwireRequest, GitwireRequestReader,
+    GitwireServer,
+};
+pub use offer::GitwireOffer;
+pub use threads::handles_are_send;
+pub use told::{GitwireTold, What};

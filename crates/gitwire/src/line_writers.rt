@@ -1,0 +1,211 @@
+//! Lines of responses, written for C.
+
+ghost use Rattle.std.specs.Prelude.{◌≡◌, ◌≢◌, [], MatchResult};
+ghost use Rattle.std.specs.Option.{option_copied};
+ghost use Rattle.git_names.specs.ObjectName.{IsNoObjectName};
+ghost use Rattle.git_names.specs.RefName.{IsRefName};
+ghost use Rattle.git_msg.specs.References.{IsMaybeObjectName};
+ghost use Rattle.gitwire.specs.WrittenForC.{Makes, MeansAck, MeansBoundary, MeansInfo, MeansReference, MeansWanted, Names, Writes, boundary_of, given};
+
+use crate::numbers::format_numbered;
+use crate::told::GitwireTold;
+use crate::written::{Unwritten, hand_out};
+use git_msg::{
+    Boundary, Info, Reference, WantedRef, put_ack, put_boundary, put_info, put_reference,
+    put_wanted,
+};
+use git_names::{Format, NameFault, Oid, RefName};
+use git_pkt::Hold;
+
+/// Writes a reference's line, of an answer to `ls-refs`, to the front of the room. A target of no bytes is none, and so is a
+/// peeled object of no digits. The parts are checked from left to right: BadObjectName or BadRefName.
+#[tactic(auto, using(crate::proofs::Handing::writes))]
+#[unsafe(no_mangle)]
+pub extern "C" fn gitwire_put_reference(
+    format: u8,
+    id: &[u8],
+    name: &[u8],
+    target: &[u8],
+    peeled: &[u8],
+    room: &mut [u8],
+) -> GitwireTold
+    ensures { Writes (MeansReference format id.now name.now target.now peeled.now) room.old result room.new }
+{
+    let mut hold = Hold::new();
+    let made = make_reference(&mut hold, format, id, name, target, peeled);
+    hand_out(made, &hold, room)
+}
+
+/// Writes the line that acknowledges an object, of the section `acknowledgments`, to the front of the room.
+#[tactic(auto, using(crate::proofs::Handing::writes))]
+#[unsafe(no_mangle)]
+pub extern "C" fn gitwire_put_ack(format: u8, id: &[u8], room: &mut [u8]) -> GitwireTold
+    ensures { Writes (MeansAck format id.now) room.old result room.new }
+{
+    let mut hold = Hold::new();
+    let made = make_ack(&mut hold, format, id);
+    hand_out(made, &hold, room)
+}
+
+/// Writes a line of the section `shallow-info`, `shallow` or else `unshallow`, to the front of the room.
+#[tactic(auto, using(crate::proofs::Handing::writes))]
+#[unsafe(no_mangle)]
+pub extern "C" fn gitwire_put_boundary(
+    format: u8,
+    shallow: bool,
+    id: &[u8],
+    room: &mut [u8],
+) -> GitwireTold
+    ensures { Writes (MeansBoundary format shallow id.now) room.old result room.new }
+{
+    let mut hold = Hold::new();
+    let made = make_boundary(&mut hold, format, shallow, id);
+    hand_out(made, &hold, room)
+}
+
+/// Writes a line of the section `wanted-refs` to the front of the room. Its parts are checked from left to right:
+/// BadObjectName, then BadRefName.
+#[tactic(auto, using(crate::proofs::Handing::writes))]
+#[unsafe(no_mangle)]
+pub extern "C" fn gitwire_put_wanted(
+    format: u8,
+    id: &[u8],
+    name: &[u8],
+    room: &mut [u8],
+) -> GitwireTold
+    ensures { Writes (MeansWanted format id.now name.now) room.old result room.new }
+{
+    let mut hold = Hold::new();
+    let made = make_wanted(&mut hold, format, id, name);
+    hand_out(made, &hold, room)
+}
+
+/// Writes a line of the response to `object-info` to the front of the room: the object and its size, or the object alone,
+/// which says that the server does not have it.
+#[tactic(auto, using(crate::proofs::Handing::writes))]
+#[unsafe(no_mangle)]
+pub extern "C" fn gitwire_put_info(
+    format: u8,
+    id: &[u8],
+    has_size: bool,
+    size: u64,
+    room: &mut [u8],
+) -> GitwireTold
+    ensures { Writes (MeansInfo format id.now has_size size) room.old result room.new }
+{
+    let mut hold = Hold::new();
+    let made = make_info(&mut hold, format, id, has_size, size);
+    hand_out(made, &hold, room)
+}
+
+fn make_reference(
+    hold: &mut Hold,
+    format: u8,
+    id: &[u8],
+    name: &[u8],
+    target: &[u8],
+    peeled: &[u8],
+) -> Result<(), Unwritten>
+    ensures { Makes (MeansReference format id.now name.now target.now peeled.now) result hold.new.items }
+{
+    let id = read_id(format, id)?;
+    let name = RefName::read(name)?;
+    let target = read_target(target)?;
+    let peeled = read_peeled(id.format(), peeled)?;
+    let reference = Reference {
+        id,
+        name: name.as_bytes(),
+        target,
+        peeled,
+    };
+    put_reference(hold, reference);
+    Ok(())
+}
+
+fn make_ack(hold: &mut Hold, format: u8, id: &[u8]) -> Result<(), Unwritten>
+    ensures { Makes (MeansAck format id.now) result hold.new.items }
+{
+    let id = read_id(format, id)?;
+    put_ack(hold, &id);
+    Ok(())
+}
+
+fn make_boundary(hold: &mut Hold, format: u8, shallow: bool, id: &[u8]) -> Result<(), Unwritten>
+    ensures { Makes (MeansBoundary format shallow id.now) result hold.new.items }
+{
+    let id = read_id(format, id)?;
+    let boundary = boundary_of(shallow, id);
+    put_boundary(hold, &boundary);
+    Ok(())
+}
+
+fn make_wanted(hold: &mut Hold, format: u8, id: &[u8], name: &[u8]) -> Result<(), Unwritten>
+    ensures { Makes (MeansWanted format id.now name.now) result hold.new.items }
+{
+    let id = read_id(format, id)?;
+    let name = RefName::read(name)?;
+    let wanted = WantedRef {
+        id,
+        name: name.as_bytes(),
+    };
+    put_wanted(hold, wanted);
+    Ok(())
+}
+
+fn make_info(
+    hold: &mut Hold,
+    format: u8,
+    id: &[u8],
+    has_size: bool,
+    size: u64,
+) -> Result<(), Unwritten>
+    ensures { Makes (MeansInfo format id.now has_size size) result hold.new.items }
+{
+    let id = read_id(format, id)?;
+    let size = has_size.then_some(size);
+    put_info(hold, &Info { id, size });
+    Ok(())
+}
+
+fn boundary_of(shallow: bool, id: Oid) -> Boundary
+    ensures { result ≡ boundary_of shallow id }
+{
+    if shallow {
+        Boundary::Shallow(id)
+    } else {
+        Boundary::Unshallow(id)
+    }
+}
+
+/// The object that the digits name, in the format of this number.
+fn read_id(number: u8, digits: &[u8]) -> Result<Oid, Unwritten>
+    ensures { Names number digits.now result }
+{
+    let Some(format) = format_numbered(number) else {
+        return Err(Unwritten::BadValue);
+    };
+    Ok(Oid::read(format, digits)?)
+}
+
+/// A reference name, or none where there is no text.
+fn read_target(text: &[u8]) -> Result<Option<&[u8]>, NameFault>
+    ensures { MatchResult result (λ target. (option_copied target ≡ given text.now) × (text.now ≢ [] → IsRefName text.now))
+        (λ fault. (fault ≡ NameFault.BadRefName) × (text.now ≢ []) × ¬ IsRefName text.now) }
+{
+    if text.is_empty() {
+        return Ok(None);
+    }
+    let name = RefName::read(text)?;
+    Ok(Some(name.as_bytes()))
+}
+
+/// An object name, or none where there are no digits.
+fn read_peeled(format: Format, digits: &[u8]) -> Result<Option<Oid>, NameFault>
+    ensures { MatchResult result (IsMaybeObjectName format (given digits.now))
+        (λ fault. (fault ≡ NameFault.BadObjectName) × (digits.now ≢ []) × IsNoObjectName format digits.now) }
+{
+    if digits.is_empty() {
+        return Ok(None);
+    }
+    Ok(Some(Oid::read(format, digits)?))
+}

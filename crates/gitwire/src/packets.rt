@@ -1,0 +1,114 @@
+//! A packet reader that C holds.
+
+ghost use Rattle.std.specs.Prelude.{◌≡◌, None};
+ghost use Rattle.gitwire.specs.Handles.{packet_reader_in};
+ghost use Rattle.gitwire.specs.PacketsTold.{Begins, ClosesIn, ClosesTold, FeedsIn, FeedsInRoom};
+
+use crate::handles::GitwirePacketReader;
+use crate::machine::Machine;
+use crate::told::{GitwireTold, What};
+use git_pkt::{Got, Packet, PacketReader};
+use std::alloc::Global;
+use std::mem::replace;
+
+/// How many bytes the longest payload has.
+pub(crate) const LONGEST_PAYLOAD: usize = 65_516;
+
+/// Makes the handle's reader a new one, of a stream that starts at offset 0. What it had before is freed. `Done`; or
+/// `OutOfMemory`, and the handle has none.
+#[unsafe(no_mangle)]
+pub extern "C" fn gitwire_packet_reader_new(alloc: Global, reader: &mut GitwirePacketReader) -> u8
+    ensures { Begins result (packet_reader_in reader.new) }
+{
+    *reader = GitwirePacketReader::none(alloc);
+    let Ok(made) = Box::new(alloc, PacketReader::new()) else {
+        return What::OutOfMemory.number();
+    };
+    let Ok(made) = Box::new(alloc, Machine::PacketReader(made)) else {
+        return What::OutOfMemory.number();
+    };
+    *reader = GitwirePacketReader::of(made);
+    What::Done.number()
+}
+
+/// Reads on, to the end of the next packet, and copies its payload to the front of the room. `More`, `Payload`, `Flush`, `Delim`,
+/// `ResponseEnd` or `Failed`; `NoHandle`; and `RoomTooSmall` where the room has less than 65,516 bytes.
+#[unsafe(no_mangle)]
+pub extern "C" fn gitwire_packet_reader_feed(
+    alloc: Global,
+    reader: &mut GitwirePacketReader,
+    piece: &[u8],
+    room: &mut [u8],
+) -> GitwireTold
+    ensures { FeedsIn (packet_reader_in reader.old) piece.now room.old result room.new (packet_reader_in reader.new) }
+{
+    let taken = replace(reader, GitwirePacketReader::none(alloc));
+    let Some(mut machine) = taken.into_machine() else {
+        return GitwireTold::of(What::NoHandle);
+    };
+    let Machine::PacketReader(inner) = &mut *machine else {
+        unreachable!()
+    };
+    let told = feed(inner, piece, room);
+    *reader = GitwirePacketReader::of(machine);
+    told
+}
+
+fn feed(reader: &mut PacketReader, piece: &[u8], room: &mut [u8]) -> GitwireTold
+    ensures { FeedsInRoom reader.old piece.now room.old result room.new reader.new }
+{
+    if room.len() < LONGEST_PAYLOAD {
+        return GitwireTold::of(What::RoomTooSmall);
+    }
+    let fed = reader.feed(piece);
+    match fed.got {
+        Got::More => GitwireTold::of_used(fed.used, What::More),
+        Got::Failed(fault) => GitwireTold::of_fault(fed.used, fault),
+        Got::Packet(packet, offset) => match packet {
+            Packet::Flush => GitwireTold::of_packet(fed.used, offset, 0, What::Flush),
+            Packet::Delim => GitwireTold::of_packet(fed.used, offset, 0, What::Delim),
+            Packet::RespEnd => GitwireTold::of_packet(fed.used, offset, 0, What::ResponseEnd),
+            Packet::Payload(bytes) => {
+                room[..bytes.len()].copy_from_slice(bytes);
+                GitwireTold::of_packet(fed.used, offset, bytes.len(), What::Payload)
+            }
+        },
+    }
+}
+
+/// Tells that the stream ends here. `Done` between packets; else `Failed`, or `NoHandle`.
+#[unsafe(no_mangle)]
+pub extern "C" fn gitwire_packet_reader_close(
+    alloc: Global,
+    reader: &mut GitwirePacketReader,
+) -> GitwireTold
+    ensures { ClosesIn (packet_reader_in reader.old) result (packet_reader_in reader.new) }
+{
+    let taken = replace(reader, GitwirePacketReader::none(alloc));
+    let Some(mut machine) = taken.into_machine() else {
+        return GitwireTold::of(What::NoHandle);
+    };
+    let Machine::PacketReader(inner) = &mut *machine else {
+        unreachable!()
+    };
+    let told = close(inner);
+    *reader = GitwirePacketReader::of(machine);
+    told
+}
+
+fn close(reader: &mut PacketReader) -> GitwireTold
+    ensures { ClosesTold reader.old result reader.new }
+{
+    match reader.close() {
+        Ok(()) => GitwireTold::of(What::Done),
+        Err(fault) => GitwireTold::of_fault(0, fault),
+    }
+}
+
+/// Frees the reader. The handle has none from then on.
+#[unsafe(no_mangle)]
+pub extern "C" fn gitwire_packet_reader_free(alloc: Global, reader: &mut GitwirePacketReader)
+    ensures { packet_reader_in reader.new ≡ None }
+{
+    drop(replace(reader, GitwirePacketReader::none(alloc)));
+}

@@ -1,0 +1,301 @@
+//! A request that C holds.
+
+ghost use Rattle.std.specs.Prelude.{◌≡◌, length, slice_get, MatchOption, MatchResult, None};
+ghost use Rattle.git_msg.specs.HeldRequest.{asked_of};
+ghost use Rattle.gitwire.specs.Handles.{request_in};
+ghost use Rattle.gitwire.specs.RequestsTold.{AddsIn, AddsLine, AddsTold, CommandIn, EndsIn, EndsTold, FlagIn, FormatIn, ItemIn, NumberIn};
+ghost use Rattle.gitwire.specs.RequestsTold.{Makes, MeanNoRequest, MeanRequest};
+ghost use Rattle.gitwire.specs.RequestsTold.{everything, is_set, telling_number, telling_result, telling_which};
+
+use crate::handles::GitwireRequest;
+use crate::machine::Machine;
+use crate::numbers::{
+    Flag, Given, command_numbered, format_numbered, number_of_command, number_of_format,
+};
+use crate::request_items::put_item;
+use crate::told::{GitwireTold, What};
+use git_msg::{Limits, Offer, Request, read_argument};
+use git_names::Format;
+use git_pkt::{Fault, Kind};
+use std::alloc::Global;
+use std::mem::replace;
+
+/// The most that a limit on the bytes of a request's arguments may be.
+pub(crate) const MOST_LIMIT: u32 = 1_073_741_824;
+
+/// Makes the handle's request an empty one of this command, `LS_REFS`, `FETCH` or `OBJECT_INFO`, of this format and with this
+/// limit on the bytes of its argument lines. What it had before is freed. `Done`; `BadValue`, and the handle stays as it was,
+/// where a number stands for nothing or the limit is above 1,073,741,824; or `OutOfMemory`, and the handle has none.
+#[unsafe(no_mangle)]
+pub extern "C" fn gitwire_request_new(
+    alloc: Global,
+    request: &mut GitwireRequest,
+    command: u8,
+    format: u8,
+    limit: u32,
+) -> u8
+    ensures { Makes command format limit (request_in request.old) result (request_in request.new) }
+{
+    let Some(meant) = request_meant(alloc, command, format, limit) else {
+        return What::BadValue.number();
+    };
+    *request = GitwireRequest::none(alloc);
+    let Ok(made) = Box::new(alloc, Machine::Request(meant)) else {
+        return What::OutOfMemory.number();
+    };
+    *request = GitwireRequest::of(made);
+    What::Done.number()
+}
+
+/// The empty request that is meant; none where a number stands for nothing or the limit is more than one may be.
+fn request_meant(alloc: Global, command: u8, format: u8, limit: u32) -> Option<Request<Global>>
+    ensures { MatchOption result (MeanNoRequest command format limit) (MeanRequest command format limit) }
+{
+    let Some(command) = command_numbered(command) else {
+        return None;
+    };
+    let Some(format) = format_numbered(format) else {
+        return None;
+    };
+    if limit > MOST_LIMIT {
+        return None;
+    }
+    Some(Request::new(alloc, command, format, Limits { args: limit }))
+}
+
+/// Adds the argument of a line, which has no LF at its end: `want 1111..`, `done`, `ref-prefix refs/heads/`. `Done`; `Failed`,
+/// and the request stays as it was; or `NoHandle`.
+#[unsafe(no_mangle)]
+pub extern "C" fn gitwire_request_add(
+    alloc: Global,
+    request: &mut GitwireRequest,
+    line: &[u8],
+) -> GitwireTold
+    ensures { AddsIn (request_in request.old) line.now result (request_in request.new) }
+{
+    let taken = replace(request, GitwireRequest::none(alloc));
+    let Some(mut machine) = taken.into_machine() else {
+        return GitwireTold::of(What::NoHandle);
+    };
+    let Machine::Request(inner) = &mut *machine else {
+        unreachable!()
+    };
+    let told = add(inner, line);
+    *request = GitwireRequest::of(machine);
+    told
+}
+
+fn add(request: &mut Request<Global>, line: &[u8]) -> GitwireTold
+    ensures { AddsTold request.old line.now result request.new }
+{
+    tell(add_line(request, line))
+}
+
+fn add_line(request: &mut Request<Global>, line: &[u8]) -> Result<(), Kind>
+    ensures { AddsLine request.old line.now result request.new }
+{
+    let offer = offer_everything(request.format());
+    match read_argument(request.command(), &offer, line) {
+        Ok(argument) => request.add(argument),
+        Err(kind) => Err(kind),
+    }
+}
+
+// So that a line is judged by what it says alone.
+fn offer_everything(format: Format) -> Offer
+    ensures { result ≡ everything format }
+{
+    Offer {
+        format,
+        shallow: true,
+        ref_in_want: true,
+        object_info: true,
+        server_option: true,
+    }
+}
+
+fn tell(judged: Result<(), Kind>) -> GitwireTold
+    ensures { result ≡ telling_result judged }
+{
+    match judged {
+        Ok(()) => GitwireTold::of(What::Done),
+        Err(kind) => GitwireTold::of_fault(0, Fault { kind, offset: 0 }),
+    }
+}
+
+/// Judges whether the request is whole. `Done`; `Failed`, by `DeepenConflict`, `NoWants` or `NoSize`; or `NoHandle`.
+#[unsafe(no_mangle)]
+pub extern "C" fn gitwire_request_end(alloc: Global, request: &mut GitwireRequest) -> GitwireTold
+    ensures { EndsIn (request_in request.old) result (request_in request.new) }
+{
+    let taken = replace(request, GitwireRequest::none(alloc));
+    let Some(machine) = taken.into_machine() else {
+        return GitwireTold::of(What::NoHandle);
+    };
+    let Machine::Request(inner) = &*machine else {
+        unreachable!()
+    };
+    let told = judge_end(inner);
+    *request = GitwireRequest::of(machine);
+    told
+}
+
+fn judge_end(request: &Request<Global>) -> GitwireTold
+    ensures { EndsTold (asked_of request.now) result }
+{
+    tell(request.check_end())
+}
+
+/// The request's command: `Done`, and `offset` is its number; or `NoHandle`.
+#[unsafe(no_mangle)]
+pub extern "C" fn gitwire_request_command(
+    alloc: Global,
+    request: &mut GitwireRequest,
+) -> GitwireTold
+    ensures { CommandIn (request_in request.old) result (request_in request.new) }
+{
+    let taken = replace(request, GitwireRequest::none(alloc));
+    let Some(machine) = taken.into_machine() else {
+        return GitwireTold::of(What::NoHandle);
+    };
+    let Machine::Request(inner) = &*machine else {
+        unreachable!()
+    };
+    let told = tell_number(number_of_command(inner.command()));
+    *request = GitwireRequest::of(machine);
+    told
+}
+
+/// The format of the request's object names: `Done`, and `offset` is its number; or `NoHandle`.
+#[unsafe(no_mangle)]
+pub extern "C" fn gitwire_request_format(alloc: Global, request: &mut GitwireRequest) -> GitwireTold
+    ensures { FormatIn (request_in request.old) result (request_in request.new) }
+{
+    let taken = replace(request, GitwireRequest::none(alloc));
+    let Some(machine) = taken.into_machine() else {
+        return GitwireTold::of(What::NoHandle);
+    };
+    let Machine::Request(inner) = &*machine else {
+        unreachable!()
+    };
+    let told = tell_number(number_of_format(inner.format()));
+    *request = GitwireRequest::of(machine);
+    told
+}
+
+fn tell_number(number: u64) -> GitwireTold
+    ensures { result ≡ telling_number number }
+{
+    GitwireTold::of_packet(0, number, 0, What::Done)
+}
+
+/// Whether the request has the flag of this number, from `SYMREFS` to `SIZE`. Of another number, and of a handle that has no
+/// request, it is false.
+#[unsafe(no_mangle)]
+pub extern "C" fn gitwire_request_flag(
+    alloc: Global,
+    request: &mut GitwireRequest,
+    flag: u8,
+) -> bool
+    ensures { FlagIn (request_in request.old) flag result (request_in request.new) }
+{
+    let taken = replace(request, GitwireRequest::none(alloc));
+    let Some(machine) = taken.into_machine() else {
+        return false;
+    };
+    let Machine::Request(inner) = &*machine else {
+        unreachable!()
+    };
+    let told = has_flag(inner, flag);
+    *request = GitwireRequest::of(machine);
+    told
+}
+
+fn has_flag(request: &Request<Global>, number: u8) -> bool
+    ensures { result ≡ is_set number (asked_of request.now) }
+{
+    let Some(flag) = Flag::numbered(number) else {
+        return false;
+    };
+    match flag {
+        Flag::Symrefs => request.symrefs(),
+        Flag::Peel => request.peel(),
+        Flag::Done => request.done(),
+        Flag::ThinPack => request.thin_pack(),
+        Flag::NoProgress => request.no_progress(),
+        Flag::IncludeTag => request.include_tag(),
+        Flag::OfsDelta => request.ofs_delta(),
+        Flag::DeepenRelative => request.deepen_relative(),
+        Flag::Size => request.size(),
+    }
+}
+
+/// A number of the request, `DEEPEN` or `DEEPEN_SINCE`: `Done`, and `offset` is the number; `Nothing` where it was not given;
+/// `BadValue`; or `NoHandle`.
+#[unsafe(no_mangle)]
+pub extern "C" fn gitwire_request_number(
+    alloc: Global,
+    request: &mut GitwireRequest,
+    which: u8,
+) -> GitwireTold
+    ensures { NumberIn (request_in request.old) which result (request_in request.new) }
+{
+    let taken = replace(request, GitwireRequest::none(alloc));
+    let Some(machine) = taken.into_machine() else {
+        return GitwireTold::of(What::NoHandle);
+    };
+    let Machine::Request(inner) = &*machine else {
+        unreachable!()
+    };
+    let told = given_number(inner, which);
+    *request = GitwireRequest::of(machine);
+    told
+}
+
+fn given_number(request: &Request<Global>, which: u8) -> GitwireTold
+    ensures { result ≡ telling_which which (asked_of request.now) }
+{
+    let Some(which) = Given::numbered(which) else {
+        return GitwireTold::of(What::BadValue);
+    };
+    let given = match which {
+        Given::Deepen => request.deepen(),
+        Given::DeepenSince => request.deepen_since(),
+    };
+    match given {
+        Some(number) => tell_number(number),
+        None => GitwireTold::of(What::Nothing),
+    }
+}
+
+/// Writes the text at a place of a list, from `REF_PREFIXES` to `OIDS`, to the front of the room, an object name as its digits.
+/// `Done`, and `length` is how many bytes it has; `Nothing` past the end of the list; `RoomTooSmall`; `BadValue`; or `NoHandle`.
+#[unsafe(no_mangle)]
+pub extern "C" fn gitwire_request_item(
+    alloc: Global,
+    request: &mut GitwireRequest,
+    list: u8,
+    index: usize,
+    room: &mut [u8],
+) -> GitwireTold
+    ensures { ItemIn (request_in request.old) list index room.old result room.new (request_in request.new) }
+{
+    let taken = replace(request, GitwireRequest::none(alloc));
+    let Some(machine) = taken.into_machine() else {
+        return GitwireTold::of(What::NoHandle);
+    };
+    let Machine::Request(inner) = &*machine else {
+        unreachable!()
+    };
+    let told = put_item(inner, list, index, room);
+    *request = GitwireRequest::of(machine);
+    told
+}
+
+/// Frees the request. The handle has none from then on.
+#[unsafe(no_mangle)]
+pub extern "C" fn gitwire_request_free(alloc: Global, request: &mut GitwireRequest)
+    ensures { request_in request.new ≡ None }
+{
+    drop(replace(request, GitwireRequest::none(alloc)));
+}

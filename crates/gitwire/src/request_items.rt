@@ -1,0 +1,67 @@
+//! The items of a request's lists, on their way to a room of C.
+
+ghost use Rattle.std.specs.Prelude.{◌≡◌, slice_get};
+ghost use Rattle.std.specs.Option.{option_copied, option_map};
+ghost use Rattle.git_names.specs.ObjectName.{hex_of};
+ghost use Rattle.git_msg.specs.HeldRequest.{asked_of};
+ghost use Rattle.gitwire.specs.Numbers.{item_lists};
+ghost use Rattle.gitwire.specs.RequestsTold.{PutsFrom, PutsItem, PutsText};
+
+use crate::numbers::ItemList;
+use crate::told::{GitwireTold, What};
+use git_msg::Request;
+use git_names::Oid;
+use std::alloc::Global;
+
+/// Writes the item at a place of the list of this number to the front of the room.
+pub(crate) fn put_item(
+    request: &Request<Global>,
+    list: u8,
+    index: usize,
+    room: &mut [u8],
+) -> GitwireTold
+    ensures { PutsFrom (slice_get item_lists list) (asked_of request.now) index room.old result room.new }
+{
+    let Some(list) = ItemList::numbered(list) else {
+        return GitwireTold::of(What::BadValue);
+    };
+    match list {
+        ItemList::RefPrefixes => put_text_if_any(request.ref_prefix(index), room),
+        ItemList::Wants => put_name_if_any(request.wants().get(index), room),
+        ItemList::Haves => put_name_if_any(request.haves().get(index), room),
+        ItemList::Shallows => put_name_if_any(request.shallows().get(index), room),
+        ItemList::DeepenNots => put_text_if_any(request.deepen_not(index), room),
+        ItemList::WantRefs => put_text_if_any(request.want_ref(index), room),
+        ItemList::Oids => put_name_if_any(request.oids().get(index), room),
+    }
+}
+
+fn put_text_if_any(text: Option<&[u8]>, room: &mut [u8]) -> GitwireTold
+    ensures { PutsItem (option_copied text.entry) room.old result room.new }
+{
+    match text {
+        Some(text) => put_text(text, room),
+        None => GitwireTold::of(What::Nothing),
+    }
+}
+
+fn put_name_if_any(id: Option<&Oid>, room: &mut [u8]) -> GitwireTold
+    ensures { PutsItem (option_map hex_of (option_copied id.entry)) room.old result room.new }
+{
+    let Some(id) = id else {
+        return GitwireTold::of(What::Nothing);
+    };
+    let mut digits = [0; 64];
+    let length = id.write(&mut digits);
+    put_text(&digits[..length], room)
+}
+
+fn put_text(text: &[u8], room: &mut [u8]) -> GitwireTold
+    ensures { PutsText text.now room.old result room.new }
+{
+    if room.len() < text.len() {
+        return GitwireTold::of(What::RoomTooSmall);
+    }
+    room[..text.len()].copy_from_slice(text);
+    GitwireTold::of_packet(0, 0, text.len(), What::Done)
+}

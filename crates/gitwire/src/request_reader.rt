@@ -1,0 +1,165 @@
+//! A reader of requests that C holds.
+
+ghost use Rattle.std.specs.Prelude.{◌≡◌, IsSomeAnd, MatchOption, None};
+ghost use Rattle.gitwire.specs.Handles.{request_in, request_reader_in};
+ghost use Rattle.gitwire.specs.Machines.{request_of};
+ghost use Rattle.gitwire.specs.RequestReaderTold.{ClosesIn, ClosesTold, FeedsIn, FeedsTold, Holds, MakesReader, MeanNoReader, MeanReader};
+
+use crate::handles::{GitwireRequest, GitwireRequestReader};
+use crate::machine::Machine;
+use crate::offer::GitwireOffer;
+use crate::request::MOST_LIMIT;
+use crate::told::{GitwireTold, What};
+use git_msg::{Command, Limits, ReadGot, ReadRequest, Request, RequestStream};
+use git_names::Format;
+use std::alloc::Global;
+use std::mem::replace;
+
+/// Makes the handle's reader a new one, which reads requests against this offer, with this limit on the bytes of a request's
+/// argument lines. What it had before is freed. `Done`; `BadValue`, and the handle stays as it was, where the offer's format is
+/// none or the limit is above 1,073,741,824; or `OutOfMemory`, and the handle has none.
+#[unsafe(no_mangle)]
+pub extern "C" fn gitwire_request_reader_new(
+    alloc: Global,
+    reader: &mut GitwireRequestReader,
+    offer: GitwireOffer,
+    limit: u32,
+) -> u8
+    ensures { MakesReader offer limit (request_reader_in reader.old) result (request_reader_in reader.new) }
+{
+    let Some(meant) = reader_meant(alloc, offer, limit) else {
+        return What::BadValue.number();
+    };
+    *reader = GitwireRequestReader::none(alloc);
+    let Ok(made) = Box::new(alloc, meant) else {
+        return What::OutOfMemory.number();
+    };
+    let Ok(made) = Box::new(alloc, Machine::RequestReader(made)) else {
+        return What::OutOfMemory.number();
+    };
+    *reader = GitwireRequestReader::of(made);
+    What::Done.number()
+}
+
+/// The reader that is meant; none where the offer has no format or the limit is more than one may be.
+fn reader_meant(alloc: Global, offer: GitwireOffer, limit: u32) -> Option<RequestStream<Global>>
+    ensures { MatchOption result (MeanNoReader offer limit) (MeanReader offer limit) }
+{
+    let Some(offer) = offer.meant() else {
+        return None;
+    };
+    if limit > MOST_LIMIT {
+        return None;
+    }
+    Some(RequestStream::new(alloc, offer, Limits { args: limit }))
+}
+
+/// Reads on, to the end of the next request. `Request`, and the handle for requests has it, in the place of what that had before;
+/// `More` with the whole piece used; `Stop` at a flush in the place of a request, after which nothing is read; `Failed` at the
+/// first fault, and again from then on; or `NoHandle`. A handle for requests that has none is given an empty one first;
+/// `OutOfMemory` where there is no memory for that, and then nothing was read.
+#[unsafe(no_mangle)]
+pub extern "C" fn gitwire_request_reader_feed(
+    alloc: Global,
+    reader: &mut GitwireRequestReader,
+    request: &mut GitwireRequest,
+    piece: &[u8],
+) -> GitwireTold
+    ensures { FeedsIn (request_reader_in reader.old) piece.now (request_in request.old) result (request_reader_in reader.new) (request_in request.new) }
+{
+    let taken = replace(reader, GitwireRequestReader::none(alloc));
+    let Some(mut machine) = taken.into_machine() else {
+        return GitwireTold::of(What::NoHandle);
+    };
+    let Some(mut held) = take_request(alloc, request) else {
+        *reader = GitwireRequestReader::of(machine);
+        return GitwireTold::of(What::OutOfMemory);
+    };
+    let Machine::RequestReader(inner) = &mut *machine else {
+        unreachable!()
+    };
+    let Machine::Request(asked) = &mut *held else {
+        unreachable!()
+    };
+    let told = feed(inner, piece, asked);
+    *reader = GitwireRequestReader::of(machine);
+    *request = GitwireRequest::of(held);
+    told
+}
+
+/// The request of the handle, or an empty one; none where there is no memory for that.
+fn take_request(alloc: Global, request: &mut GitwireRequest) -> Option<Box<Machine, Global>>
+    ensures request { MatchOption result (request_in request.old ≡ None)
+        (λ machine. IsSomeAnd (request_of machine.value) (Holds (request_in request.old))) }
+    ensures taken { request_in request.new ≡ None }
+{
+    let taken = replace(request, GitwireRequest::none(alloc));
+    if let Some(machine) = taken.into_machine() {
+        return Some(machine);
+    }
+    let empty = Request::new(alloc, Command::LsRefs, Format::Sha1, Limits { args: 0 });
+    match Box::new(alloc, Machine::Request(empty)) {
+        Ok(machine) => Some(machine),
+        Err(_) => None,
+    }
+}
+
+fn feed(
+    reader: &mut RequestStream<Global>,
+    piece: &[u8],
+    request: &mut Request<Global>,
+) -> GitwireTold
+    ensures { FeedsTold reader.old piece.now request.old result reader.new request.new }
+{
+    let ReadRequest { used, got } = reader.feed(piece);
+    match got {
+        ReadGot::More => GitwireTold::of_used(used, What::More),
+        ReadGot::Request(asked) => {
+            *request = asked;
+            GitwireTold::of_used(used, What::Request)
+        }
+        ReadGot::Stop => GitwireTold::of_used(used, What::Stop),
+        ReadGot::Failed(fault) => GitwireTold::of_fault(used, fault),
+    }
+}
+
+/// Tells that the input ends here. `Done` between two requests; `Failed` inside one, as `Truncated`; `NotNow`, and nothing
+/// changed, after a fault or a flush in the place of a request; or `NoHandle`.
+#[unsafe(no_mangle)]
+pub extern "C" fn gitwire_request_reader_close(
+    alloc: Global,
+    reader: &mut GitwireRequestReader,
+) -> GitwireTold
+    ensures { ClosesIn (request_reader_in reader.old) result (request_reader_in reader.new) }
+{
+    let taken = replace(reader, GitwireRequestReader::none(alloc));
+    let Some(mut machine) = taken.into_machine() else {
+        return GitwireTold::of(What::NoHandle);
+    };
+    let Machine::RequestReader(inner) = &mut *machine else {
+        unreachable!()
+    };
+    let told = close(inner);
+    *reader = GitwireRequestReader::of(machine);
+    told
+}
+
+fn close(reader: &mut RequestStream<Global>) -> GitwireTold
+    ensures { ClosesTold reader.old result reader.new }
+{
+    if !reader.wants_input() {
+        return GitwireTold::of(What::NotNow);
+    }
+    match reader.close() {
+        Ok(()) => GitwireTold::of(What::Done),
+        Err(fault) => GitwireTold::of_fault(0, fault),
+    }
+}
+
+/// Frees the reader. The handle has none from then on.
+#[unsafe(no_mangle)]
+pub extern "C" fn gitwire_request_reader_free(alloc: Global, reader: &mut GitwireRequestReader)
+    ensures { request_reader_in reader.new ≡ None }
+{
+    drop(replace(reader, GitwireRequestReader::none(alloc)));
+}

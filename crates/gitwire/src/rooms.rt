@@ -1,0 +1,27 @@
+//! Bytes that are given to C, at the front of the room that it lends.
+
+ghost use Rattle.gitwire.specs.Rooms.{Fills, Puts};
+
+use crate::told::{GitwireTold, What};
+
+/// Copies the bytes to the front of the room, and says how many they are; or 0, and nothing is written, where the room is too
+/// small.
+pub(crate) fn put_bytes(bytes: &[u8], room: &mut [u8]) -> usize
+    ensures { Puts bytes.now room.old result room.new }
+{
+    if bytes.len() > room.len() {
+        return 0;
+    }
+    room[..bytes.len()].copy_from_slice(bytes);
+    bytes.len()
+}
+
+/// Copies the bytes to the front of the room, and tells how many they are, or that it is too small.
+pub(crate) fn fill(bytes: &[u8], room: &mut [u8]) -> GitwireTold
+    ensures { Fills bytes.now room.old result room.new }
+{
+    if room.len() < bytes.len() {
+        return GitwireTold::of(What::RoomTooSmall);
+    }
+    GitwireTold::of_packet(0, 0, put_bytes(bytes, room), What::Done)
+}

@@ -1,0 +1,191 @@
+//! A server that C holds.
+
+ghost use Rattle.std.specs.Prelude.{◌≡◌, None, MatchResult};
+ghost use Rattle.gitwire.specs.Handles.{repository_in, server_in};
+ghost use Rattle.gitwire.specs.Machines.{server_of};
+ghost use Rattle.gitwire.specs.ServerTold.{Begins, BeginsOver, ClosesIn, ClosesTold, FeedsIn, FeedsTold, PullsIn, PullsInRoom};
+ghost use Rattle.gitwire.specs.Told.{what_number};
+
+use crate::handles::{GitwireRepository, GitwireServer};
+use crate::machine::Machine;
+use crate::told::{GitwireTold, What};
+use git_msg::{Limits, Offer};
+use git_pkt::LONGEST_PACKET;
+use git_server::{Outcome, Pulled, Repo, Server, SharedRepo};
+use std::alloc::Global;
+use std::mem::replace;
+
+/// How much a request may keep at the most.
+const MOST_KEPT: u32 = 1_073_741_824;
+
+/// Makes the handle's server a new one over the repository, which stays the handle's own. It offers all that the protocol has,
+/// keeps at most `limit` bytes of a request's arguments, and gives the advertisement first where `advertise` is set. What it had
+/// before is freed. `Done`; or `NoHandle` where there is no repository, `BadValue` where the limit is above 1,073,741,824, or
+/// `OutOfMemory`, and the handle has none.
+#[unsafe(no_mangle)]
+pub extern "C" fn gitwire_server_new(
+    alloc: Global,
+    server: &mut GitwireServer,
+    repository: &mut GitwireRepository,
+    limit: u32,
+    advertise: bool,
+) -> u8
+    ensures begins { BeginsOver (repository_in repository.old) limit advertise result (server_in server.new) }
+    ensures stays { repository_in repository.new ≡ repository_in repository.old }
+{
+    *server = GitwireServer::none(alloc);
+    let taken = replace(repository, GitwireRepository::none(alloc));
+    let Some(machine) = taken.into_machine() else {
+        return What::NoHandle.number();
+    };
+    let Machine::Repository(shared) = &*machine else {
+        unreachable!()
+    };
+    let made = begin(alloc, shared, limit, advertise);
+    *repository = GitwireRepository::of(machine);
+    match made {
+        Ok(made) => {
+            *server = GitwireServer::of(made);
+            What::Done.number()
+        }
+        Err(what) => what.number(),
+    }
+}
+
+fn begin(
+    alloc: Global,
+    repo: &SharedRepo,
+    limit: u32,
+    advertise: bool,
+) -> Result<Box<Machine, Global>, What>
+    ensures { MatchResult result (λ made. Begins repo.now limit advertise (what_number What.Done) (server_of made.value))
+        (λ what. Begins repo.now limit advertise (what_number what) None) }
+{
+    if limit > MOST_KEPT {
+        return Err(What::BadValue);
+    }
+    let offer = Offer {
+        format: repo.format(),
+        shallow: true,
+        ref_in_want: true,
+        object_info: true,
+        server_option: true,
+    };
+    let Ok(shared) = repo.share() else {
+        return Err(What::OutOfMemory);
+    };
+    let server = Server::new(alloc, shared, offer, Limits { args: limit }, advertise);
+    let Ok(server) = Box::new(alloc, server) else {
+        return Err(What::OutOfMemory);
+    };
+    let Ok(made) = Box::new(alloc, Machine::Server(server)) else {
+        return Err(What::OutOfMemory);
+    };
+    Ok(made)
+}
+
+/// Takes bytes of the input: all of them, or those up to the end of a request, a flush in the place of one, or a fault. None is
+/// used while a packet waits to be pulled, nor after the end. `More`, and how many were used; or `NoHandle`.
+#[unsafe(no_mangle)]
+pub extern "C" fn gitwire_server_feed(
+    alloc: Global,
+    server: &mut GitwireServer,
+    piece: &[u8],
+) -> GitwireTold
+    ensures { FeedsIn (server_in server.old) piece.now result (server_in server.new) }
+{
+    let taken = replace(server, GitwireServer::none(alloc));
+    let Some(mut machine) = taken.into_machine() else {
+        return GitwireTold::of(What::NoHandle);
+    };
+    let Machine::Server(inner) = &mut *machine else {
+        unreachable!()
+    };
+    let told = feed(inner, piece);
+    *server = GitwireServer::of(machine);
+    told
+}
+
+fn feed(server: &mut Server<SharedRepo, Global>, piece: &[u8]) -> GitwireTold
+    ensures { FeedsTold server.old piece.now result server.new }
+{
+    let used = server.feed(piece);
+    GitwireTold::of_used(used, What::More)
+}
+
+/// Tells that the input ends here. `Done`; `NotNow` where the server does not wait for bytes, and nothing changed; or `NoHandle`.
+#[unsafe(no_mangle)]
+pub extern "C" fn gitwire_server_close(alloc: Global, server: &mut GitwireServer) -> u8
+    ensures { ClosesIn (server_in server.old) result (server_in server.new) }
+{
+    let taken = replace(server, GitwireServer::none(alloc));
+    let Some(mut machine) = taken.into_machine() else {
+        return What::NoHandle.number();
+    };
+    let Machine::Server(inner) = &mut *machine else {
+        unreachable!()
+    };
+    let told = close(inner);
+    *server = GitwireServer::of(machine);
+    told
+}
+
+fn close(server: &mut Server<SharedRepo, Global>) -> u8
+    ensures { ClosesTold server.old result server.new }
+{
+    if !server.wants_input() {
+        return What::NotNow.number();
+    }
+    server.close();
+    What::Done.number()
+}
+
+/// The next packet to be sent, copied to the front of the room, or what to do in its place. `Packet`, `NeedInput`, `EndedByFlush`,
+/// `EndedByClose` or `Failed`; `NoHandle`; and `RoomTooSmall` where the room has less than 65,520 bytes.
+#[unsafe(no_mangle)]
+pub extern "C" fn gitwire_server_pull(
+    alloc: Global,
+    server: &mut GitwireServer,
+    room: &mut [u8],
+) -> GitwireTold
+    ensures { PullsIn (server_in server.old) room.old result room.new (server_in server.new) }
+{
+    let taken = replace(server, GitwireServer::none(alloc));
+    let Some(mut machine) = taken.into_machine() else {
+        return GitwireTold::of(What::NoHandle);
+    };
+    let Machine::Server(inner) = &mut *machine else {
+        unreachable!()
+    };
+    let told = pull(inner, room);
+    *server = GitwireServer::of(machine);
+    told
+}
+
+fn pull(server: &mut Server<SharedRepo, Global>, room: &mut [u8]) -> GitwireTold
+    ensures { PullsInRoom server.old room.old result room.new server.new }
+{
+    if room.len() < LONGEST_PACKET {
+        return GitwireTold::of(What::RoomTooSmall);
+    }
+    match server.pull() {
+        Pulled::NeedInput => GitwireTold::of(What::NeedInput),
+        Pulled::Packet(bytes) => {
+            room[..bytes.len()].copy_from_slice(bytes);
+            GitwireTold::of_packet(0, 0, bytes.len(), What::Packet)
+        }
+        Pulled::Finished(outcome) => match outcome {
+            Outcome::Flush => GitwireTold::of(What::EndedByFlush),
+            Outcome::Closed => GitwireTold::of(What::EndedByClose),
+            Outcome::Refused(fault) => GitwireTold::of_fault(0, fault),
+        },
+    }
+}
+
+/// Frees the server. The handle has none from then on.
+#[unsafe(no_mangle)]
+pub extern "C" fn gitwire_server_free(alloc: Global, server: &mut GitwireServer)
+    ensures { server_in server.new ≡ None }
+{
+    drop(replace(server, GitwireServer::none(alloc)));
+}

@@ -1,0 +1,129 @@
+//! Packets of any subject, written for C.
+
+ghost use Rattle.std.specs.Prelude.{◌≡◌, ◌≢◌, ◌≤◌, ◌++◌, MatchOption, length};
+ghost use Rattle.git_pkt.specs.Bands.{byte_of};
+ghost use Rattle.git_pkt.specs.declared.band.Band.{Band as SideBand};
+ghost use Rattle.gitwire.specs.Offers.{offer_meant};
+ghost use Rattle.gitwire.specs.WrittenForC.{Advertises, Makes, MeansBand, MeansError, MeansLine, MeansPacket, Writes};
+
+use crate::offer::GitwireOffer;
+use crate::packets::LONGEST_PAYLOAD;
+use crate::rooms::fill;
+use crate::told::{GitwireTold, What};
+use crate::written::{Unwritten, hand_out};
+use git_msg::put_line;
+use git_pkt::{Band, Hold, Kind, Packet, put, put_band};
+use git_server::put_advertisement;
+
+/// Writes a packet to the front of the room. Its kind is the number of PAYLOAD, FLUSH, DELIM or RESPONSE_END, of which only
+/// a PAYLOAD has bytes: another number, or bytes where there are none, are BadValue. More than 65,516 bytes are TooLong.
+#[tactic(auto, using(crate::proofs::Handing::writes))]
+#[unsafe(no_mangle)]
+pub extern "C" fn gitwire_put_packet(kind: u8, payload: &[u8], room: &mut [u8]) -> GitwireTold
+    ensures { Writes (MeansPacket kind payload.now) room.old result room.new }
+{
+    let mut hold = Hold::new();
+    let made = make_packet(&mut hold, kind, payload);
+    hand_out(made, &hold, room)
+}
+
+/// Writes a packet with these bytes on a band, 1, 2 or 3, to the front of the room. Another number is BadValue, and then
+/// more than 65,515 bytes are TooLong.
+#[tactic(auto, using(crate::proofs::Handing::writes))]
+#[unsafe(no_mangle)]
+pub extern "C" fn gitwire_put_band(band: u8, bytes: &[u8], room: &mut [u8]) -> GitwireTold
+    ensures { Writes (MeansBand band bytes.now) room.old result room.new }
+{
+    let mut hold = Hold::new();
+    let made = make_band(&mut hold, band, bytes);
+    hand_out(made, &hold, room)
+}
+
+/// Writes the packet of a line to the front of the room: the text and LF. More than 65,515 bytes are BadLine.
+#[tactic(auto, using(crate::proofs::Handing::writes))]
+#[unsafe(no_mangle)]
+pub extern "C" fn gitwire_put_line(text: &[u8], room: &mut [u8]) -> GitwireTold
+    ensures { Writes (MeansLine text.now) room.old result room.new }
+{
+    let mut hold = Hold::new();
+    let made = make_line(&mut hold, b"", text);
+    hand_out(made, &hold, room)
+}
+
+/// Writes an error packet, gitprotocol-pack(5), to the front of the room: `ERR `, the text and LF. More than 65,511 bytes
+/// are BadLine.
+#[tactic(auto, using(crate::proofs::Handing::writes))]
+#[unsafe(no_mangle)]
+pub extern "C" fn gitwire_put_error(text: &[u8], room: &mut [u8]) -> GitwireTold
+    ensures { Writes (MeansError text.now) room.old result room.new }
+{
+    let mut hold = Hold::new();
+    let made = make_line(&mut hold, b"ERR ", text);
+    hand_out(made, &hold, room)
+}
+
+/// Writes the whole advertisement of an offer, packet after packet to its flush, to the front of the room: fewer than 200
+/// bytes. An object format that is none is BadValue.
+#[unsafe(no_mangle)]
+pub extern "C" fn gitwire_put_advertisement(offer: GitwireOffer, room: &mut [u8]) -> GitwireTold
+    ensures { Advertises (offer_meant offer) room.old result room.new }
+{
+    let Some(offer) = offer.meant() else {
+        return GitwireTold::of(What::BadValue);
+    };
+    let mut hold = Hold::new();
+    put_advertisement(&mut hold, &offer);
+    fill(hold.as_slice(), room)
+}
+
+fn make_packet(hold: &mut Hold, kind: u8, payload: &[u8]) -> Result<(), Unwritten>
+    ensures { Makes (MeansPacket kind payload.now) result hold.new.items }
+{
+    let packet = match (kind, payload) {
+        (9, _) => Packet::Payload(payload),
+        (10, []) => Packet::Flush,
+        (11, []) => Packet::Delim,
+        (12, []) => Packet::RespEnd,
+        _ => return Err(Unwritten::BadValue),
+    };
+    if payload.len() > LONGEST_PAYLOAD {
+        return Err(Unwritten::Refused(Kind::TooLong));
+    }
+    put(hold, packet);
+    Ok(())
+}
+
+fn make_band(hold: &mut Hold, band: u8, bytes: &[u8]) -> Result<(), Unwritten>
+    ensures { Makes (MeansBand band bytes.now) result hold.new.items }
+{
+    let Some(band) = band_numbered(band) else {
+        return Err(Unwritten::BadValue);
+    };
+    if bytes.len() >= LONGEST_PAYLOAD {
+        return Err(Unwritten::Refused(Kind::TooLong));
+    }
+    put_band(hold, band, bytes);
+    Ok(())
+}
+
+fn band_numbered(number: u8) -> Option<Band>
+    ensures { MatchOption result ((band : SideBand) → number ≢ byte_of band) (λ band. number ≡ byte_of band) }
+{
+    match number {
+        1 => Some(Band::Pack),
+        2 => Some(Band::Progress),
+        3 => Some(Band::Fatal),
+        _ => None,
+    }
+}
+
+fn make_line(hold: &mut Hold, word: &[u8], text: &[u8]) -> Result<(), Unwritten>
+    requires { length word.now ≤ 4 }
+    ensures { Makes (MeansLine (word.now ++ text.now)) result hold.new.items }
+{
+    if word.len() + text.len() >= LONGEST_PAYLOAD {
+        return Err(Unwritten::Refused(Kind::BadLine));
+    }
+    put_line(hold, word, text);
+    Ok(())
+}

@@ -1,0 +1,39 @@
+//! A packet on its way to a room of C, or why there is none.
+
+ghost use Rattle.std.specs.Prelude.{◌≡◌, IfErr, OnOk};
+ghost use Rattle.gitwire.specs.Rooms.{Fills};
+ghost use Rattle.gitwire.specs.WrittenForC.{refused_name, telling_why};
+
+use crate::rooms::fill;
+use crate::told::{GitwireTold, What};
+use git_names::NameFault;
+use git_pkt::{Fault, Hold, Kind};
+
+/// Why values that C gives mean no packet.
+#[derive(Clone, Copy, Debug)]
+pub(crate) enum Unwritten {
+    /// A number stands for nothing.
+    BadValue,
+    /// A text is none of the packet's kind, by this name.
+    Refused(Kind),
+}
+
+impl From<NameFault> for Unwritten {
+    ghost from_gives = { λ fault why. why ≡ refused_name fault };
+
+    fn from(fault: NameFault) -> Unwritten {
+        Unwritten::Refused(Kind::from(fault))
+    }
+}
+
+/// Copies the packet that was made to the front of the room, or tells why there is none.
+pub(crate) fn hand_out(made: Result<(), Unwritten>, hold: &Hold, room: &mut [u8]) -> GitwireTold
+    ensures made { OnOk made (Fills hold.now.items room.old result room.new) }
+    ensures unwritten { IfErr made (λ why. (result ≡ telling_why why) × (room.new ≡ room.old)) }
+{
+    match made {
+        Ok(()) => fill(hold.as_slice(), room),
+        Err(Unwritten::BadValue) => GitwireTold::of(What::BadValue),
+        Err(Unwritten::Refused(kind)) => GitwireTold::of_fault(0, Fault { kind, offset: 0 }),
+    }
+}

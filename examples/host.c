@@ -1,0 +1,223 @@
+/*
+ * A server of a host that keeps its references in its own way, on standard input and output:
+ *
+ *     host REFERENCES PACK
+ *
+ * REFERENCES is a text of lines `ID NAME`, and PACK the pack that whoever fetches gets, whatever is wanted. The library hears
+ * whole requests, and checks and writes each line of what is answered; what is answered is this program's own. A line of
+ * REFERENCES that no answer may have is told, and left out.
+ *
+ *     git -c protocol.ext.allow=always clone "ext::host REFERENCES PACK" CLONE
+ */
+#include <gitwire.h>
+
+#include <stdio.h>
+#include <stdlib.h>
+#include <string.h>
+#include <unistd.h>
+
+static const gitwire_offer offer = { .format = GITWIRE_SHA1, .server_option = true };
+static uint8_t room[GITWIRE_PACKET_ROOM];
+
+struct text {
+	uint8_t *at;
+	size_t length;
+};
+
+static struct text references, pack;
+
+static void stop(const char *what)
+{
+	fprintf(stderr, "host: %s\n", what);
+	exit(1);
+}
+
+/* Tells a fault by its name and offset. */
+static void tell(const char *what, gitwire_told told)
+{
+	uint8_t text[GITWIRE_FAULT_TEXT_ROOM];
+	size_t length = gitwire_fault_text(told.fault, told.offset, text, sizeof text);
+
+	fprintf(stderr, "host: %s: %.*s\n", what, (int)length, (const char *)text);
+}
+
+/* Sends the packet in the room, and says whether there is one. */
+static bool give(gitwire_told told)
+{
+	if (told.kind != GITWIRE_DONE)
+		return false;
+	if (fwrite(room, 1, told.length, stdout) != told.length)
+		stop("the answer cannot be written");
+	return true;
+}
+
+static void give_line(const char *text)
+{
+	give(gitwire_put_line((const uint8_t *)text, strlen(text), room, sizeof room));
+}
+
+static void give_flush(void)
+{
+	give(gitwire_put_packet(GITWIRE_FLUSH, NULL, 0, room, sizeof room));
+}
+
+/* The next line of a text, without its LF; false at the end. */
+static bool next_line(struct text *rest, struct text *line)
+{
+	uint8_t *end;
+
+	if (rest->length == 0)
+		return false;
+	end = memchr(rest->at, '\n', rest->length);
+	*line = (struct text){ rest->at, end ? (size_t)(end - rest->at) : rest->length };
+	rest->at += line->length + (end != NULL);
+	rest->length -= line->length + (end != NULL);
+	return true;
+}
+
+/* Whether a request asks for a reference of this name: no prefix is every reference. */
+static bool is_asked(gitwire_request *request, struct text name)
+{
+	gitwire_told prefix;
+	size_t i = 0;
+
+	for (;; i++) {
+		prefix = gitwire_request_item(request, GITWIRE_LIST_REF_PREFIXES, i, room, sizeof room);
+		if (prefix.kind != GITWIRE_DONE)
+			return i == 0;
+		if (prefix.length <= name.length && memcmp(room, name.at, prefix.length) == 0)
+			return true;
+	}
+}
+
+static void answer_references(gitwire_request *request)
+{
+	struct text rest = references, line, name;
+	uint8_t *space;
+
+	while (next_line(&rest, &line)) {
+		space = memchr(line.at, ' ', line.length);
+		if (space == NULL)
+			continue;
+		name.at = space + 1;
+		name.length = line.length - (size_t)(name.at - line.at);
+		if (!is_asked(request, name))
+			continue;
+		gitwire_told told = gitwire_put_reference(offer.format, line.at, (size_t)(space - line.at), name.at, name.length,
+			NULL, 0, NULL, 0, room, sizeof room);
+		if (!give(told))
+			tell("a reference is left out", told);
+	}
+	give_flush();
+}
+
+/* The whole pack, or, as long as the client looks for what is common, that nothing is. */
+static void answer_fetch(gitwire_request *request)
+{
+	const size_t most = GITWIRE_PAYLOAD_ROOM - 1; /* a byte says which band it is */
+	gitwire_told have = gitwire_request_item(request, GITWIRE_LIST_HAVES, 0, room, sizeof room);
+
+	if (have.kind == GITWIRE_DONE && !gitwire_request_flag(request, GITWIRE_FLAG_DONE)) {
+		give_line("acknowledgments");
+		give_line("NAK");
+		give_flush();
+		return;
+	}
+	give_line("packfile");
+	for (size_t at = 0; at < pack.length; at += most) {
+		size_t part = pack.length - at < most ? pack.length - at : most;
+
+		give(gitwire_put_band(GITWIRE_BAND_PACK, pack.at + at, part, room, sizeof room));
+	}
+	give_flush();
+}
+
+/* What is wrong, to the other end and to this one. An error packet is not answered by another. */
+static int refuse(gitwire_told told)
+{
+	uint8_t text[GITWIRE_FAULT_TEXT_ROOM];
+	size_t length = gitwire_fault_text(told.fault, told.offset, text, sizeof text);
+
+	if (told.fault != GITWIRE_FAULT_REMOTE_ERROR)
+		give(gitwire_put_error(text, length, room, sizeof room));
+	fflush(stdout);
+	tell("refused", told);
+	return 1;
+}
+
+static void answer(gitwire_request *request)
+{
+	if (gitwire_request_command(request).offset == GITWIRE_LS_REFS)
+		answer_references(request);
+	else
+		answer_fetch(request);
+	if (fflush(stdout) != 0)
+		stop("the answer cannot be written");
+}
+
+/* Hears requests until the other end leaves, and answers the program's status. */
+static int serve(gitwire_request_reader *reader, gitwire_request *request)
+{
+	static uint8_t piece[4096];
+	gitwire_told told;
+	ssize_t length;
+
+	while ((length = read(STDIN_FILENO, piece, sizeof piece)) > 0) {
+		for (size_t used = 0; used < (size_t)length; used += told.used) {
+			told = gitwire_request_reader_feed(reader, request, piece + used, (size_t)length - used);
+			if (told.kind == GITWIRE_REQUEST)
+				answer(request);
+			else if (told.kind == GITWIRE_STOP)
+				return 0;
+			else if (told.kind == GITWIRE_FAILED)
+				return refuse(told);
+			else if (told.kind != GITWIRE_MORE)
+				stop("no memory");
+		}
+	}
+	told = gitwire_request_reader_close(reader);
+	return told.kind == GITWIRE_FAILED ? refuse(told) : 0;
+}
+
+static struct text read_file(const char *name)
+{
+	FILE *file = fopen(name, "rb");
+	struct text text = { NULL, 0 };
+	size_t size = 0;
+
+	if (file == NULL)
+		stop("a file cannot be opened");
+	for (; text.length == size; text.length += fread(text.at + text.length, 1, size - text.length, file)) {
+		size = 2 * size + 65536;
+		text.at = realloc(text.at, size);
+		if (text.at == NULL)
+			stop("no memory");
+	}
+	if (ferror(file) || fclose(file) != 0)
+		stop("a file cannot be read");
+	return text;
+}
+
+int main(int count, char **words)
+{
+	gitwire_request_reader reader = GITWIRE_NONE;
+	gitwire_request request = GITWIRE_NONE;
+
+	if (count != 3) {
+		fputs("usage: host REFERENCES PACK\n", stderr);
+		return 2;
+	}
+	references = read_file(words[1]);
+	pack = read_file(words[2]);
+	if (gitwire_request_reader_new(&reader, offer, GITWIRE_USUAL_LIMIT) != GITWIRE_DONE)
+		stop("no memory");
+	give(gitwire_put_advertisement(offer, room, sizeof room));
+	if (fflush(stdout) != 0)
+		stop("the answer cannot be written");
+	int status = serve(&reader, &request);
+	gitwire_request_free(&request);
+	gitwire_request_reader_free(&reader);
+	free(references.at);
+	free(pack.at);
+	return status;
+}

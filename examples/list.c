@@ -1,0 +1,188 @@
+/*
+ * Asks `git upload-pack` for the references of a repository, through two pipes, and prints what `git ls-remote --symref` does:
+ *
+ *     list [--sha256] FOLDER [PREFIX..]
+ *
+ * Those alone are asked for whose names begin with one of the prefixes.
+ */
+#include <gitwire.h>
+
+#include <signal.h>
+#include <stdio.h>
+#include <stdlib.h>
+#include <string.h>
+#include <sys/wait.h>
+#include <unistd.h>
+
+static uint8_t room[GITWIRE_PACKET_ROOM];
+
+static int tell(const char *what)
+{
+	fprintf(stderr, "list: %s\n", what);
+	return 1;
+}
+
+/* The server as a process of its own, which hears on `*to`, and speaks on `*from`. */
+static pid_t start_server(const char *folder, int *to, int *from)
+{
+	int asked[2], answered[2];
+	pid_t server;
+
+	if (pipe(asked) != 0 || pipe(answered) != 0)
+		return -1;
+	server = fork();
+	if (server == 0) {
+		dup2(asked[0], STDIN_FILENO);
+		dup2(answered[1], STDOUT_FILENO);
+		close(asked[1]);
+		close(answered[0]);
+		setenv("GIT_PROTOCOL", "version=2", 1);
+		execlp("git", "git", "upload-pack", folder, (char *)NULL);
+		_exit(127);
+	}
+	signal(SIGPIPE, SIG_IGN); /* a server that is gone is told by a write that fails */
+	close(asked[0]);
+	close(answered[1]);
+	*to = asked[1];
+	*from = answered[0];
+	return server;
+}
+
+static bool write_all(int to, const uint8_t *bytes, size_t length)
+{
+	while (length > 0) {
+		ssize_t written = write(to, bytes, length);
+		if (written <= 0)
+			return false;
+		bytes += written;
+		length -= (size_t)written;
+	}
+	return true;
+}
+
+/* Adds an argument of a word and a value. */
+static bool add(gitwire_request *request, const char *word, const char *value)
+{
+	char line[32100];
+	int length = snprintf(line, sizeof line, "%s%s", word, value);
+
+	return length >= 0 && (size_t)length < sizeof line
+		&& gitwire_request_add(request, (const uint8_t *)line, (size_t)length).kind == GITWIRE_DONE;
+}
+
+/* Makes the request: the references of these prefixes, with what symbolic ones point to and what tags stand for. */
+static bool make_request(gitwire_request *request, uint8_t format, char **prefixes)
+{
+	if (gitwire_request_new(request, GITWIRE_LS_REFS, format, GITWIRE_USUAL_LIMIT) != GITWIRE_DONE)
+		return false;
+	if (!add(request, "peel", "") || !add(request, "symrefs", ""))
+		return false;
+	for (; *prefixes != NULL; prefixes++)
+		if (!add(request, "ref-prefix ", *prefixes))
+			return false;
+	return true;
+}
+
+/* Prints a reference, whose parts lie in the room one after another. */
+static void show(gitwire_event event)
+{
+	const char *id = (const char *)room, *name = id + event.id_length, *target = name + event.name_length;
+	const char *peeled = target + event.text_length;
+	int id_length = (int)event.id_length, name_length = (int)event.name_length;
+
+	if (event.has_text)
+		printf("ref: %.*s\t%.*s\n", (int)event.text_length, target, name_length, name);
+	printf("%.*s\t%.*s\n", id_length, id, name_length, name);
+	if (event.peeled_length > 0)
+		printf("%.*s\t%.*s^{}\n", (int)event.peeled_length, peeled, name_length, name);
+}
+
+/* Tells why the conversation was refused, and what the server said of it. */
+static int refuse(gitwire_client *client, gitwire_told told)
+{
+	uint8_t text[GITWIRE_FAULT_TEXT_ROOM];
+	size_t length = gitwire_fault_text(told.fault, told.offset, text, sizeof text);
+	gitwire_told message = gitwire_client_message(client, room, sizeof room);
+
+	fflush(stdout);
+	fprintf(stderr, "list: %.*s", (int)length, (const char *)text);
+	if (message.kind == GITWIRE_DONE)
+		fprintf(stderr, ": %.*s", (int)message.length, (const char *)room);
+	fputc('\n', stderr);
+	return 1;
+}
+
+/* Does what is to be done next, until all was said and heard. Answers the program's status. */
+static int converse(gitwire_client *client, gitwire_request *request, int to, int from)
+{
+	static uint8_t piece[65536];
+	size_t used = 0, length = 0;
+	ssize_t count;
+	gitwire_told told;
+	gitwire_event event;
+
+	for (;;) {
+		told = gitwire_client_pull(client, room, sizeof room);
+		switch (told.kind) {
+		case GITWIRE_PACKET:
+			if (!write_all(to, room, told.length))
+				return tell("the server cannot be written to");
+			break;
+		case GITWIRE_CAN_ASK:
+			/* A client keeps the request that it is asking, and then its handle has nothing. */
+			told = gitwire_client_ask(client, request);
+			if (told.kind == GITWIRE_NO_HANDLE)
+				gitwire_client_leave(client);
+			else if (told.kind != GITWIRE_DONE)
+				return refuse(client, told);
+			break;
+		case GITWIRE_NEED_INPUT:
+			if (used == length) {
+				count = read(from, piece, sizeof piece);
+				if (count <= 0)
+					return refuse(client, gitwire_client_close(client));
+				used = 0;
+				length = (size_t)count;
+			}
+			event = gitwire_client_feed(client, piece + used, length - used, room, sizeof room);
+			used += event.used;
+			if (event.kind == GITWIRE_REFERENCE)
+				show(event);
+			break;
+		case GITWIRE_FINISHED:
+			return 0;
+		default:
+			return refuse(client, told);
+		}
+	}
+}
+
+int main(int count, char **words)
+{
+	bool is_sha256 = count > 1 && strcmp(words[1], "--sha256") == 0;
+	uint8_t format = is_sha256 ? GITWIRE_SHA256 : GITWIRE_SHA1;
+	gitwire_client client = GITWIRE_NONE;
+	gitwire_request request = GITWIRE_NONE;
+	int to, from, status;
+
+	words += 1 + is_sha256;
+	if (*words == NULL) {
+		fputs("usage: list [--sha256] FOLDER [PREFIX..]\n", stderr);
+		return 2;
+	}
+	if (gitwire_client_new(&client, format, GITWIRE_ENDS_BY_FLUSH) != GITWIRE_DONE)
+		return tell("no memory");
+	if (!make_request(&request, format, words + 1))
+		status = tell("a prefix is too long");
+	else if (start_server(*words, &to, &from) < 0)
+		status = tell("no server");
+	else {
+		status = converse(&client, &request, to, from);
+		close(to);
+		close(from);
+		wait(NULL);
+	}
+	gitwire_request_free(&request);
+	gitwire_client_free(&client);
+	return fflush(stdout) != 0 ? 1 : status;
+}

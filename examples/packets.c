@@ -1,0 +1,97 @@
+/*
+ * Lists the packets of standard input, a line for each, as `git2show show` does: its offset, its kind, and the length and
+ * bytes of its payload. The first malformed packet is told by name and offset, and ends it.
+ *
+ *     packets [PIECE]
+ *
+ * PIECE is how many bytes are read at a time: 65,536 at the most, and where it is left out.
+ */
+#include <gitwire.h>
+
+#include <inttypes.h>
+#include <stdio.h>
+#include <stdlib.h>
+
+#define MOST_PIECE 65536
+
+static void show_bytes(const uint8_t *bytes, size_t length)
+{
+	for (size_t i = 0; i < length; i++) {
+		if (bytes[i] == '\n')
+			fputs("\\n", stdout);
+		else if (bytes[i] == '\\')
+			fputs("\\\\", stdout);
+		else if (bytes[i] >= 0x20 && bytes[i] <= 0x7e)
+			putchar(bytes[i]);
+		else
+			printf("\\x%02x", bytes[i]);
+	}
+}
+
+static void show(gitwire_told packet, const uint8_t *payload)
+{
+	printf("%" PRIu64 " ", packet.offset);
+	switch (packet.kind) {
+	case GITWIRE_FLUSH:
+		puts("flush");
+		return;
+	case GITWIRE_DELIM:
+		puts("delim");
+		return;
+	case GITWIRE_RESPONSE_END:
+		puts("end");
+		return;
+	}
+	printf("data %zu%s", packet.length, packet.length > 0 ? " " : "");
+	show_bytes(payload, packet.length);
+	putchar('\n');
+}
+
+/* Tells a fault by its name and offset. */
+static int refuse(gitwire_told told)
+{
+	uint8_t text[GITWIRE_FAULT_TEXT_ROOM];
+	size_t length = gitwire_fault_text(told.fault, told.offset, text, sizeof text);
+
+	fflush(stdout);
+	fprintf(stderr, "packets: %.*s\n", (int)length, (const char *)text);
+	return 1;
+}
+
+/* Lists all packets, and answers the program's status. */
+static int list(gitwire_packet_reader *reader, size_t most)
+{
+	static uint8_t piece[MOST_PIECE], room[GITWIRE_PAYLOAD_ROOM];
+	gitwire_told told;
+	size_t length;
+
+	while ((length = fread(piece, 1, most, stdin)) > 0) {
+		for (size_t used = 0; used < length; used += told.used) {
+			told = gitwire_packet_reader_feed(reader, piece + used, length - used, room, sizeof room);
+			if (told.kind == GITWIRE_FAILED)
+				return refuse(told);
+			if (told.kind != GITWIRE_MORE)
+				show(told, room);
+		}
+	}
+	told = gitwire_packet_reader_close(reader);
+	return told.kind == GITWIRE_DONE ? 0 : refuse(told);
+}
+
+int main(int count, char **words)
+{
+	size_t most = count > 1 ? strtoul(words[1], NULL, 10) : MOST_PIECE;
+	gitwire_packet_reader reader = GITWIRE_NONE;
+
+	if (most < 1 || most > MOST_PIECE) {
+		fputs("usage: packets [PIECE]\n", stderr);
+		return 2;
+	}
+	if (gitwire_packet_reader_new(&reader) != GITWIRE_DONE) {
+		fputs("packets: no memory\n", stderr);
+		return 1;
+	}
+	int status = list(&reader, most);
+	gitwire_packet_reader_free(&reader);
+	return ferror(stdin) || fflush(stdout) != 0 ? 1 : status;
+}

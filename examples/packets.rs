@@ -1,0 +1,165 @@
+//! Lists the packets of standard input, as `packets.c` does, from Rust:
+//!
+//!     rustc -O --edition 2021 packets.rs -L native=FOLDER -l static=gitwire
+//!
+//! where FOLDER has the installed `libgitwire.a`. The declarations are those of `gitwire.h`.
+use std::ffi::c_void;
+use std::io::{self, Read, Write};
+use std::process::ExitCode;
+use std::ptr;
+
+const PAYLOAD_ROOM: usize = 65_516;
+const MOST_PIECE: usize = 65_536;
+
+const DONE: u8 = 0;
+const MORE: u8 = 1;
+const FAILED: u8 = 2;
+const FLUSH: u8 = 10;
+const DELIM: u8 = 11;
+const RESPONSE_END: u8 = 12;
+
+#[repr(C)]
+struct Handle {
+    at: *mut c_void,
+    is_made: bool,
+}
+
+#[repr(C)]
+#[derive(Clone, Copy)]
+struct Told {
+    used: usize,
+    offset: u64,
+    length: usize,
+    kind: u8,
+    fault: u8,
+}
+
+extern "C" {
+    fn gitwire_packet_reader_new(reader: *mut Handle) -> u8;
+    fn gitwire_packet_reader_feed(
+        reader: *mut Handle,
+        piece: *const u8,
+        piece_length: usize,
+        room: *mut u8,
+        room_length: usize,
+    ) -> Told;
+    fn gitwire_packet_reader_close(reader: *mut Handle) -> Told;
+    fn gitwire_packet_reader_free(reader: *mut Handle);
+    fn gitwire_fault_text(fault: u8, offset: u64, room: *mut u8, room_length: usize) -> usize;
+}
+
+/// A reader of packets. It is neither copied nor shared, and is freed once: what the header asks of a caller.
+struct PacketReader(Handle);
+
+impl PacketReader {
+    fn new() -> Option<Self> {
+        let mut handle = Handle {
+            at: ptr::null_mut(),
+            is_made: false,
+        };
+        (unsafe { gitwire_packet_reader_new(&mut handle) } == DONE).then_some(Self(handle))
+    }
+
+    /// Reads on, and leaves a payload at the front of the room. A slice is never null, nor do two that are lent at once overlap.
+    fn feed(&mut self, piece: &[u8], room: &mut [u8; PAYLOAD_ROOM]) -> Told {
+        unsafe {
+            gitwire_packet_reader_feed(
+                &mut self.0,
+                piece.as_ptr(),
+                piece.len(),
+                room.as_mut_ptr(),
+                room.len(),
+            )
+        }
+    }
+
+    fn close(&mut self) -> Told {
+        unsafe { gitwire_packet_reader_close(&mut self.0) }
+    }
+}
+
+impl Drop for PacketReader {
+    fn drop(&mut self) {
+        unsafe { gitwire_packet_reader_free(&mut self.0) }
+    }
+}
+
+fn fault_text(told: Told) -> String {
+    let mut room = [0; 64];
+    let length =
+        unsafe { gitwire_fault_text(told.fault, told.offset, room.as_mut_ptr(), room.len()) };
+    String::from_utf8_lossy(&room[..length]).into_owned()
+}
+
+fn show(out: &mut impl Write, packet: Told, room: &[u8]) -> io::Result<()> {
+    let offset = packet.offset;
+    match packet.kind {
+        FLUSH => return writeln!(out, "{offset} flush"),
+        DELIM => return writeln!(out, "{offset} delim"),
+        RESPONSE_END => return writeln!(out, "{offset} end"),
+        _ => {}
+    }
+    let payload = &room[..packet.length];
+    write!(
+        out,
+        "{offset} data {}{}",
+        payload.len(),
+        if payload.is_empty() { "" } else { " " }
+    )?;
+    for byte in payload {
+        match byte {
+            b'\n' => write!(out, "\\n")?,
+            b'\\' => write!(out, "\\\\")?,
+            0x20..=0x7e => out.write_all(&[*byte])?,
+            _ => write!(out, "\\x{byte:02x}")?,
+        }
+    }
+    writeln!(out)
+}
+
+/// Lists all packets, and gives the fault that ended them, if one did.
+fn list(reader: &mut PacketReader, most: usize, out: &mut impl Write) -> io::Result<Option<Told>> {
+    let mut input = io::stdin().lock();
+    let mut piece = vec![0; most];
+    let mut room = Box::new([0; PAYLOAD_ROOM]);
+    loop {
+        let length = input.read(&mut piece)?;
+        let mut rest = &piece[..length];
+        if rest.is_empty() {
+            let told = reader.close();
+            return Ok((told.kind != DONE).then_some(told));
+        }
+        while !rest.is_empty() {
+            let told = reader.feed(rest, &mut room);
+            rest = &rest[told.used..];
+            match told.kind {
+                FAILED => return Ok(Some(told)),
+                MORE => {}
+                _ => show(out, told, &room[..])?,
+            }
+        }
+    }
+}
+
+fn main() -> io::Result<ExitCode> {
+    let word = std::env::args().nth(1);
+    let most = word.map_or(Some(MOST_PIECE), |word| word.parse().ok());
+    let Some(most) = most.filter(|most| (1..=MOST_PIECE).contains(most)) else {
+        eprintln!("usage: packets [PIECE]");
+        return Ok(ExitCode::from(2));
+    };
+    let Some(mut reader) = PacketReader::new() else {
+        eprintln!("packets: no memory");
+        return Ok(ExitCode::FAILURE);
+    };
+    let mut out = io::BufWriter::new(io::stdout().lock());
+    let fault = list(&mut reader, most, &mut out)?;
+    out.flush()?;
+    match fault {
+        None => Ok(ExitCode::SUCCESS),
+        Some(told) => {
+            eprintln!("packets: {}", fault_text(told));
+            Ok(ExitCode::FAILURE)
+        }
+    }
+}

@@ -1,0 +1,516 @@
+/*
+ * Git's wire protocol, version 2 (fetch side), for programs in C: packets, requests, a server, a client, and the lines
+ * that a host of its own writes. Each call is a method of a library that is proved to meet its contract; docs/PROMISES.md
+ * has the promises whole, docs/PROTOCOL.md the rules and the faults. The library reads and writes no stream, starts no
+ * thread and keeps nothing but what its handles have: a program feeds it what it has read, in pieces of any size, and
+ * writes what it gives.
+ *
+ * Of every call:
+ *
+ *   - It returns, whatever the bytes are. What is not allowed at a moment, a room that is too small, a number that stands
+ *     for nothing and a handle with nothing in it are told by a code, and then nothing was used or changed.
+ *   - A text is a pointer and a length, and has no NUL at its end. A room is where a call writes: a pointer and how many
+ *     bytes are there. What it writes stands at the front of the room, and it says how many bytes that are; those after
+ *     them stay as they were.
+ *
+ * What a program has to see to, since no call can:
+ *
+ *   - A handle begins as GITWIRE_NONE, is never copied, and its fields are touched by nobody else. It is freed once it is
+ *     no more needed; freed twice is well, and a call on what was freed tells NO_HANDLE.
+ *   - A handle is used by one thread at a time. It may go from one thread to another, by a lock, a thread's start or end,
+ *     or an atomic of sequentially consistent order. Two handles of one repository may be used at the same time.
+ *   - Each text and each room lies where it says, whole, and no pointer is NULL where the length is above 0. No room
+ *     overlaps a text, another room or a handle, and no two handles of a call are one. Nobody else writes to a text or
+ *     touches a room while the call runs.
+ *   - malloc, realloc and free are those of one allocator, which aligns as the C standard says. No call is made from a
+ *     signal handler, nor in the child of a fork of a process with more than one thread.
+ */
+#ifndef GITWIRE_H
+#define GITWIRE_H
+
+#include <stdbool.h>
+#include <stddef.h>
+#include <stdint.h>
+
+#ifdef __cplusplus
+extern "C" {
+#define GITWIRE_STATIC_ASSERT static_assert
+#else
+#define GITWIRE_STATIC_ASSERT _Static_assert
+#endif
+
+/* How many bytes a payload has at the most, and a packet, with its four digits. Rooms of these sizes always suffice. */
+#define GITWIRE_PAYLOAD_ROOM 65516
+#define GITWIRE_PACKET_ROOM 65520
+
+/* What an object name takes at the most, as its digits; a reference name; a fault's name; and what
+ * gitwire_put_advertisement, gitwire_fault_text write. */
+#define GITWIRE_OBJECT_NAME_ROOM 64
+#define GITWIRE_REFERENCE_NAME_ROOM 32000
+#define GITWIRE_FAULT_NAME_ROOM 32
+#define GITWIRE_ADVERTISEMENT_ROOM 200
+#define GITWIRE_FAULT_TEXT_ROOM 64
+
+/* How many bytes the texts of a request's argument lines may have together: a usual limit, and the greatest one. */
+#define GITWIRE_USUAL_LIMIT 16777216
+#define GITWIRE_MOST_LIMIT 1073741824
+
+/* What came of a call: `kind` of what it told, or its answer. */
+enum {
+	GITWIRE_DONE = 0,
+	GITWIRE_MORE = 1,             /* the piece is used up, and nothing is whole yet */
+	GITWIRE_FAILED = 2,           /* refused: `fault` says why, `offset` where */
+	GITWIRE_NO_HANDLE = 3,        /* the handle has nothing: it was never made, or was freed */
+	GITWIRE_ROOM_TOO_SMALL = 4,   /* nothing was used or changed */
+	GITWIRE_NOT_NOW = 5,          /* the call may not be made at this moment; nothing changed */
+	GITWIRE_OUT_OF_MEMORY = 6,
+	GITWIRE_BAD_VALUE = 7,        /* a number that stands for nothing, or a limit above GITWIRE_MOST_LIMIT */
+	GITWIRE_NOTHING = 8,          /* there is no such item */
+	/* packets */
+	GITWIRE_PAYLOAD = 9,
+	GITWIRE_FLUSH = 10,
+	GITWIRE_DELIM = 11,
+	GITWIRE_RESPONSE_END = 12,
+	/* requests */
+	GITWIRE_REQUEST = 13,         /* a whole request */
+	GITWIRE_STOP = 14,            /* a flush in the place of a request, by which the other end leaves */
+	/* what is to be done next */
+	GITWIRE_PACKET = 15,          /* this packet is to be sent */
+	GITWIRE_NEED_INPUT = 16,      /* bytes of the other end are due */
+	GITWIRE_ENDED_BY_FLUSH = 17,  /* the session ended with a flush alone, and all was given */
+	GITWIRE_ENDED_BY_CLOSE = 18,  /* it ended where the input did, between two requests, and all was given */
+	GITWIRE_CAN_ASK = 19,         /* a request can be asked, or the conversation be left */
+	GITWIRE_FINISHED = 20,        /* all was said, and the last packet was given */
+	/* what a client hears */
+	GITWIRE_CAPABILITY = 21,      /* a line of the advertisement */
+	GITWIRE_OFFERED = 22,         /* the advertisement is whole */
+	GITWIRE_REFERENCE = 23,
+	GITWIRE_ACK = 24,             /* both ends have this object */
+	GITWIRE_NAK = 25,             /* none of the objects that the request says the client has is common */
+	GITWIRE_READY = 26,           /* enough is common: a pack follows */
+	GITWIRE_SHALLOW = 27,         /* the parents of this commit are not sent */
+	GITWIRE_UNSHALLOW = 28,       /* the parents of this commit, which had none, are sent now */
+	GITWIRE_WANTED_REF = 29,      /* a reference that was asked for by its name */
+	GITWIRE_INFO = 30,            /* the size of an object */
+	GITWIRE_PACK = 31,            /* bytes of the pack */
+	GITWIRE_PROGRESS = 32,        /* bytes of a text for the user */
+	GITWIRE_ENDED = 33            /* the response is whole */
+};
+
+/* Why something was refused: `fault` of what is told. docs/PROTOCOL.md says of each where its offset is. */
+enum {
+	GITWIRE_FAULT_BAD_DIGIT = 1,
+	GITWIRE_FAULT_BAD_LENGTH = 2,
+	GITWIRE_FAULT_TOO_LONG = 3,
+	GITWIRE_FAULT_TRUNCATED = 4,
+	GITWIRE_FAULT_STREAM_TOO_LONG = 5,
+	GITWIRE_FAULT_NO_BAND = 6,
+	GITWIRE_FAULT_BAD_BAND = 7,
+	GITWIRE_FAULT_BAD_CAPABILITY = 8,
+	GITWIRE_FAULT_UNKNOWN_COMMAND = 9,
+	GITWIRE_FAULT_TWO_COMMANDS = 10,
+	GITWIRE_FAULT_NO_COMMAND = 11,
+	GITWIRE_FAULT_NOT_ADVERTISED = 12,
+	GITWIRE_FAULT_BAD_OBJECT_NAME = 13,
+	GITWIRE_FAULT_BAD_REF_NAME = 14,
+	GITWIRE_FAULT_BAD_NUMBER = 15,
+	GITWIRE_FAULT_DEEPEN_CONFLICT = 16,
+	GITWIRE_FAULT_NO_WANTS = 17,
+	GITWIRE_FAULT_NO_SIZE = 18,
+	GITWIRE_FAULT_WRONG_FORMAT = 19,
+	GITWIRE_FAULT_UNKNOWN_ARGUMENT = 20,
+	GITWIRE_FAULT_TOO_MUCH_KEPT = 21,
+	GITWIRE_FAULT_UNEXPECTED_PACKET = 22,
+	GITWIRE_FAULT_REMOTE_ERROR = 23,
+	GITWIRE_FAULT_UNKNOWN_REF = 24,
+	GITWIRE_FAULT_NOT_OURS = 25,
+	GITWIRE_FAULT_PACK_SOURCE = 26,
+	GITWIRE_FAULT_NOT_VERSION_2 = 27,
+	GITWIRE_FAULT_UNEXPECTED_SECTION = 28,
+	GITWIRE_FAULT_BAD_LINE = 29,
+	GITWIRE_FAULT_OUT_OF_MEMORY = 30,
+	GITWIRE_FAULT_REMOTE_FATAL = 31
+};
+
+/* Object formats, commands of requests, and how each response ends: with its flush alone, as on a connection that both ends
+ * keep, or with one response-end packet more, as where each request has a connection of its own. */
+enum { GITWIRE_SHA1 = 0, GITWIRE_SHA256 = 1 };
+enum { GITWIRE_LS_REFS = 0, GITWIRE_FETCH = 1, GITWIRE_OBJECT_INFO = 2 };
+enum { GITWIRE_ENDS_BY_FLUSH = 0, GITWIRE_ENDS_BY_RESPONSE_END = 1 };
+
+/* What one call did. Fields that say nothing are 0. */
+typedef struct {
+	size_t used;       /* how many bytes of the piece were used */
+	uint64_t offset;   /* a place in the stream, counted in bytes from 0; or the number that was asked for */
+	size_t length;     /* how many bytes are at the front of the room */
+	uint8_t kind;
+	uint8_t fault;
+} gitwire_told;
+
+/* What a server offers, beside `agent` and the commands `ls-refs` and `fetch`, which are in every offer. */
+typedef struct {
+	uint8_t format;    /* the object format that is spoken */
+	bool shallow;
+	bool ref_in_want;
+	bool object_info;
+	bool server_option;
+} gitwire_offer;
+
+/* The handles. Their fields are the library's own. */
+#define GITWIRE_NONE { NULL, false }
+typedef struct { void *at_; bool is_made_; } gitwire_packet_reader;
+typedef struct { void *at_; bool is_made_; } gitwire_request_reader;
+typedef struct { void *at_; bool is_made_; } gitwire_request;
+typedef struct { void *at_; bool is_made_; } gitwire_repository;
+typedef struct { void *at_; bool is_made_; } gitwire_server;
+typedef struct { void *at_; bool is_made_; } gitwire_client;
+
+/*
+ * Making and freeing, of each kind of handle.
+ *
+ * A call `_new` frees what the handle had, and makes it a new one: DONE. OUT_OF_MEMORY where memory for it cannot be had, and
+ * then the handle has nothing. A call `_free` frees what it has, and then it has nothing; where it had nothing, nothing
+ * happens.
+ */
+
+/*
+ * Packets: the packets and offsets given are those of the one split of the bytes fed, however these were cut. The first
+ * malformed packet is refused at its offset, as soon as its bytes show it, and a reader that has refused stays refused:
+ * each later call uses nothing and tells that fault again.
+ */
+
+/* A reader of a stream of which nothing has come. */
+uint8_t gitwire_packet_reader_new(gitwire_packet_reader *reader);
+
+/*
+ * Reads on, up to the end of a packet, with the whole piece used, or at the first fault: `used` says how many bytes. It
+ * is to be called again with those that were not used. The room has GITWIRE_PAYLOAD_ROOM bytes at least.
+ *
+ * MORE: the piece is used up. PAYLOAD: `length` bytes in the room, none for the packet `0004`. FLUSH, DELIM,
+ * RESPONSE_END: these packets. `offset` is that of the packet's first digit. FAILED: BadDigit, BadLength, TooLong, and
+ * after a close Truncated; StreamTooLong at the byte after 2^63 - 1 others. NO_HANDLE, ROOM_TOO_SMALL.
+ */
+gitwire_told gitwire_packet_reader_feed(gitwire_packet_reader *reader, const uint8_t *piece, size_t piece_length,
+	uint8_t *room, size_t room_length);
+
+/*
+ * Tells that the input ends here. DONE between two packets, and nothing changes. FAILED inside one, with Truncated where
+ * the last whole packet ended, and of a reader that has refused, with its fault. NO_HANDLE.
+ */
+gitwire_told gitwire_packet_reader_close(gitwire_packet_reader *reader);
+
+void gitwire_packet_reader_free(gitwire_packet_reader *reader);
+
+/*
+ * Requests out of bytes: those handed out are the whole requests of the bytes fed, in order, however these were cut. The
+ * first fault is told by name and offset, and stays. The texts of a request's argument lines are within the limit.
+ */
+
+/*
+ * A reader against this offer. `limit` is how many bytes the texts of a request's argument lines may have together. BAD_VALUE for
+ * a format that is none and for a limit above GITWIRE_MOST_LIMIT; then the handle stays as it was.
+ */
+uint8_t gitwire_request_reader_new(gitwire_request_reader *reader, gitwire_offer offer, uint32_t limit);
+
+/*
+ * Reads on, up to the end of a request, a flush in the place of one, with the whole piece used, or at the first fault:
+ * `used` says how many bytes. It is to be called again with those that were not used.
+ *
+ * MORE: the piece is used up; or the other end has left, and nothing is used. REQUEST: a whole request, which is what
+ * the request handle has now; what it had is freed. STOP: the other end leaves, and nothing is read after it. FAILED: what
+ * refuses a request, by its first bad packet. OUT_OF_MEMORY: there is no memory for what the request handle has to have
+ * before anything is read; nothing was used or changed, and the call can be made again. NO_HANDLE.
+ */
+gitwire_told gitwire_request_reader_feed(gitwire_request_reader *reader, gitwire_request *request,
+	const uint8_t *piece, size_t piece_length);
+
+/*
+ * Tells that the input ends here. DONE between two requests. FAILED inside one, with Truncated where the last whole
+ * packet ended. NOT_NOW after a fault, and once the other end has left. NO_HANDLE.
+ */
+gitwire_told gitwire_request_reader_close(gitwire_request_reader *reader);
+
+void gitwire_request_reader_free(gitwire_request_reader *reader);
+
+/*
+ * A request: what a reader of requests hands out, or what a client is to ask. One that is made has no arguments. Its
+ * lists keep the order of their lines, and repeats.
+ */
+
+/* An empty request. BAD_VALUE for a command or a format that is none, and for such a limit; then the handle stays as it was. */
+uint8_t gitwire_request_new(gitwire_request *request, uint8_t command, uint8_t format, uint32_t limit);
+
+/*
+ * Adds an argument, a line as gitprotocol-v2(5) has it, without LF: `want ` and an object name, `done`, `ref-prefix refs/`.
+ * DONE. FAILED: what refuses the line, at offset 0, TooMuchKept and OutOfMemory among them, and the request is as it was.
+ * NO_HANDLE.
+ */
+gitwire_told gitwire_request_add(gitwire_request *request, const uint8_t *line, size_t line_length);
+
+/* What is looked at where a request ends. DONE, or FAILED with DeepenConflict, NoWants or NoSize. NO_HANDLE. */
+gitwire_told gitwire_request_end(gitwire_request *request);
+
+/* DONE with `offset` the number of its command, of its object format. NO_HANDLE. */
+gitwire_told gitwire_request_command(gitwire_request *request);
+gitwire_told gitwire_request_format(gitwire_request *request);
+
+/* Whether a flag is set. false for a flag that its command does not have, a number that is none, and where there is no request. */
+enum {
+	GITWIRE_FLAG_SYMREFS = 0,
+	GITWIRE_FLAG_PEEL = 1,
+	GITWIRE_FLAG_DONE = 2,
+	GITWIRE_FLAG_THIN_PACK = 3,
+	GITWIRE_FLAG_NO_PROGRESS = 4,
+	GITWIRE_FLAG_INCLUDE_TAG = 5,
+	GITWIRE_FLAG_OFS_DELTA = 6,
+	GITWIRE_FLAG_DEEPEN_RELATIVE = 7,
+	GITWIRE_FLAG_SIZE = 8
+};
+bool gitwire_request_flag(gitwire_request *request, uint8_t flag);
+
+/* DONE with `offset` the number that was asked for last, or NOTHING. BAD_VALUE, NO_HANDLE. */
+enum { GITWIRE_NUMBER_DEEPEN = 0, GITWIRE_NUMBER_DEEPEN_SINCE = 1 };
+gitwire_told gitwire_request_number(gitwire_request *request, uint8_t number);
+
+/*
+ * An item of a list, counted from 0. DONE with `length` bytes in the room, of an object name its digits; or NOTHING past the
+ * list's end, and of a list that its command does not have. GITWIRE_REFERENCE_NAME_ROOM bytes always suffice.
+ * ROOM_TOO_SMALL, BAD_VALUE, NO_HANDLE.
+ */
+enum {
+	GITWIRE_LIST_REF_PREFIXES = 0,
+	GITWIRE_LIST_WANTS = 1,
+	GITWIRE_LIST_HAVES = 2,
+	GITWIRE_LIST_SHALLOWS = 3,
+	GITWIRE_LIST_DEEPEN_NOTS = 4,
+	GITWIRE_LIST_WANT_REFS = 5,
+	GITWIRE_LIST_OIDS = 6
+};
+gitwire_told gitwire_request_item(gitwire_request *request, uint8_t list, size_t index, uint8_t *room, size_t room_length);
+
+void gitwire_request_free(gitwire_request *request);
+
+/*
+ * A repository: a few lists in memory, read from a text, and one pack for each request. The text is that of docs/PROTOCOL.md,
+ * which sample/repository-text.sh writes of a Git repository. It is never changed, and servers share it: each keeps it for
+ * as long as it needs it, also after the handle was freed.
+ */
+
+/*
+ * Copies what it keeps, so that the text and the pack need not last. DONE. FAILED: the text is refused, with `offset` the
+ * number of its first bad line, from 1, and `fault` 0. OUT_OF_MEMORY. After these two the handle has nothing.
+ */
+gitwire_told gitwire_repository_new(gitwire_repository *repository, const uint8_t *text, size_t text_length,
+	const uint8_t *pack, size_t pack_length);
+
+void gitwire_repository_free(gitwire_repository *repository);
+
+/*
+ * The server's end of a conversation, over a repository: however the input is cut, the output is exactly the session that
+ * the input calls for. What it keeps of its requests is within its limit at every return; beside that it has one buffer
+ * of GITWIRE_PACKET_ROOM bytes.
+ *
+ * It offers what `git2show serve` does: `shallow`, `ref-in-want`, `server-option`, `object-info`, and the repository's format.
+ */
+
+/*
+ * A server at the beginning of a session, which gives its advertisement first where `advertise` is set. NO_HANDLE where the
+ * repository's handle has nothing, and BAD_VALUE for a limit above GITWIRE_MOST_LIMIT; then the server's handle has nothing.
+ * The repository's handle stays as it is.
+ */
+uint8_t gitwire_server_new(gitwire_server *server, gitwire_repository *repository, uint32_t limit, bool advertise);
+
+/*
+ * Takes bytes of the input: MORE, and `used` says how many, those up to the end of a request, a flush in the place of
+ * one, or a fault, or all. None is used while a packet waits to be pulled, nor after the end. NO_HANDLE.
+ */
+gitwire_told gitwire_server_feed(gitwire_server *server, const uint8_t *piece, size_t piece_length);
+
+/*
+ * Tells that the input ends here, where the server needs input: between two requests the session ends well, inside one it is
+ * refused as Truncated. DONE, NOT_NOW where a packet waits to be pulled and after the end, NO_HANDLE.
+ */
+uint8_t gitwire_server_close(gitwire_server *server);
+
+/*
+ * The next packet to be sent, or what to do in its place. Each packet is given once. The room has GITWIRE_PACKET_ROOM bytes
+ * at least.
+ *
+ * PACKET: `length` bytes in the room. NEED_INPUT: nothing is owed until more is fed, or the input is closed.
+ * ENDED_BY_FLUSH, ENDED_BY_CLOSE, FAILED: the session ended so, and all was given, an error packet that tells the
+ * fault among it. NO_HANDLE, ROOM_TOO_SMALL.
+ */
+gitwire_told gitwire_server_pull(gitwire_server *server, uint8_t *room, size_t room_length);
+
+void gitwire_server_free(gitwire_server *server);
+
+/*
+ * The client's end of a conversation: for every cutting of the advertisement and the responses, the events handed out are
+ * those of the bytes fed, under what was asked; the first fault is told by name and offset, and stays; the pack is the
+ * bytes of PACK, in order. Beside one request that it is asking it has one buffer of GITWIRE_PACKET_ROOM bytes.
+ */
+
+/* A client before the first byte. BAD_VALUE for a format or an ending that is none; then the handle has nothing. */
+uint8_t gitwire_client_new(gitwire_client *client, uint8_t format, uint8_t ending);
+
+/*
+ * One event. Its parts lie in the room one after another: id, name, text, peeled, of these lengths, 0 for a part that it has not.
+ *
+ *   CAPABILITY   the name is its key, the text its value, where it has one
+ *   REFERENCE    id, name, the target of a symbolic reference (text), what an annotated tag stands for (peeled)
+ *   ACK, SHALLOW, UNSHALLOW   id
+ *   WANTED_REF   id, name
+ *   INFO         id; the size, where the server has the object (`has_size`)
+ *   PACK, PROGRESS   text: one byte at least
+ *   OFFERED, NAK, READY, ENDED   nothing
+ *
+ * An object name is its digits. `has_text` says whether there is a text, which may be empty. Fields that say nothing are 0.
+ */
+typedef struct {
+	size_t used;
+	uint64_t offset;   /* where it failed */
+	size_t id_length;
+	size_t name_length;
+	size_t text_length;
+	size_t peeled_length;
+	uint64_t size;
+	uint8_t kind;
+	uint8_t fault;
+	bool has_text;
+	bool has_size;
+} gitwire_event;
+
+/*
+ * Reads on, up to one event, with the whole piece used, or at the first fault: `used` says how many bytes. It is to be called
+ * again with those that were not used. A client that waits for no input uses nothing, and tells MORE; gitwire_client_pull says
+ * what it waits for. The room has GITWIRE_PAYLOAD_ROOM bytes at least.
+ *
+ * MORE, an event, or FAILED. NO_HANDLE, ROOM_TOO_SMALL.
+ */
+gitwire_event gitwire_client_feed(gitwire_client *client, const uint8_t *piece, size_t piece_length,
+	uint8_t *room, size_t room_length);
+
+/*
+ * What is to be done next. PACKET: `length` bytes in the room are to be sent; each packet is given once. NEED_INPUT: bytes
+ * of the server are due. CAN_ASK: a request can be asked, or the conversation be left. FINISHED: all was said. FAILED: the
+ * conversation was refused. The room has GITWIRE_PACKET_ROOM bytes at least. NO_HANDLE, ROOM_TOO_SMALL.
+ */
+gitwire_told gitwire_client_pull(gitwire_client *client, uint8_t *room, size_t room_length);
+
+/*
+ * Asks a request, whose packets are to be pulled then, and whose response is due after them. It is the client's from then
+ * on, and the request's handle has nothing: DONE. FAILED, at the client's position, in this order: WrongFormat,
+ * NotAdvertised, and what gitwire_request_end refuses; the client and the request stay as they were. NOT_NOW where none
+ * can be asked. NO_HANDLE where either handle has nothing.
+ */
+gitwire_told gitwire_client_ask(gitwire_client *client, gitwire_request *request);
+
+/* Leaves: the flush that ends the conversation is to be pulled, and nothing is asked any more. DONE, NOT_NOW, NO_HANDLE. */
+uint8_t gitwire_client_leave(gitwire_client *client);
+
+/*
+ * Tells that the input ends here, where more was due: FAILED with Truncated, where the last whole packet ended. NOT_NOW where
+ * no bytes are due, NO_HANDLE.
+ */
+gitwire_told gitwire_client_close(gitwire_client *client);
+
+/*
+ * What the server said of the fault that ended the conversation, RemoteError or RemoteFatal: DONE with `length` bytes in the room,
+ * of which GITWIRE_PAYLOAD_ROOM always suffice. NOTHING after another fault and before any. ROOM_TOO_SMALL, NO_HANDLE.
+ */
+gitwire_told gitwire_client_message(gitwire_client *client, uint8_t *room, size_t room_length);
+
+/* What the advertisement had, of all that is known here: what some line of it names. */
+typedef struct {
+	bool agent;
+	bool ls_refs;
+	bool fetch;
+	bool shallow;         /* a word of `fetch` */
+	bool ref_in_want;     /* a word of `fetch` */
+	bool server_option;
+	bool object_info;
+	bool object_format;   /* with any value or none */
+	bool sha1;            /* the line `object-format=sha1` */
+	bool sha256;          /* the line `object-format=sha256` */
+} gitwire_caps;
+
+/* What was noted of the advertisement so far: DONE. NO_HANDLE, and then nothing is written. */
+uint8_t gitwire_client_caps(gitwire_client *client, gitwire_caps *caps);
+
+void gitwire_client_free(gitwire_client *client);
+
+/*
+ * Writers, for a host that keeps its references and packs in its own way: each puts one whole packet at the front of the
+ * room, and has no handle. DONE with `length`; what is written says its value, and no other. BAD_VALUE where a number
+ * stands for nothing. FAILED, at offset 0, where a name or a text may not stand there, the first from left to right:
+ * BadObjectName, BadRefName, and what is said below. ROOM_TOO_SMALL; GITWIRE_PACKET_ROOM bytes always suffice. An object name is
+ * given as its digits, of either case, and written in lower case.
+ */
+
+/* The packet of a kind PAYLOAD, FLUSH, DELIM or RESPONSE_END: a payload of more than 65,516 bytes is TooLong, and bytes of
+ * another kind BAD_VALUE. */
+gitwire_told gitwire_put_packet(uint8_t kind, const uint8_t *payload, size_t payload_length,
+	uint8_t *room, size_t room_length);
+
+/* All packets of an advertisement, below GITWIRE_ADVERTISEMENT_ROOM bytes. */
+gitwire_told gitwire_put_advertisement(gitwire_offer offer, uint8_t *room, size_t room_length);
+
+/* A reference, with the target of a symbolic one and what an annotated tag stands for; a length of 0 is none. */
+gitwire_told gitwire_put_reference(uint8_t format, const uint8_t *id, size_t id_length, const uint8_t *name, size_t name_length,
+	const uint8_t *target, size_t target_length, const uint8_t *peeled, size_t peeled_length,
+	uint8_t *room, size_t room_length);
+
+/* `ACK` and an object that both ends have. */
+gitwire_told gitwire_put_ack(uint8_t format, const uint8_t *id, size_t id_length, uint8_t *room, size_t room_length);
+
+/* A commit at the boundary: `shallow`, or else `unshallow`. */
+gitwire_told gitwire_put_boundary(uint8_t format, bool shallow, const uint8_t *id, size_t id_length,
+	uint8_t *room, size_t room_length);
+
+/* A reference that was wanted by its name. */
+gitwire_told gitwire_put_wanted(uint8_t format, const uint8_t *id, size_t id_length, const uint8_t *name, size_t name_length,
+	uint8_t *room, size_t room_length);
+
+/* An object, and its size where the host has it (`has_size`). */
+gitwire_told gitwire_put_info(uint8_t format, const uint8_t *id, size_t id_length, bool has_size, uint64_t size,
+	uint8_t *room, size_t room_length);
+
+/* Bytes on a side band: of the pack, of progress, or of a fatal error, after which nothing comes. More than 65,515 are TooLong. */
+enum { GITWIRE_BAND_PACK = 1, GITWIRE_BAND_PROGRESS = 2, GITWIRE_BAND_FATAL = 3 };
+gitwire_told gitwire_put_band(uint8_t band, const uint8_t *bytes, size_t bytes_length, uint8_t *room, size_t room_length);
+
+/* The error packet: `ERR `, the text and LF. A text of more than 65,511 bytes is BadLine. */
+gitwire_told gitwire_put_error(const uint8_t *text, size_t text_length, uint8_t *room, size_t room_length);
+
+/* A text and LF, as `NAK`, `ready` and `packfile` are written. A text of more than 65,515 bytes is BadLine. */
+gitwire_told gitwire_put_line(const uint8_t *text, size_t text_length, uint8_t *room, size_t room_length);
+
+/*
+ * A fault's name, as `Truncated`, and what users see of it, as `Truncated at 994`: how many bytes are in the room; 0 where there
+ * is no such fault, or the room is too small. GITWIRE_FAULT_NAME_ROOM and GITWIRE_FAULT_TEXT_ROOM bytes suffice.
+ */
+size_t gitwire_fault_name(uint8_t fault, uint8_t *room, size_t room_length);
+size_t gitwire_fault_text(uint8_t fault, uint64_t offset, uint8_t *room, size_t room_length);
+
+/* The layout that the library has: a handle is a pointer and a bool, and its allocator takes no bytes. */
+#define GITWIRE_IS_HANDLE(type) \
+	GITWIRE_STATIC_ASSERT(sizeof(type) == 2 * sizeof(void *) && offsetof(type, is_made_) == sizeof(void *), #type)
+GITWIRE_IS_HANDLE(gitwire_packet_reader);
+GITWIRE_IS_HANDLE(gitwire_request_reader);
+GITWIRE_IS_HANDLE(gitwire_request);
+GITWIRE_IS_HANDLE(gitwire_repository);
+GITWIRE_IS_HANDLE(gitwire_server);
+GITWIRE_IS_HANDLE(gitwire_client);
+#undef GITWIRE_IS_HANDLE
+GITWIRE_STATIC_ASSERT(sizeof(size_t) == 8 && sizeof(void *) == 8 && sizeof(bool) == 1, "the library is of 64 bits");
+GITWIRE_STATIC_ASSERT(sizeof(gitwire_offer) == 5 && offsetof(gitwire_offer, server_option) == 4, "gitwire_offer");
+GITWIRE_STATIC_ASSERT(sizeof(gitwire_told) == 32 && offsetof(gitwire_told, fault) == 25, "gitwire_told");
+GITWIRE_STATIC_ASSERT(sizeof(gitwire_event) == 64 && offsetof(gitwire_event, kind) == 56
+	&& offsetof(gitwire_event, has_size) == 59, "gitwire_event");
+GITWIRE_STATIC_ASSERT(sizeof(gitwire_caps) == 10 && offsetof(gitwire_caps, sha256) == 9, "gitwire_caps");
+
+#ifdef __cplusplus
+}
+#endif
+
+#endif

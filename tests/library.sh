@@ -1,0 +1,596 @@
+# Cases in which programs use the library that `make install` installs: those of examples/ in C, Rust and Go, as the real Git and
+# streams of packets meet them, and the C programs of this folder, which call each function. `NAME-watched` is a program that was
+# built with sanitizers, whose status tells what was touched that may not be, and what was not freed.
+
+# What `make install` installs goes here, and how long the daemon of the examples waits for a client, in seconds.
+installed=$room/installed
+patience=5
+
+# write_examples: installs the program and the library, and builds what uses it. What a compiler says is a case's to judge.
+write_examples() {
+    local name
+    make -s -C "$top" install PREFIX="$installed" PROGRAM="$program" LIBRARY="$library" RT="${RT:-rt}" >&2 ||
+        stop 'what was built could not be installed'
+    for name in daemon host list packets; do
+        compile "$name" "$top/examples/$name.c"
+    done
+    compile library_calls "$top/tests/library_calls.c"
+    compile refused_memory "$top/tests/refused_memory.c" -Wl,--wrap=malloc,--wrap=realloc,--wrap=free
+}
+
+# of_library OPTION..: what pkg-config tells of the installed library; where there is no pkg-config, what it would.
+of_library() {
+    if command -v pkg-config > /dev/null; then
+        PKG_CONFIG_PATH=$installed/lib/pkgconfig pkg-config "$@" gitwire
+    else
+        echo "-I$installed/include -L$installed/lib -lgitwire"
+    fi
+}
+
+# compile NAME SOURCE [OPTION..]: builds a C program, and a watched one.
+compile() {
+    local name=$1 source=$2 flags
+    shift 2
+    read -r -a flags <<< "$(of_library --cflags --libs)"
+    {
+        gcc -O2 -g -Wall -Wextra -Werror -o "bin/$name" "$source" "$@" "${flags[@]}" &&
+            gcc -O1 -g -Wall -Wextra -Werror -fsanitize=address,undefined -fno-sanitize-recover=undefined -o "bin/$name-watched" \
+                "$source" "$@" "${flags[@]}"
+    } > "$name.said" 2>&1 || true
+}
+
+# under_valgrind COMMAND..: runs a program, where there is valgrind; it fails where it touches what it may not, or frees not all.
+under_valgrind() {
+    command -v valgrind > /dev/null || return 0
+    status=0
+    timeout -k 5 120 valgrind -q --error-exitcode=99 --leak-check=full --errors-for-leak-kinds=definite,indirect,possible "$@" \
+        > out 2> err || status=$?
+}
+
+case_library_is_installed_whole() {
+    local file
+    for file in bin/git2show lib/libgitwire.a include/gitwire.h lib/pkgconfig/gitwire.pc share/man/man1/git2show.1; do
+        [ -s "$installed/$file" ] || differs "no $file"
+    done
+    run "$installed/bin/git2show" --version
+    expect 0 <(echo 'git2show 0.1.0') /dev/null
+    expect_same 'the library of pkg-config' <(echo "-I$installed/include -L$installed/lib -lgitwire") \
+        <(of_library --cflags --libs | sed 's/ *$//')
+    expect_line 'what pkg-config tells' 'Version: 0.1.0' "$installed/lib/pkgconfig/gitwire.pc"
+}
+
+# DESTDIR stands before each path, and in no file.
+case_library_is_installed_below_another_folder() {
+    run make -s -C "$top" install DESTDIR="$room/staged" PREFIX=/usr PROGRAM="$program" LIBRARY="$library" RT="${RT:-rt}"
+    expect 0 /dev/null /dev/null
+    expect_line 'what pkg-config tells' prefix=/usr staged/usr/lib/pkgconfig/gitwire.pc
+    expect_same 'what is installed' <(cd "$installed" && find . -type f | sort) <(cd staged/usr && find . -type f | sort)
+}
+
+case_library_has_the_calls_of_its_header() {
+    sed -n 's/^[a-z_0-9]* \(gitwire_[a-z_]*\)(.*/\1/p' "$installed/include/gitwire.h" | sort > wanted
+    nm -g --defined-only "$installed/lib/libgitwire.a" | awk '$2 == "T" && $3 ~ /^gitwire_/ { print $3 }' | sort > written
+    [ -s wanted ] || differs 'no call in the header'
+    expect_same 'the calls of the library' wanted written
+}
+
+case_library_header_stands_alone() {
+    local language
+    for language in c:c11 c:c17 c++:c++11 c++:c++17; do
+        [ "${language%%:*}" = c ] || command -v g++ > /dev/null || continue
+        run gcc -x "${language%%:*}" -std="${language##*:}" -pedantic -Wall -Wextra -Werror -fsyntax-only - \
+            -I"$installed/include" <<< '#include <gitwire.h>
+            gitwire_client client = GITWIRE_NONE;'
+        expect 0 /dev/null /dev/null
+    done
+}
+
+case_library_programs_compile_without_a_word() {
+    local name
+    for name in daemon host list packets library_calls refused_memory; do
+        expect_same "what the compiler says of $name" /dev/null "$name.said"
+    done
+}
+
+# The options that a command's help has stand in the manual page, in the part on that command.
+case_manual_page_has_each_option() {
+    local command option
+    for command in show check serve play; do
+        sed -n "/^\.SS git2show $command/,/^\.S/p" "$installed/share/man/man1/git2show.1" | sed 's/\\-/-/g' > part
+        git2show "$command" --help | grep -o -e '--[a-z]*' | sort -u > options
+        [ -s options ] || differs "no option of $command"
+        while read -r option; do
+            [ "$option" = --help ] || grep -q -e "$option" part || differs "a part on $command without $option" part
+        done < options
+    done
+    command -v man > /dev/null || return 0
+    run env MANWIDTH=80 man --warnings -l "$installed/share/man/man1/git2show.1"
+    expect_status 0
+    expect_same 'what man says of the manual page' /dev/null err
+}
+
+case_library_calls_tell_what_the_header_says() {
+    run library_calls-watched
+    expect 0 /dev/null /dev/null
+    under_valgrind bin/library_calls
+    expect 0 /dev/null /dev/null
+}
+
+# The program prints how often each kind of handle asks for memory: once at the least.
+case_library_frees_all_where_memory_is_refused() {
+    run refused_memory-watched
+    expect_status 0
+    expect_same 'standard error' /dev/null err
+    grep -q -x -E '[1-9][0-9]*( [1-9][0-9]*){4}' out || differs 'what was printed' out
+    under_valgrind bin/refused_memory
+    expect_status 0
+}
+
+# Packets of each kind, and one of each byte.
+every_packet() {
+    printf '00000001000200040005a'
+    printf '0104'
+    printf "$(printf '\\x%02x' {0..255})"
+    printf '0006%s\n0000' 'a'
+}
+
+# lists_as_show COMMAND..: that a program lists the packets of streams, good ones and bad ones, as `git2show show` does, and tells the
+# same fault.
+lists_as_show() {
+    local stream piece wanted_status faults=0
+    every_packet > every.pkt
+    : > nothing.pkt
+    for stream in 0006a\\n000 0006a\\n00g0 0003 0006a\\nfff1 0008a; do
+        printf "$stream" > "fault-$((++faults)).pkt"
+    done
+    for stream in every.pkt nothing.pkt fault-*.pkt "$top/sample/conversation.pkt" "$top/sample/requests.pkt"; do
+        run git2show show < "$stream"
+        cp out wanted
+        sed 's/^git2show:/packets:/' err > wanted_err
+        wanted_status=$status
+        for piece in 1 5 65536; do
+            run "$@" "$piece" < "$stream"
+            expect "$wanted_status" wanted wanted_err
+        done
+    done
+}
+
+case_packets_are_listed_by_a_program_in_c() {
+    lists_as_show packets-watched
+    run packets-watched 0 < /dev/null
+    expect_status 2
+}
+
+case_packets_are_listed_under_valgrind() {
+    every_packet > every.pkt
+    under_valgrind bin/packets 3 < every.pkt
+    expect 0 <(git2show show < every.pkt) /dev/null
+    under_valgrind bin/packets < <(printf '0008a')
+    expect 1 /dev/null <(echo 'packets: Truncated at 0')
+}
+
+# Where there is a compiler of Rust. One that rustup keeps wants its owner's home.
+case_packets_are_listed_by_a_program_in_rust() {
+    HOME=$own_home rustc --version || return 0
+    HOME=$own_home rustc -O --edition 2021 -D warnings "$top/examples/packets.rs" -o bin/packets-rust \
+        -L "native=$installed/lib" -l static=gitwire
+    lists_as_show packets-rust
+    under_valgrind bin/packets-rust < every.pkt
+    expect 0 <(git2show show < every.pkt) /dev/null
+}
+
+case_packets_are_listed_by_a_program_in_go() {
+    go version && command -v pkg-config || return 0
+    PKG_CONFIG_PATH=$installed/lib/pkgconfig GOPATH=$room/go GOCACHE=$room/go/cache GOFLAGS=-mod=mod \
+        go build -o bin/packets-go "$top/examples/packets.go"
+    lists_as_show packets-go
+    chmod -R u+w go
+}
+
+# lists_from_git FOLDER WORD..: that our client lists what Git does of a repository, and ends well.
+lists_from_git() {
+    local folder=$1
+    shift
+    git ls-remote --symref "./$folder" > list
+    run list-watched "$@" "$folder"
+    expect 0 list /dev/null
+}
+
+case_a_client_in_c_lists_what_git_serves() {
+    lists_from_git history-sha1
+    [ "$(wc -l < list)" -gt 12 ] || differs 'a list that is too short' list
+    lists_from_git history-sha256 --sha256
+    run list-watched history-sha1 refs/tags/ refs/heads/to
+    expect 0 <(git ls-remote ./history-sha1 'refs/tags/*' refs/heads/topic) /dev/null
+    git init -q void
+    run list-watched void
+    expect 0 /dev/null /dev/null
+    under_valgrind bin/list history-sha1
+    expect 0 <(git ls-remote --symref ./history-sha1) /dev/null
+}
+
+case_a_client_in_c_tells_what_is_wrong() {
+    run list-watched nowhere
+    expect_status 1
+    expect_line 'standard error' 'list: Truncated at 0' err
+    run list-watched history-sha256
+    expect_status 1
+    grep -q '^list: WrongFormat at [0-9]*$' err || differs 'no WrongFormat' err
+    run list-watched history-sha1 "$(printf '%032001d' 0)"
+    expect 1 /dev/null <(echo 'list: a prefix is too long')
+    run list-watched
+    expect_status 2
+}
+
+# write_host_files FOLDER NAME: what a host in C is to serve of a repository, in NAME.refs and NAME.pack.
+write_host_files() {
+    git -C "$1" show-ref --head > "$2.refs"
+    git -C "$1" pack-objects -q --all --stdout < /dev/null > "$2.pack"
+}
+
+# hosted NAME: what was written, as the host in C serves it and as Git is to name it.
+hosted() {
+    echo "ext::host-watched $room/$1.refs $room/$1.pack"
+}
+
+case_a_host_in_c_answers_git() {
+    write_host_files history-sha1 hosted
+    ls_remote "$(hosted hosted)"
+    lists 11 <(git ls-remote ./history-sha1 | grep -v -F '^{}')
+    ls_remote --heads "$(hosted hosted)"
+    lists 4 <(git ls-remote --heads ./history-sha1)
+    sent 'ref-prefix refs/heads/'
+    clone "$(hosted hosted)" ours --mirror
+    expect 0 /dev/null /dev/null
+    expect_same 'the references' <(git -C history-sha1 for-each-ref --format='%(refname) %(objectname)') \
+        <(git -C ours for-each-ref --format='%(refname) %(objectname)')
+    git -C ours fsck --full --strict --no-dangling
+}
+
+# Git says what it has, and hears that nothing of it is common.
+case_a_host_in_c_answers_a_fetch_in_rounds() {
+    both history-sha1 --no-tags
+    grow widened history-sha1
+    write_host_files widened.git widened
+    git -C theirs fetch -q --no-tags "file://$room/widened.git" '+refs/heads/*:refs/remotes/origin/*'
+    fetch_from "$(hosted widened)" ours --no-tags
+    same_after_fetch
+    expect_line 'what Git got' NAK <(sed -n 's/^[^<]*< //p' "$trace")
+}
+
+case_a_host_in_c_leaves_out_what_no_answer_may_have() {
+    write_host_files history-sha1 marred
+    echo "$(git -C history-sha1 rev-parse HEAD) refs/heads/bad..name" >> marred.refs
+    echo '1111 refs/heads/short' >> marred.refs
+    ls_remote --heads "$(hosted marred)"
+    expect_status 0
+    expect_same 'the list' <(git ls-remote --heads ./history-sha1) out
+    expect_same 'what the host told' <(printf 'host: a reference is left out: %s at 0\n' BadRefName BadObjectName) err
+}
+
+case_a_host_in_c_tells_what_is_wrong() {
+    write_host_files history-sha1 hosted
+    run host-watched hosted.refs hosted.pack < <(printf zzzz)
+    expect_status 1
+    expect_same 'standard error' <(echo 'host: refused: BadDigit at 0') err
+    expect_same 'the error packet' <(packet 'ERR BadDigit at 0') <(tail -n 1 out | sed 's/^0000//')
+    run host-watched hosted.refs hosted.pack < <(packet command=ls-refs)
+    expect_status 1
+    expect_same 'standard error' <(echo 'host: refused: Truncated at 20') err
+    run host-watched hosted.refs hosted.pack < <(packet 'ERR I leave')
+    expect_status 1
+    ! grep -a -q ERR out || differs 'an answer to an error' out
+    under_valgrind bin/host hosted.refs hosted.pack < <(packet command=fetch; printf 0001; packet "want $one"; packet 'done'; printf 00000000)
+    expect_status 0
+    expect_same 'standard error' /dev/null err
+    grep -a -q packfile out || differs 'no packfile' out
+}
+
+# start_daemon NAME [COMMAND..]: serves what was written of a repository, on a free port, by this daemon or the watched one. Sets `daemon`, the
+# process, `port` and `address`.
+start_daemon() {
+    local name=$1 command=("${@:2}")
+    [ $# -gt 1 ] || command=(daemon-watched)
+    rm -f listening
+    "${command[@]}" 127.0.0.1 0 "$patience" here "$name.repo" "$name.pack" > listening 2> daemon.err &
+    daemon=$!
+    trap 'kill -KILL $daemon 2> /dev/null || true' EXIT # where the case ends early
+    wait_for listening
+    address=$(cat listening)
+    port=${address#git://127.0.0.1:}
+    port=${port%/here}
+}
+
+# end_daemon: interrupts it, and that it ends well: nothing was touched that may not be, and all was freed.
+end_daemon() {
+    local ended=0
+    kill -INT $daemon
+    wait $daemon || ended=$?
+    [ $ended = 0 ] || differs "status $ended of the daemon" daemon.err
+}
+
+# daemon_told LINE: that the daemon tells this, within half a minute.
+daemon_told() {
+    local i
+    for ((i = 0; i < 300; i++)); do
+        ! grep -q -x -F -e "$1" daemon.err || return 0
+        sleep 0.1
+    done
+    differs "a daemon that did not tell '$1'" daemon.err
+}
+
+# says BYTES..: a connection to the daemon, descriptor 5, over which this is sent, each as printf's format.
+says() {
+    local bytes
+    exec 5<> "/dev/tcp/127.0.0.1/$port"
+    for bytes; do
+        printf "$bytes" >&5
+    done
+}
+
+# hears_to_the_end FILE: what the daemon says over that connection, until it closes it.
+hears_to_the_end() {
+    limited cat <&5 > "$1" || true # a connection may be broken off
+    exec 5>&-
+}
+
+# greeting NAME PARAMETER: the first packet of a client, as a format.
+greeting() {
+    local text="git-upload-pack /$1" host='host=127.0.0.1'
+    printf '%04x%s\\0%s\\0\\0%s\\0' $((4 + ${#text} + 1 + ${#host} + 2 + ${#2} + 1)) "$text" "$host" "$2"
+}
+
+case_a_daemon_in_c_serves_git() {
+    start_daemon history-sha1
+    ls_remote --symref "$address"
+    expect_same 'the list' <(git ls-remote --symref ./history-sha1) out
+    clone "$address" ours
+    clone_from_git history-sha1
+    same_clones
+    has_references 12
+    clone "$address" ours --mirror
+    has_all history-sha1
+    end_daemon
+    expect_same 'what the daemon told' /dev/null daemon.err
+}
+
+case_a_daemon_in_c_serves_git_sha256() {
+    start_daemon history-sha256
+    clone "$address" ours
+    clone_from_git history-sha256
+    same_clones
+    sent object-format=sha256
+    end_daemon
+}
+
+case_a_daemon_in_c_serves_fetches() {
+    grow further history-sha1
+    with_lines further.git prompt 'ready 2'
+    start_daemon prompt
+    both history-sha1 --no-tags
+    git -C theirs fetch -q --no-tags "file://$room/further.git" '+refs/heads/*:refs/remotes/origin/*'
+    fetch_from "$address" ours --no-tags
+    same_after_fetch
+    expect_line 'what Git got' ready <(sed -n 's/^[^<]*< //p' "$trace")
+    fetch_from "$address" ours --no-tags
+    same_after_fetch
+    cut_off further.git brief --depth 1
+    end_daemon
+    start_daemon brief
+    rm -rf ours theirs
+    git -c protocol.version=2 clone -q --no-tags --depth 1 "file://$room/further.git" theirs
+    clone "$address" ours --no-tags --depth 1
+    had theirs > wanted
+    had ours > written
+    expect_same 'what a shallow clone has' wanted written
+    end_daemon
+}
+
+# A way to the daemon that stops in the middle of the pack, until a file `resumed` is there.
+write_halting_way() {
+    cat > bin/halting-way << EOF
+#!/bin/bash
+cd "$room"
+exec 5<> "/dev/tcp/127.0.0.1/\$2"
+cat >&5 &
+sender=\$!
+{
+    dd bs=65536 count=40 status=none
+    echo yes > halted
+    while [ ! -e resumed ]; do sleep 0.1; done
+    cat || true
+} <&5
+kill \$sender
+EOF
+    chmod +x bin/halting-way
+}
+
+# visit NUMBER: by its number one lists what the daemon serves, fetches it into a repository that is there, or clones it, and writes what
+# it got as `main`.
+visit() {
+    local git=(timeout 200 git -c protocol.version=2)
+    case $(($1 % 5)) in
+    0)
+        "${git[@]}" ls-remote "$address" refs/heads/main | cut -f 1
+        ;;
+    1)
+        git init -q --bare "many/$1"
+        "${git[@]}" -C "many/$1" fetch -q "$address" main:main
+        git -C "many/$1" rev-parse main
+        ;;
+    *)
+        "${git[@]}" clone -q --bare "$address" "many/$1"
+        git -C "many/$1" rev-parse main
+        ;;
+    esac
+}
+
+# Twenty at once, and beside them one that stops in the middle of its clone, one that sends what is no packet, and one that says nothing.
+case_a_daemon_in_c_serves_twenty_at_once() {
+    local i clients=() halting status
+    rm -rf halted resumed many
+    mkdir many
+    git -C heavy rev-parse main > many/wanted
+    write_halting_way
+    start_daemon heavy
+    says
+    exec 6<&5
+    git -c protocol.version=2 -c core.gitProxy="$room/bin/halting-way" clone -q "$address" many/halting > /dev/null 2>&1 &
+    halting=$!
+    wait_for halted
+    for i in {1..20}; do
+        visit $i > "many/$i.main" 2> "many/$i.err" &
+        clients+=($!)
+    done
+    says zzzz
+    hears_to_the_end garbage
+    expect_same 'what is told of garbage' <(packet 'ERR BadDigit at 0') garbage
+    for i in {1..20}; do
+        wait "${clients[i - 1]}" || differs "visit $i, which failed" "many/$i.err"
+        expect_same "what visit $i got" many/wanted "many/$i.main"
+    done
+    git -C many/6 fsck --full --strict --no-dangling
+    git -C many/7 fsck --full --strict --no-dangling
+    daemon_told 'daemon: a client was too slow'
+    : > resumed
+    status=0
+    wait $halting || status=$?
+    [ $status = 128 ] || differs "status $status of a clone that was too slow"
+    exec 6<&-
+    end_daemon
+    rm -rf many
+}
+
+# The pack is in memory once, and a client takes what its struct has and the library's buffer: half a megabyte at the most.
+case_a_daemon_in_c_takes_a_fixed_memory() {
+    local before after i clients=()
+    start_daemon heavy daemon
+    before=$(sed -n 's/^VmHWM:[^0-9]*\([0-9]*\) kB/\1/p' "/proc/$daemon/status")
+    for i in {1..8}; do
+        timeout 200 git -c protocol.version=2 clone -q --bare "$address" "fixed-$i" > /dev/null 2>&1 &
+        clients+=($!)
+    done
+    for i in {1..8}; do
+        wait "${clients[i - 1]}" || differs 'a clone that failed'
+    done
+    rm -rf fixed-*
+    after=$(sed -n 's/^VmHWM:[^0-9]*\([0-9]*\) kB/\1/p' "/proc/$daemon/status")
+    [ $((after - before)) -lt 4096 ] || differs "$((after - before)) KiB for eight clients"
+    end_daemon
+}
+
+# refuses TEXT BYTES..: that the daemon answers this with an error packet of the text, and ends the connection.
+refuses() {
+    local text=$1
+    shift
+    says "$@"
+    hears_to_the_end answer
+    expect_same "the answer to '$*'" <(packet "ERR $text") answer
+    daemon_told "daemon: refused: $text"
+}
+
+case_a_daemon_in_c_refuses_what_it_does_not_serve() {
+    start_daemon history-sha1
+    refuses 'nothing but the fetch side of one repository is served here' "$(greeting there version=2)"
+    refuses 'nothing but the fetch side of one repository is served here' 0000
+    refuses 'nothing but the fetch side of one repository is served here' '001bgit-receive-pack /here\0'
+    refuses 'nothing but version 2 of the protocol is served here' "$(greeting here version=1)"
+    refuses 'nothing but version 2 of the protocol is served here' '0019git-upload-pack /here'
+    refuses 'TooLong at 0' fff1
+    run git -c protocol.version=0 ls-remote "$address"
+    expect 128 /dev/null <(echo 'fatal: remote error: nothing but version 2 of the protocol is served here')
+    run git ls-remote "${address}s"
+    expect_status 128
+    expect_line 'what Git told' 'fatal: remote error: nothing but the fetch side of one repository is served here' err
+    ls_remote "$address"
+    expect_status 0
+    end_daemon
+}
+
+case_a_daemon_in_c_ends_a_session_at_its_fault() {
+    start_daemon history-sha1
+    says "$(greeting here version=2)"
+    { packet command=fetch && printf 0001 && packet "want $one"; } >&5
+    hears_to_the_end answer
+    expect_same 'the answer' <(advertisement sha1 && packet 'ERR NotOurs at 22') answer
+    daemon_told 'daemon: a session ended with fault 25 at 22'
+    says "$(greeting here version=2)" 0000
+    hears_to_the_end answer
+    expect_same 'the answer to one that leaves' <(advertisement sha1) answer
+    says '0019git-up'
+    exec 5>&-
+    daemon_told 'daemon: refused: Truncated at 0'
+    says "$(greeting here version=2)"
+    exec 5>&-
+    ls_remote "$address"
+    expect_status 0
+    end_daemon
+}
+
+# One says nothing, one not all, and one does not read what it asked for.
+case_a_daemon_in_c_closes_who_is_too_slow() {
+    local begin=$SECONDS i
+    patience=2
+    start_daemon heavy
+    says
+    hears_to_the_end nothing
+    expect_same 'what is said to one that says nothing' /dev/null nothing
+    [ $((SECONDS - begin)) -ge $((patience - 1)) ] || differs 'a daemon that did not wait'
+    says "$(greeting here version=2)" 0014comm
+    hears_to_the_end answer
+    expect_same 'what is said to one that does not go on' <(advertisement sha1) answer
+    says "$(greeting here version=2)"
+    fetch "$(git -C heavy rev-parse main)" >&5
+    for ((i = 0; i < 300; i++)); do
+        [ "$(grep -c 'too slow' daemon.err)" -lt 3 ] || break
+        sleep 0.1
+    done
+    hears_to_the_end answer
+    [ "$(grep -c -x 'daemon: a client was too slow' daemon.err)" = 3 ] || differs 'not three that are too slow' daemon.err
+    [ "$(wc -c < answer)" -lt 21000000 ] || differs 'a whole pack for one that does not read'
+    end_daemon
+}
+
+# Sixty-four that say nothing have all its places, until they are closed.
+case_a_daemon_in_c_lets_others_wait() {
+    local i connection
+    patience=2
+    start_daemon history-sha1
+    for i in {1..64}; do
+        exec {connection}<> "/dev/tcp/127.0.0.1/$port"
+    done
+    ls_remote "$address"
+    expect_same 'the list' <(git ls-remote ./history-sha1) out
+    [ "$(grep -c 'too slow' daemon.err)" -ge 1 ] || differs 'nobody who had to go' daemon.err
+    end_daemon
+}
+
+case_a_daemon_in_c_under_valgrind() {
+    local i clients=()
+    command -v valgrind > /dev/null || return 0
+    patience=20
+    start_daemon history-sha1 valgrind -q --error-exitcode=99 --leak-check=full daemon
+    for i in {1..4}; do
+        timeout 60 git -c protocol.version=2 clone -q --bare "$address" "checked-$i" > "checked-$i.out" 2>&1 &
+        clients+=($!)
+    done
+    refuses 'BadDigit at 0' zzzz
+    for i in {1..4}; do
+        wait "${clients[i - 1]}" || differs 'a clone that failed' "checked-$i.out"
+    done
+    end_daemon
+}
+
+case_a_daemon_in_c_refuses_wrong_words() {
+    run daemon-watched
+    expect_status 2
+    run daemon-watched 0.0.0.0 0 1 here history-sha1.repo history-sha1.pack
+    expect 1 /dev/null <(echo 'daemon: the address is not of the loopback network')
+    run daemon-watched 127.0.0.1 65536 1 here history-sha1.repo history-sha1.pack
+    expect 1 /dev/null <(echo 'daemon: a number is none, or out of its range')
+    run daemon-watched 127.0.0.1 0 1 here nowhere history-sha1.pack
+    expect 1 /dev/null <(echo 'daemon: a file cannot be opened')
+    sed 3p history-sha1.repo > wrong.repo
+    run daemon-watched 127.0.0.1 0 1 here wrong.repo history-sha1.pack
+    expect 1 /dev/null <(echo 'daemon: BadRepo at 4')
+}

@@ -1,0 +1,566 @@
+/*
+ * Calls each function of the library once at least, as the header has it: what it tells where all is well, and where it may
+ * not be called so. It prints each expectation that does not hold; the status is 1 where one did not.
+ *
+ * What the calls do is proved. What is seen here is that C and the library agree about it: how arguments and answers are handed
+ * over, in which order fields and numbers stand, and that memory is freed once (built with a sanitizer, and under valgrind).
+ */
+#include <gitwire.h>
+
+#include <stdio.h>
+#include <stdlib.h>
+#include <string.h>
+
+static int failures;
+
+#define EXPECT(condition) \
+	((condition) ? (void)0 : (void)(failures++, printf("%s:%d: %s\n", __FILE__, __LINE__, #condition)))
+
+/* A text, as its pointer and its length. */
+#define TEXT(text) (const uint8_t *)(text), strlen(text)
+#define ROOM room, sizeof room
+
+#define ONE "1111111111111111111111111111111111111111"
+#define TWO "2222222222222222222222222222222222222222"
+#define LONG_ONE "1111111111111111111111111111111111111111111111111111111111111111"
+
+static uint8_t room[GITWIRE_PACKET_ROOM];
+
+/* Whether just these fields are told, and the others are 0. */
+static bool tells(gitwire_told told, uint8_t kind, size_t used, uint64_t offset, size_t length)
+{
+	return told.kind == kind && told.used == used && told.offset == offset && told.length == length && told.fault == 0;
+}
+
+static bool tells_fault(gitwire_told told, uint8_t fault, size_t used, uint64_t offset)
+{
+	return told.kind == GITWIRE_FAILED && told.fault == fault && told.used == used && told.offset == offset && told.length == 0;
+}
+
+/* Whether a whole text was put at the front of the room, and the bytes after it were left alone. */
+static bool wrote(gitwire_told told, const char *text)
+{
+	bool is_it = tells(told, GITWIRE_DONE, 0, 0, strlen(text)) && memcmp(room, text, strlen(text)) == 0;
+
+	for (size_t i = told.length; i < sizeof room; i++)
+		is_it = is_it && room[i] == '#';
+	memset(room, '#', sizeof room);
+	return is_it;
+}
+
+static void try_packets(void)
+{
+	gitwire_packet_reader reader = GITWIRE_NONE;
+
+	gitwire_packet_reader_free(&reader);
+	EXPECT(tells(gitwire_packet_reader_feed(&reader, TEXT("0000"), ROOM), GITWIRE_NO_HANDLE, 0, 0, 0));
+	EXPECT(tells(gitwire_packet_reader_close(&reader), GITWIRE_NO_HANDLE, 0, 0, 0));
+	EXPECT(gitwire_packet_reader_new(&reader) == GITWIRE_DONE);
+	EXPECT(tells(gitwire_packet_reader_feed(&reader, TEXT("0000"), room, GITWIRE_PAYLOAD_ROOM - 1), GITWIRE_ROOM_TOO_SMALL, 0, 0, 0));
+	EXPECT(tells(gitwire_packet_reader_feed(&reader, TEXT("0008word00000001"), room, GITWIRE_PAYLOAD_ROOM), GITWIRE_PAYLOAD, 8, 0, 4));
+	EXPECT(memcmp(room, "word#", 5) == 0);
+	EXPECT(tells(gitwire_packet_reader_feed(&reader, TEXT("0000"), ROOM), GITWIRE_FLUSH, 4, 8, 0));
+	EXPECT(tells(gitwire_packet_reader_feed(&reader, TEXT("0001"), ROOM), GITWIRE_DELIM, 4, 12, 0));
+	EXPECT(tells(gitwire_packet_reader_feed(&reader, TEXT("0002"), ROOM), GITWIRE_RESPONSE_END, 4, 16, 0));
+	EXPECT(tells(gitwire_packet_reader_feed(&reader, TEXT("0004"), ROOM), GITWIRE_PAYLOAD, 4, 20, 0));
+	EXPECT(tells(gitwire_packet_reader_feed(&reader, NULL, 0, ROOM), GITWIRE_MORE, 0, 0, 0));
+	EXPECT(tells(gitwire_packet_reader_close(&reader), GITWIRE_DONE, 0, 0, 0));
+	EXPECT(tells(gitwire_packet_reader_feed(&reader, TEXT("0008wo"), ROOM), GITWIRE_MORE, 6, 0, 0));
+	EXPECT(tells_fault(gitwire_packet_reader_close(&reader), GITWIRE_FAULT_TRUNCATED, 0, 24));
+	EXPECT(tells_fault(gitwire_packet_reader_feed(&reader, TEXT("rd"), ROOM), GITWIRE_FAULT_TRUNCATED, 0, 24));
+	EXPECT(gitwire_packet_reader_new(&reader) == GITWIRE_DONE); /* what it had is freed */
+	EXPECT(tells_fault(gitwire_packet_reader_feed(&reader, TEXT("00x0"), ROOM), GITWIRE_FAULT_BAD_DIGIT, 3, 2));
+	EXPECT(tells_fault(gitwire_packet_reader_close(&reader), GITWIRE_FAULT_BAD_DIGIT, 0, 2));
+	gitwire_packet_reader_free(&reader);
+	EXPECT(tells(gitwire_packet_reader_close(&reader), GITWIRE_NO_HANDLE, 0, 0, 0));
+	gitwire_packet_reader_free(&reader);
+	memset(room, '#', sizeof room);
+}
+
+static bool has_item(gitwire_request *request, uint8_t list, size_t index, const char *item)
+{
+	return wrote(gitwire_request_item(request, list, index, ROOM), item);
+}
+
+static void try_a_request_for_references(void)
+{
+	gitwire_request request = GITWIRE_NONE;
+
+	gitwire_request_free(&request);
+	EXPECT(tells(gitwire_request_add(&request, TEXT("peel")), GITWIRE_NO_HANDLE, 0, 0, 0));
+	EXPECT(tells(gitwire_request_end(&request), GITWIRE_NO_HANDLE, 0, 0, 0));
+	EXPECT(tells(gitwire_request_command(&request), GITWIRE_NO_HANDLE, 0, 0, 0));
+	EXPECT(tells(gitwire_request_format(&request), GITWIRE_NO_HANDLE, 0, 0, 0));
+	EXPECT(tells(gitwire_request_number(&request, GITWIRE_NUMBER_DEEPEN), GITWIRE_NO_HANDLE, 0, 0, 0));
+	EXPECT(tells(gitwire_request_item(&request, GITWIRE_LIST_WANTS, 0, ROOM), GITWIRE_NO_HANDLE, 0, 0, 0));
+	EXPECT(!gitwire_request_flag(&request, GITWIRE_FLAG_PEEL));
+	EXPECT(gitwire_request_new(&request, 3, GITWIRE_SHA1, 0) == GITWIRE_BAD_VALUE);
+	EXPECT(gitwire_request_new(&request, GITWIRE_LS_REFS, 2, 0) == GITWIRE_BAD_VALUE);
+	EXPECT(gitwire_request_new(&request, GITWIRE_LS_REFS, GITWIRE_SHA1, GITWIRE_MOST_LIMIT + 1) == GITWIRE_BAD_VALUE);
+	EXPECT(gitwire_request_new(&request, GITWIRE_LS_REFS, GITWIRE_SHA256, 40) == GITWIRE_DONE);
+	EXPECT(tells(gitwire_request_command(&request), GITWIRE_DONE, 0, GITWIRE_LS_REFS, 0));
+	EXPECT(tells(gitwire_request_format(&request), GITWIRE_DONE, 0, GITWIRE_SHA256, 0));
+	EXPECT(tells(gitwire_request_add(&request, TEXT("peel")), GITWIRE_DONE, 0, 0, 0));
+	EXPECT(tells(gitwire_request_add(&request, TEXT("ref-prefix refs/tags/")), GITWIRE_DONE, 0, 0, 0));
+	EXPECT(tells(gitwire_request_add(&request, TEXT("ref-prefix ")), GITWIRE_DONE, 0, 0, 0));
+	EXPECT(tells_fault(gitwire_request_add(&request, TEXT("ref-prefix refs/heads/")), GITWIRE_FAULT_TOO_MUCH_KEPT, 0, 0));
+	EXPECT(tells_fault(gitwire_request_add(&request, TEXT("done")), GITWIRE_FAULT_UNKNOWN_ARGUMENT, 0, 0));
+	EXPECT(tells_fault(gitwire_request_add(&request, NULL, 0), GITWIRE_FAULT_UNKNOWN_ARGUMENT, 0, 0));
+	EXPECT(gitwire_request_flag(&request, GITWIRE_FLAG_PEEL) && !gitwire_request_flag(&request, GITWIRE_FLAG_SYMREFS));
+	EXPECT(!gitwire_request_flag(&request, GITWIRE_FLAG_DONE) && !gitwire_request_flag(&request, 9));
+	EXPECT(has_item(&request, GITWIRE_LIST_REF_PREFIXES, 0, "refs/tags/"));
+	EXPECT(has_item(&request, GITWIRE_LIST_REF_PREFIXES, 1, ""));
+	EXPECT(tells(gitwire_request_item(&request, GITWIRE_LIST_REF_PREFIXES, 2, ROOM), GITWIRE_NOTHING, 0, 0, 0));
+	EXPECT(tells(gitwire_request_item(&request, GITWIRE_LIST_REF_PREFIXES, 0, room, 9), GITWIRE_ROOM_TOO_SMALL, 0, 0, 0));
+	EXPECT(tells(gitwire_request_item(&request, GITWIRE_LIST_WANTS, 0, ROOM), GITWIRE_NOTHING, 0, 0, 0));
+	EXPECT(tells(gitwire_request_item(&request, 7, 0, ROOM), GITWIRE_BAD_VALUE, 0, 0, 0));
+	EXPECT(tells(gitwire_request_end(&request), GITWIRE_DONE, 0, 0, 0));
+	EXPECT(gitwire_request_new(&request, 3, GITWIRE_SHA1, 0) == GITWIRE_BAD_VALUE); /* the handle stays as it was */
+	EXPECT(gitwire_request_flag(&request, GITWIRE_FLAG_PEEL));
+	gitwire_request_free(&request);
+	gitwire_request_free(&request);
+}
+
+static void try_a_request_for_a_pack(void)
+{
+	gitwire_request request = GITWIRE_NONE;
+	static const char *const lines[] = { "thin-pack", "no-progress", "include-tag", "ofs-delta", "shallow " TWO, "deepen 007",
+		"deepen-relative", "want-ref refs/heads/main", "have " TWO, "have " ONE, "done" };
+
+	EXPECT(gitwire_request_new(&request, GITWIRE_FETCH, GITWIRE_SHA1, GITWIRE_USUAL_LIMIT) == GITWIRE_DONE);
+	EXPECT(tells_fault(gitwire_request_end(&request), GITWIRE_FAULT_NO_WANTS, 0, 0));
+	EXPECT(tells_fault(gitwire_request_add(&request, TEXT("want 1111")), GITWIRE_FAULT_BAD_OBJECT_NAME, 0, 0));
+	EXPECT(tells_fault(gitwire_request_add(&request, TEXT("want-ref main")), GITWIRE_FAULT_BAD_REF_NAME, 0, 0));
+	EXPECT(tells_fault(gitwire_request_add(&request, TEXT("deepen 0")), GITWIRE_FAULT_BAD_NUMBER, 0, 0));
+	EXPECT(tells(gitwire_request_number(&request, GITWIRE_NUMBER_DEEPEN), GITWIRE_NOTHING, 0, 0, 0));
+	EXPECT(tells(gitwire_request_add(&request, TEXT("want " ONE)), GITWIRE_DONE, 0, 0, 0));
+	for (size_t i = 0; i < sizeof lines / sizeof *lines; i++)
+		EXPECT(tells(gitwire_request_add(&request, TEXT(lines[i])), GITWIRE_DONE, 0, 0, 0));
+	for (uint8_t flag = 0; flag < 12; flag++)
+		EXPECT(gitwire_request_flag(&request, flag) == (flag >= GITWIRE_FLAG_DONE && flag <= GITWIRE_FLAG_DEEPEN_RELATIVE));
+	EXPECT(has_item(&request, GITWIRE_LIST_WANTS, 0, ONE));
+	EXPECT(has_item(&request, GITWIRE_LIST_HAVES, 0, TWO));
+	EXPECT(has_item(&request, GITWIRE_LIST_HAVES, 1, ONE));
+	EXPECT(has_item(&request, GITWIRE_LIST_SHALLOWS, 0, TWO));
+	EXPECT(has_item(&request, GITWIRE_LIST_WANT_REFS, 0, "refs/heads/main"));
+	EXPECT(tells(gitwire_request_item(&request, GITWIRE_LIST_WANTS, 1, ROOM), GITWIRE_NOTHING, 0, 0, 0));
+	EXPECT(tells(gitwire_request_item(&request, GITWIRE_LIST_WANTS, SIZE_MAX, ROOM), GITWIRE_NOTHING, 0, 0, 0));
+	EXPECT(tells(gitwire_request_item(&request, GITWIRE_LIST_WANTS, 0, room, 39), GITWIRE_ROOM_TOO_SMALL, 0, 0, 0));
+	EXPECT(tells(gitwire_request_number(&request, GITWIRE_NUMBER_DEEPEN), GITWIRE_DONE, 0, 7, 0));
+	EXPECT(tells(gitwire_request_number(&request, GITWIRE_NUMBER_DEEPEN_SINCE), GITWIRE_NOTHING, 0, 0, 0));
+	EXPECT(tells(gitwire_request_number(&request, 2), GITWIRE_BAD_VALUE, 0, 0, 0));
+	EXPECT(tells(gitwire_request_end(&request), GITWIRE_DONE, 0, 0, 0));
+	EXPECT(tells(gitwire_request_add(&request, TEXT("deepen-since 9223372036854775807")), GITWIRE_DONE, 0, 0, 0));
+	EXPECT(tells(gitwire_request_add(&request, TEXT("deepen-not v1")), GITWIRE_DONE, 0, 0, 0));
+	EXPECT(tells(gitwire_request_number(&request, GITWIRE_NUMBER_DEEPEN_SINCE), GITWIRE_DONE, 0, INT64_MAX, 0));
+	EXPECT(has_item(&request, GITWIRE_LIST_DEEPEN_NOTS, 0, "v1"));
+	EXPECT(tells_fault(gitwire_request_end(&request), GITWIRE_FAULT_DEEPEN_CONFLICT, 0, 0));
+	EXPECT(gitwire_request_new(&request, GITWIRE_OBJECT_INFO, GITWIRE_SHA1, 100) == GITWIRE_DONE); /* what it had is freed */
+	EXPECT(tells(gitwire_request_add(&request, TEXT("oid " TWO)), GITWIRE_DONE, 0, 0, 0));
+	EXPECT(tells_fault(gitwire_request_end(&request), GITWIRE_FAULT_NO_SIZE, 0, 0));
+	EXPECT(tells(gitwire_request_add(&request, TEXT("size")), GITWIRE_DONE, 0, 0, 0));
+	EXPECT(gitwire_request_flag(&request, GITWIRE_FLAG_SIZE) && has_item(&request, GITWIRE_LIST_OIDS, 0, TWO));
+	gitwire_request_free(&request);
+}
+
+#define LS_REFS "0014command=ls-refs\n" "0001" "0009peel\n" "0000"
+#define OBJECT_INFO "0018command=object-info\n" "0001" "0009size\n" "0000"
+
+static void try_a_reader_of_requests(void)
+{
+	gitwire_request_reader reader = GITWIRE_NONE;
+	gitwire_request request = GITWIRE_NONE;
+	gitwire_offer offer = { .format = GITWIRE_SHA1 }, bad = { .format = 2 };
+	const uint8_t *whole = (const uint8_t *)LS_REFS LS_REFS;
+	const size_t first = strlen(LS_REFS);
+
+	gitwire_request_reader_free(&reader);
+	EXPECT(tells(gitwire_request_reader_feed(&reader, &request, TEXT(LS_REFS)), GITWIRE_NO_HANDLE, 0, 0, 0));
+	EXPECT(tells(gitwire_request_reader_close(&reader), GITWIRE_NO_HANDLE, 0, 0, 0));
+	EXPECT(gitwire_request_reader_new(&reader, bad, 0) == GITWIRE_BAD_VALUE);
+	EXPECT(gitwire_request_reader_new(&reader, offer, GITWIRE_MOST_LIMIT + 1) == GITWIRE_BAD_VALUE);
+	EXPECT(gitwire_request_reader_new(&reader, offer, 100) == GITWIRE_DONE);
+	EXPECT(gitwire_request_reader_new(&reader, bad, 0) == GITWIRE_BAD_VALUE); /* the handle stays as it was */
+	EXPECT(tells(gitwire_request_reader_close(&reader), GITWIRE_DONE, 0, 0, 0));
+	EXPECT(tells(gitwire_request_reader_feed(&reader, &request, whole, 8), GITWIRE_MORE, 8, 0, 0));
+	EXPECT(tells(gitwire_request_reader_feed(&reader, &request, whole + 8, first), GITWIRE_REQUEST, first - 8, 0, 0));
+	EXPECT(tells(gitwire_request_command(&request), GITWIRE_DONE, 0, GITWIRE_LS_REFS, 0));
+	EXPECT(gitwire_request_flag(&request, GITWIRE_FLAG_PEEL));
+	EXPECT(tells(gitwire_request_reader_feed(&reader, &request, TEXT("0000")), GITWIRE_STOP, 4, 0, 0));
+	EXPECT(tells(gitwire_request_reader_feed(&reader, &request, TEXT("0000")), GITWIRE_MORE, 0, 0, 0));
+	EXPECT(tells(gitwire_request_reader_close(&reader), GITWIRE_NOT_NOW, 0, 0, 0));
+	/* Each field of the offer is where the library looks for it: what is offered is taken, and nothing else. */
+	EXPECT(gitwire_request_reader_new(&reader, offer, 100) == GITWIRE_DONE);
+	EXPECT(tells_fault(gitwire_request_reader_feed(&reader, &request, TEXT(OBJECT_INFO)), GITWIRE_FAULT_NOT_ADVERTISED, 24, 0));
+	EXPECT(tells(gitwire_request_reader_close(&reader), GITWIRE_NOT_NOW, 0, 0, 0));
+	offer.object_info = true;
+	EXPECT(gitwire_request_reader_new(&reader, offer, 100) == GITWIRE_DONE);
+	EXPECT(tells(gitwire_request_reader_feed(&reader, &request, TEXT(OBJECT_INFO)), GITWIRE_REQUEST, strlen(OBJECT_INFO), 0, 0));
+	EXPECT(tells(gitwire_request_command(&request), GITWIRE_DONE, 0, GITWIRE_OBJECT_INFO, 0));
+	EXPECT(tells(gitwire_request_reader_feed(&reader, &request, TEXT("0014")), GITWIRE_MORE, 4, 0, 0));
+	EXPECT(tells_fault(gitwire_request_reader_close(&reader), GITWIRE_FAULT_TRUNCATED, 0, strlen(OBJECT_INFO)));
+	gitwire_request_free(&request);
+	gitwire_request_reader_free(&reader);
+	gitwire_request_reader_free(&reader);
+}
+
+#define SMALL_TEXT "format sha1\n" \
+	"ref " ONE " HEAD symref-target:refs/heads/main\n" \
+	"ref " ONE " refs/heads/main\n" \
+	"ref " TWO " refs/tags/v1 peeled:" ONE "\n" \
+	"object " ONE " 230\n" \
+	"object " TWO " 140\n" \
+	"ready 1\n" \
+	"shallow " ONE "\n" \
+	"unshallow " TWO "\n"
+
+static void try_a_server(void)
+{
+	gitwire_repository repository = GITWIRE_NONE;
+	gitwire_server server = GITWIRE_NONE, other = GITWIRE_NONE;
+	gitwire_told told;
+
+	gitwire_repository_free(&repository);
+	gitwire_server_free(&server);
+	EXPECT(gitwire_server_new(&server, &repository, 0, true) == GITWIRE_NO_HANDLE);
+	EXPECT(tells(gitwire_server_feed(&server, TEXT("0000")), GITWIRE_NO_HANDLE, 0, 0, 0));
+	EXPECT(tells(gitwire_server_pull(&server, ROOM), GITWIRE_NO_HANDLE, 0, 0, 0));
+	EXPECT(gitwire_server_close(&server) == GITWIRE_NO_HANDLE);
+	told = gitwire_repository_new(&repository, TEXT("format sha1\nref here\n"), TEXT("PACK"));
+	EXPECT(tells(told, GITWIRE_FAILED, 0, 2, 0));
+	EXPECT(tells(gitwire_repository_new(&repository, NULL, 0, NULL, 0), GITWIRE_FAILED, 0, 1, 0));
+	EXPECT(gitwire_server_new(&server, &repository, 0, true) == GITWIRE_NO_HANDLE);
+	EXPECT(tells(gitwire_repository_new(&repository, TEXT(SMALL_TEXT), TEXT("PACK")), GITWIRE_DONE, 0, 0, 0));
+	EXPECT(gitwire_server_new(&server, &repository, GITWIRE_MOST_LIMIT + 1, true) == GITWIRE_BAD_VALUE);
+	EXPECT(gitwire_server_new(&server, &repository, 100, true) == GITWIRE_DONE);
+	EXPECT(gitwire_server_new(&other, &repository, 100, false) == GITWIRE_DONE);
+	gitwire_repository_free(&repository); /* the servers keep it */
+	gitwire_repository_free(&repository);
+	EXPECT(tells(gitwire_server_pull(&server, room, GITWIRE_PACKET_ROOM - 1), GITWIRE_ROOM_TOO_SMALL, 0, 0, 0));
+	EXPECT(tells(gitwire_server_feed(&server, TEXT(LS_REFS)), GITWIRE_MORE, 0, 0, 0));
+	EXPECT(tells(gitwire_server_feed(&server, NULL, 0), GITWIRE_MORE, 0, 0, 0));
+	EXPECT(gitwire_server_close(&server) == GITWIRE_NOT_NOW);
+	told = gitwire_server_pull(&server, ROOM);
+	EXPECT(tells(told, GITWIRE_PACKET, 0, 0, 14) && memcmp(room, "000eversion 2\n#", 15) == 0);
+	while (told.kind == GITWIRE_PACKET)
+		told = gitwire_server_pull(&server, ROOM);
+	EXPECT(tells(told, GITWIRE_NEED_INPUT, 0, 0, 0));
+	EXPECT(tells(gitwire_server_feed(&server, TEXT(LS_REFS LS_REFS)), GITWIRE_MORE, strlen(LS_REFS), 0, 0));
+	told = gitwire_server_pull(&server, ROOM);
+	EXPECT(tells(told, GITWIRE_PACKET, 0, 0, 50) && memcmp(room, "0032" ONE " HEAD\n", 50) == 0);
+	while (told.kind == GITWIRE_PACKET)
+		told = gitwire_server_pull(&server, ROOM);
+	EXPECT(tells(gitwire_server_feed(&server, TEXT("0000")), GITWIRE_MORE, 4, 0, 0));
+	EXPECT(tells(gitwire_server_pull(&server, ROOM), GITWIRE_ENDED_BY_FLUSH, 0, 0, 0));
+	EXPECT(gitwire_server_close(&server) == GITWIRE_NOT_NOW);
+	gitwire_server_free(&server);
+	gitwire_server_free(&server);
+	memset(room, '#', sizeof room);
+	EXPECT(tells(gitwire_server_pull(&other, ROOM), GITWIRE_NEED_INPUT, 0, 0, 0));
+	EXPECT(gitwire_server_close(&other) == GITWIRE_DONE);
+	EXPECT(tells(gitwire_server_pull(&other, ROOM), GITWIRE_ENDED_BY_CLOSE, 0, 0, 0));
+	gitwire_server_free(&other);
+}
+
+static void try_a_refused_session(void)
+{
+	gitwire_repository repository = GITWIRE_NONE;
+	gitwire_server server = GITWIRE_NONE;
+	gitwire_told told;
+
+	EXPECT(tells(gitwire_repository_new(&repository, TEXT("format sha256"), NULL, 0), GITWIRE_DONE, 0, 0, 0));
+	EXPECT(gitwire_server_new(&server, &repository, 100, false) == GITWIRE_DONE);
+	EXPECT(tells(gitwire_server_feed(&server, TEXT("0014command=ls-refs\n0009peel\n")), GITWIRE_MORE, 29, 0, 0));
+	told = gitwire_server_pull(&server, ROOM);
+	EXPECT(tells(told, GITWIRE_PACKET, 0, 0, 28) && memcmp(room, "001cERR NotAdvertised at 20\n", 28) == 0);
+	EXPECT(tells_fault(gitwire_server_pull(&server, ROOM), GITWIRE_FAULT_NOT_ADVERTISED, 0, 20));
+	EXPECT(tells_fault(gitwire_server_pull(&server, ROOM), GITWIRE_FAULT_NOT_ADVERTISED, 0, 20));
+	gitwire_repository_free(&repository);
+	gitwire_server_free(&server);
+	memset(room, '#', sizeof room);
+}
+
+/* A server and a client that talk to each other, and what the client hears: an event to a line. */
+struct talk {
+	gitwire_server server;
+	gitwire_client client;
+	char heard[4096];
+	size_t length;
+};
+
+static void hear(struct talk *t, gitwire_event e)
+{
+	static const char *const names[] = { "capability", "offered", "reference", "ack", "nak", "ready", "shallow", "unshallow",
+		"wanted", "info", "pack", "progress", "ended" };
+	const char *part = (const char *)room;
+	const size_t lengths[] = { e.id_length, e.name_length, e.text_length, e.peeled_length };
+
+	EXPECT(e.kind >= GITWIRE_CAPABILITY && e.kind <= GITWIRE_ENDED && e.fault == 0 && e.offset == 0);
+	t->length += (size_t)sprintf(t->heard + t->length, "%s", names[(e.kind - GITWIRE_CAPABILITY) % 13]);
+	for (int i = 0; i < 4; i++) {
+		if (lengths[i] > 0)
+			t->length += (size_t)sprintf(t->heard + t->length, " %.*s", (int)lengths[i], part);
+		part += lengths[i];
+	}
+	if (e.has_text)
+		t->length += (size_t)sprintf(t->heard + t->length, " has-text");
+	if (e.has_size)
+		t->length += (size_t)sprintf(t->heard + t->length, " size %llu", (unsigned long long)e.size);
+	t->length += (size_t)sprintf(t->heard + t->length, "\n");
+}
+
+/* Gives what one end owes to the other, until a request can be asked or all was said: the kind that the client tells then. */
+static uint8_t go_on(struct talk *t)
+{
+	static uint8_t packet[GITWIRE_PACKET_ROOM];
+	gitwire_told told;
+
+	t->length = 0;
+	for (;;) {
+		told = gitwire_client_pull(&t->client, packet, sizeof packet);
+		if (told.kind == GITWIRE_PACKET) {
+			EXPECT(gitwire_server_feed(&t->server, packet, told.length).used == told.length);
+			continue;
+		}
+		if (told.kind != GITWIRE_NEED_INPUT)
+			return told.kind;
+		told = gitwire_server_pull(&t->server, packet, sizeof packet);
+		if (told.kind != GITWIRE_PACKET)
+			return told.kind;
+		for (size_t used = 0; used < told.length;) {
+			gitwire_event event = gitwire_client_feed(&t->client, packet + used, told.length - used, ROOM);
+			used += event.used;
+			if (event.kind == GITWIRE_FAILED)
+				return GITWIRE_FAILED;
+			if (event.kind != GITWIRE_MORE)
+				hear(t, event);
+		}
+	}
+}
+
+/* Asks a request of these lines, up to a NULL, and answers what the client tells of it. */
+static gitwire_told ask(struct talk *t, uint8_t command, const char *const *lines)
+{
+	gitwire_request request = GITWIRE_NONE;
+	gitwire_told told;
+
+	EXPECT(gitwire_request_new(&request, command, GITWIRE_SHA1, GITWIRE_USUAL_LIMIT) == GITWIRE_DONE);
+	for (; *lines != NULL; lines++)
+		EXPECT(gitwire_request_add(&request, TEXT(*lines)).kind == GITWIRE_DONE);
+	told = gitwire_client_ask(&t->client, &request);
+	EXPECT(gitwire_request_end(&request).kind == (told.kind == GITWIRE_DONE ? GITWIRE_NO_HANDLE : GITWIRE_DONE));
+	gitwire_request_free(&request);
+	return told;
+}
+
+/* What is heard of a request of these lines. */
+static bool hears(struct talk *t, uint8_t command, const char *const *lines, const char *wanted)
+{
+	EXPECT(tells(ask(t, command, lines), GITWIRE_DONE, 0, 0, 0));
+	EXPECT(go_on(t) == GITWIRE_CAN_ASK);
+	if (t->length == strlen(wanted) && memcmp(t->heard, wanted, t->length) == 0)
+		return true;
+	printf("heard:\n%.*s", (int)t->length, t->heard);
+	return false;
+}
+
+static void begin_talk(struct talk *t)
+{
+	gitwire_repository repository = GITWIRE_NONE;
+
+	*t = (struct talk){ .server = GITWIRE_NONE, .client = GITWIRE_NONE };
+	EXPECT(tells(gitwire_repository_new(&repository, TEXT(SMALL_TEXT), TEXT("PACK")), GITWIRE_DONE, 0, 0, 0));
+	EXPECT(gitwire_server_new(&t->server, &repository, 1000, true) == GITWIRE_DONE);
+	EXPECT(gitwire_client_new(&t->client, GITWIRE_SHA1, GITWIRE_ENDS_BY_FLUSH) == GITWIRE_DONE);
+	gitwire_repository_free(&repository);
+}
+
+static void try_a_conversation(void)
+{
+	static const char *const references[] = { "peel", "symrefs", NULL }, *const sizes[] = { "size", "oid " TWO,
+		"oid 3333333333333333333333333333333333333333", NULL };
+	static const char *const common[] = { "want " ONE, "have 3333333333333333333333333333333333333333", NULL };
+	static const char *const shallow[] = { "want-ref refs/tags/v1", "have " ONE, "shallow " TWO, "deepen 1", NULL };
+	static const char *const nothing[] = { NULL };
+	struct talk t;
+	gitwire_caps caps;
+
+	begin_talk(&t);
+	EXPECT(gitwire_client_leave(&t.client) == GITWIRE_NOT_NOW);
+	EXPECT(ask(&t, GITWIRE_LS_REFS, nothing).kind == GITWIRE_NOT_NOW);
+	EXPECT(go_on(&t) == GITWIRE_CAN_ASK);
+	t.heard[t.length] = 0;
+	EXPECT(strcmp(t.heard, "capability agent git2/1 has-text\n" "capability ls-refs\n"
+		"capability fetch shallow ref-in-want has-text\n" "capability server-option\n" "capability object-format sha1 has-text\n"
+		"capability object-info\n" "offered\n") == 0);
+	EXPECT(gitwire_client_caps(&t.client, &caps) == GITWIRE_DONE);
+	EXPECT(caps.agent && caps.ls_refs && caps.fetch && caps.shallow && caps.ref_in_want && caps.server_option
+		&& caps.object_info && caps.object_format && caps.sha1 && !caps.sha256);
+	EXPECT(gitwire_client_close(&t.client).kind == GITWIRE_NOT_NOW);
+	EXPECT(gitwire_client_message(&t.client, ROOM).kind == GITWIRE_NOTHING);
+	EXPECT(hears(&t, GITWIRE_LS_REFS, references, "reference " ONE " HEAD refs/heads/main has-text\n"
+		"reference " ONE " refs/heads/main\n" "reference " TWO " refs/tags/v1 " ONE "\n" "ended\n"));
+	EXPECT(hears(&t, GITWIRE_OBJECT_INFO, sizes, "info " TWO " size 140\n"
+		"info 3333333333333333333333333333333333333333\n" "ended\n"));
+	EXPECT(hears(&t, GITWIRE_FETCH, common, "nak\n" "ended\n"));
+	EXPECT(hears(&t, GITWIRE_FETCH, shallow, "ack " ONE "\n" "ready\n" "shallow " ONE "\n" "unshallow " TWO "\n"
+		"wanted " TWO " refs/tags/v1\n" "pack PACK has-text\n" "ended\n"));
+	EXPECT(gitwire_client_leave(&t.client) == GITWIRE_DONE);
+	EXPECT(gitwire_client_leave(&t.client) == GITWIRE_NOT_NOW);
+	EXPECT(go_on(&t) == GITWIRE_FINISHED);
+	EXPECT(tells(gitwire_server_pull(&t.server, ROOM), GITWIRE_ENDED_BY_FLUSH, 0, 0, 0));
+	gitwire_client_free(&t.client);
+	gitwire_client_free(&t.client);
+	gitwire_server_free(&t.server);
+	memset(room, '#', sizeof room);
+}
+
+static void try_refusals_of_a_client(void)
+{
+	gitwire_client client = GITWIRE_NONE;
+	gitwire_request request = GITWIRE_NONE;
+	gitwire_caps caps = { .sha256 = true };
+	gitwire_event event;
+
+	gitwire_client_free(&client);
+	EXPECT(gitwire_client_feed(&client, TEXT("0000"), ROOM).kind == GITWIRE_NO_HANDLE);
+	EXPECT(gitwire_client_pull(&client, ROOM).kind == GITWIRE_NO_HANDLE);
+	EXPECT(gitwire_client_ask(&client, &request).kind == GITWIRE_NO_HANDLE);
+	EXPECT(gitwire_client_leave(&client) == GITWIRE_NO_HANDLE);
+	EXPECT(gitwire_client_close(&client).kind == GITWIRE_NO_HANDLE);
+	EXPECT(gitwire_client_message(&client, ROOM).kind == GITWIRE_NO_HANDLE);
+	EXPECT(gitwire_client_caps(&client, &caps) == GITWIRE_NO_HANDLE && !caps.agent && caps.sha256);
+	EXPECT(gitwire_client_new(&client, 2, GITWIRE_ENDS_BY_FLUSH) == GITWIRE_BAD_VALUE);
+	EXPECT(gitwire_client_new(&client, GITWIRE_SHA1, 2) == GITWIRE_BAD_VALUE);
+	EXPECT(gitwire_client_new(&client, GITWIRE_SHA1, GITWIRE_ENDS_BY_RESPONSE_END) == GITWIRE_DONE);
+	EXPECT(gitwire_client_pull(&client, room, GITWIRE_PACKET_ROOM - 1).kind == GITWIRE_ROOM_TOO_SMALL);
+	EXPECT(gitwire_client_feed(&client, TEXT("000eversion 2\n"), room, GITWIRE_PAYLOAD_ROOM - 1).kind == GITWIRE_ROOM_TOO_SMALL);
+	event = gitwire_client_feed(&client, TEXT("000eversion 2\n" "0009size\n" "0000"), ROOM);
+	EXPECT(event.kind == GITWIRE_CAPABILITY && event.used == 23 && event.name_length == 4 && !event.has_text);
+	event = gitwire_client_feed(&client, TEXT("0000"), ROOM);
+	EXPECT(event.kind == GITWIRE_OFFERED && event.used == 4);
+	EXPECT(gitwire_client_ask(&client, &request).kind == GITWIRE_NO_HANDLE);
+	EXPECT(gitwire_request_new(&request, GITWIRE_LS_REFS, GITWIRE_SHA1, 0) == GITWIRE_DONE);
+	EXPECT(tells_fault(gitwire_client_ask(&client, &request), GITWIRE_FAULT_NOT_ADVERTISED, 0, 27));
+	EXPECT(gitwire_request_new(&request, GITWIRE_LS_REFS, GITWIRE_SHA256, 0) == GITWIRE_DONE);
+	EXPECT(tells_fault(gitwire_client_ask(&client, &request), GITWIRE_FAULT_WRONG_FORMAT, 0, 27));
+	EXPECT(tells(gitwire_request_format(&request), GITWIRE_DONE, 0, GITWIRE_SHA256, 0));
+	gitwire_request_free(&request);
+	EXPECT(gitwire_client_new(&client, GITWIRE_SHA1, GITWIRE_ENDS_BY_FLUSH) == GITWIRE_DONE); /* what it had is freed */
+	event = gitwire_client_feed(&client, TEXT("000cERR gone"), ROOM);
+	EXPECT(event.kind == GITWIRE_FAILED && event.used == 12 && event.fault == GITWIRE_FAULT_REMOTE_ERROR && event.offset == 0);
+	EXPECT(tells_fault(gitwire_client_pull(&client, ROOM), GITWIRE_FAULT_REMOTE_ERROR, 0, 0));
+	memset(room, '#', sizeof room);
+	EXPECT(wrote(gitwire_client_message(&client, ROOM), "gone"));
+	EXPECT(gitwire_client_message(&client, room, 3).kind == GITWIRE_ROOM_TOO_SMALL);
+	EXPECT(gitwire_client_close(&client).kind == GITWIRE_NOT_NOW);
+	EXPECT(gitwire_client_new(&client, GITWIRE_SHA1, GITWIRE_ENDS_BY_FLUSH) == GITWIRE_DONE);
+	EXPECT(gitwire_client_feed(&client, TEXT("000eversion 2\n" "00"), ROOM).used == 16);
+	EXPECT(tells_fault(gitwire_client_close(&client), GITWIRE_FAULT_TRUNCATED, 0, 14));
+	gitwire_client_free(&client);
+	memset(room, '#', sizeof room);
+}
+
+static void try_writers_of_packets(void)
+{
+	static uint8_t longest[GITWIRE_PAYLOAD_ROOM + 1];
+
+	EXPECT(wrote(gitwire_put_packet(GITWIRE_PAYLOAD, TEXT("word"), ROOM), "0008word"));
+	EXPECT(wrote(gitwire_put_packet(GITWIRE_FLUSH, NULL, 0, ROOM), "0000"));
+	EXPECT(wrote(gitwire_put_packet(GITWIRE_DELIM, NULL, 0, ROOM), "0001"));
+	EXPECT(wrote(gitwire_put_packet(GITWIRE_RESPONSE_END, NULL, 0, ROOM), "0002"));
+	EXPECT(gitwire_put_packet(GITWIRE_FLUSH, TEXT("word"), ROOM).kind == GITWIRE_BAD_VALUE);
+	EXPECT(gitwire_put_packet(GITWIRE_DONE, NULL, 0, ROOM).kind == GITWIRE_BAD_VALUE);
+	EXPECT(gitwire_put_packet(GITWIRE_PAYLOAD, TEXT("word"), room, 7).kind == GITWIRE_ROOM_TOO_SMALL);
+	EXPECT(tells_fault(gitwire_put_packet(GITWIRE_PAYLOAD, longest, sizeof longest, ROOM), GITWIRE_FAULT_TOO_LONG, 0, 0));
+	EXPECT(tells(gitwire_put_packet(GITWIRE_PAYLOAD, longest, sizeof longest - 1, ROOM), GITWIRE_DONE, 0, 0, GITWIRE_PACKET_ROOM));
+	memset(room, '#', sizeof room);
+	EXPECT(wrote(gitwire_put_band(GITWIRE_BAND_PACK, TEXT("PACK"), ROOM), "0009\001PACK"));
+	EXPECT(wrote(gitwire_put_band(GITWIRE_BAND_PROGRESS, TEXT("50%"), ROOM), "0008\00250%"));
+	EXPECT(wrote(gitwire_put_band(GITWIRE_BAND_FATAL, TEXT("gone"), ROOM), "0009\003gone"));
+	EXPECT(gitwire_put_band(0, TEXT("gone"), ROOM).kind == GITWIRE_BAD_VALUE);
+	EXPECT(tells_fault(gitwire_put_band(1, longest, sizeof longest - 1, ROOM), GITWIRE_FAULT_TOO_LONG, 0, 0));
+	EXPECT(wrote(gitwire_put_line(TEXT("NAK"), ROOM), "0008NAK\n"));
+	EXPECT(wrote(gitwire_put_line(NULL, 0, ROOM), "0005\n"));
+	EXPECT(tells_fault(gitwire_put_line(longest, sizeof longest - 1, ROOM), GITWIRE_FAULT_BAD_LINE, 0, 0));
+	EXPECT(wrote(gitwire_put_error(TEXT("not here"), ROOM), "0011ERR not here\n"));
+	EXPECT(tells_fault(gitwire_put_error(longest, sizeof longest - 5, ROOM), GITWIRE_FAULT_BAD_LINE, 0, 0));
+}
+
+static void try_writers_of_advertisements(void)
+{
+	gitwire_offer offer = { .format = GITWIRE_SHA256, .shallow = true, .object_info = true };
+
+	EXPECT(wrote(gitwire_put_advertisement(offer, ROOM), "000eversion 2\n" "0011agent=git2/1\n" "000cls-refs\n"
+		"0012fetch=shallow\n" "0019object-format=sha256\n" "0010object-info\n" "0000"));
+	offer = (gitwire_offer){ .ref_in_want = true, .server_option = true };
+	EXPECT(wrote(gitwire_put_advertisement(offer, ROOM), "000eversion 2\n" "0011agent=git2/1\n" "000cls-refs\n"
+		"0016fetch=ref-in-want\n" "0012server-option\n" "0017object-format=sha1\n" "0000"));
+	EXPECT(gitwire_put_advertisement(offer, room, 20).kind == GITWIRE_ROOM_TOO_SMALL);
+	offer = (gitwire_offer){ GITWIRE_SHA256, true, true, true, true };
+	EXPECT(gitwire_put_advertisement(offer, room, GITWIRE_ADVERTISEMENT_ROOM).kind == GITWIRE_DONE);
+	memset(room, '#', sizeof room);
+	offer.format = 2;
+	EXPECT(gitwire_put_advertisement(offer, ROOM).kind == GITWIRE_BAD_VALUE);
+}
+
+static void try_writers_of_lines(void)
+{
+	EXPECT(wrote(gitwire_put_reference(GITWIRE_SHA1, TEXT(ONE), TEXT("HEAD"), TEXT("refs/heads/main"), NULL, 0, ROOM),
+		"0050" ONE " HEAD symref-target:refs/heads/main\n"));
+	EXPECT(wrote(gitwire_put_reference(GITWIRE_SHA1, TEXT(ONE), TEXT("refs/tags/v1"), NULL, 0, TEXT(TWO), ROOM),
+		"006a" ONE " refs/tags/v1 peeled:" TWO "\n"));
+	EXPECT(wrote(gitwire_put_reference(GITWIRE_SHA256, TEXT(LONG_ONE), TEXT("HEAD"), NULL, 0, NULL, 0, ROOM), "004a" LONG_ONE " HEAD\n"));
+	EXPECT(tells_fault(gitwire_put_reference(GITWIRE_SHA256, TEXT(ONE), TEXT("HEAD"), NULL, 0, NULL, 0, ROOM),
+		GITWIRE_FAULT_BAD_OBJECT_NAME, 0, 0));
+	EXPECT(tells_fault(gitwire_put_reference(GITWIRE_SHA1, TEXT(ONE), TEXT("HEAD"), TEXT("main"), NULL, 0, ROOM),
+		GITWIRE_FAULT_BAD_REF_NAME, 0, 0));
+	EXPECT(gitwire_put_reference(2, TEXT(ONE), TEXT("HEAD"), NULL, 0, NULL, 0, ROOM).kind == GITWIRE_BAD_VALUE);
+	EXPECT(wrote(gitwire_put_ack(GITWIRE_SHA1, TEXT(ONE), ROOM), "0031ACK " ONE "\n"));
+	EXPECT(gitwire_put_ack(GITWIRE_SHA1, TEXT(ONE), room, 48).kind == GITWIRE_ROOM_TOO_SMALL);
+	EXPECT(wrote(gitwire_put_boundary(GITWIRE_SHA1, true, TEXT(ONE), ROOM), "0035shallow " ONE "\n"));
+	EXPECT(wrote(gitwire_put_boundary(GITWIRE_SHA1, false, TEXT(ONE), ROOM), "0037unshallow " ONE "\n"));
+	EXPECT(wrote(gitwire_put_wanted(GITWIRE_SHA1, TEXT(ONE), TEXT("refs/heads/a"), ROOM), "003a" ONE " refs/heads/a\n"));
+	EXPECT(tells_fault(gitwire_put_wanted(GITWIRE_SHA1, TEXT(ONE), TEXT("refs/heads/a b"), ROOM), GITWIRE_FAULT_BAD_REF_NAME, 0, 0));
+	EXPECT(wrote(gitwire_put_info(GITWIRE_SHA1, TEXT(ONE), true, UINT64_MAX, ROOM), "0042" ONE " 18446744073709551615\n"));
+	EXPECT(wrote(gitwire_put_info(GITWIRE_SHA1, TEXT(ONE), false, 7, ROOM), "002e" ONE " \n"));
+	EXPECT(tells_fault(gitwire_put_info(GITWIRE_SHA1, NULL, 0, false, 7, ROOM), GITWIRE_FAULT_BAD_OBJECT_NAME, 0, 0));
+}
+
+static void try_texts_of_faults(void)
+{
+	size_t longest = 0;
+
+	for (unsigned fault = 0; fault < 256; fault++) {
+		size_t length = gitwire_fault_name((uint8_t)fault, ROOM);
+
+		EXPECT((length > 0) == (fault >= 1 && fault <= 34));
+		EXPECT(gitwire_fault_text((uint8_t)fault, UINT64_MAX, ROOM) == (length > 0 ? length + 24 : 0));
+		longest = length > longest ? length : longest;
+	}
+	EXPECT(longest <= GITWIRE_FAULT_NAME_ROOM && longest + 24 <= GITWIRE_FAULT_TEXT_ROOM);
+	EXPECT(gitwire_fault_name(GITWIRE_FAULT_TRUNCATED, ROOM) == 9 && memcmp(room, "Truncated", 9) == 0);
+	EXPECT(gitwire_fault_name(GITWIRE_FAULT_REMOTE_FATAL, ROOM) == 11 && memcmp(room, "RemoteFatal", 11) == 0);
+	EXPECT(gitwire_fault_name(GITWIRE_FAULT_TRUNCATED, room, 8) == 0);
+	EXPECT(gitwire_fault_text(GITWIRE_FAULT_TRUNCATED, 994, ROOM) == 16 && memcmp(room, "Truncated at 994", 16) == 0);
+	EXPECT(gitwire_fault_text(GITWIRE_FAULT_TRUNCATED, 994, room, 15) == 0);
+	memset(room, '#', sizeof room);
+}
+
+int main(void)
+{
+	memset(room, '#', sizeof room);
+	try_packets();
+	try_a_request_for_references();
+	try_a_request_for_a_pack();
+	try_a_reader_of_requests();
+	try_a_server();
+	try_a_refused_session();
+	try_a_conversation();
+	try_refusals_of_a_client();
+	try_writers_of_packets();
+	try_writers_of_advertisements();
+	try_writers_of_lines();
+	try_texts_of_faults();
+	return failures > 0;
+}

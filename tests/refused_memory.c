@@ -1,0 +1,236 @@
+/*
+ * Runs each kind of handle while memory is refused, at the first request for some, at the second, and so on: once only there,
+ * and once from there on. Each call has to tell what the header says, and what was had is to be freed whole.
+ *
+ * Linked with --wrap=malloc, --wrap=realloc and --wrap=free, so that those of the library come here. It prints how many requests
+ * for memory there were, and what was not as it should be; the status is 1 where something was not.
+ */
+#include <gitwire.h>
+
+#include <stdio.h>
+#include <stdlib.h>
+#include <string.h>
+
+void *__real_malloc(size_t size);
+void *__real_realloc(void *block, size_t size);
+void __real_free(void *block);
+void *__wrap_malloc(size_t size);
+void *__wrap_realloc(void *block, size_t size);
+void __wrap_free(void *block);
+
+static long asked;            /* how many requests there were in this run */
+static long refused_at = -1;  /* which of them is refused */
+static bool refused_after;    /* and whether all after it are */
+static long refused;          /* how many were */
+static long live;             /* how many blocks are had */
+static int failures;
+
+static bool is_refused(void)
+{
+	bool is_it = refused_at >= 0 && (asked == refused_at || (refused_after && asked > refused_at));
+
+	asked++;
+	refused += is_it;
+	return is_it;
+}
+
+void *__wrap_malloc(size_t size)
+{
+	void *block = is_refused() ? NULL : __real_malloc(size);
+
+	live += block != NULL;
+	return block;
+}
+
+void *__wrap_realloc(void *block, size_t size)
+{
+	void *moved = is_refused() ? NULL : __real_realloc(block, size);
+
+	live += block == NULL && moved != NULL;
+	return moved;
+}
+
+void __wrap_free(void *block)
+{
+	live -= block != NULL;
+	__real_free(block);
+}
+
+static void expect(bool holds, const char *what)
+{
+	if (holds)
+		return;
+	failures++;
+	printf("request %ld for memory refused%s: %s\n", refused_at, refused_after ? ", and all after it" : "", what);
+}
+
+/* Whether a call went well, or told that memory was refused. */
+static bool is_made(uint8_t answer, const char *what)
+{
+	expect(answer == GITWIRE_DONE || (answer == GITWIRE_OUT_OF_MEMORY && refused > 0), what);
+	return answer == GITWIRE_DONE;
+}
+
+#define TEXT(text) (const uint8_t *)(text), strlen(text)
+#define ONE "1111111111111111111111111111111111111111"
+#define FETCH "0012command=fetch\n" "0001" "0032want " ONE "\n" "0032have " ONE "\n" "0016deepen-not refs/a\n" "0000"
+#define LS_REFS "0014command=ls-refs\n" "0001" "001bref-prefix refs/heads/\n" "0017ref-prefix refs/a/\n" "0000"
+
+static uint8_t room[GITWIRE_PACKET_ROOM];
+
+static void run_packet_reader(void)
+{
+	gitwire_packet_reader reader = GITWIRE_NONE;
+	bool made = is_made(gitwire_packet_reader_new(&reader), "a packet reader");
+	gitwire_told told = gitwire_packet_reader_feed(&reader, TEXT("0009hello"), room, sizeof room);
+
+	expect(told.kind == (made ? GITWIRE_PAYLOAD : GITWIRE_NO_HANDLE), "a packet");
+	made = is_made(gitwire_packet_reader_new(&reader), "a further packet reader");
+	expect(reader.is_made_ == made, "what a handle has");
+	gitwire_packet_reader_free(&reader);
+}
+
+/* Whether a request is heard, or it is refused as OutOfMemory, and stays refused. */
+static void hear_request(gitwire_request_reader *reader, gitwire_request *request, const char *text)
+{
+	gitwire_told told, after;
+
+	do
+		told = gitwire_request_reader_feed(reader, request, TEXT(text));
+	while (told.kind == GITWIRE_OUT_OF_MEMORY && told.used == 0 && !refused_after);
+	if (told.kind == GITWIRE_REQUEST) {
+		expect(told.used == strlen(text), "a whole request");
+		return;
+	}
+	expect(refused > 0, "a request");
+	after = gitwire_request_reader_feed(reader, request, TEXT(text));
+	if (told.kind == GITWIRE_FAILED)
+		expect(told.fault == GITWIRE_FAULT_OUT_OF_MEMORY && after.kind == GITWIRE_FAILED && after.used == 0
+			&& after.fault == told.fault && after.offset == told.offset, "a refused request");
+	else
+		expect(told.kind == GITWIRE_OUT_OF_MEMORY && told.used == 0, "nothing used");
+}
+
+static void run_request_reader(void)
+{
+	gitwire_request_reader reader = GITWIRE_NONE;
+	gitwire_request request = GITWIRE_NONE;
+	gitwire_offer offer = { .shallow = true, .ref_in_want = true };
+
+	if (is_made(gitwire_request_reader_new(&reader, offer, GITWIRE_USUAL_LIMIT), "a reader of requests")) {
+		hear_request(&reader, &request, FETCH);
+		hear_request(&reader, &request, LS_REFS);
+	}
+	gitwire_request_reader_free(&reader);
+	gitwire_request_free(&request);
+}
+
+static bool add(gitwire_request *request, const char *line)
+{
+	gitwire_told told = gitwire_request_add(request, TEXT(line));
+
+	expect(told.kind == GITWIRE_DONE
+		|| (told.kind == GITWIRE_FAILED && told.fault == GITWIRE_FAULT_OUT_OF_MEMORY && refused > 0), "an argument");
+	return told.kind == GITWIRE_DONE;
+}
+
+/* An argument that was refused is not there, and those before it are. */
+static void run_request(void)
+{
+	gitwire_request request = GITWIRE_NONE;
+	bool first, second;
+
+	if (is_made(gitwire_request_new(&request, GITWIRE_FETCH, GITWIRE_SHA1, 1000), "a request")) {
+		first = add(&request, "want " ONE);
+		expect(gitwire_request_item(&request, GITWIRE_LIST_WANTS, 0, room, sizeof room).kind
+			== (first ? GITWIRE_DONE : GITWIRE_NOTHING), "a want");
+		second = add(&request, "deepen-not refs/a");
+		expect(gitwire_request_item(&request, GITWIRE_LIST_DEEPEN_NOTS, 0, room, sizeof room).kind
+			== (second ? GITWIRE_DONE : GITWIRE_NOTHING), "a revision");
+		add(&request, "want-ref refs/heads/main");
+	}
+	gitwire_request_free(&request);
+}
+
+static const char *const small = "format sha1\n" "ref " ONE " HEAD symref-target:refs/heads/main\n" "ref " ONE " refs/heads/main\n"
+	"object " ONE " 230\n" "ready 1\n" "shallow " ONE "\n";
+
+static bool make_repository(gitwire_repository *repository)
+{
+	return is_made(gitwire_repository_new(repository, TEXT(small), TEXT("PACK")).kind, "a repository");
+}
+
+/* A session ends with the client's flush, or is refused as OutOfMemory. */
+static void run_server(void)
+{
+	static const char *const said = LS_REFS FETCH "0000";
+	gitwire_repository repository = GITWIRE_NONE;
+	gitwire_server server = GITWIRE_NONE;
+	gitwire_told told = { .kind = GITWIRE_PACKET };
+	size_t used = 0;
+
+	if (make_repository(&repository) && is_made(gitwire_server_new(&server, &repository, 1000, true), "a server")) {
+		while (told.kind == GITWIRE_PACKET || told.kind == GITWIRE_NEED_INPUT) {
+			told = gitwire_server_pull(&server, room, sizeof room);
+			if (told.kind == GITWIRE_NEED_INPUT && used < strlen(said))
+				used += gitwire_server_feed(&server, (const uint8_t *)said + used, strlen(said) - used).used;
+			else if (told.kind == GITWIRE_NEED_INPUT)
+				gitwire_server_close(&server);
+		}
+		expect(told.kind == GITWIRE_ENDED_BY_FLUSH || (told.fault == GITWIRE_FAULT_OUT_OF_MEMORY && refused > 0), "a session");
+	}
+	gitwire_repository_free(&repository);
+	gitwire_server_free(&server);
+}
+
+static void run_client(void)
+{
+	gitwire_client client = GITWIRE_NONE;
+	gitwire_request request = GITWIRE_NONE;
+	gitwire_event event;
+	gitwire_told told;
+
+	if (is_made(gitwire_client_new(&client, GITWIRE_SHA1, GITWIRE_ENDS_BY_FLUSH), "a client")) {
+		event = gitwire_client_feed(&client, TEXT("000eversion 2\n"), room, sizeof room);
+		event = gitwire_client_feed(&client, TEXT("000cls-refs\n"), room, sizeof room);
+		event = gitwire_client_feed(&client, TEXT("0000"), room, sizeof room);
+		expect(event.kind == GITWIRE_OFFERED, "an advertisement");
+		if (is_made(gitwire_request_new(&request, GITWIRE_LS_REFS, GITWIRE_SHA1, 1000), "a request to ask")) {
+			add(&request, "ref-prefix refs/heads/");
+			told = gitwire_client_ask(&client, &request);
+			expect(told.kind == GITWIRE_DONE || refused > 0, "a question");
+			do
+				told = gitwire_client_pull(&client, room, sizeof room);
+			while (told.kind == GITWIRE_PACKET);
+			expect(told.kind == GITWIRE_NEED_INPUT || refused > 0, "what is said of it");
+		}
+	}
+	gitwire_client_free(&client);
+	gitwire_request_free(&request);
+}
+
+/* Runs all, with this request for memory refused, and says whether there was one. */
+static bool run(void (*scenario)(void), long at, bool after)
+{
+	asked = refused = live = 0;
+	refused_at = at;
+	refused_after = after;
+	scenario();
+	expect(live == 0, "blocks that are not freed");
+	return refused > 0;
+}
+
+int main(void)
+{
+	static void (*const scenarios[])(void) = { run_packet_reader, run_request_reader, run_request, run_server, run_client };
+
+	for (size_t i = 0; i < sizeof scenarios / sizeof *scenarios; i++) {
+		long at = 0;
+
+		run(scenarios[i], -1, false);
+		printf("%ld%c", asked, i + 1 < sizeof scenarios / sizeof *scenarios ? ' ' : '\n');
+		while (run(scenarios[i], at, false) | run(scenarios[i], at, true))
+			at++;
+	}
+	return failures > 0;
+}
