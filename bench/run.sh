@@ -43,8 +43,9 @@ for program in packets show names client generate ask bands check; do
     ${CC:-gcc} -O3 -Wall -Wextra -o "$out/$program" "$top/bench/$program.c"
 done
 if [ -z "$c_only" ]; then
-    ${CC:-gcc} -O3 -Wall -Wextra -I"$top/include" -o "$out/calls" "$top/bench/calls.c" "$our_library" \
-        "$(dirname "$("${RT:-rt}" doc)")/c/liblibc_c.a"
+    taken=("$our_library" "$(dirname "$("${RT:-rt}" doc)")/c/liblibc_c.a")
+    ${CC:-gcc} -O3 -Wall -Wextra -I"$top/include" -o "$out/calls" "$top/bench/calls.c" "${taken[@]}"
+    ${CC:-gcc} -O2 -Wall -Wextra -I"$top/include" -o "$out/daemon" "$top/examples/daemon.c" "${taken[@]}"
 fi
 
 streams=$(mktemp -d "${BENCH_FOLDER:-/tmp}/git2show-bench.XXXXXX")
@@ -137,6 +138,8 @@ source "$top/bench/serve.sh"
 source "$top/bench/check.sh"
 # shellcheck source=bench/fetch.sh
 source "$top/bench/fetch.sh"
+# shellcheck source=bench/sessions.sh
+source "$top/bench/sessions.sh"
 has_git=$(command -v git || true)
 
 echo "$(nproc) processors, load $(cut -d ' ' -f 1 /proc/loadavg); $(${CC:-gcc} --version | head -n 1), -O3; best of $runs"
@@ -177,4 +180,5 @@ elif [ -z "$c_only" ]; then
     tell_serve
     tell_check
     tell_fetch
+    tell_sessions
 fi

@@ -25,7 +25,7 @@
 #include <time.h>
 #include <unistd.h>
 
-#define MOST_CLIENTS 64
+#define MOST_CLIENTS 128
 #define MOST_KEPT (1 << 20)
 #define INPUT_BYTES 16384
 #define OUTPUT_BYTES (2 * GITWIRE_PACKET_ROOM)

@@ -551,12 +551,12 @@ case_a_daemon_in_c_closes_who_is_too_slow() {
     end_daemon
 }
 
-# Sixty-four that say nothing have all its places, until they are closed.
+# A hundred and twenty-eight that say nothing have all its places, until they are closed.
 case_a_daemon_in_c_lets_others_wait() {
     local i connection
     patience=2
     start_daemon history-sha1
-    for i in {1..64}; do
+    for i in {1..128}; do
         exec {connection}<> "/dev/tcp/127.0.0.1/$port"
     done
     ls_remote "$address"

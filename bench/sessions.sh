@@ -1,0 +1,37 @@
+# shellcheck shell=bash disable=SC2154
+# What examples/daemon.c takes of memory for a hundred open sessions, for bench/run.sh, which reads this file: each has asked for the
+# pack, and does not read it, so that all that the daemon and the library keep for a client is in use.
+
+sessions=100
+
+# Prints a number of kB that the system tells of a process: resident KIND.
+resident() {
+    sed -n "s/^$2:[^0-9]*\([0-9]*\) kB/\1/p" "/proc/$1/status"
+}
+
+tell_sessions() {
+    local daemon port i connection before after connections=()
+    local one=1111111111111111111111111111111111111111
+    printf 'format sha1\nref %s HEAD\n' "$one" > "$streams/one_text"
+    head -c 20000000 "$streams/large" > "$streams/some_pack"
+    "$out/daemon" 127.0.0.1 0 600 here "$streams/one_text" "$streams/some_pack" > "$streams/listening" &
+    daemon=$!
+    for ((i = 0; i < 100; i++)); do
+        [ ! -s "$streams/listening" ] || break
+        sleep 0.1
+    done
+    port=$(sed 's/.*:\([0-9]*\)\/.*/\1/' "$streams/listening")
+    before=$(resident "$daemon" VmRSS)
+    for ((i = 0; i < sessions; i++)); do
+        exec {connection}<> "/dev/tcp/127.0.0.1/$port"
+        printf '0034git-upload-pack /here\0host=127.0.0.1\0\0version=2\0' >&"$connection"
+        cat "$streams/asked_pack" >&"$connection"
+        connections+=("$connection")
+    done
+    sleep 2
+    after=$(resident "$daemon" VmRSS)
+    for connection in "${connections[@]}"; do exec {connection}>&-; done
+    kill -INT "$daemon"
+    wait "$daemon"
+    echo "Resident set of examples/daemon.c: $before KiB with a pack of 20 MB and nobody, $after KiB with $sessions sessions amid the pack."
+}
