@@ -14,7 +14,7 @@ use Rattle.git_msg.specs.Lines.{end_checks}
 use Rattle.git_msg.specs.declared.offers.Offer.{Offer}
 use Rattle.git_msg.specs.declared.requests.Request.{Request}
 use Rattle.gitwire.specs.Numbers.{command_number, commands, flags, format_number, formats, given_numbers, item_lists}
-use Rattle.gitwire.specs.Rooms.{put_before}
+use Rattle.gitwire.specs.Rooms.{Fills}
 use Rattle.gitwire.specs.Told.{telling, telling_fault, telling_packet, what_number}
 use Rattle.gitwire.specs.declared.told.GitwireTold.{GitwireTold}
 use Rattle.gitwire.specs.declared.told.What.TheVariants as What
@@ -25,10 +25,6 @@ use Rattle.gitwire.specs.declared.numbers.ItemList.{ItemList}
 -- done, with a number
 abbrev pub telling_number : ℕ → GitwireTold
 telling_number number = telling_packet 0 number 0 What.Done
-
--- done, with so many bytes in the room
-abbrev pub telling_filled : ℕ → GitwireTold
-telling_filled filled = telling_packet 0 0 filled What.Done
 
 -- done, or refused by a name
 abbrev pub telling_result : Result (Unit {0}) Kind → GitwireTold
@@ -165,15 +161,10 @@ item_of ItemList.DeepenNots asked i = slice_get (deepen_nots_of asked) i
 item_of ItemList.WantRefs asked i = slice_get (want_refs_of asked) i
 item_of ItemList.Oids asked i = option_map hex_of (slice_get (oids_of asked) i)
 
--- the text stands at the front of the room, and the rest of the room stays; nothing happens where the room is too small
-pub record PutsText (text room : List ℕ) (told : GitwireTold) (filled : List ℕ) : Type 0 where
-  pub fits : length text ≤ length room → (told ≡ telling_filled (length text)) × (filled ≡ put_before text room)
-  pub small : length room < length text → (told ≡ telling What.RoomTooSmall) × (filled ≡ room)
-
 -- the text, if there is one
 abbrev pub PutsItem : Option (List ℕ) → List ℕ → GitwireTold → List ℕ → Type 0
 PutsItem None room told filled = (told ≡ telling What.Nothing) × (filled ≡ room)
-PutsItem (Some text) room told filled = PutsText text room told filled
+PutsItem (Some text) room told filled = Fills text room told filled
 
 -- the text at a place of the list, if there is such a list
 abbrev pub PutsFrom : Option ItemList → Asked → ℕ → List ℕ → GitwireTold → List ℕ → Type 0

@@ -5,9 +5,10 @@ ghost use Rattle.std.specs.Option.{option_copied, option_map};
 ghost use Rattle.git_names.specs.ObjectName.{hex_of};
 ghost use Rattle.git_msg.specs.HeldRequest.{asked_of};
 ghost use Rattle.gitwire.specs.Numbers.{item_lists};
-ghost use Rattle.gitwire.specs.RequestsTold.{PutsFrom, PutsItem, PutsText};
+ghost use Rattle.gitwire.specs.RequestsTold.{PutsFrom, PutsItem};
 
 use crate::numbers::ItemList;
+use crate::rooms::fill;
 use crate::told::{GitwireTold, What};
 use git_msg::Request;
 use git_names::Oid;
@@ -40,7 +41,7 @@ fn put_text_if_any(text: Option<&[u8]>, room: &mut [u8]) -> GitwireTold
     ensures { PutsItem (option_copied text.entry) room.old result room.new }
 {
     match text {
-        Some(text) => put_text(text, room),
+        Some(text) => fill(text, room),
         None => GitwireTold::of(What::Nothing),
     }
 }
@@ -53,15 +54,5 @@ fn put_name_if_any(id: Option<&Oid>, room: &mut [u8]) -> GitwireTold
     };
     let mut digits = [0; 64];
     let length = id.write(&mut digits);
-    put_text(&digits[..length], room)
-}
-
-fn put_text(text: &[u8], room: &mut [u8]) -> GitwireTold
-    ensures { PutsText text.now room.old result room.new }
-{
-    if room.len() < text.len() {
-        return GitwireTold::of(What::RoomTooSmall);
-    }
-    room[..text.len()].copy_from_slice(text);
-    GitwireTold::of_packet(0, 0, text.len(), What::Done)
+    fill(&digits[..length], room)
 }
