@@ -40,7 +40,10 @@ const TRANSCRIPT: &[u8] =
 request ls-refs\nref aaaaaaaaaaaaaaaaaaaaaaaaaaaaaaaaaaaaaaaa HEAD\nend 0 0\nrequest fetch\nend 3 3\n";
 
 /// The requests of a script.
-pub fn requests(rt: &(impl Abort + AllocGlobal), script: &[u8]) -> Result<Vec<Request<Global>>, Fail> {
+pub fn requests(
+    rt: &(impl Abort + AllocGlobal),
+    script: &[u8],
+) -> Result<Vec<Request<Global>>, Fail> {
     let limits = Limits {
         args: Limits::USUAL,
     };
