@@ -12,7 +12,7 @@ resident() {
 tell_sessions() {
     local daemon port i connection before after connections=()
     local one=1111111111111111111111111111111111111111
-    printf 'format sha1\nref %s HEAD\n' "$one" > "$streams/one_text"
+    printf 'format sha1\nref %s HEAD\nobject %s 1\n' "$one" "$one" > "$streams/one_text"
     head -c 20000000 "$streams/large" > "$streams/some_pack"
     "$out/daemon" 127.0.0.1 0 600 here "$streams/one_text" "$streams/some_pack" > "$streams/listening" &
     daemon=$!

@@ -1,5 +1,7 @@
 //! A pack that comes in parts, and reads of it that fail.
 
+ghost use Rattle.std.specs.Prelude.{◌≤◌};
+
 use git_msg::{Command, Fetch, Limits, Request};
 use git_names::Format;
 use git_server::{Faulty, ListRepo, PackFault, Repo};
@@ -58,19 +60,19 @@ fn check_read<R: Repo>(
     Ok(())
 }
 
+// That the pack comes whole in parts of so many bytes, by so many reads.
+fn check_parts(rt: &(impl Abort + AllocGlobal), most: usize, reads: u32) -> Result<(), Fail>
+    requires { 1 ≤ most }
+{
+    let mut faulty = Faulty::new(repository(rt)?, 100, most);
+    check_read(rt, &mut faulty, (PACK, reads, None))
+}
+
 #[test]
 fn a_pack_comes_in_parts(rt: HostRuntime) -> Result<(), Fail> {
     check_read(&rt, &mut repository(&rt)?, (PACK, 3, None))?;
-    check_read(
-        &rt,
-        &mut Faulty::new(repository(&rt)?, 100, 5),
-        (PACK, 4, None),
-    )?;
-    check_read(
-        &rt,
-        &mut Faulty::new(repository(&rt)?, 100, 1),
-        (PACK, 17, None),
-    )
+    check_parts(&rt, 5, 4)?;
+    check_parts(&rt, 1, 17)
 }
 
 #[test]
