@@ -11,9 +11,10 @@ use std::test::Fail;
 const REQUEST: &[u8] =
     b"0014command=ls-refs\n00010009peel\n001bref-prefix refs/heads/\n001aref-prefix refs/tags/\n0000";
 
-// What is written for the request by a server that has so much memory and reads it from a stream, and how its run ends.
+// What is written for the input by a server that has so much memory and reads it from a stream, and how its run ends.
 fn serve_with(
     rt: &(impl Abort + AllocGlobal),
+    input: &[u8],
     size: usize,
 ) -> Result<(Vec<u8>, Result<Outcome, RunFault>), Fail> {
     let heap = LocalHeap::new(rt.alloc(), size)?;
@@ -21,7 +22,7 @@ fn serve_with(
     let mut written = Vec::new(rt.alloc());
     let mut piece = [0; 7];
     let run = serve(
-        &mut Told::new(REQUEST),
+        &mut Told::new(input),
         &mut Told::new(&mut written),
         &mut piece,
         &mut server,
@@ -38,7 +39,7 @@ fn each_growth_is_refused_in_turn(rt: HostRuntime) -> Result<(), Fail> {
         let heap = LocalHeap::new(rt.alloc(), size)?;
         let mut server = new_server(&rt, &heap, usual())?;
         let (given, ended) = converse(&mut server, rt.alloc(), &[REQUEST])?;
-        let (written, run) = serve_with(&rt, size)?;
+        let (written, run) = serve_with(&rt, REQUEST, size)?;
         assert_eq!(rt; written.as_slice(), given.as_slice(), "with {size} bytes");
         assert_eq!(rt; run.ok(), ended, "with {size} bytes");
         if ended == Some(Outcome::Closed) {
@@ -106,27 +107,27 @@ fn each_growth_of_the_wants_is_refused_in_turn(rt: HostRuntime) -> Result<(), Fa
     Ok(())
 }
 
+/// A request that keeps a text after two flags.
+const LATE_TEXT: &[u8] = b"0014command=ls-refs\n0016object-format=sha10001\
+    0009peel\n000csymrefs\n001bref-prefix refs/heads/\n0000";
+
+/// What is told of it without memory.
+const LATE_TEXT_REFUSED: &[u8] = b"001aERR OutOfMemory at 67\n";
+
 #[test]
 fn without_memory_the_first_text_is_refused(rt: HostRuntime) -> Result<(), Fail> {
-    let input = b"0014command=ls-refs\n0016object-format=sha10001\
-        0009peel\n000csymrefs\n001bref-prefix refs/heads/\n0000";
-    let told = b"001aERR OutOfMemory at 67\n";
     let heap = LocalHeap::new(rt.alloc(), 32)?;
     let mut server = new_server(&rt, &heap, usual())?;
-    let (given, ended) = converse(&mut server, rt.alloc(), &[input])?;
-    assert_eq!(rt; given.as_slice(), told.as_slice());
+    let (given, ended) = converse(&mut server, rt.alloc(), &[LATE_TEXT])?;
+    assert_eq!(rt; given.as_slice(), LATE_TEXT_REFUSED);
     assert_eq!(rt; ended, Some(refusal(Kind::OutOfMemory, 67)));
-    let mut server = new_server(&rt, &heap, usual())?;
-    let mut given = Vec::new(rt.alloc());
-    let mut piece = [0; 7];
-    let run = serve(
-        &mut Told::new(input.as_slice()),
-        &mut Told::new(&mut given),
-        &mut piece,
-        &mut server,
-        100,
-    );
-    assert_eq!(rt; given.as_slice(), told.as_slice());
+    Ok(())
+}
+
+#[test]
+fn without_memory_a_run_ends_at_the_first_text(rt: HostRuntime) -> Result<(), Fail> {
+    let (written, run) = serve_with(&rt, LATE_TEXT, 32)?;
+    assert_eq!(rt; written.as_slice(), LATE_TEXT_REFUSED);
     assert_eq!(rt; run, Ok(refusal(Kind::OutOfMemory, 67)));
     Ok(())
 }
