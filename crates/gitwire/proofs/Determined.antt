@@ -134,7 +134,8 @@ pub record IsOneIn (checks : List Check) (IsPacket : Pkt → Type 0) : Type 0 wh
   pub passes : (p : Pkt) → IsPacket p → Passes checks
   pub same : (p q : Pkt) → IsPacket p → IsPacket q → p ≡ q
 
-module _ (number : ℕ) (checks : Format → List Check) (IsPacket : Format → Pkt → Type 0) (one : (format : Format) → IsOneIn (checks format) (IsPacket format)) where
+module _ (number : ℕ) (checks : Format → List Check) (IsPacket : Format → Pkt → Type 0) (one : (format : Format) → IsOneIn (checks format) (IsPacket
+    format)) where
   packets_in : (p q : Pkt) → InFormat number checks IsPacket (Ok p) → InFormat number checks IsPacket (Ok q) → p ≡ q
   packets_in p q (format, numbered, h) (other, is_other, k) =
       let same = sym (same_format number format other numbered is_other) in
@@ -148,7 +149,8 @@ module _ (number : ℕ) (checks : Format → List Check) (IsPacket : Format → 
       let same = sym (same_format number format second numbered is_second) in
       ap Refused (one_name (checks format) (one format).fair kind other h (subst (λ (format : Format). Refuses (checks format) other) same k))
 
-  apart_in : (p : Pkt) (why : Unwritten) → length (body_of p) ≤ longest_payload → InFormat number checks IsPacket (Ok p) → InFormat number checks IsPacket (Err why) → ⊥
+  apart_in : (p : Pkt) (why : Unwritten) → length (body_of p) ≤ longest_payload → InFormat number checks IsPacket (Ok p) → InFormat number checks IsPacket
+      (Err why) → ⊥
   apart_in p BadValue fits (format, numbered, h) k = absurd cc
   apart_in p (Refused kind) fits (format, numbered, h) (other, is_other, k) =
       let same = sym (same_format number format other numbered is_other) in
@@ -182,7 +184,8 @@ pub one_line_of : (number : ℕ) (digits : List ℕ) (text : ObjectName → List
 one_line_of number digits text = one_in number _ _ (one_line_in digits text)
 
 one_wanted_in : (digits name : List ℕ) (format : Format)
-    → IsOneIn (object_name_check format digits ∷ ref_name_check name ∷ []) (λ packet. IsRefName name × IsLineOf format digits (λ id. wanted_text (wanted_of id name)) packet)
+    → IsOneIn (object_name_check format digits ∷ ref_name_check name ∷ []) (λ packet. IsRefName name × IsLineOf format digits (λ id. wanted_text (wanted_of
+        id name)) packet)
 unfolding AllFair
 one_wanted_in digits name format = record {
   fair = (fair_object_name format digits, (fair_ref_name name, tt));
@@ -197,7 +200,8 @@ same_maybe : (format : Format) (text : Option (List ℕ)) (a b : Option ObjectNa
 same_maybe format None a b h k = h ∙ sym k
 same_maybe format (Some text) a b h k = h.2 ∙ ap Some (one_object_name format text h.0 k.0 h.1 k.1) ∙ sym k.2
 
-maybe_passes : (format : Format) (text : List ℕ) (id : Option ObjectName) → IsMaybeObjectName format (given text) id → text ≢ [] → (named : ObjectName) × IsObjectName format text named
+maybe_passes : (format : Format) (text : List ℕ) (id : Option ObjectName) → IsMaybeObjectName format (given text) id → text ≢ [] → (named : ObjectName) ×
+    IsObjectName format text named
 maybe_passes format [] id h some = absurd (some refl)
 maybe_passes format (byte ∷ bytes) id h some = (h.0, h.1)
 
@@ -213,7 +217,8 @@ one_reference_in : (digits name target peeled : List ℕ) (format : Format)
     ∷ where_given peeled (object_name_check format peeled) ∷ []) (IsReferenceOf format digits name target peeled)
 unfolding AllFair
 one_reference_in digits name target peeled format = record {
-  fair = (fair_object_name format digits, (fair_ref_name name, (fair_given target _ (fair_ref_name target), (fair_given peeled _ (fair_object_name format peeled), tt))));
+  fair = (fair_object_name format digits, (fair_ref_name name, (fair_given target _ (fair_ref_name target), (fair_given peeled _ (fair_object_name format
+      peeled), tt))));
   passes = λ p h. ((h.is_line.id, h.is_line.is_id), (h.is_name, (h.is_target, (maybe_passes format peeled h.peeled_id h.is_peeled, tt))));
   same = same_reference format digits name target peeled;
 }
