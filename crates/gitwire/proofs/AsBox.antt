@@ -12,8 +12,18 @@ use Rattle.gitwire.specs.contracts.parts.Parts as Parts
 use Rattle.gitwire.specs.contracts.held.Held as Held
 
 abbrev pub E : Bx
-E = record { row = Machine.the_row; laws = machine.the_row_laws; al = record { row = Heap.the_row; laws = heap.the_row_laws; g = ghosts; d = dict; drops =
-    impl [] tnil dnil } }
+E = record {
+  row = Machine.the_row;
+  laws = machine.the_row_laws;
+  al = record {
+    row = Heap.the_row;
+    laws = heap.the_row_laws;
+    g = ghosts;
+    d = dict;
+    drops =
+        impl [] tnil dnil;
+  };
+}
 
 abbrev pub FromParts : Slot 0
 FromParts = plain (λ _. Parts.the_row Machine.the_row Heap.the_row ghosts)

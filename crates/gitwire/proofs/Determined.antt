@@ -185,7 +185,7 @@ one_line_of number digits text = one_in number _ _ (one_line_in digits text)
 
 one_wanted_in : (digits name : List ℕ) (format : Format)
     → IsOneIn (object_name_check format digits ∷ ref_name_check name ∷ []) (λ packet. IsRefName name × IsLineOf format digits (λ id. wanted_text (wanted_of
-        id name)) packet)
+    id name)) packet)
 unfolding AllFair
 one_wanted_in digits name format = record {
   fair = (fair_object_name format digits, (fair_ref_name name, tt));
@@ -217,8 +217,20 @@ one_reference_in : (digits name target peeled : List ℕ) (format : Format)
     ∷ where_given peeled (object_name_check format peeled) ∷ []) (IsReferenceOf format digits name target peeled)
 unfolding AllFair
 one_reference_in digits name target peeled format = record {
-  fair = (fair_object_name format digits, (fair_ref_name name, (fair_given target _ (fair_ref_name target), (fair_given peeled _ (fair_object_name format
-      peeled), tt))));
+  fair = (
+    fair_object_name format digits,
+    (
+      fair_ref_name name,
+      (
+        fair_given target _ (fair_ref_name target),
+        (
+          fair_given peeled _ (fair_object_name format
+              peeled),
+          tt,
+        ),
+      ),
+    ),
+  );
   passes = λ p h. ((h.is_line.id, h.is_line.is_id), (h.is_name, (h.is_target, (maybe_passes format peeled h.peeled_id h.is_peeled, tt))));
   same = same_reference format digits name target peeled;
 }

@@ -25,7 +25,7 @@ given_format format (Some digits) named id (other, is_id, found) same =
 -- the line of a reference, where its texts are these
 pub reference_line : (id : ObjectName) (peeled : Option ObjectName) {name other : List ℕ} {target others : Option (List ℕ)}
     → name ≡ other → target ≡ others → text_line (reference_text (reference_of id name target peeled)) ≡ text_line (reference_text (reference_of id other
-        others peeled))
+    others peeled))
 reference_line id peeled {name} {other} {target} {others} same_name same_target =
     ap (λ name. text_line (reference_text (reference_of id name target peeled))) same_name
     ∙ ap (λ target. text_line (reference_text (reference_of id other target peeled))) same_target

@@ -44,8 +44,22 @@ returns c =
     let peeled = subst (λ format. IsMaybeObjectName format (given c.args.peeled.now) c.in_ok-peeled.peeled) format_is c.in_ok-peeled.ensures in
     let line = reference_line c.in_ok-id.id c.in_ok-peeled.peeled (c.as_bytes.ensures.value ∙ name.0) target.0 in (
       _,
-      (id.0, id.1, record { is_name = name.1; is_target = target.1; peeled_id = c.in_ok-peeled.peeled; is_peeled = peeled; is_line = record { id =
-          c.in_ok-id.id; is_id = id.2; line = line } }),
+      (
+        id.0,
+        id.1,
+        record {
+          is_name = name.1;
+          is_target = target.1;
+          peeled_id = c.in_ok-peeled.peeled;
+          is_peeled = peeled;
+          is_line = record {
+            id =
+                c.in_ok-id.id;
+            is_id = id.2;
+            line = line;
+          };
+        },
+      ),
       line_fits _ c.put_reference.ensures.fits,
       c.put_reference.ensures.written,
     )

@@ -64,7 +64,7 @@ module _ {M : Type 1} {𝓤 : Ura M} (𝓛 : Logic 𝓤) (at_mem : Memory → SP
 
   walk : (at : Ptr) (alloc : Global) (held : Option Machine) (vs : List Val) → held ≡ None
       → ent 𝓤 (sem 𝓛 (Held-row.the_row.own_val (record { at = at; alloc = alloc; machine = held }) vs)) (WpFn 𝓤 H 𝓣.C 𝓣.Λ code.function (vs ++ [])
-          ((walk_of 𝓛 F.ended stayed (F.clauses 𝓛 at_mem run)).post (bound (record { at = at; alloc = alloc; machine = held }) vs)))
+      ((walk_of 𝓛 F.ended stayed (F.clauses 𝓛 at_mem run)).post (bound (record { at = at; alloc = alloc; machine = held }) vs)))
   walk at alloc held vs none =
       let h : Held = record { at = at; alloc = alloc; machine = held } in
       let z = bound h vs in
@@ -73,12 +73,12 @@ module _ {M : Type 1} {𝓤 : Ura M} (𝓛 : Logic 𝓤) (at_mem : Memory → SP
       fsplit ! $ fpick ! (λ vss. fsplit ! $ feq_l ! (λ ev. fsplit ! $ feq_l ! (λ ep. fsplit ! $ handle_tells E.al ! alloc vss.1.0 (λ hv ea fa. keep ! (0 ∷ []) $
       let w = word at hv in
       let ws : vs ≡ w ∷ [] = subst (λ (us : List Val). vs ≡ vstruct (of_list (ptr_val at ∷ (us ++ []))) ∷ []) ea (subst (λ (ps : List Val). vs ≡ vstruct
-          (of_list (ps ++ (vss.1.0 ++ []))) ∷ []) ep ev) in
+      (of_list (ps ++ (vss.1.0 ++ []))) ∷ []) ep ev) in
       let Γ : List (Item 𝓤) = ‵ ((Heap.the_row).own_val alloc (hv ∷ [])) ∷ [] in
       by ! (subst (λ (us : List Val). ent 𝓤 (types.Kit.⋆ 𝓛 Γ) (WpFn 𝓤 H 𝓣.C 𝓣.Λ code.function (us ++ []) Post)) (sym ws)
       (qed 𝓛 Γ ∵ enter ! 𝓣.C 𝓣.Λ code.function (w ∷ []) _ $ alloc_all ! (λ ls. pass_all ! refl (held_typed at hv fa, tt) $
       sets ! (of_opd ! (get_in ! (fld ! refl (stop !)) (sub ! 0 refl (whole !)))) refl (at_typed at) $ sets ! (of_opd ! (get_in ! (fld ! refl (stop !))
-          (sub ! 1 refl (whole !)))) refl fa $
+      (sub ! 1 refl (whole !)))) refl fa $
       sets ! (of_opd ! (unit_lit !)) refl (tt, tt) $ returns ! (look_at ! 0 refl) $ free_all ! refl $
       drop ! $ feq_i ! (List Val) (vunit ∷ []) (vunit ∷ []) refl $
       suffices ! _ (ends_at 𝓛 F.ended stayed (F.clauses 𝓛 at_mem run) z vunit tt (tt, tt) (tt, tt)) $
@@ -86,7 +86,7 @@ module _ {M : Type 1} {𝓤 : Ura M} (𝓛 : Logic 𝓤) (at_mem : Memory → SP
 
   entry : (z : (walk_of 𝓛 F.ended stayed (F.clauses 𝓛 at_mem run)).Ghost)
       → ent 𝓤 ((walk_of 𝓛 F.ended stayed (F.clauses 𝓛 at_mem run)).pre z) (WpFn 𝓤 H 𝓣.C 𝓣.Λ code.function (z.0.4.0 ++ []) ((walk_of 𝓛 F.ended stayed
-          (F.clauses 𝓛 at_mem run)).post z))
+      (F.clauses 𝓛 at_mem run)).post z))
   entry z =
       qed 𝓛 ((‵ ftrue ⊛ ‵ (fsep ((Held-row.the_row).own_val z.0.3.0 z.0.4.0) ftrue)) ∷ raw (fact 𝓤 (z.0.3.0.machine ≡ None)) ∷ []) ∵
       move ! (1 ∷ []) $ heard ! _ (λ none. split ! $ drop ! $ fsplit ! $ keep ! (0 ∷ []) $ by ! (walk z.0.3.0.at z.0.3.0.alloc z.0.3.0.machine z.0.4.0 none))
@@ -97,5 +97,5 @@ leave_spec 𝓤 𝓛 𝓜 𝓡 wired =
     let 𝓣 : Tables 𝓤 𝓛.H = tables_of 𝓤 𝓛.H 𝓜 (tables 𝓤 𝓛.H 𝓜 𝓡 𝓡.env) in
     entered 𝓤 𝓛.H (triple_of 𝓛 F.signature (F.spec 𝓛 𝓜.mem 𝓡.returns)) 𝓣.C 𝓣.Λ #self code.function (code.unfolded 𝓤 𝓛.H 𝓜 𝓡 wired)
     (walk_Meets 𝓛 F.ended stayed (Goes-dropped 𝓛 0 From yes (λ κs x f. refl), tt) (F.clauses 𝓛 𝓜.mem 𝓡.returns) (WpFn 𝓤 𝓛.H 𝓣.C 𝓣.Λ code.function)
-        (WpFn-mono 𝓤 𝓛.H 𝓛.laws 𝓣 code.function)
+    (WpFn-mono 𝓤 𝓛.H 𝓛.laws 𝓣 code.function)
     (entry 𝓛 𝓜.mem 𝓡.returns 𝓣))
