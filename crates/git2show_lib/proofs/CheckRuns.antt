@@ -436,7 +436,7 @@ module _ (A : Type 0) (t : Terms) (limit : ℕ) {Q R : Type 0} (of_requests : To
     hearing_stopped ReadFault piece turns written F W step told shown =
         heard_up_to (Err CheckReadFault) [] step.hears
         (λ h stands all_asked. inl (record { all_asked = all_asked; interrupted = interrupted t h new stands step.due }, told.0))
-    hearing_stopped WriteFault piece turns written F W (unused, step) told shown = heard_up_to (Err CheckWriteFault) unused step (λ h stands all_asked. tt)
+    hearing_stopped WriteFault piece turns written F W (unused, step) told shown = heard_up_to (Err CheckWriteFault) unused step (λ h stands all_asked. all_asked)
     hearing_stopped ReadLimit piece turns written F W step told shown =
         heard_up_to (Err CheckReadLimit) [] step.hears
         (λ h stands all_asked. inl (record { all_asked = all_asked; interrupted = interrupted t h new stands step.due }, shown.open_ended))
@@ -457,7 +457,8 @@ module _ (A : Type 0) (t : Terms) (limit : ℕ) {Q R : Type 0} (of_requests : To
   asking_stopped ReadLimit old new stream next request ended held later waiting out_after c step asks = absurd asks
   asking_stopped WriteFault old new stream next request ended held later waiting out_after c step asks =
       let a = response_due t limit true old new stream next request ended held later waiting c step asks in
-      ends (Err CheckWriteFault) a.found a.offer a.runs.h (c.front ++ request ∷ []) new waiting _ _ _ a.read (ran a.runs) a.offered a.asks tt
+      ends (Err CheckWriteFault) a.found a.offer a.runs.h (c.front ++ request ∷ []) new waiting _ _ _ a.read (ran a.runs) a.offered a.asks
+      (record { asked = a.asked ∙ sym a.runs.asked; nothing_left = a.nothing_left; no_rest = a.no_rest })
   asking_stopped (Refused fault) old new stream next request ended held later waiting {responses} {before} {left} {after} {out_before} {out_held}
       out_after c step asks =
       let asked = map asked_of c.front ++ asked_of request ∷ [] in
@@ -480,6 +481,7 @@ module _ (A : Type 0) (t : Terms) (limit : ℕ) {Q R : Type 0} (of_requests : To
       ends (Err (Responses fault)) (found_in t limit reading remaining rest) (offer_of next) h c.front old waiting _ _ _ reading.read so
       (inl (still_offered t step.reads.offer refl c.offered)) (asks_within t limit reading remaining rest are_asked) (inr (inl (record {
         request = request;
+        format = step.format;
         asked = ap (λ (l : List Asked). l ++ asked_of request ∷ []) (sym c.runs.asked);
         nothing_left = nothing;
         no_rest = none;

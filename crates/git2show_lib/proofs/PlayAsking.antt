@@ -1,6 +1,6 @@
 -- What a client owes said to a server, one packet after another.
-use Rattle.std.proofs.Common.{◌≡◌, ℕ, true, false, List, [], ◌∷◌, ◌++◌, None, sym, ap, ◌∙◌, subst, append_assoc, append-nil, refl}
-use Rattle.git_pkt.specs.Streams.{Flow, flow, WrittenAs}
+use Rattle.std.proofs.Common.{◌≡◌, ℕ, true, false, List, [], ◌∷◌, ◌++◌, None, sym, ◌∙◌, subst, append_assoc, append-nil, refl}
+use Rattle.git_pkt.specs.Streams.{Flow, WrittenAs}
 use Rattle.git_msg.specs.Asked.{command_asked}
 use Rattle.git_msg.specs.HeldRequest.{asked_of}
 use Rattle.git_msg.specs.declared.requests.Request.{Request}
@@ -11,7 +11,6 @@ use Rattle.git_client.specs.declared.events.Sent.{Sent}
 use Rattle.git_client.specs.declared.events.Sent.TheVariants.{Packet}
 use Rattle.git_client.proofs.SayingSteps.{asks_whole, gives_no_packet, hears_next, says_nothing, says_then}
 use Rattle.git_server.specs.Repository.{RepoState}
-use Rattle.git_server.specs.Sessions.{Setting}
 use Rattle.git_server.specs.declared.server.Server.{Server}
 use Rattle.git2show_lib.specs.PlaySteps.{AsksServer, Stands, StandsOn, TellsAll, silent}
 use denote.Ref.{Bor}

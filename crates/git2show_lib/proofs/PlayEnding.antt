@@ -169,7 +169,13 @@ module _ {R A : Type 0} (state : R → RepoState) (t : Terms) (limit : ℕ) (s0 
     asking_stopped alone ReadLimit h front later request old new server after split ending ready r at step = absurd step
     asking_stopped alone WriteFault h front later request old new server after split ending ready r at step =
         play_ends t limit s0 requests (Err WriteFault) _ (front ++ request ∷ []) later new no_counts (split ∙ sym (append_assoc front (request ∷ []) later))
-        (asks_runs t true h front old new request r step) tt
+        (asks_runs t true h front old new request r step)
+        (let rest = turn_stays alone h server ending at in record {
+          said = h;
+          same_used = refl;
+          asked = inr (asked_of request, refl);
+          is_served = record { first = rest.first; later = rest.later; unheard = []; served = rest.served; sessions = rest.talks };
+        })
     asking_stopped alone (Refused fault) h front later request old new server after {pack} {o0} {o1} {o2} split ending ready r at (step, same) =
         let stands = r.along.stands in
         let quietly = quiet_ready (phase_of old) ready in

@@ -1,9 +1,8 @@
 -- A packet heard by a client, piece by piece.
-use Rattle.std.proofs.Common.{arith, ◌≡◌, ℕ, ◌+◌, ◌-◌, ◌<◌, ◌≤◌, Bool, true, false, length, take, drop, min, List, [], ◌∷◌, ◌++◌, Option, None}
-use Rattle.std.proofs.Common.{Result, Ok, Err, refl, sym, ap, ◌∙◌, subst, length-drop}
+use Rattle.std.proofs.Common.{arith, ◌≡◌, ℕ, ◌+◌, ◌-◌, ◌<◌, ◌≤◌, Bool, true, false, length, take, min, List, [], ◌∷◌, ◌++◌, Option}
+use Rattle.std.proofs.Common.{Err, sym, ap, ◌∙◌, subst, length-drop}
 use Rattle.std.proofs.lemmas.List.{length-take, take_min}
-use Rattle.git_pkt.specs.Streams.{Flow, flow, WrittenAs}
-use Rattle.git_pkt.specs.declared.fault.Fault.{Fault}
+use Rattle.git_pkt.specs.Streams.{Flow, flow}
 use Rattle.git_pkt.specs.declared.fault.RunFault.{RunFault}
 use Rattle.git_pkt.specs.declared.fault.RunFault.TheVariants.{ReadFault, WriteFault, ReadLimit, Refused}
 use Rattle.git_pkt.proofs.Pieces.{left_of}

@@ -25,7 +25,7 @@ use Rattle.git_server.proofs.AtRest.{packets_of}
 use Rattle.git_server.proofs.Flushes.{flushes-append}
 use Rattle.git_server.proofs.Going.{no_outcome}
 use Rattle.git2show_lib.specs.PlaySteps.{GivesOn, IsSpent, Settled, Stands}
-use Rattle.git2show_lib.specs.Plays.{AreAll, AreSaid, IsDone, IsRefusedPlay, IsTalk, Talk, said_each, setting_of, with_end}
+use Rattle.git2show_lib.specs.Plays.{AreAll, AreSaid, IsDone, IsRefusedPlay, IsServed, IsTalk, Talk, said_each, setting_of, with_end}
 use Rattle.git2show_lib.proofs.PlayFlushes.{Closes, flushes_nearest}
 use Rattle.git2show_lib.proofs.PlayRuns.{has_said, has_stayed, late, quiet_failed}
 use Rattle.git2show_lib.proofs.PlayTalks.{Enough, Rests, behind, done, enough_heard, last_of_closed}
@@ -110,30 +110,43 @@ module _ {R A : Type 0} (state : R → RepoState) (t : Terms) (limit : ℕ) (s0 
           (All-cons (Holds (setting_of t limit s0 false)) (talk_of a.question given) [] one (All-nil (Holds (setting_of t limit s0 false)))),
     )
 
+    -- what was heard comes of the servers
+    pub served_many : (events : List EventValue) → IsServed t limit s0 (record h { used = h.used ++ used; events = events })
+    served_many events = record {
+      first = a.earlier.first;
+      later = a.earlier.later ++ talk_of a.question given ∷ [];
+      unheard = unheard;
+      served = record {
+        said = λ caps noted. subst (λ (e : Ending). AreSaid e a.earlier.first (a.earlier.later ++ talk_of a.question given ∷ []) h.given
+            (said_each t caps h.asked)) (sym ending) (a.earlier.none_said, many_said caps noted);
+        gave = many_gave ∙ many_given;
+      };
+      sessions =
+          many_all IsTalk a.earlier.talks (talk state (setting_of t limit s0 false) a.asks a.closes a.question given after many_settled a.question_is);
+    }
+
     -- what was heard is refused
     pub refused_many : (rest : List (Request A)) (events : List EventValue) (new : Client A) (fault : Fault) (ended : Bool)
         → Converses t (record h { used = h.used ++ used; events = h.events ++ events }) new → fault_of new ≡ Some fault → IsTimely fault.kind ended unheard
         → (ended ≡ true → IsSpent state after)
         → IsRefusedPlay t limit s0 rest (record h { used = h.used ++ used; events = h.events ++ events }) fault
+    unfolding served_many
     refused_many rest events new fault ended stands told timely spent =
+        let heard = served_many (h.events ++ events) in
         let now : History = record h { used = h.used ++ used; events = h.events ++ events } in
         let in_time = late fault.kind ended unheard (IsSpent state after) timely spent in
         let quietly = quiet_failed (phase_of new) fault told in
         let st = many_settled in
         record {
-          first = a.earlier.first;
-          later = a.earlier.later ++ talk_of a.question given ∷ [];
+          first = heard.first;
+          later = heard.later;
           unheard = unheard;
           ended = in_time.ended;
           fault_is = inl (record { first = first_fault t now new fault stands told; timely = in_time.timely });
           stays = has_stayed t now new stands quietly;
           said = has_said t now new stands quietly;
-          served = record {
-            said = λ caps noted. subst (λ (e : Ending). AreSaid e a.earlier.first (a.earlier.later ++ talk_of a.question given ∷ []) h.given
-                (said_each t caps h.asked)) (sym ending) (a.earlier.none_said, many_said caps noted);
-            gave = many_gave ∙ many_given;
-          };
-          sessions = many_all IsTalk a.earlier.talks (talk state (setting_of t limit s0 false) a.asks a.closes a.question given after st a.question_is);
+          served = heard.served;
+          sessions = heard.sessions;
           done = λ over. (
             (in_time.at_end over).0,
             many_all IsDone a.earlier.done

@@ -1,5 +1,5 @@
 -- A server of a play before its first byte.
-use Rattle.std.proofs.Common.{◌≡◌, ℕ, Bool, false, List, [], None, refl, ◌∙◌, ap, subst}
+use Rattle.std.proofs.Common.{◌≡◌, ℕ, Bool, false, [], None, refl, ◌∙◌, ap, subst}
 use Rattle.git_names.specs.declared.object_format.Format.{Format}
 use Rattle.git_msg.specs.declared.offers.Offer.{Offer}
 use Rattle.git_client.specs.Parts.{terms_of}

@@ -42,7 +42,7 @@ use Rattle.git_server.specs.Sessions.{Setting, advertised}
 use Rattle.git_server.specs.declared.server.Server.{Server}
 use Rattle.git_server.proofs.AtRest.{packets_of}
 use Rattle.git2show_lib.specs.PlaySteps.{GivesOn, Hears, IsSpent, Settled, Stands, silent}
-use Rattle.git2show_lib.specs.Plays.{AreSaid, EndsAs, IsDone, IsRefusedPlay, IsTalk, Played, said_each, setting_of}
+use Rattle.git2show_lib.specs.Plays.{AreSaid, EndsAs, IsDone, IsRefusedPlay, IsServed, IsTalk, Played, said_each, setting_of}
 use Rattle.git2show_lib.proofs.PlayFlushes.{Closes, advertises_once, flushes_nearest, questions_close, questions_count}
 use Rattle.git2show_lib.proofs.PlayTalks.{Enough, Quota, Rests, behind, done, enough_heard, nothing_unheard, rests, settle, talk, talk_of, waits_on}
 
@@ -256,29 +256,41 @@ module _ {R A : Type 0} (state : R → RepoState) (t : Terms) (limit : ℕ) (s0 
     gave_all =
         append_assoc h.used used unheard ∙ ap (λ (l : List ℕ). h.used ++ l) (sym parts) ∙ sym (append_assoc h.used given [])
 
+    -- what was heard comes of the server
+    pub served_one : (events : List EventValue) → IsServed t limit s0 (record h { used = h.used ++ used; events = events })
+    served_one events = record {
+      first = talk_of h.given (h.used ++ given);
+      later = [];
+      unheard = unheard;
+      served = record { said = λ caps noted. one.said caps (h.used ++ given); gave = gave_all };
+      sessions = (
+        talk state (only t limit s0) (questions_of t.format all.caps h.asked) closes h.given (h.used ++ given) after stands_on (questions_are t h all stays),
+        All-nil (IsTalk (setting_of t limit s0 false)),
+      );
+    }
+
     -- what was heard is refused
     pub refused_one : (rest : List (Request A)) (events : List EventValue) (new : Client A) (fault : Fault) (ended : Bool)
         → Converses t (record h { used = h.used ++ used; events = h.events ++ events }) new → fault_of new ≡ Some fault → IsTimely fault.kind ended unheard
         → (ended ≡ true → IsSpent state after)
         → IsRefusedPlay t limit s0 rest (record h { used = h.used ++ used; events = h.events ++ events }) fault
+    unfolding served_one
     refused_one rest events new fault ended stands told timely spent =
+        let heard = served_one (h.events ++ events) in
         let now : History = record h { used = h.used ++ used; events = h.events ++ events } in
         let is = questions_are t h all stays in
         let in_time = late fault.kind ended unheard (IsSpent state after) timely spent in
         let quietly = quiet_failed (phase_of new) fault told in
         record {
-          first = talk_of h.given (h.used ++ given);
-          later = [];
+          first = heard.first;
+          later = heard.later;
           unheard = unheard;
           ended = in_time.ended;
           fault_is = inl (record { first = first_fault t now new fault stands told; timely = in_time.timely });
           stays = has_stayed t now new stands quietly;
           said = has_said t now new stands quietly;
-          served = record { said = λ caps noted. one.said caps (h.used ++ given); gave = gave_all };
-          sessions = (
-            talk state (only t limit s0) (questions_of t.format all.caps h.asked) closes h.given (h.used ++ given) after stands_on is,
-            All-nil (IsTalk (setting_of t limit s0 false)),
-          );
+          served = heard.served;
+          sessions = heard.sessions;
           done = λ over. (
             (in_time.at_end over).0,
             (

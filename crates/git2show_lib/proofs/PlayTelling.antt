@@ -1,9 +1,9 @@
 -- A packet said to a server, piece by piece.
 use Rattle.std.proofs.Common.{arith, ◌≡◌, ◌≢◌, ℕ, suc, ◌+◌, ◌-◌, ◌<◌, ◌≤◌, Bool, true, false}
-use Rattle.std.proofs.Common.{IsTrue, cond, length, take, drop, min, List, [], ◌∷◌, ◌++◌, Option, Some, None}
-use Rattle.std.proofs.Common.{refl, sym, ap, ◌∙◌, subst, append_assoc, append-nil, length-append, length-drop, take-append-drop, inl, inr}
-use Rattle.std.proofs.Math.Seq.{take-add, take-length}
-use Rattle.std.proofs.lemmas.List.{drop-drop, drop_all, length-take, length-take-le, nil_from_length}
+use Rattle.std.proofs.Common.{cond, length, take, drop, min, List, [], ◌∷◌, ◌++◌, Some}
+use Rattle.std.proofs.Common.{refl, sym, ap, ◌∙◌, subst, append_assoc, append-nil, length-drop, take-append-drop, inl, inr}
+use Rattle.std.proofs.Math.Seq.{take-add}
+use Rattle.std.proofs.lemmas.List.{drop_all, length-take}
 use Rattle.std.proofs.lemmas.Bool.{cases_lt}
 use Rattle.std.proofs.lemmas.Grind.{common_steps}
 use Rattle.git_pkt.specs.declared.fault.Fault.{Fault}

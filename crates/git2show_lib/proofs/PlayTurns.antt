@@ -22,11 +22,11 @@ use Rattle.git_server.specs.Sessions.{Setting, IsAnswered, advertised}
 use Rattle.git_server.specs.declared.server.Server.{Server}
 use Rattle.git_server.proofs.Going.{no_outcome}
 use Rattle.git2show_lib.specs.PlaySteps.{HearsMessage, HearsMessageTo, Settled, Stands}
-use Rattle.git2show_lib.specs.Plays.{AreSaid, IsDone, IsTalk, Talk, said_each, setting_of}
+use Rattle.git2show_lib.specs.Plays.{AreSaid, IsBrokenPlay, IsDone, IsServed, IsTalk, Talk, said_each, setting_of}
 use Rattle.git2show_lib.proofs.PlayFlushes.{advertises_once, questions_count}
-use Rattle.git2show_lib.proofs.PlayMany.{Asks, Earlier, KeepsRepo, keeps_repo, many_earlier, many_repo, refused_many}
+use Rattle.git2show_lib.proofs.PlayMany.{Asks, Earlier, KeepsRepo, keeps_repo, many_earlier, many_repo, refused_many, served_many}
 use Rattle.git2show_lib.proofs.PlayRuns.{OneServer, PlayEnds, Runs, anew, begun, has_said, has_stayed, heard_runs, play_ends}
-use Rattle.git2show_lib.proofs.PlayRuns.{quiet_due, refused_one, rests_one, stands_on, used_all, waits_one}
+use Rattle.git2show_lib.proofs.PlayRuns.{quiet_due, refused_one, rests_one, served_one, stands_on, used_all, waits_one}
 use Rattle.git2show_lib.proofs.PlayTalks.{Rests, done, talk_of}
 
 -- how each response ends, where a server answers one request alone or all
@@ -38,6 +38,10 @@ ending_for false = FlushOnly
 no_questions : (e : Ending) (given : List ℕ) → AreSaid e (talk_of [] given) [] [] []
 no_questions FlushOnly given = (refl, refl)
 no_questions ResponseEnd given = (refl, refl)
+
+-- all that was asked was said to the servers, and a write failed
+broken_off : (t : Terms) (limit : ℕ) (s0 : RepoState) (h : History) → IsServed t limit s0 h → IsBrokenPlay t limit s0 h
+broken_off t limit s0 h served = record { said = h; same_used = refl; asked = inl refl; is_served = served }
 
 module _ {R A : Type 0} (state : R → RepoState) (t : Terms) (limit : ℕ) (s0 : RepoState) where
   -- a server that is at rest was said all, and gave all, that the client said and heard
@@ -110,7 +114,11 @@ module _ {R A : Type 0} (state : R → RepoState) (t : Terms) (limit : ℕ) (s0 
     one_stopped ReadLimit h front rest old new server after split due one r step = absurd step
     one_stopped WriteFault h front rest old new server after split due one r (counts, unheard, hears) =
         let (events, on) = heard_runs state t limit s0 true h front old new counts server after [] unheard r hears in
-        play_ends t limit s0 requests (Err WriteFault) _ front rest new counts split on tt
+        let quietly = quiet_due (phase_of old) due in
+        let stands = r.along.stands in
+        play_ends t limit s0 requests (Err WriteFault) _ front rest new counts split on
+        (broken_off t limit s0 _ (served_one state t limit s0 h server after hears.given hears.used unheard one (has_said t h old stands quietly)
+        (has_stayed t h old stands quietly) hears.server_goes hears.parts (h.events ++ events)))
     one_stopped (Refused fault) h front rest old new server after split due one r (ended, counts, unheard, step) =
         let (events, on) = heard_runs state t limit s0 false h front old new counts server after [] unheard r step.hears in
         let quietly = quiet_due (phase_of old) due in
@@ -128,7 +136,9 @@ module _ {R A : Type 0} (state : R → RepoState) (t : Terms) (limit : ℕ) (s0 
     many_stopped ReadLimit h front rest old new server after split ending a r step = absurd step
     many_stopped WriteFault h front rest old new server after split ending a r (counts, unheard, hears) =
         let (events, on) = heard_runs state t limit s0 true h front old new counts server after _ unheard r hears in
-        play_ends t limit s0 requests (Err WriteFault) _ front rest new counts split on tt
+        play_ends t limit s0 requests (Err WriteFault) _ front rest new counts split on
+        (broken_off t limit s0 _
+        (served_many state t limit s0 h server after hears.given hears.used unheard a ending hears.server_goes hears.parts (h.events ++ events)))
     many_stopped (Refused fault) h front rest old new server after split ending a r (ended, counts, unheard, step) =
         let (events, on) = heard_runs state t limit s0 false h front old new counts server after _ unheard r step.hears in
         play_ends t limit s0 requests (Err (Refused fault)) _ front rest new counts split on

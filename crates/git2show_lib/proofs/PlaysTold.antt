@@ -1,5 +1,5 @@
 -- What a play tells that ended well.
-use Rattle.std.proofs.Common.{arith, ◌≡◌, inl, inr, ℕ, Bool, true, false, All, flat_map, map, List, [], ◌∷◌, ◌++◌, Option, Some, None, Ok}
+use Rattle.std.proofs.Common.{arith, ◌≡◌, inl, ℕ, Bool, true, false, All, flat_map, map, List, [], ◌∷◌, ◌++◌, Option, Some, None, Ok}
 use Rattle.std.proofs.Common.{refl, ap, sym, ◌∙◌, subst}
 use Rattle.std.specs.List.{filter_map, cons_option}
 use Rattle.std.proofs.lemmas.List.{append-nil, append_cancel_right}
@@ -267,10 +267,6 @@ module _ {A : Type 0} (format : Format) (limit : ℕ) (state : RepoState) (sound
   told_whole ResponseEnd rest h values p = told_by_ends rest h values p
 
 -- ---- what is given
-
--- the advertisement has no pack
-no_pack_offered : (format : Format) (later : List EventValue) → pack_bytes (told_offer (everything format) ++ later) ≡ pack_bytes later
-no_pack_offered format later = refl
 
 pub as_told : {A : Type 0} (t : Terms) (limit : ℕ) (state : RepoState) (requests : List (Request A)) (done : Unit {0}) (read given : List (List ℕ))
     → Played t limit state requests (Ok done) read given → IsSound state.answers → CanBeWritten state.answers → state.answers.format ≡ t.format

@@ -27,20 +27,13 @@ use Rattle.git_pkt.proofs.EngineLemmas.{timely, Moved, moved_on, moved_unread, m
 use Rattle.git2show_lib.specs.PacketLines.{line_of, lines_of}
 use Rattle.git2show_lib.specs.LineBuffer.{Emits, EmitsFront}
 use Rattle.git2show_lib.specs.ShownStream.{EndsAs, Prints, PrintsPiece, Shows, ShowsPiece, Writes, WritesFront}
-use Rattle.git2show_lib.proofs.Sendings.{emits_nothing, emits_then, front_after}
+use Rattle.git2show_lib.proofs.Sendings.{emits_then, front_after}
 
 pub lines-append : (gs hs : List Given) → lines_of (gs ++ hs) ≡ lines_of gs ++ lines_of hs
 lines-append gs hs = flat_map-append line_of gs hs
 
 lines-one : (gs : List Given) (g : Given) → lines_of (gs ++ g ∷ []) ≡ lines_of gs ++ line_of g
 lines-one gs g = lines-append gs (g ∷ []) ∙ ap (λ (l : List ℕ). lines_of gs ++ l) (append-nil (line_of g))
-
-reads_on_nothing : (r : PacketReader) → ReadsOn r [] [] r
-reads_on_nothing r start bytes given rest reads = (
-  rest,
-  subst (λ (l : List ℕ). Reads r start l (given ++ []) rest) (sym (append-nil bytes))
-      (subst (λ (l : List Given). Reads r start bytes l rest) (sym (append-nil given)) reads),
-)
 
 pub reads_on_then : (a b c : PacketReader) (u v : List ℕ) (gs hs : List Given) → ReadsOn a u gs b → ReadsOn b v hs c → ReadsOn a (u ++ v) (gs ++ hs) c
 reads_on_then a b c u v gs hs one two start bytes given rest reads =
@@ -50,9 +43,6 @@ reads_on_then a b c u v gs hs one two start bytes given rest reads =
       subst (λ (l : List ℕ). Reads c start l (given ++ (gs ++ hs)) last) (append_assoc bytes u v)
           (subst (λ (l : List Given). Reads c start ((bytes ++ u) ++ v) l last) (append_assoc given gs hs) second),
     )
-
-pub prints_nothing : (r : PacketReader) (held : Option (List ℕ)) → Prints r r [] [] (flow held held)
-prints_nothing r held = record { packets = []; reads = reads_on_nothing r; emits = emits_nothing held [] }
 
 -- one more packet was read, and its line was put after the others
 pub prints_packet : (a b c : PacketReader) (u v : List ℕ) (before held after : Option (List ℕ)) (w x : List ℕ) (g : Given) → Prints a b u w (flow before held)

@@ -109,6 +109,7 @@ module _ {A : Type 0} where
             reads = fed news;
             onward = reads_between new.stage between;
             can_come = open_ended;
+            format = format;
             some = omega (arith, some, within, length-append so_far.used (take read.used unused), length-take-le read.used unused within);
             alone = λ bytes known h. (h.left, h.rest, asked_so_far h, nothing_begun h between shut);
           })

@@ -7,7 +7,7 @@ use Rattle.git_pkt.specs.Streams.{Flow, IsTimely}
 use Rattle.git_pkt.specs.declared.fault.Fault.{Fault}
 use Rattle.git_pkt.specs.declared.fault.Kind.TheVariants.{UnexpectedPacket}
 use Rattle.git_msg.specs.Asked.{Asked}
-use Rattle.git_msg.specs.HeldRequest.{asked_of}
+use Rattle.git_msg.specs.HeldRequest.{asked_of, format_of}
 use Rattle.git_msg.specs.Requests.{IsStop}
 use Rattle.git_msg.specs.RequestStreams.{HasRead, AreAsked, IsRefusedAs, limit_of, offer_of, wants_input}
 use Rattle.git_msg.specs.StreamStages.{AreBegun}
@@ -40,6 +40,7 @@ module _ {A : Type 0} where
     pub reads : ReadsOn old new (asked_of request ∷ []) waiting unused reader
     pub onward : wants_input new ≡ true
     pub can_come : ended ≡ false
+    pub format : format_of request ≡ (offer_of new).format
     pub some : 0 < length reads.used
     pub alone : Asking new (λ used left rest. (left ≡ []) × (rest ≡ []))
 

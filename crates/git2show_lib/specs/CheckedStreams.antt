@@ -9,7 +9,7 @@ use Rattle.git_pkt.specs.declared.fault.RunFault.TheVariants.{ReadFault as RunRe
 use Rattle.git_pkt.specs.declared.fault.Kind.TheVariants.{UnexpectedPacket}
 use Rattle.git_msg.specs.Advertisement.{noted_offer}
 use Rattle.git_msg.specs.Asked.{Asked}
-use Rattle.git_msg.specs.HeldRequest.{asked_of}
+use Rattle.git_msg.specs.HeldRequest.{asked_of, format_of}
 use Rattle.git_msg.specs.Requests.{IsStop}
 use Rattle.git_msg.specs.RequestStreams.{AreAsked, IsRefusedAs}
 use Rattle.git_msg.specs.StreamStages.{AreBegun}
@@ -97,9 +97,10 @@ pub record IsBadResponse (t : Terms) (responses : Standing) (unused : List ℕ) 
   pub all_asked : AreAllAsked h found
   pub malformed : IsMalformed t responses.ended unused h fault
 
--- the last request that was read can't be asked
-pub record IsBadQuestion (A : Type 0) (t : Terms) (h : History) (found : Found) (fault : Fault) : Type 0 where
+-- the last request that was read, of the object format that is offered, can't be asked
+pub record IsBadQuestion (A : Type 0) (t : Terms) (offer : Offer) (h : History) (found : Found) (fault : Fault) : Type 0 where
   pub request : Request A
+  pub format : format_of request ≡ offer.format
   pub asked : found.asked ≡ h.asked ++ asked_of request ∷ []
   pub nothing_left : found.left ≡ []
   pub no_rest : found.rest ≡ []
@@ -143,10 +144,10 @@ abbrev pub EndsAs : (A : Type 0) → Terms → Offer → ℕ → Result (Unit {0
 EndsAs A t offer limit (Ok done) requests responses unused h found = IsWhole t requests responses unused h found
 EndsAs A t offer limit (Err (Requests fault)) requests responses unused h found = IsBadRequest t offer limit requests responses h found fault
 EndsAs A t offer limit (Err (Responses fault)) requests responses unused h found =
-    IsBadResponse t responses unused h found fault ⊎ (IsBadQuestion A t h found fault ⊎ IsLeftOver t requests unused h found fault)
+    IsBadResponse t responses unused h found fault ⊎ (IsBadQuestion A t offer h found fault ⊎ IsLeftOver t requests unused h found fault)
 EndsAs A t offer limit (Err ReadFault) requests responses unused h found =
     IsCutOff t offer limit (requests.failed ≡ true) (responses.failed ≡ true) requests responses unused h found
-EndsAs A t offer limit (Err WriteFault) requests responses unused h found = Unit {0}
+EndsAs A t offer limit (Err WriteFault) requests responses unused h found = AreAllAsked h found
 EndsAs A t offer limit (Err ReadLimit) requests responses unused h found =
     IsCutOff t offer limit (Unit {0}) (responses.ended ≡ false) requests responses unused h found
 

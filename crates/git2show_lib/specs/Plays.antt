@@ -76,6 +76,14 @@ abbrev pub AreAll : (Setting → Talk → Type 0) → Terms → ℕ → RepoStat
 AreAll Stands t limit state first later =
     Stands (setting_of t limit state true) first × All (Stands (setting_of t limit state false)) later
 
+-- what was said to the servers, and their sessions, of which the client has heard a front
+pub record IsServed (t : Terms) (limit : ℕ) (state : RepoState) (h : History) : Type 0 where
+  pub first : Talk
+  pub later : List Talk
+  pub unheard : List ℕ
+  pub served : AreServed t h unheard first later
+  pub sessions : AreAll IsTalk t limit state first later
+
 -- a server answered all questions that were said to it, and after them it was told by a flush that the client leaves
 pub record IsAnsweredAndLeft (s : Setting) (talk : Talk) : Type 0 where
   pub questions : List ℕ
@@ -89,6 +97,13 @@ AreWholeSessions FlushOnly t limit state first later = IsAnsweredAndLeft (settin
 AreWholeSessions ResponseEnd t limit state first later = AreAll (λ s talk. IsAnswered s talk.said talk.given) t limit state first later
 
 -- ---- how a play ended
+
+-- a write failed: what was heard comes of the servers, to whom the last question may not have been said yet
+pub record IsBrokenPlay (t : Terms) (limit : ℕ) (state : RepoState) (h : History) : Type 0 where
+  pub said : History
+  pub same_used : h.used ≡ said.used
+  pub asked : (h.asked ≡ said.asked) ⊎ ((last : Asked) × (h.asked ≡ said.asked ++ last ∷ []))
+  pub is_served : IsServed t limit state said
 
 module _ {A : Type 0} where
   -- each request was asked, answered and heard whole, and all that was given was heard
@@ -115,7 +130,7 @@ module _ {A : Type 0} where
   abbrev pub EndsAs : Terms → ℕ → RepoState → Result (Unit {0}) RunFault → List (Request A) → History → Type 0
   EndsAs t limit state (Ok done) rest h = IsWholePlay t limit state rest h
   EndsAs t limit state (Err (Refused fault)) rest h = IsRefusedPlay t limit state rest h fault
-  EndsAs t limit state (Err WriteFault) rest h = Unit {0}
+  EndsAs t limit state (Err WriteFault) rest h = IsBrokenPlay t limit state h
   EndsAs t limit state (Err ReadFault) rest h = ⊥
   EndsAs t limit state (Err ReadLimit) rest h = ⊥
 

@@ -1,7 +1,7 @@
 //! A recorded conversation, both of its streams checked against each other.
 
-ghost use Rattle.std.specs.Prelude.{[], ◌∷◌, ◌≡◌, ◌+◌, ◌≤◌, ◌<◌, ◌||◌, length, true, false, IsTrue, IfErr};
-ghost use Rattle.git_pkt.specs.Told.{inner_of, reads_of, has_failed, IsNew};
+ghost use Rattle.std.specs.Prelude.{[], ◌∷◌, ◌≡◌, ◌+◌, ◌≤◌, ◌<◌, ◌||◌, length, false, IsTrue, IfErr};
+ghost use Rattle.git_pkt.specs.Told.{inner_of, reads_of, has_failed, has_wasted, IsNew};
 ghost use Rattle.git_pkt.specs.Engine.{FailsAs, IsShownBy};
 ghost use Rattle.git_pkt.specs.Streams.{flow, is_broken, Moves};
 ghost use Rattle.git_client.specs.Parts.{terms_of};
@@ -82,6 +82,8 @@ pub fn check<Q: Read, R: Read, O: Write, A: Allocator + Copy>(
     requires sound_out { has_failed out.old ≡ false }
 
     ensures reads { reads_of requests.new + reads_of responses.new ≤ turns }
+    ensures useful { has_wasted requests.new ≡ false }
+    ensures useful_responses { has_wasted responses.new ≡ false }
     ensures checked { Moves (is_broken (run_result result))
         (Checked A (terms_of format ending) Limits.USUAL result (standing_of requests.new) (standing_of responses.new))
         (flow (Q.remaining (inner_of requests.old)) (Q.remaining (inner_of requests.new))

@@ -1,7 +1,7 @@
 //! What is left over of the responses of a recorded conversation.
 
 ghost use Rattle.std.specs.Prelude.{◌≡◌, ◌≤◌, ◌<◌, length, false, IsTrue, IfErr};
-ghost use Rattle.git_pkt.specs.Told.{inner_of, reads_of, has_failed, has_ended};
+ghost use Rattle.git_pkt.specs.Told.{inner_of, reads_of, has_failed, has_ended, has_wasted};
 ghost use Rattle.git_pkt.specs.Engine.{FailsAs, IsShownBy, IsSpent};
 ghost use Rattle.git_pkt.specs.Streams.{flow};
 ghost use Rattle.git_client.specs.RunSteps.{window_of};
@@ -32,6 +32,7 @@ pub(crate) fn see_the_end<R: Read>(
     requires turns { reads_of reader.old ≤ turns }
 
     ensures reads { reads_of reader.new ≤ turns }
+    ensures useful { has_wasted reader.new ≡ has_wasted reader.old }
     ensures seen { SeesEnd result (has_ended reader.new) position (window_of waiting piece.old)
         (flow (R.remaining (inner_of reader.old)) (R.remaining (inner_of reader.new))) }
     ensures fault { IfErr result (λ fault. IsShownBy (IsTrue (has_failed reader.new)) ⊥ (IsSpent reader.new turns) (run_fault fault)) }

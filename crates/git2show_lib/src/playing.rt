@@ -1,12 +1,12 @@
 //! Both ends against each other in memory: the client asks requests of a server of a repository, and hears its answers.
 
-ghost use Rattle.std.specs.Prelude.{◌≡◌, ◌<◌, ◌||◌, ◌∷◌, [], ◌++◌, length, true, false, None, IsTrue, IfErr, is_err};
+ghost use Rattle.std.specs.Prelude.{◌≡◌, ◌<◌, ◌||◌, ◌∷◌, [], true, false, None, IsTrue, IfErr};
 ghost use Rattle.git_pkt.specs.Told.{inner_of, has_failed};
 ghost use Rattle.git_pkt.specs.Engine.{FailsAs, IsShownBy};
-ghost use Rattle.git_pkt.specs.Streams.{flow, is_broken, Moves, WrittenAs};
+ghost use Rattle.git_pkt.specs.Streams.{flow, is_broken, Moves};
 ghost use Rattle.git_client.specs.Client.{can_ask, fault_of, wants_input};
 ghost use Rattle.git_client.specs.Parts.{terms_of};
-ghost use Rattle.git_client.specs.RunSteps.{HearsPieceTo, no_counts};
+ghost use Rattle.git_client.specs.RunSteps.{HearsPieceTo};
 ghost use Rattle.git_server.specs.Server.{outcome_of};
 ghost use Rattle.git2show_lib.specs.Plays.{Played, setting_of};
 ghost use Rattle.git2show_lib.specs.PlaySteps.{AsksServerTo, HearsMessageTo, HearsServerTo, Stands, StandsOn, TellsAll};

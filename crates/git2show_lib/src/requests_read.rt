@@ -1,7 +1,7 @@
 //! The requests of a recorded conversation, one after another.
 
 ghost use Rattle.std.specs.Prelude.{◌≡◌, ◌≤◌, ◌<◌, length, true, false, IsTrue, IfErr};
-ghost use Rattle.git_pkt.specs.Told.{inner_of, reads_of, has_failed, has_ended};
+ghost use Rattle.git_pkt.specs.Told.{inner_of, reads_of, has_failed, has_ended, has_wasted};
 ghost use Rattle.git_pkt.specs.Engine.{FailsAs, IsShownBy, IsSpent};
 ghost use Rattle.git_pkt.specs.Streams.{flow};
 ghost use Rattle.git_msg.specs.RequestStreams.{wants_input};
@@ -37,6 +37,7 @@ pub(crate) fn next_request<R: Read, A: Allocator + Copy>(
     requires turns { reads_of reader.old ≤ turns }
 
     ensures reads { reads_of reader.new ≤ turns }
+    ensures useful { has_wasted reader.new ≡ has_wasted reader.old }
     ensures asked { ReadsTo result (has_ended reader.new) stream.old stream.new (window_of waiting.old piece.old) waiting.new piece.new
         (flow (R.remaining (inner_of reader.old)) (R.remaining (inner_of reader.new))) }
     ensures room { length piece.new ≡ length piece.old }

@@ -9,8 +9,8 @@ use Rattle.git_client.specs.Parts.{Terms, nearest, advertisement_of, is_end_due}
 use Rattle.git_client.specs.Places.{response_end}
 use Rattle.git_client.specs.Events.{EventValue, turns_of}
 use Rattle.git_client.specs.Conversation.{GiveAll}
-use Rattle.git_client.specs.Turns.{takes_packets, fault_in, is_ready, has_left_in}
-use Rattle.git_client.specs.Client.{History, Converses, StandsIn, IsDue, fault_of, can_ask, wants_input, phase_of}
+use Rattle.git_client.specs.Turns.{fault_in, is_ready, has_left_in}
+use Rattle.git_client.specs.Client.{History, Converses, StandsIn, IsDue, fault_of, can_ask, phase_of}
 use Rattle.git_client.specs.declared.phase.Phase.{Phase}
 use Rattle.git_client.specs.declared.phase.Phase.TheVariants.{Hearing, Ready, Asking, Leaving, Left, Failed}
 use Rattle.git_client.specs.declared.client.Client.{Client}
@@ -37,17 +37,6 @@ turns_while_due t asked clean events ResponseEnd g d =
 turns_while_due t asked clean events due g d =
     let turns = turns_are_messages t asked clean events g in
     omega (arith, turns, d.counts)
-
--- the same in a phase in which bytes are due
-few_in : (phase : Phase) (t : Terms) (asked : List Asked) (clean given : List Given) (rest : List ℕ) (end : ℕ) (question : Option Asked)
-    (reader : PacketReader) (events : List EventValue) → takes_packets phase ≡ true → StandsIn phase t asked clean given rest end question reader
-    → GiveAll t asked [] clean events → turns_of events ≤ length asked
-few_in (Hearing due) t asked clean given rest end question reader events e h g = turns_while_due t asked clean events due g h.behind
-few_in phase t asked clean given rest end question reader events e h g = absurd (cc)
-
-pub turns_while_wanted : {A : Type 0} (t : Terms) (h : History) (client : Client A) → Converses t h client → wants_input client ≡ true
-    → turns_of h.events ≤ length h.asked
-turns_while_wanted t h client c due = few_in (phase_of client) t h.asked _ _ _ _ _ _ h.events due c.stands c.gives
 
 -- a client can ask exactly where it has not left, and came to one turn more than it asked
 turn_is : (phase : Phase) (t : Terms) (asked : List Asked) (clean given : List Given) (rest : List ℕ) (end : ℕ) (question : Option Asked)

@@ -27,3 +27,4 @@ pub mod HearingSteps
 pub mod SayingSteps
 pub mod HearingBytes
 pub mod ClientRuns
+pub mod HandedBack

@@ -4,14 +4,13 @@ use Rattle.std.proofs.Common.{Option, Some, None, refl, sym, ap, ◌∙◌, appe
 use Rattle.std.proofs.lemmas.List.{append-nil}
 use Rattle.git_pkt.specs.Packets.{Pkt, flushes}
 use Rattle.git_pkt.specs.Splits.{Given}
-use Rattle.git_pkt.specs.declared.fault.Kind.{Kind}
 use Rattle.git_msg.specs.Asked.{Asked}
 use Rattle.git_client.specs.Parts.{Terms, Part, closing, nearest, is_zero, advertisement_of, message_of, is_end_due, answer_to, part_after, part_of}
 use Rattle.git_client.specs.Places.{Place}
 use Rattle.git_client.specs.Places.{place_of, place_after}
 use Rattle.git_client.specs.Events.{EventValue, offered, ended}
 use Rattle.git_client.specs.Events.{turns_of}
-use Rattle.git_client.specs.Conversation.{GivesAt, RefusesAt, GiveAll, HasDue}
+use Rattle.git_client.specs.Conversation.{GivesAt, GiveAll}
 use Rattle.git_client.proofs.PlacePackets.{nothing_due, comes_after, one_if, packet_adds}
 
 pub nearest_push : (gs : List Given) (g : Given) (before : List Pkt) → nearest (gs ++ g ∷ []) before ≡ g.packet ∷ nearest gs before
@@ -57,14 +56,6 @@ part_same t asked more (p ∷ before) =
     part_chosen (is_end_due t.ending (p ∷ before)) (part_after asked (flushes (p ∷ before))) (part_after (asked ++ more) (flushes (p ∷ before)))
     (part_after_same asked more (flushes (p ∷ before)))
 
--- later questions leave the part of a packet as it is
-pub part_more : (t : Terms) (asked more : List Asked) (before : List Pkt) (part : Part) → part_of t asked before ≡ Some part
-    → part_of t (asked ++ more) before ≡ Some part
-part_more t asked more before part h = elim (part_same t asked more before) [
-  | inl none ↦ let both = sym none ∙ h in absurd (cc)
-  | inr same ↦ same ∙ h
-]
-
 -- and its place
 pub place_more : (t : Terms) (asked more : List Asked) (before : List Pkt) (place : Place) → place_after t asked before ≡ Some place
     → place_after t (asked ++ more) before ≡ Some place
@@ -83,14 +74,6 @@ pub gives_more : (t : Terms) (asked more : List Asked) (before : List Pkt) (gs :
 gives_more t asked more before [] events e = e
 gives_more t asked more before (g ∷ gs) events (now, later, e, at, rest) =
     (now, later, e, gives_at_more t asked more before g.packet now at, gives_more t asked more (g.packet ∷ before) gs later rest)
-
-pub refuses_more : (t : Terms) (asked more : List Asked) (before : List Pkt) (p : Pkt) (kind : Kind) → RefusesAt t asked before p kind
-    → RefusesAt t (asked ++ more) before p kind
-refuses_more t asked more before p kind h =
-    record { place = h.place; is_place = place_more t asked more before h.place h.is_place; refuses = h.refuses }
-
-pub due_more : (t : Terms) (asked more : List Asked) (before : List Pkt) → HasDue t asked before → HasDue t (asked ++ more) before
-due_more t asked more before (place, is) = (place, place_more t asked more before place is)
 
 turns-append : (events later : List EventValue) → turns_of (events ++ later) ≡ turns_of events + turns_of later
 turns-append [] later = omega arith

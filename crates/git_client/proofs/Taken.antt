@@ -165,7 +165,8 @@ module _ {A : Type 0} where
         hears = hears_packet old new due (take used piece) g turn b judged goes now caps;
         leaves = leaves turn.said used piece new said some b.shut
             (subst (StandsOn turn.said) (sym now) (stands_after turn.said body turn.next goes turns));
-        fits = events_fit (format_of old) (ending_of old) (place_due (caps_of old) (format_of old) due) g.packet (events_at turn.said body) judged.gives b.held.fits;
+        fits = events_fit (format_of old) (ending_of old) (place_due (caps_of old) (format_of old) due)
+            g.packet (events_at turn.said body) judged.gives b.held.fits;
       }
 
   taken_badly : (old new : Client A) (due : Due) (piece : List ℕ) (used : ℕ) (g : Given) (kind : Kind) → HearsPacket old new due (take used piece) g

@@ -1,6 +1,7 @@
 -- What a client stands for: what it was asked to ask, the bytes that it used, the events that it handed out and the bytes
 -- that it gave.
-use Rattle.std.specs.Prelude.{◌≡◌, ◌≢◌, ◌⊎◌, ℕ, suc, ◌+◌, ◌-◌, ◌<◌, ◌≤◌, Bool, true, false, List, [], ◌∷◌, ◌++◌, length, take, drop, flat_map, Option, Some, None, Result, Ok, Err}
+use Rattle.std.specs.Prelude.{◌≡◌, ◌≢◌, ◌⊎◌, ℕ, suc, ◌+◌, ◌-◌, ◌<◌, ◌≤◌, Bool, true, false, List, [], ◌∷◌, ◌++◌, length, take, drop, flat_map, Option}
+use Rattle.std.specs.Prelude.{Some, None, Result, Ok, Err}
 use Rattle.git_names.specs.declared.object_format.Format.{Format}
 use Rattle.git_pkt.specs.Packets.{Pkt, flush, payload, Spells, spelling_of, text_of, flushes, longest_payload}
 use Rattle.git_pkt.specs.Splits.{Given, Splits}
@@ -24,9 +25,11 @@ use Rattle.git_client.specs.Parts.{nearest, advertisement_of, message_of, is_end
 use Rattle.git_client.specs.Sections.{is_empty, is_header_due, section_of, lines_of, allowed_after, told_by}
 use Rattle.git_client.specs.Events.{EventValue, all_parts_length}
 use Rattle.git_client.specs.Conversation.{GiveAll, RefusesAt, HasDue}
-use Rattle.git_client.specs.Turns.{takes_packets, fault_in, is_ready, has_left_in, is_asking, left_in, question_in, values_of, events_at, Fits, after_acknowledgments}
+use Rattle.git_client.specs.Turns.{takes_packets, fault_in, is_ready, has_left_in, is_asking, left_in, question_in, values_of, events_at, Fits}
+use Rattle.git_client.specs.Turns.{after_acknowledgments}
 use Rattle.git_client.specs.declared.sections.Section.{Section}
-use Rattle.git_client.specs.declared.sections.Section.TheVariants.{Acknowledgments as AcknowledgmentsSection, ShallowInfo as ShallowInfoSection, WantedRefs as WantedRefsSection, Packfile as PackfileSection}
+use Rattle.git_client.specs.declared.sections.Section.TheVariants.{Acknowledgments as AcknowledgmentsSection, ShallowInfo as ShallowInfoSection}
+use Rattle.git_client.specs.declared.sections.Section.TheVariants.{WantedRefs as WantedRefsSection, Packfile as PackfileSection}
 use Rattle.git_client.specs.declared.phase.Phase.{Phase}
 use Rattle.git_client.specs.declared.phase.Phase.TheVariants.{Hearing, Asking, Failed as FailedPhase}
 use Rattle.git_client.specs.declared.phase.Due.{Due}
@@ -207,7 +210,8 @@ pub record EndedEarly (t : Terms) (asked : List Asked) (clean given : List Given
   pub at : fault.offset ≡ end
 
 -- no packet so far has a fault, and neither have the bytes after them; none have come where no input is wanted
-pub record Goes (t : Terms) (asked : List Asked) (clean given : List Given) (rest : List ℕ) (question : Option Asked) (phase : Phase) (reader : PacketReader) : Type 0 where
+pub record Goes (t : Terms) (asked : List Asked) (clean given : List Given) (rest : List ℕ)
+    (question : Option Asked) (phase : Phase) (reader : PacketReader) : Type 0 where
   pub cut : given ≡ clean
   pub sound : reader_fault_of reader ≡ None
   pub behind : Behind t asked (nearest clean []) question phase

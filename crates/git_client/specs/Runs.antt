@@ -1,5 +1,5 @@
 -- What a run of a client over its streams comes to: what it asked and heard, what it said, the transcript and the pack.
-use Rattle.std.specs.Prelude.{◌≡◌, ◌⊎◌, Bool, true, false, ℕ, List, [], ◌∷◌, ◌++◌, length, Result, Ok, Err, map}
+use Rattle.std.specs.Prelude.{◌≡◌, ◌⊎◌, Bool, true, false, ℕ, List, [], ◌∷◌, ◌++◌, length, Some, Result, Ok, Err, map}
 use Rattle.git_pkt.specs.Streams.{IsTimely}
 use Rattle.git_pkt.specs.declared.fault.Fault.{Fault}
 use Rattle.git_pkt.specs.declared.fault.RunFault.{RunFault}
@@ -12,7 +12,7 @@ use Rattle.git_client.specs.Parts.{Terms}
 use Rattle.git_client.specs.Events.{pack_bytes}
 use Rattle.git_client.specs.Conversation.{HasNoted, FirstMalformed, GoesOn, IsConversation}
 use Rattle.git_client.specs.Transcript.{transcript_of}
-use Rattle.git_client.specs.Client.{History, Converses, ask_checks, said_of, spelled}
+use Rattle.git_client.specs.Client.{History, Converses, ask_checks, can_ask, fault_of, said_of, spelled, wants_input}
 use Rattle.git_client.specs.declared.client.Client.{Client}
 use Rattle.git_client.specs.declared.events.Ending.{Ending}
 use Rattle.git_client.specs.declared.events.Ending.TheVariants.{FlushOnly, ResponseEnd}
@@ -73,6 +73,15 @@ module _ {A : Type 0} where
   EndsAs t (Err WriteFault) ended unused rest h = Unit {0}
   EndsAs t (Err (Refused fault)) ended unused rest h =
       (IsMalformed t ended unused h fault ⊎ IsRefusedRequest t rest h fault) × (h.left ≡ false) × HasSaid t h
+
+  -- the client that a run hands back: it waits for more, has the fault that was told, or can be asked another request than the
+  -- refused one
+  abbrev pub IsHandedBack : Result (Unit {0}) RunFault → Client A → Type 0
+  IsHandedBack (Ok done) client = Unit {0}
+  IsHandedBack (Err ReadFault) client = wants_input client ≡ true
+  IsHandedBack (Err ReadLimit) client = wants_input client ≡ true
+  IsHandedBack (Err WriteFault) client = Unit {0}
+  IsHandedBack (Err (Refused fault)) client = (fault_of client ≡ Some fault) ⊎ (can_ask client ≡ true)
 
   -- what a client that was asked these requests has to do with the bytes of its run: it used those read but the last of them, and
   -- the bytes given are what it said, the transcript, and the pack

@@ -26,11 +26,13 @@ use Rattle.git_client.specs.Events.{SaysLine, Gives, band_says}
 use Rattle.git_client.specs.declared.events.Ending.{Ending}
 use Rattle.git_client.specs.declared.events.Ending.TheVariants.{FlushOnly, ResponseEnd as WithResponseEnd}
 use Rattle.git_client.specs.declared.events.Event.{Event}
-use Rattle.git_client.specs.declared.events.Event.TheVariants.{Capability as CapabilityEvent, Offered as OfferedEvent, Reference as ReferenceEvent, Ack as AckEvent, Nak as NakEvent, Ready as ReadyEvent}
+use Rattle.git_client.specs.declared.events.Event.TheVariants.{Capability as CapabilityEvent, Offered as OfferedEvent, Reference as ReferenceEvent}
+use Rattle.git_client.specs.declared.events.Event.TheVariants.{Ack as AckEvent, Nak as NakEvent, Ready as ReadyEvent}
 use Rattle.git_client.specs.declared.events.Event.TheVariants.{Shallow as ShallowEvent, Unshallow as UnshallowEvent, WantedRef as WantedRefEvent}
 use Rattle.git_client.specs.declared.events.Event.TheVariants.{Info as InfoEvent, Pack as PackEvent, Progress as ProgressEvent, Ended as EndedEvent}
 use Rattle.git_client.specs.declared.sections.Section.{Section}
-use Rattle.git_client.specs.declared.sections.Section.TheVariants.{Acknowledgments as AcknowledgmentsSection, ShallowInfo as ShallowInfoSection, WantedRefs as WantedRefsSection, Packfile as PackfileSection}
+use Rattle.git_client.specs.declared.sections.Section.TheVariants.{Acknowledgments as AcknowledgmentsSection, ShallowInfo as ShallowInfoSection}
+use Rattle.git_client.specs.declared.sections.Section.TheVariants.{WantedRefs as WantedRefsSection, Packfile as PackfileSection}
 use Rattle.git_client.specs.declared.sections.Allowed.{Allowed}
 use Rattle.git_client.specs.declared.phase.Phase.{Phase}
 use Rattle.git_client.specs.declared.phase.Phase.TheVariants.{Hearing, Ready as ReadyPhase, Asking, Leaving, Left, Failed}

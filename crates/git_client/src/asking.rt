@@ -1,6 +1,6 @@
 //! What a client says: the requests that it is handed, packet by packet, and the flush at leaving.
 
-ghost use Rattle.std.specs.Prelude.{◌≡◌, ◌≢◌, ◌≤◌, length, true, MatchResult};
+ghost use Rattle.std.specs.Prelude.{◌≡◌, ◌≤◌, length, true, MatchResult};
 ghost use Rattle.std.specs.Borrow.{sem};
 ghost use Rattle.std.specs.Io.BufRead.{Rests};
 ghost use Rattle.git_pkt.specs.PacketReader.{held_of};
@@ -17,7 +17,8 @@ use git_pkt::{Fault, Kind, Packet, put};
 use std::alloc::Allocator;
 
 impl<A: Allocator + Copy> Client<A> {
-    ghost use Rattle.git_client.specs.Client.{Asks, RefusesToAsk, Leaves, Pulls, Puts, given_by, ask_checks, can_ask, fault_of, left_to_say, caps_of, format_of, phase_of, reader_of};
+    ghost use Rattle.git_client.specs.Client.{Asks, RefusesToAsk, Leaves, Pulls, Puts, given_by, ask_checks, can_ask, caps_of};
+    ghost use Rattle.git_client.specs.Client.{format_of, phase_of, reader_of};
     ghost use Rattle.git_client.specs.contracts.client.Client.{the_row};
 
     /// Asks: from now on the packets of the request are to be pulled, and then its response is due. Refused in this order, at

@@ -10,7 +10,8 @@ ghost use Rattle.git_pkt.specs.Packets.{longest_payload};
 ghost use Rattle.git_pkt.specs.Splits.{Given, Splits};
 ghost use Rattle.git_pkt.specs.PacketReader.{fault_of as reader_fault_of, held_of, is_open};
 ghost use Rattle.git_client.specs.Parts.{Terms, terms_of};
-ghost use Rattle.git_client.specs.Turns.{takes_packets, fault_in, is_asking, left_in, Fits, LiesIn, events_at, value_at, values_of, capability_value, turn_on, wanted_at};
+ghost use Rattle.git_client.specs.Turns.{takes_packets, fault_in, is_asking, left_in, Fits, LiesIn, events_at, value_at, values_of, capability_value};
+ghost use Rattle.git_client.specs.Turns.{turn_on, wanted_at};
 ghost use Rattle.git_client.specs.Events.{turns_of, all_parts_length, capability, reference, wanted_ref};
 ghost use Rattle.git_names.specs.ObjectFormat.{digits_of};
 ghost use Rattle.git_msg.specs.References.{FitsIn, reference_at};
@@ -66,7 +67,9 @@ pub struct Client<A: Allocator + Copy> {
 }
 
 impl<A: Allocator + Copy> Client<A> {
-    ghost use Rattle.git_client.specs.Client.{said_last, HearsNext, Converses, History, nothing_yet, HearsOn, Feeds, events_of, EndsWithMessage, EndsWithoutMessage, fault_of, can_ask, wants_input, has_left, left_to_say, bytes_used, caps_of, phase_of, reader_of, Takes, Settles};
+    ghost use Rattle.git_client.specs.Client.{said_last, HearsNext, Converses, History, nothing_yet, HearsOn, Feeds, events_of, EndsWithMessage};
+    ghost use Rattle.git_client.specs.Client.{EndsWithoutMessage, fault_of, can_ask, wants_input, has_left, left_to_say, bytes_used, caps_of};
+    ghost use Rattle.git_client.specs.Client.{phase_of, reader_of, Takes, Settles};
     ghost use Rattle.git_client.specs.contracts.client.Client.{the_row};
 
     /// A client of this object format, before the first byte of the advertisement.

@@ -1,13 +1,13 @@
 //! A client run over a reader and a writer.
 
 ghost use Rattle.std.specs.Prelude.{◌≡◌, ◌≤◌, ◌<◌, ◌||◌, ◌∷◌, [], length, None, true, false, IsTrue, IfErr, is_err};
-ghost use Rattle.git_pkt.specs.Told.{inner_of, reads_of, has_failed, has_ended, IsNew};
+ghost use Rattle.git_pkt.specs.Told.{inner_of, reads_of, has_failed, has_ended, has_wasted, IsNew};
 ghost use Rattle.git_pkt.specs.Engine.{FailsAs, IsShownBy, IsSpent};
 ghost use Rattle.git_pkt.specs.Streams.{flow, is_broken, Moves};
 ghost use Rattle.git_client.specs.Parts.{Terms};
 ghost use Rattle.git_client.specs.Client.{Converses, nothing_yet, can_ask, wants_input, fault_of};
 ghost use Rattle.git_client.specs.RunSteps.{AsksTo, Says};
-ghost use Rattle.git_client.specs.Runs.{Conversed};
+ghost use Rattle.git_client.specs.Runs.{Conversed, IsHandedBack};
 
 use crate::client::Client;
 use crate::events::{Ending, Sent};
@@ -46,6 +46,7 @@ pub fn converse<R: Read, W: Write, O: Write, P: Write, A: Allocator + Copy>(
     requires sound_pack { has_failed pack.old ≡ false }
 
     ensures reads { reads_of reader.new ≤ turns }
+    ensures useful { has_wasted reader.new ≡ false }
     ensures conversed { (t : Terms) → Converses t nothing_yet client.old
         → Moves (is_broken result) (Conversed t requests.items result (has_ended reader.new) client.new)
         (flow (R.remaining (inner_of reader.old)) (R.remaining (inner_of reader.new)) ∷ [])
@@ -55,6 +56,7 @@ pub fn converse<R: Read, W: Write, O: Write, P: Write, A: Allocator + Copy>(
     ensures fault { IfErr result (IsShownBy (IsTrue (has_failed reader.new))
         (IsTrue (has_failed writer.new || (has_failed out.new || has_failed pack.new))) (IsSpent reader.new turns)) }
     ensures told { FailsAs result (has_failed reader.new) (has_failed writer.new || (has_failed out.new || has_failed pack.new)) }
+    ensures handed_back { IsHandedBack result client.new }
 {
     flush(writer)?;
     let nothing = Window { start: 0, end: 0 };

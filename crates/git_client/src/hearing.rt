@@ -1,7 +1,7 @@
 //! A response, heard over a reader: its transcript and its pack are written.
 
-ghost use Rattle.std.specs.Prelude.{[], ◌≡◌, ◌≤◌, ◌<◌, ◌||◌, length, true, false, IsTrue, OnOk, OnErr, IfErr, is_err};
-ghost use Rattle.git_pkt.specs.Told.{inner_of, reads_of, has_failed, has_ended, AppendsFront};
+ghost use Rattle.std.specs.Prelude.{[], ◌≡◌, ◌≤◌, ◌<◌, ◌||◌, length, true, false, IsTrue, OnOk, IfErr, is_err};
+ghost use Rattle.git_pkt.specs.Told.{inner_of, reads_of, has_failed, has_ended, has_wasted};
 ghost use Rattle.git_pkt.specs.Engine.{FailsAs, IsShownBy, IsSpent};
 ghost use Rattle.git_pkt.specs.Streams.{flow, is_broken, WrittenAs};
 ghost use Rattle.git_client.specs.Client.{wants_input};
@@ -35,7 +35,7 @@ pub struct Counts {
     pub progress: u64,
 }
 
-/// Hears what is due, the advertisement or a response, up to where the client can ask. What waits of the piece is heard
+/// Hears what is due, the advertisement or a response, from its first byte up to where the client can ask. What waits of the piece is heard
 /// first, and then what is read into it. The transcript's lines are written to `out` and the bytes of the pack to `pack`; both
 /// are flushed before each read and at the end. Answers what of the piece was not used.
 ///
@@ -61,6 +61,7 @@ pub fn hear<R: Read, O: Write, P: Output, A: Allocator + Copy>(
     requires sound_pack { P.failed pack.old ≡ false }
 
     ensures reads { reads_of reader.new ≤ turns }
+    ensures useful { has_wasted reader.new ≡ has_wasted reader.old }
     ensures heard { HearsTo result (has_ended reader.new) client.old client.new (window_of waiting piece.old) piece.new
         (flow (R.remaining (inner_of reader.old)) (R.remaining (inner_of reader.new)))
         (flow (O.contents (inner_of out.old)) (O.contents (inner_of out.new)))

@@ -1,6 +1,6 @@
 //! The transcript of a conversation: one line of text for each event.
 
-ghost use Rattle.std.specs.Prelude.{◌≡◌, ◌≤◌, ◌-◌, ◌<◌, ◌*◌, length, take, ◌||◌, ◌++◌, codes, decimal, OnOk, OnErr, IfErr, is_err};
+ghost use Rattle.std.specs.Prelude.{◌≡◌, ◌≤◌, ◌-◌, ◌<◌, ◌*◌, length, ◌||◌, ◌++◌, codes, decimal, OnOk, OnErr, IfErr, is_err};
 ghost use Rattle.std.specs.Option.{option_copied};
 ghost use Rattle.std.specs.Io.KnownBytes.{Appends};
 ghost use Rattle.git_pkt.specs.Told.{inner_of, has_failed, AppendsFront, ReadsNothing};
@@ -97,8 +97,10 @@ fn write_reference<W: Write>(
     target: Option<&[u8]>,
     peeled: Option<&Oid>,
 ) -> Result<(), RunFault>
-    ensures ok { OnOk result (Appends (W.contents (inner_of out.old)) (W.contents (inner_of out.new)) (reference_shown (reference_of id.now name.now (option_copied target.entry) (option_copied peeled.entry)))) }
-    ensures err { OnErr result (AppendsFront (W.contents (inner_of out.old)) (W.contents (inner_of out.new)) (reference_shown (reference_of id.now name.now (option_copied target.entry) (option_copied peeled.entry)))) }
+    ensures ok { OnOk result (Appends (W.contents (inner_of out.old)) (W.contents (inner_of out.new))
+        (reference_shown (reference_of id.now name.now (option_copied target.entry) (option_copied peeled.entry)))) }
+    ensures err { OnErr result (AppendsFront (W.contents (inner_of out.old)) (W.contents (inner_of out.new))
+        (reference_shown (reference_of id.now name.now (option_copied target.entry) (option_copied peeled.entry)))) }
     ensures fault { IfErr result (λ fault. fault ≡ RunFault.WriteFault) }
     ensures failed { has_failed out.new ≡ (has_failed out.old || is_err result) }
     ensures reads { ReadsNothing out.old out.new }
@@ -124,8 +126,10 @@ fn write_peeled<W: Write>(out: &mut Told<W>, peeled: Option<&Oid>) -> Result<(),
 }
 
 fn write_wanted<W: Write>(out: &mut Told<W>, id: &Oid, name: &[u8]) -> Result<(), RunFault>
-    ensures ok { OnOk result (Appends (W.contents (inner_of out.old)) (W.contents (inner_of out.new)) (codes "wanted-ref " ++ hex_of id.now ++ codes " " ++ escaped_of name.now ++ codes "\n")) }
-    ensures err { OnErr result (AppendsFront (W.contents (inner_of out.old)) (W.contents (inner_of out.new)) (codes "wanted-ref " ++ hex_of id.now ++ codes " " ++ escaped_of name.now ++ codes "\n")) }
+    ensures ok { OnOk result (Appends (W.contents (inner_of out.old)) (W.contents (inner_of out.new))
+        (codes "wanted-ref " ++ hex_of id.now ++ codes " " ++ escaped_of name.now ++ codes "\n")) }
+    ensures err { OnErr result (AppendsFront (W.contents (inner_of out.old)) (W.contents (inner_of out.new))
+        (codes "wanted-ref " ++ hex_of id.now ++ codes " " ++ escaped_of name.now ++ codes "\n")) }
     ensures fault { IfErr result (λ fault. fault ≡ RunFault.WriteFault) }
     ensures failed { has_failed out.new ≡ (has_failed out.old || is_err result) }
     ensures reads { ReadsNothing out.old out.new }
@@ -141,8 +145,10 @@ fn write_pointed<W: Write>(
     id: &Oid,
     name: &[u8],
 ) -> Result<(), RunFault>
-    ensures ok { OnOk result (Appends (W.contents (inner_of out.old)) (W.contents (inner_of out.new)) (word.now ++ hex_of id.now ++ codes " " ++ escaped_of name.now)) }
-    ensures err { OnErr result (AppendsFront (W.contents (inner_of out.old)) (W.contents (inner_of out.new)) (word.now ++ hex_of id.now ++ codes " " ++ escaped_of name.now)) }
+    ensures ok { OnOk result (Appends (W.contents (inner_of out.old)) (W.contents (inner_of out.new))
+        (word.now ++ hex_of id.now ++ codes " " ++ escaped_of name.now)) }
+    ensures err { OnErr result (AppendsFront (W.contents (inner_of out.old)) (W.contents (inner_of out.new))
+        (word.now ++ hex_of id.now ++ codes " " ++ escaped_of name.now)) }
     ensures fault { IfErr result (λ fault. fault ≡ RunFault.WriteFault) }
     ensures failed { has_failed out.new ≡ (has_failed out.old || is_err result) }
     ensures reads { ReadsNothing out.old out.new }
@@ -180,8 +186,10 @@ fn write_id<W: Write>(out: &mut Told<W>, id: &Oid) -> Result<(), RunFault>
 
 /// Writes the line of an object and its size.
 fn write_info<W: Write>(out: &mut Told<W>, id: &Oid, size: Option<u64>) -> Result<(), RunFault>
-    ensures ok { OnOk result (Appends (W.contents (inner_of out.old)) (W.contents (inner_of out.new)) (codes "info " ++ hex_of id.now ++ codes " " ++ size_shown size ++ codes "\n")) }
-    ensures err { OnErr result (AppendsFront (W.contents (inner_of out.old)) (W.contents (inner_of out.new)) (codes "info " ++ hex_of id.now ++ codes " " ++ size_shown size ++ codes "\n")) }
+    ensures ok { OnOk result (Appends (W.contents (inner_of out.old)) (W.contents (inner_of out.new))
+        (codes "info " ++ hex_of id.now ++ codes " " ++ size_shown size ++ codes "\n")) }
+    ensures err { OnErr result (AppendsFront (W.contents (inner_of out.old)) (W.contents (inner_of out.new))
+        (codes "info " ++ hex_of id.now ++ codes " " ++ size_shown size ++ codes "\n")) }
     ensures fault { IfErr result (λ fault. fault ≡ RunFault.WriteFault) }
     ensures failed { has_failed out.new ≡ (has_failed out.old || is_err result) }
     ensures reads { ReadsNothing out.old out.new }
@@ -209,8 +217,10 @@ fn write_size<W: Write>(out: &mut Told<W>, size: Option<u64>) -> Result<(), RunF
 
 /// Writes the line of a response's end.
 fn write_ended<W: Write>(out: &mut Told<W>, pack: u64, progress: u64) -> Result<(), RunFault>
-    ensures ok { OnOk result (Appends (W.contents (inner_of out.old)) (W.contents (inner_of out.new)) (codes "end " ++ decimal pack ++ codes " " ++ decimal progress ++ codes "\n")) }
-    ensures err { OnErr result (AppendsFront (W.contents (inner_of out.old)) (W.contents (inner_of out.new)) (codes "end " ++ decimal pack ++ codes " " ++ decimal progress ++ codes "\n")) }
+    ensures ok { OnOk result (Appends (W.contents (inner_of out.old)) (W.contents (inner_of out.new))
+        (codes "end " ++ decimal pack ++ codes " " ++ decimal progress ++ codes "\n")) }
+    ensures err { OnErr result (AppendsFront (W.contents (inner_of out.old)) (W.contents (inner_of out.new))
+        (codes "end " ++ decimal pack ++ codes " " ++ decimal progress ++ codes "\n")) }
     ensures fault { IfErr result (λ fault. fault ≡ RunFault.WriteFault) }
     ensures failed { has_failed out.new ≡ (has_failed out.old || is_err result) }
     ensures reads { ReadsNothing out.old out.new }
@@ -239,7 +249,8 @@ fn write_after<W: Write>(
     text: Option<&[u8]>,
 ) -> Result<(), RunFault>
     ensures ok { OnOk result (Appends (W.contents (inner_of out.old)) (W.contents (inner_of out.new)) (shown_after word.now (option_copied text.entry))) }
-    ensures err { OnErr result (AppendsFront (W.contents (inner_of out.old)) (W.contents (inner_of out.new)) (shown_after word.now (option_copied text.entry))) }
+    ensures err { OnErr result (AppendsFront (W.contents (inner_of out.old)) (W.contents (inner_of out.new))
+        (shown_after word.now (option_copied text.entry))) }
     ensures fault { IfErr result (λ fault. fault ≡ RunFault.WriteFault) }
     ensures failed { has_failed out.new ≡ (has_failed out.old || is_err result) }
     ensures reads { ReadsNothing out.old out.new }

@@ -99,7 +99,3 @@ pub decimal_is_shortest : (n : ℕ) (text : List ℕ) → n < 2 ^ 64 → IsNumbe
 decimal_is_shortest n text small is =
     let fits : n < 10 ^ length text = omega (arith, is.value, digits_value_short is_numeral text (length text) is.digits (omega arith)) in
     length-decimal-le (length text) n (has_bytes text is.some) fits small
-
--- 64 bits have at most 20 digits
-pub decimal_is_short : (n : ℕ) → n < 2 ^ 64 → length (decimal n) ≤ 20
-decimal_is_short n small = length-decimal-le 20 n (omega arith) (omega arith) small

@@ -100,10 +100,6 @@ no_value text value n at short v e key (Some other) h =
     let known : is_value value ≡ true = rw same h.2 in
     cc
 
--- all of the text is a key
-pub key_alone : (text : List ℕ) (n : ℕ) → n ≡ length text → is_key (take n text) ≡ true → IsCapability text (take n text) None
-key_alone text n at e = (e, sym (ap (λ (m : ℕ). take m text) at ∙ taken_whole text))
-
 joined : (text value : List ℕ) (n : ℕ)
     → get_or text (position_or_len (λ c. eqb c 61) text) 0 ≡ 61 → n ≡ position_or_len (λ c. eqb c 61) text → value ≡ drop (n + 1) text
     → key_of text ++ (get_or text (position_or_len (λ c. eqb c 61) text) 0 ∷ value_of text) ≡ take n text ++ 61 ∷ value

@@ -1,6 +1,6 @@
 -- Lines, one more after the others.
 use Rattle.std.proofs.Common.{arith, ◌≡◌, ℕ, ◌+◌, Bool, true, false, ◌||◌, Option, Some, None, option_to_list, List, [], ◌∷◌, ◌++◌, refl, ap, sym}
-use Rattle.std.proofs.Common.{◌∙◌, subst, append_assoc, inl, inr}
+use Rattle.std.proofs.Common.{◌∙◌, subst, append_assoc}
 use Rattle.std.specs.List.{list_any, filter_map}
 use Rattle.std.proofs.lemmas.List.{append-nil}
 use Rattle.std.proofs.lemmas.List.Elements.{filter_map-append}
@@ -8,10 +8,8 @@ use Rattle.std.proofs.lemmas.List.Folds.{list_any-append}
 use Rattle.std.proofs.lemmas.List.Sums.{sum_by-append}
 use Rattle.git_pkt.specs.Packets.{payload, text_of}
 use Rattle.git_pkt.specs.Splits.{Given}
-use Rattle.git_pkt.specs.declared.fault.Kind.{Kind}
 use Rattle.git_msg.specs.declared.offers.Offer.{Offer}
 use Rattle.git_msg.specs.Arguments.{Arg}
-use Rattle.git_msg.specs.Checks.{Check, Refuses}
 use Rattle.git_msg.specs.Lines.{Line, argument, command_in, argument_in, long_of, is_object_format, is_delimiter, commands_of, arguments_of, kept_in}
 use Rattle.git_msg.specs.Lines.{has_format, has_delimiter, is_none, IsLine, IsLineIn, IsArgumentLine, IsCapabilityLine}
 use Rattle.git_msg.specs.Requests.{AreLines}
@@ -102,9 +100,3 @@ pub capability_is_line : (offer : Offer) (limit : ℕ) (lines : List Line) (byte
     → IsLine offer limit lines (payload bytes) line
 capability_is_line offer limit lines bytes line before h =
     subst (λ (b : Bool). IsLineIn b offer limit lines (payload bytes) line) (sym before) h
-
--- the first checks refuse, so all of them do
-pub refuses_front : (front back : List Check) (kind : Kind) → Refuses front kind → Refuses (front ++ back) kind
-refuses_front [] back kind h = absurd h
-refuses_front (c ∷ cs) back kind (inl h) = inl h
-refuses_front (c ∷ cs) back kind (inr h) = inr (h.0, refuses_front cs back kind h.1)

@@ -109,10 +109,6 @@ pub not_for_limit_by_capability : (offer : Offer) (first : Bool) (text : List �
     → Refuses (capability_checks offer first text) kind → kind ≢ TooMuchKept
 not_for_limit_by_capability offer first text = within_limit (capability_checks offer first text) (quiet_capability TooMuchKept tt offer first text)
 
-pub not_for_limit_by_part : (offer : Offer) (commands : List Command) (said : Bool) (kind : Kind)
-    → Refuses (part_checks offer commands said) kind → kind ≢ TooMuchKept
-not_for_limit_by_part offer commands said = within_limit (part_checks offer commands said) (quiet_part TooMuchKept tt offer commands said)
-
 pub not_for_limit_by_text : (c : Command) (offer : Offer) (text : List ℕ) (kind : Kind) → Refuses (text_checks c offer text) kind → kind ≢ TooMuchKept
 not_for_limit_by_text c offer text = within_limit (text_checks c offer text) (quiet_text TooMuchKept tt c offer text)
 

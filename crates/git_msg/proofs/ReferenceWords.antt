@@ -175,11 +175,6 @@ module _ (format : Format) (text : List ℕ) (whole : List (List ℕ)) (rest wor
       subst (λ (ws : List (List ℕ)). Refuses (attribute_checks format ws) kind) (sym (h.whole_is ∙ ap (λ (ws : List (List ℕ)). h.before ++ ws) words))
       (refuses_at format h.before word (parts_left 32 next) kind h.located.attributes.passes fault)
 
-pub no_more_words : (format : Format) (text : List ℕ) (whole : List (List ℕ)) (target : Option Part) (peeled : Option ObjectName)
-    → ReadSoFar format text whole None target peeled → AreLocated format text whole target peeled
-no_more_words format text whole target peeled h =
-    subst (λ (ws : List (List ℕ)). AreLocated format text ws target peeled) (sym (h.whole_is ∙ append-nil h.before)) h.located
-
 -- a text has a word
 onto_some : (x : ℕ) (ws : List (List ℕ)) → (w : List ℕ) × (rest : List (List ℕ)) × (onto_first x ws ≡ w ∷ rest)
 onto_some x [] = (x ∷ [], [], refl)

@@ -3,7 +3,8 @@ ghost use Rattle.std.specs.Prelude.{◌≡◌, ◌⊎◌, MatchBool, MatchOption
 ghost use Rattle.git_names.specs.ObjectName.{IsNoObjectName, IsObjectName};
 ghost use Rattle.git_names.specs.RefName.{IsRefName};
 ghost use Rattle.git_names.specs.declared.object_format.Format.{Format};
-ghost use Rattle.git_msg.specs.Arguments.{IsArgument, IsArgumentFault, IsDepth, IsNoArgument, IsNoNumberIn, IsNoRevision, IsNumberIn, IsRevision, IsRowFault, IsTime, ReadsAs, Row};
+ghost use Rattle.git_msg.specs.Arguments.{IsArgument, IsArgumentFault, IsDepth, IsNoArgument, IsNoNumberIn, IsNoRevision, IsNumberIn, IsRevision};
+ghost use Rattle.git_msg.specs.Arguments.{IsRowFault, IsTime, ReadsAs, Row};
 ghost use Rattle.git_msg.specs.Arguments.{flags_of, keywords_of, is_offered as offers, name_of, shown};
 ghost use Rattle.git_msg.specs.Texts.{BeginsWithNone, IsNoneOf};
 

@@ -1,5 +1,4 @@
 //! The keys of a request's capability lines.
-ghost use Rattle.std.specs.Prelude.{◌≡◌};
 ghost use Rattle.git_msg.specs.Lines.{IsWordOf};
 
 use crate::texts::is_word;

@@ -1,8 +1,7 @@
 //! What one line of a request is, or what refuses it.
 ghost use Rattle.std.specs.Prelude.{◌≡◌, ◌↔◌, Some, IsTrue, MatchResult, MatchOption};
 ghost use Rattle.std.specs.Option.{option_copied};
-ghost use Rattle.git_msg.specs.Arguments.{name_of, shown, ReadsAs};
-ghost use Rattle.git_msg.specs.Capability.{IsCapability};
+ghost use Rattle.git_msg.specs.Arguments.{name_of, shown};
 ghost use Rattle.git_msg.specs.Checks.{Passes, Refuses};
 ghost use Rattle.git_msg.specs.Lines.{IsLineOf, IsCapabilityLine, NamesCommand, capability_checks, key_checks, text_checks};
 ghost use Rattle.git_msg.specs.JudgedLine.{line_of, IsText};

@@ -1,5 +1,6 @@
 //! What kept requests are made of: texts, and the places of their arguments.
-ghost use Rattle.std.specs.Prelude.{◌≡◌, ◌≢◌, ◌+◌, ◌^◌, ◌<◌, [], ◌∷◌, ◌++◌, ℕ, List, Some, OnOk, OnSome, OnErr, IfErr, MatchOption, MatchResult, length, slice_get};
+ghost use Rattle.std.specs.Prelude.{◌≡◌, ◌≢◌, ◌+◌, ◌^◌, ◌<◌, [], ◌∷◌, ◌++◌, ℕ, List, Some, OnOk, OnSome, OnErr, IfErr, MatchOption, MatchResult};
+ghost use Rattle.std.specs.Prelude.{length, slice_get};
 ghost use Rattle.std.specs.Option.{option_copied};
 ghost use Rattle.git_msg.specs.Arguments.{Arg, IsNameIn};
 ghost use Rattle.git_msg.specs.Asked.{where_asked, where_given};

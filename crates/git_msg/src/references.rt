@@ -42,8 +42,10 @@ pub fn put_reference(hold: &mut Hold, reference: Reference<'_>)
 
 fn put_parts(hold: &mut Hold, id: &Oid, name: &[u8], target: Option<&[u8]>, peeled: &Option<Oid>)
     requires { IsWritable (reference_of id.now name.now (option_copied target) peeled.now) }
-    ensures written { hold.new.items ≡ spelling_of (payload (reference_text (reference_of id.now name.now (option_copied target.entry) peeled.now) ++ 10 ∷ [])) }
-    ensures reads_back { IsReferenceLine id.now.format (reference_text (reference_of id.now name.now (option_copied target.entry) peeled.now)) (reference_of id.now name.now (option_copied target.entry) peeled.now) }
+    ensures written { hold.new.items ≡ spelling_of (payload (
+        reference_text (reference_of id.now name.now (option_copied target.entry) peeled.now) ++ 10 ∷ [])) }
+    ensures reads_back { IsReferenceLine id.now.format (reference_text (reference_of id.now name.now (option_copied target.entry) peeled.now))
+        (reference_of id.now name.now (option_copied target.entry) peeled.now) }
     ensures fits { length (reference_text (reference_of id.now name.now (option_copied target.entry) peeled.now)) < longest_payload }
 {
     let length = id.format().digits() + 1 + name.len();

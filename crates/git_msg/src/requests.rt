@@ -30,8 +30,10 @@ pub enum Request<A: Allocator + Copy> {
 
 impl<A: Allocator + Copy> Request<A> {
     ghost use Rattle.git_msg.specs.Arguments.{IsValue, IsValueFault};
-    ghost use Rattle.git_msg.specs.Asked.{arguments_in, symrefs_of, peel_of, ref_prefixes_of, wants_of, haves_of, done_of, thin_pack_of, no_progress_of, include_tag_of, ofs_delta_of, written_bytes, HasValues};
-    ghost use Rattle.git_msg.specs.Asked.{AreOffered, shallows_of, deepen_of, deepen_relative_of, deepen_since_of, deepen_nots_of, want_refs_of, size_of, oids_of};
+    ghost use Rattle.git_msg.specs.Asked.{arguments_in, symrefs_of, peel_of, ref_prefixes_of, wants_of, haves_of, done_of, thin_pack_of};
+    ghost use Rattle.git_msg.specs.Asked.{no_progress_of, include_tag_of, ofs_delta_of, written_bytes, HasValues};
+    ghost use Rattle.git_msg.specs.Asked.{AreOffered, shallows_of, deepen_of, deepen_relative_of, deepen_since_of, deepen_nots_of, want_refs_of};
+    ghost use Rattle.git_msg.specs.Asked.{size_of, oids_of};
     ghost use Rattle.git_msg.specs.Checks.{Passes, Refuses};
     ghost use Rattle.git_msg.specs.Lines.{end_checks};
     ghost use Rattle.git_msg.specs.HeldRequest.{IsEmpty, asked_of, command_of, format_of, kept_of, limit_of, Keeps, add_checks, keep_checks, IsRefused};
@@ -267,7 +269,7 @@ impl<A: Allocator + Copy> Request<A> {
         }
     }
 
-    /// The number of the last `deepen` line of `fetch`.
+    /// How much of the history is wanted, in commits: the number of the last `deepen` line of `fetch`.
     pub fn deepen(&self) -> Option<u64>
         ensures { result ≡ deepen_of (asked_of self.now) }
     {
@@ -287,7 +289,7 @@ impl<A: Allocator + Copy> Request<A> {
         }
     }
 
-    /// The number of the last `deepen-since` line of `fetch`.
+    /// Since when the history is wanted, in seconds since 1970: the number of the last `deepen-since` line of `fetch`.
     pub fn deepen_since(&self) -> Option<u64>
         ensures { result ≡ deepen_since_of (asked_of self.now) }
     {

@@ -10,8 +10,8 @@ use git_names::Oid;
 use git_pkt::{Hold, append, begin};
 use itoa::Buffer;
 
-/// Makes the hold the packet of a line: a word, a value right after it, and LF. With the LF they are as many bytes as a
-/// payload may have, at the most.
+/// Makes the hold the packet of a line: a word, a value right after it, and LF. Together they have at most
+/// the 65,516 bytes of a payload.
 pub fn put_line(hold: &mut Hold, word: &[u8], value: &[u8])
     requires { length word.now + length value.now < longest_payload }
     ensures written { hold.new.items ≡ spelling_of (text_line (word.now ++ value.now)) }

@@ -3,7 +3,7 @@ use Rattle.std.proofs.Common.{◌≡◌, ℕ, zero, suc, ◌+◌, ◌*◌, ◌<�
 use Rattle.std.specs.Prelude.{IsOk, OnOk}
 use Rattle.hex.specs.Hex.{encode_with, lower_digits}
 use Rattle.hex.specs.declared.error.FromHexError.{FromHexError}
-use Rattle.git_names.specs.Digits.{IsHexDigit, lower_digit}
+use Rattle.git_names.specs.Digits.{lower_digit}
 use Rattle.git_names.specs.ObjectName.{ArePairs, IsPair, hex_text}
 
 -- pairs have two digits for each byte
@@ -58,13 +58,6 @@ pub spells_none-length : (text : List ℕ) (n : ℕ) → (length text ≡ 2 * n 
 spells_none-length text n other bytes long h =
     let twice = length-pairs text bytes h in
     other (omega arith)
-
--- a text with a byte that is no digit spells none
-pub spells_none-digit : (text : List ℕ) (n k : ℕ) → k < n
-    → (IsHexDigit (slice_index text (2 * k)) → IsHexDigit (slice_index text (2 * k + 1)) → ⊥) → SpellsNone text n
-spells_none-digit text n k lt bad bytes long h =
-    let p = pair_at text bytes k h (omega arith) in
-    bad p.high_digit p.low_digit
 
 -- the lower case text of `hex`
 pub encode_lower-text : (bytes : List ℕ) → encode_with lower_digits bytes ≡ hex_text bytes

@@ -1,3 +1,5 @@
+//! A counter of steps, for contracts alone.
+
 ghost use Rattle.std.specs.Prelude.{◌≡◌, ℕ, ◌+◌};
 
 use std::marker::Model;

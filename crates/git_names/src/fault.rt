@@ -1,3 +1,5 @@
+//! Why a text is no name.
+
 ghost use Rattle.std.specs.Prelude.{Some};
 ghost use Rattle.git_names.specs.NameFaults.{name_fault_text};
 

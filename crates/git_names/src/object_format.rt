@@ -1,3 +1,5 @@
+//! The object formats, and their names.
+
 ghost use Rattle.std.specs.Prelude.{◌≡◌, MatchOption};
 ghost use Rattle.git_names.specs.ObjectFormat.{digits_of, name_of, width_of, NamesNoFormat};
 

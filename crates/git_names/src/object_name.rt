@@ -1,3 +1,5 @@
+//! Object names: read from digits, and written.
+
 ghost use Rattle.std.specs.Prelude.{◌≡◌, MatchResult, take, drop};
 ghost use Rattle.git_names.specs.ObjectFormat.{digits_of};
 ghost use Rattle.git_names.specs.ObjectName.{IsObjectName, IsNoObjectName, IsOid, hex_of};

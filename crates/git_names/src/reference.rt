@@ -1,3 +1,5 @@
+//! Reference names.
+
 ghost use Rattle.std.specs.Prelude.{◌≡◌, ◌≢◌, ℕ, ◌<◌, ◌↔◌, codes, length, slice_index, take, IsTrue, MatchResult};
 ghost use Rattle.git_names.specs.RefName.{BeginsWith, IsRefName};
 ghost use Rattle.git_names.specs.NextByte.{IsPlain, MayFollow};

@@ -10,13 +10,6 @@ use Rattle.git_pkt.specs.declared.fault.Kind.{Kind}
 use Rattle.git_pkt.specs.declared.fault.Kind.TheVariants.{BadDigit, BadLength, TooLong}
 use Rattle.git_pkt.proofs.Spelling.{digits_value-append, HasDigits-append, none_begins_bad, none_begins_refused, none_begins_partial}
 
--- four digits of an allowed number show no fault
-pub open_by_digits : (s : List ℕ) → HasDigits s → IsLengthField (digits_value s) → IsOpen s
-open_by_digits s h ok = record {
-  digits = λ k four there. h.digits k four;
-  allowed = λ four. (ok.not_three, ok.fits);
-}
-
 -- what begins with four digits has those of its beginning
 pub digits_of_front : (s t : List ℕ) → 4 ≤ length s → HasDigits (s ++ t) → HasDigits s
 digits_of_front s t four h = record {
@@ -66,19 +59,6 @@ digits_of_take p u four within h =
 pub number_of_take : (p : List ℕ) (u : ℕ) → 4 ≤ u → u ≤ length p → digits_value (take u p) ≡ digits_value p
 number_of_take p u four within =
     sym (digits_value-append (take u p) (drop u p) (omega (arith, length-take-le u p within))) ∙ ap digits_value (take-append-drop u p)
-
-pub begun_partial : (p : List ℕ) (u field : ℕ)
-    → 4 ≤ u → u ≤ length p → HasDigits p → digits_value p ≡ field → IsLengthField field → u < field → IsGathering (take u p) field
-begun_partial p u field four within h number ok less =
-    let taken : digits_value (take u p) ≡ field = number_of_take p u four within ∙ number in
-    let long : length (take u p) ≡ u = length-take-le u p within in
-    record {
-      some = omega arith;
-      is_open = open_by_digits (take u p) (digits_of_take p u four within h) (rw taken ok);
-      number = λ _. taken;
-      partial = λ _. omega arith;
-      fits = λ _. ok.fits;
-    }
 
 pub begun_whole : (p : List ℕ) (u field : ℕ)
     → u ≤ length p → HasDigits p → digits_value p ≡ field → IsLengthField field → u ≡ max 4 field → IsWhole (take u p) field

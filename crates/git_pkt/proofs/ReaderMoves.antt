@@ -1,8 +1,8 @@
 -- What a step of the reader comes to, from what its parts do.
 use Rattle.std.proofs.Common.{take, arith, ◌≡◌, ℕ, ◌+◌, ◌-◌, ◌≤◌, ◌<◌, List, [], ◌∷◌, ◌++◌, length, false}
-use Rattle.std.proofs.Common.{true, None, Bool, cond, ap, sym, ◌∙◌, refl, subst, append_assoc, length-append}
+use Rattle.std.proofs.Common.{true, Bool, cond, ap, sym, ◌∙◌, refl, subst, append_assoc, length-append}
 use Rattle.std.proofs.lemmas.List.{append-nil, length-take}
-use Rattle.git_pkt.specs.PacketReader.{position_of, is_open, held_of, rest_of, fault_of}
+use Rattle.git_pkt.specs.PacketReader.{position_of, is_open, held_of, rest_of}
 use Rattle.git_pkt.specs.PacketReaderSteps.{Moves, Arrives, IsStopped}
 use Rattle.git_pkt.specs.declared.fault.Kind.{Kind}
 use Rattle.git_pkt.specs.declared.reader.PacketReader.{PacketReader}
@@ -57,13 +57,6 @@ pub stopped_between : (old mid new : PacketReader) (u : List ℕ) (kind : Kind) 
 stopped_between old mid new u kind offset progress shut s moved ends =
     let start : position_of mid - length u ≡ position_of old = omega arith in
     stopped_after old mid new [] u kind offset progress (rest_of_shut old shut) s moved (rw (start, moved) ends)
-
--- no byte moves nothing
-pub moves_nothing : (r : PacketReader) → fault_of r ≡ None → Moves r [] Open r
-moves_nothing r sound = record {
-  position = omega arith;
-  arrives = record { no_fault = sound; rest_is = sym (append-nil (rest_of r)) };
-}
 
 -- one step after another
 pub moves_on : (a b c : PacketReader) (u v : List ℕ) (progress : Progress) → Moves a u Open b → Moves b v progress c → Moves a (u ++ v) progress c

@@ -94,10 +94,6 @@ same_start p q s t x y h k e =
       packet = same_packet p q fields (sym h.body ∙ ap (drop 4) same.0 ∙ k.body);
     }
 
--- a spelling has at least its four digits
-pub spelled_four : (p : Pkt) (s : List ℕ) → Spells p s → 4 ≤ length s
-spelled_four p s h = h.digits.four
-
 -- nothing begins no bytes
 pub none_begins_nothing : NoneBegins []
 none_begins_nothing q [] more e h = absurd (omega (arith, h.digits.four))

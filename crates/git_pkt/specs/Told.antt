@@ -20,16 +20,22 @@ module _ {T : Type 0} where
   abbrev pub has_ended : Told T → Bool
   has_ended told = told.has_ended
 
+  -- a read was made that could bring nothing: into an empty buffer, or after the input's end
+  abbrev pub has_wasted : Told T → Bool
+  has_wasted told = told.has_wasted
+
   -- nothing has been done yet
   pub record IsNew (told : Told T) : Type 0 where
     pub unread : reads_of told ≡ 0
     pub sound : has_failed told ≡ false
     pub open_ended : has_ended told ≡ false
+    pub useful : has_wasted told ≡ false
 
   -- no read was made
   pub record ReadsNothing (old new : Told T) : Type 0 where
     pub reads : reads_of new ≡ reads_of old
     pub ended : has_ended new ≡ has_ended old
+    pub wasted : has_wasted new ≡ has_wasted old
 
 -- a read into this buffer gave no bytes, though there was room for some
 abbrev pub gave_nothing : {E : Type 0} → Result ℕ E → List ℕ → Bool

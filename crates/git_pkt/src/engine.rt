@@ -1,8 +1,8 @@
 //! What every run over a reader and a writer does: receive, send, flush, each with its one fault.
-ghost use Rattle.std.specs.Prelude.{◌≡◌, ◌+◌, min, ◌||◌, OnOk, OnErr, IfErr, is_err};
+ghost use Rattle.std.specs.Prelude.{◌≡◌, ◌+◌, ◌==◌, min, ◌||◌, OnOk, OnErr, IfErr, is_err, length};
 ghost use Rattle.std.specs.Io.{ReadsAtMost};
 ghost use Rattle.std.specs.Io.KnownBytes.{Appends, Keeps, ReadConsumes};
-ghost use Rattle.git_pkt.specs.Told.{inner_of, reads_of, has_failed, has_ended, gave_nothing, ReadsNothing, AppendsFront};
+ghost use Rattle.git_pkt.specs.Told.{inner_of, reads_of, has_failed, has_ended, has_wasted, gave_nothing, ReadsNothing, AppendsFront};
 
 use crate::fault::RunFault;
 use crate::told::Told;
@@ -19,6 +19,7 @@ pub fn receive<R: Read>(reader: &mut Told<R>, piece: &mut [u8]) -> Result<usize,
     ensures counted { reads_of reader.new ≡ min (reads_of reader.old + 1) u64.MAX }
     ensures failed { has_failed reader.new ≡ (has_failed reader.old || is_err result) }
     ensures ended { has_ended reader.new ≡ (has_ended reader.old || gave_nothing result piece.new) }
+    ensures wasted { has_wasted reader.new ≡ (has_wasted reader.old || (has_ended reader.old || (length piece.old == 0))) }
 {
     reader.read(piece).map_err(|_| RunFault::ReadFault)
 }

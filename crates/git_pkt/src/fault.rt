@@ -229,7 +229,7 @@ impl std::error::Error for Fault {}
 pub enum RunFault {
     /// A reader failed.
     ReadFault,
-    /// A writer failed. Of the bytes of the failing write nothing is said.
+    /// A writer failed. Of what was given to it a front was written.
     WriteFault,
     /// All reads that were allowed were made, and the input had not ended.
     ReadLimit,

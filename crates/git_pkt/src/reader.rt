@@ -1,13 +1,13 @@
 //! Packets out of pieces of any size.
 
-ghost use Rattle.std.specs.Prelude.{◌≡◌, ◌≢◌, ◌+◌, ◌-◌, ◌≤◌, ◌<◌, ◌∷◌, ◌++◌, [], length, take, true, false, Some, None, Err, IfErr, OnOk, IsTrue, ◌↔◌, ℕ, List};
+ghost use Rattle.std.specs.Prelude.{◌≡◌, ◌≢◌, ◌+◌, ◌-◌, ◌≤◌, ◌<◌, ◌∷◌, [], length, take, true, false, Some, None, Err, IfErr, OnOk, IsTrue, ◌↔◌, ℕ, List};
 ghost use Rattle.std.specs.Borrow.{sem};
 ghost use Rattle.std.specs.Io.BufRead.{Rests};
 ghost use Rattle.git_pkt.specs.Packets.{Spells, seen};
 ghost use Rattle.git_pkt.specs.Splits.{Given};
 ghost use Rattle.git_pkt.specs.declared.fault.Fault.{Fault};
 ghost use Rattle.git_pkt.specs.Faults.{last_position};
-ghost use Rattle.git_pkt.specs.HeldPacket.{IsGathering, IsLengthField, IsWhole, TellsField};
+ghost use Rattle.git_pkt.specs.HeldPacket.{IsGathering, IsWhole, TellsField};
 ghost use Rattle.git_pkt.specs.declared.fault.Kind.TheVariants.{Truncated};
 
 use crate::digits::{Digits, read_digits};

@@ -1,20 +1,21 @@
 //! Readers and writers that tell what became of the calls made through them.
-ghost use Rattle.std.specs.Prelude.{◌≡◌, ◌+◌, min, ◌||◌, IsTrue, OnOk, OnErr, is_err};
+ghost use Rattle.std.specs.Prelude.{◌≡◌, ◌+◌, ◌==◌, min, ◌||◌, OnOk, OnErr, is_err, length};
 ghost use Rattle.std.specs.Io.{ReadsAtMost, WritesAtMost};
 ghost use Rattle.std.specs.Io.KnownBytes.{Appends, Keeps, ReadConsumes, WriteAppends};
-ghost use Rattle.git_pkt.specs.Told.{inner_of, reads_of, has_failed, has_ended, gave_nothing, IsNew, ReadsNothing, AppendsFront};
+ghost use Rattle.git_pkt.specs.Told.{inner_of, reads_of, has_failed, has_ended, has_wasted, gave_nothing, IsNew, ReadsNothing, AppendsFront};
 
 use std::io;
 use std::io::{ErrorKind, Read, Write};
 
 /// A reader or a writer, with what became of the calls made through it: how many reads there were,
-/// whether a call failed, and whether the input ended.
+/// whether a call failed, whether the input ended, and whether a read was wasted.
 #[derive(Debug, Drop)]
 pub struct Told<T> {
     inner: T,
     reads: u64,
     has_failed: bool,
     has_ended: bool,
+    has_wasted: bool,
 }
 
 impl<T> Told<T> {
@@ -28,6 +29,7 @@ impl<T> Told<T> {
             reads: 0,
             has_failed: false,
             has_ended: false,
+            has_wasted: false,
         }
     }
 
@@ -51,6 +53,13 @@ impl<T> Told<T> {
     {
         self.has_ended
     }
+
+    /// Whether a read was made that could bring nothing: into an empty buffer, or after the input's end.
+    pub fn wasted(&self) -> bool
+        ensures { result ≡ has_wasted self.now }
+    {
+        self.has_wasted
+    }
 }
 
 impl<R: Read> Read for Told<R> {
@@ -63,7 +72,9 @@ impl<R: Read> Read for Told<R> {
         ensures counted { reads_of self.new ≡ min (reads_of self.old + 1) u64.MAX }
         ensures failed { has_failed self.new ≡ (has_failed self.old || is_err result) }
         ensures ended { has_ended self.new ≡ (has_ended self.old || gave_nothing result buf.new) }
+        ensures wasted { has_wasted self.new ≡ (has_wasted self.old || (has_ended self.old || (length buf.old == 0))) }
     {
+        self.has_wasted |= self.has_ended || buf.is_empty();
         self.reads = self.reads.saturating_add(1);
         match self.inner.read(buf) {
             Ok(count) => {

@@ -64,9 +64,6 @@ failed_stays (Failed fault) held text piece f h =
     failed_behind fault held h.ended (h.begun ++ some.first) some.others (parts_of 10 (text ++ piece)) h.read
     (parts_joined text piece h.ended h.begun some.first some.others h.whole some.is)
 
-pub no_lines_read : (lines : List (List ℕ)) (line : List ℕ) → HasRead Start (lines ++ line ∷ []) → ⊥
-no_lines_read lines line h = let long = sym (length-append lines (line ∷ [])) ∙ ap length h in omega (arith, long)
-
 -- while no line was refused, what is held is the line that has begun
 begun_of : (progress : Progress) (held begun : List ℕ) → (HasFailed progress → ⊥) → IsBegun progress held begun → held ≡ begun
 begun_of Start held begun f h = h

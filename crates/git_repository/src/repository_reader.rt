@@ -36,7 +36,8 @@ impl RepositoryReader {
 
     /// Takes a further piece of the text.
     ///
-    /// Room for the piece beside the open line is made first: where memory for it runs out, the reader is as it was.
+    /// Room for the piece beside the open line is made first: where memory for it runs out, the reader is as it was. After a line
+    /// that was refused a piece is passed over.
     pub fn feed(&mut self, piece: &[u8]) -> Result<(), AllocError>
         ensures fed { OnOk result ((text : List ℕ) → Reads self.old text → Reads self.new (text ++ piece.now)) }
         ensures stays { OnErr result ((text : List ℕ) → Reads self.old text → Reads self.new text) }
@@ -50,7 +51,8 @@ impl RepositoryReader {
         Ok(())
     }
 
-    /// The repository of the whole text, whose pack for each request is `pack`, or why it is none.
+    /// The repository of the whole text, whose pack for each request is `pack`. Else `Bad` with the number of the first bad line,
+    /// from 1, or `OutOfMemory`.
     pub fn finish(self, pack: Vec<u8>) -> Result<ListRepo, TextFault>
         ensures { (text : List ℕ) → Reads self text → MatchResult result (IsWholeText text pack.items) (IsTextFault text) }
     {

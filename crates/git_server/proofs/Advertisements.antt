@@ -31,8 +31,3 @@ module _ (offer : Offer) (line : AdvertisementLine) (written : List ℕ)
         length-append (written ++ spelling_of (advertisement_packet offer line)) (spelled (advertisement_after offer (advertisement_line_after offer line))),
         length-append written (spelling_of (advertisement_packet offer line)),
       )
-
--- one line fewer is left
-pub one_line_fewer : (offer : Offer) (line : AdvertisementLine)
-    → length (advertisement_after offer (advertisement_line_after offer line)) < length (advertisement_from offer line)
-one_line_fewer offer line = omega (arith, ap length (one_line offer line))

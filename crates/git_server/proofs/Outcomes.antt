@@ -1,5 +1,5 @@
 -- The outcome of a session, while packets are pulled, and the reads of its repository that failed.
-use Rattle.std.proofs.Common.{arith, ◌≡◌, ◌≢◌, ◌<◌, ◌⊎◌, ℕ, IsSome, Option, Some, None, refl, sym, ap, ◌∙◌, subst, inl, inr}
+use Rattle.std.proofs.Common.{arith, ◌≡◌, ◌≢◌, ◌<◌, ◌⊎◌, ℕ, Option, Some, None, refl, sym, ap, ◌∙◌, subst, inl, inr}
 use Rattle.git_pkt.specs.declared.fault.Fault.{Fault}
 use Rattle.git_pkt.specs.declared.fault.Kind.{Kind}
 use Rattle.git_pkt.specs.declared.fault.Kind.TheVariants.{PackSource, StreamTooLong}
@@ -24,10 +24,6 @@ pulls_on None middle now (inl first) second = subst (λ (o : Option Outcome). Is
 pulls_on None middle now (inr (fault, is, name)) second =
     let stays : now ≡ Some (Refused fault) = subst (λ (o : Option Outcome). IsAfterPull o now) is second in
     inr (fault, stays, name)
-
-pub ended_stays : (old now : Option Outcome) → IsAfterPull old now → IsSome old → IsSome now
-ended_stays (Some outcome) now after some = subst IsSome (sym after) some
-ended_stays None now after some = absurd (cc)
 
 not_both : (fault other : Fault) → Some (Refused fault) ≡ Some (Refused other) → fault.kind ≡ PackSource → other.kind ≡ StreamTooLong → ⊥
 not_both fault other same name too_long =

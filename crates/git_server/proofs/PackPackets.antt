@@ -1,7 +1,7 @@
 -- The packets of a pack: one more of them, and that there are always some that end it.
-use Rattle.std.proofs.Common.{arith, ◌≡◌, ℕ, ◌+◌, ◌<◌, ◌≤◌, List, [], ◌∷◌, ◌++◌, length, take, drop, refl, sym, ap, ◌∙◌, append_assoc}
+use Rattle.std.proofs.Common.{arith, ◌≡◌, ℕ, ◌+◌, ◌<◌, List, [], ◌∷◌, ◌++◌, length, take, drop, refl, sym, ap, ◌∙◌, append_assoc}
 use Rattle.std.proofs.Common.{take-append-drop}
-use Rattle.std.proofs.lemmas.List.{drop_all, drop-drop}
+use Rattle.std.proofs.lemmas.List.{drop-drop}
 use Rattle.std.proofs.lemmas.Grind.{common_steps}
 use Rattle.git_pkt.specs.Packets.{Pkt, flush, flushes, longest_payload}
 use Rattle.git_pkt.specs.Bands.{AreBands, band_packet}
@@ -44,10 +44,6 @@ module _ (pack out : List ℕ) (offset count : ℕ) (part : IsPackPart pack offs
         are_bands = (take count out, h.front, refl, omega (arith, long, some), omega (arith, long, few), refl, h.are_bands);
         packets_are = ap (λ (l : List Pkt). band_packet PackBand (take count out) ∷ l) h.packets_are;
       }
-
--- at the pack's end comes the flush
-pub at_its_end : (pack : List ℕ) (offset : ℕ) → length pack ≤ offset → EndsPack whole (drop offset pack) (flush ∷ [])
-at_its_end pack offset end = record { bands = []; are_bands = drop_all offset pack end; packets_are = refl }
 
 -- some packets always end a pack: each byte in a packet of its own
 single : List ℕ → List Pkt

@@ -12,8 +12,10 @@ use std::alloc::Allocator;
 /// At every moment what a server has given stands to what it has used as a session has it, and the argument lines that
 /// it keeps are within its limit.
 pub fn server_keeps_to_its_session<R: Repo, A: Allocator + Copy>(server: &Server<R, A>)
-    ensures within { (s : Setting) (used : List ℕ) (over : Bool) (given : List ℕ) → Running R.state s used over given server.now → kept_by server.now ≤ s.limit }
-    ensures session { (s : Setting) (used : List ℕ) (over : Bool) (given : List ℕ) → Running R.state s used over given server.now → IsRunning s used over given }
+    ensures within { (s : Setting) (used : List ℕ) (over : Bool) (given : List ℕ) →
+        Running R.state s used over given server.now → kept_by server.now ≤ s.limit }
+    ensures session { (s : Setting) (used : List ℕ) (over : Bool) (given : List ℕ) →
+        Running R.state s used over given server.now → IsRunning s used over given }
 {}
 
 /// A server waits for input exactly where no outcome stands, and the advertisement and the answer to each whole request

@@ -1,13 +1,14 @@
 //! A repository that is a few lists: of references, of objects, of shallow boundaries, and one pack.
 
-ghost use Rattle.std.specs.Prelude.{◌≡◌, ◌≢◌, ◌<◌, ◌-◌, ◌↔◌, IsTrue, IfOk, MatchOption, MatchResult, All, Any, Ok, Some, filter, length, min, nat_le, slice_get};
+ghost use Rattle.std.specs.Prelude.{◌≡◌, ◌≢◌, ◌<◌, ◌-◌, ◌↔◌, IsTrue, IfOk, MatchOption, MatchResult, All, Any, Ok, Some, filter, length, min, nat_le};
+ghost use Rattle.std.specs.Prelude.{slice_get};
 ghost use Rattle.std.specs.List.{HoldsAt};
 ghost use Rattle.std.specs.Ordering.{nat_cmp};
 ghost use Rattle.std.specs.Cmp.Lexicographic.{slice_cmp};
 ghost use Rattle.git_server.specs.Lists.{repo_fault_name};
-ghost use Rattle.git_server.specs.Objects.{object_cmp, object_of, has_object, precedes, size_among, AreRising};
+ghost use Rattle.git_server.specs.Objects.{object_cmp, object_of, has_object, precedes, AreRising};
 ghost use Rattle.git_server.specs.Packs.{IsPackPart};
-ghost use Rattle.git_server.specs.Repository.{IsFound, IsNamed, IsOfFormat, IsRising, comes_before};
+ghost use Rattle.git_server.specs.Repository.{IsNamed, IsOfFormat, IsRising, comes_before};
 ghost use Rattle.git_server.specs.ToldBoundary.{is_deepened, says_shallow, says_unshallow, told_lines};
 
 use crate::entry::RefEntry;

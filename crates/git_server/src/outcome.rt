@@ -9,6 +9,6 @@ pub enum Outcome {
     Flush,
     /// The input ended between two requests.
     Closed,
-    /// A packet or a byte was refused, or the input ended inside a request.
+    /// A packet or a byte was refused, the input ended inside a request, or a read of the pack failed (`PackSource`).
     Refused(Fault),
 }

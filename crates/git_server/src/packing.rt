@@ -1,6 +1,6 @@
 //! The section of the pack in an answer to `fetch`, a packet at a time.
 
-ghost use Rattle.std.specs.Prelude.{◌≡◌, ◌+◌, ◌<◌, ◌++◌, length, false};
+ghost use Rattle.std.specs.Prelude.{◌≡◌, ◌+◌, ◌<◌, length, false};
 ghost use Rattle.git_pkt.specs.PacketReader.{is_open};
 ghost use Rattle.git_pkt.specs.Bands.{band_packet};
 ghost use Rattle.git_pkt.specs.Packets.{longest_payload};
@@ -34,7 +34,8 @@ pub(crate) fn write_pack<R: Repo, A: Allocator + Copy>(
     reader: &mut PacketReader,
 ) -> Answered
     requires { is_open reader.old ≡ false }
-    ensures { WritesPack ((R.state repo.old).answers.pack request.now.asked) (R.state repo.old) place.old reader.old result (R.state repo.new) place.new reader.new }
+    ensures { WritesPack ((R.state repo.old).answers.pack request.now.asked)
+        (R.state repo.old) place.old reader.old result (R.state repo.new) place.new reader.new }
 {
     match *place {
         PackPlace::Header => {

@@ -1,7 +1,7 @@
 //! A server run over a reader and a writer.
 
 ghost use Rattle.std.specs.Prelude.{◌≡◌, ◌≢◌, ◌<◌, ◌≤◌, ◌||◌, [], ◌∷◌, false, true, length, Some, IsTrue, IsSome, IfOk, IfErr, OnErr, OnOk, is_err};
-ghost use Rattle.git_pkt.specs.Told.{inner_of, reads_of, has_failed, has_ended, IsNew};
+ghost use Rattle.git_pkt.specs.Told.{inner_of, reads_of, has_failed, has_ended, has_wasted, IsNew};
 ghost use Rattle.git_pkt.specs.Engine.{FailsAs, IsShownBy, IsSpent};
 ghost use Rattle.git_pkt.specs.Streams.{flow, is_broken, Moves};
 ghost use Rattle.git_server.specs.Runs.{Served, WritesFor, WritesItsEnd, WritesPart};
@@ -81,6 +81,7 @@ pub fn serve<In: Read, W: Write, R: Repo, A: Allocator + Copy>(
     requires sound_writer { has_failed writer.old ≡ false }
 
     ensures reads { reads_of reader.new ≤ turns }
+    ensures useful { has_wasted reader.new ≡ false }
     ensures served { (s : Setting) → Running R.state s [] false [] server.old
         → Moves (is_broken result) (Served R.state s result (has_ended reader.new) turns server.new)
         (flow (In.remaining (inner_of reader.old)) (In.remaining (inner_of reader.new)) ∷ [])

@@ -68,16 +68,22 @@ impl<R: Repo, A: Allocator + Copy> Server<R, A> {
     ghost use Rattle.std.specs.Borrow.{sem};
     ghost use Rattle.std.specs.Io.BufRead.{Rests};
     ghost use Rattle.git_server.specs.contracts.server.Server.{the_row};
-    ghost use Rattle.git_server.specs.Sessions.{Setting};
     ghost use Rattle.git_server.specs.Server.{IsFresh, Running, repo_of, wants_input, outcome_of};
     ghost use Rattle.git_server.specs.ServerCalls.{Closes, Gives, Goes, OwesNow, Pulls, StopsInTime};
     ghost use Rattle.git_pkt.specs.PacketReader.{held_of};
 
-    /// A server at the beginning of a session over this repository. It keeps at most `limits` of a request's
-    /// arguments, in memory from `alloc`, and gives the advertisement of the offer first where `advertise` is set.
+    /// A server at the beginning of a session over this repository. Of each request it keeps argument lines whose texts have at
+    /// most `limits.args` bytes together, in memory from `alloc`, and it gives the advertisement of the offer first where
+    /// `advertise` is set. The offer has the repository's object format.
     pub fn new(alloc: A, repo: R, offer: Offer, limits: Limits, advertise: bool) -> Server<R, A>
         requires format { offer.format ≡ (R.state repo).answers.format }
-        ensures running { Running R.state (record { offer = offer; limit = limits.args; advertise = advertise; repo = (R.state repo).answers; failures = (R.state repo).failures }) [] false [] result }
+        ensures running { Running R.state (record {
+          offer = offer;
+          limit = limits.args;
+          advertise = advertise;
+          repo = (R.state repo).answers;
+          failures = (R.state repo).failures;
+        }) [] false [] result }
         ensures repo { repo_of result ≡ repo }
     {
         if advertise {

@@ -1,6 +1,6 @@
 //! Which references are shown, and how.
 
-ghost use Rattle.std.specs.Prelude.{◌≡◌, ◌+◌, ◌<◌, ◌≤◌, [], ◌∷◌, length, drop, MatchOption};
+ghost use Rattle.std.specs.Prelude.{◌≡◌, ◌+◌, ◌<◌, []};
 ghost use Rattle.git_server.specs.Answers.{is_shown as shows};
 ghost use Rattle.git_server.specs.NextShown.{NextShown};
 

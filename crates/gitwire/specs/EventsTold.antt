@@ -1,5 +1,5 @@
 -- How C is shown an event.
-use Rattle.std.specs.Prelude.{ℕ, true, false, List, [], ◌++◌, length, Option, Some, None, is_some, unwrap_or}
+use Rattle.std.specs.Prelude.{ℕ, false, List, [], ◌++◌, length, Option, Some, None, is_some, unwrap_or}
 use Rattle.std.specs.Option.{option_copied, option_map_or}
 use Rattle.git_names.specs.ObjectName.{ObjectName, hex_of}
 use Rattle.git_pkt.specs.FaultNames.{kind_number}

@@ -1,6 +1,6 @@
 //! A request that C holds.
 
-ghost use Rattle.std.specs.Prelude.{◌≡◌, length, slice_get, MatchOption, MatchResult, None};
+ghost use Rattle.std.specs.Prelude.{◌≡◌, MatchOption, None};
 ghost use Rattle.git_msg.specs.HeldRequest.{asked_of};
 ghost use Rattle.gitwire.specs.Handles.{request_in};
 ghost use Rattle.gitwire.specs.RequestsTold.{AddsIn, AddsLine, AddsTold, CommandIn, EndsIn, EndsTold, FlagIn, FormatIn, ItemIn, NumberIn};

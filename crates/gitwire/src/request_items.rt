@@ -1,6 +1,6 @@
 //! The items of a request's lists, on their way to a room of C.
 
-ghost use Rattle.std.specs.Prelude.{◌≡◌, slice_get};
+ghost use Rattle.std.specs.Prelude.{slice_get};
 ghost use Rattle.std.specs.Option.{option_copied, option_map};
 ghost use Rattle.git_names.specs.ObjectName.{hex_of};
 ghost use Rattle.git_msg.specs.HeldRequest.{asked_of};

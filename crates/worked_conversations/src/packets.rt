@@ -1,8 +1,5 @@
 //! The packet reader and `show`: a line for each packet.
 
-ghost use Rattle.std.specs.Prelude.{◌≤◌};
-ghost use Rattle.git_pkt.specs.Faults.{last_position};
-
 use crate::escapes::escaped;
 use crate::runs::Run;
 use crate::script::Script;

@@ -47,8 +47,10 @@ loop-asking-init g c =
       reads = omega (arith, c.requires.new_requests.unread, c.in_ok-left.ensures.reads);
       sound_requests = c.requires.new_requests.sound;
       open_requests = c.requires.new_requests.open_ended;
+      useful = c.requires.new_requests.useful;
       sound_responses = search rules;
       open_responses = search rules;
+      useful_responses = c.in_ok-left.ensures.useful ∙ c.requires.new_responses.useful;
       sound_out = search rules;
     }
 
@@ -117,8 +119,10 @@ loop-asking-preserved g c =
       reads = omega (arith, c.in_ok-left-2.ensures.reads, c.reads-in-Some.ensures, c.in_ok-request.ensures.reads);
       sound_requests = c.in_ok-request.ensures.told.0;
       open_requests = step.can_come;
+      useful = c.in_ok-request.ensures.useful ∙ at.invariant.useful;
       sound_responses = c.in_ok-left-2.ensures.told.0;
       open_responses = c.in_ok-left-2.ensures.goes_on;
+      useful_responses = c.in_ok-left-2.ensures.useful ∙ at.invariant.useful_responses;
       sound_out = (or_parts _ _ c.in_ok-left-2.ensures.told.1).0;
     }
 

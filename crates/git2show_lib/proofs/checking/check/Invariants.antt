@@ -1,7 +1,7 @@
 use Rattle.std.proofs.Common.{◌≡◌, ◌+◌, ◌-◌, ◌≤◌, ◌<◌, length, true, false}
 use Rattle.git_pkt.specs.Faults.{last_position}
 use Rattle.git_pkt.specs.Streams.{flow}
-use Rattle.git_pkt.specs.Told.{inner_of, reads_of, has_failed, has_ended}
+use Rattle.git_pkt.specs.Told.{inner_of, reads_of, has_failed, has_ended, has_wasted}
 use Rattle.git_msg.specs.RequestStreams.{bytes_used, wants_input}
 use Rattle.git_msg.specs.declared.limits.TheConstants.Limits.{USUAL}
 use Rattle.git_client.specs.Parts.{terms_of}
@@ -27,8 +27,10 @@ invariant-loop-asking g l = record {
   reads : reads_of l.requests + reads_of l.responses ≤ l.turns;
   sound_requests : has_failed l.requests ≡ false;
   open_requests : has_ended l.requests ≡ false;
+  useful : has_wasted l.requests ≡ false;
   sound_responses : has_failed l.responses ≡ false;
   open_responses : has_ended l.responses ≡ false;
+  useful_responses : has_wasted l.responses ≡ false;
   sound_out : has_failed l.out ≡ false;
 }
 

@@ -1,4 +1,4 @@
-use Rattle.std.proofs.Common.{rules, arith, ◌≡◌, ◌<◌, ◌≤◌, true, false, length, sym, ◌∙◌, refl}
+use Rattle.std.proofs.Common.{rules, arith, ◌≡◌, ◌<◌, ◌≤◌, false, length, sym, ◌∙◌, refl}
 use Rattle.std.proofs.lemmas.Bool.{or_parts}
 use Rattle.git_pkt.specs.Told.{inner_of}
 use Rattle.git_pkt.specs.Streams.{flow}
@@ -8,7 +8,7 @@ use Rattle.git_client.proofs.Alongs.{at_fault}
 use Rattle.git_client.proofs.HearingSteps.{nothing_heard}
 use Rattle.git_client.proofs.Phases.{sound_where_due}
 use Rattle.git2show_lib.proofs.PlayHearing.{heard_on, hearing_stopped}
-use Rattle.git2show_lib.proofs.PlayTelling.{next_piece, piece_fits, piece_some}
+use Rattle.git2show_lib.proofs.PlayTelling.{piece_fits, piece_some}
 use Rattle.git2show_lib.proofs.playing.hear_packet.Goals as goal
 
 pub loop-used-init : goal.loop-used-init

@@ -1,4 +1,4 @@
-use Rattle.std.proofs.Common.{rules, arith, Bool, ◌||◌, ◌≡◌, ◌∷◌, [], ◌++◌, List, length, false, true, refl, sym, ap, ◌∙◌, subst, append_assoc}
+use Rattle.std.proofs.Common.{rules, Bool, ◌||◌, ◌≡◌, ◌∷◌, [], ◌++◌, List, length, false, true, refl, sym, ap, ◌∙◌, subst, append_assoc}
 use denote.Enum.Bare.{sameb}
 use Rattle.std.proofs.lemmas.Bool.{or_parts, or_from}
 use Rattle.std.proofs.Math.Bool.{or-false}

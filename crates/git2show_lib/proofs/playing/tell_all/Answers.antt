@@ -1,4 +1,3 @@
-use Rattle.std.proofs.Common.{rules}
 use Rattle.git2show_lib.proofs.PlayAsking.{tells_none, tells_packet, tells_all}
 use Rattle.git2show_lib.proofs.playing.tell_all.Goals as goal
 

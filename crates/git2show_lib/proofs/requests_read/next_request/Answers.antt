@@ -16,6 +16,7 @@ loop-request-init g c = record {
   reads = c.requires.turns;
   sound_reader = c.requires.sound_reader;
   open_ended = c.requires.open_ended;
+  useful = refl;
   so_far = reads_nothing c.args.stream.now _ _;
 }
 
@@ -81,5 +82,6 @@ loop-request-preserved g c =
       reads = search rules;
       sound_reader = search rules;
       open_ended = search rules;
+      useful = search rules;
       so_far = came_in_front so_far c.in_ok-end.end c.receive.new.piece read;
     }

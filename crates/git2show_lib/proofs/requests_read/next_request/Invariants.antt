@@ -1,5 +1,5 @@
 use Rattle.std.proofs.Common.{◌≡◌, ◌≤◌, ◌-◌, length, true, false, []}
-use Rattle.git_pkt.specs.Told.{inner_of, reads_of, has_failed, has_ended}
+use Rattle.git_pkt.specs.Told.{inner_of, reads_of, has_failed, has_ended, has_wasted}
 use Rattle.git_pkt.specs.Streams.{flow}
 use Rattle.git_msg.specs.RequestStreams.{wants_input}
 use Rattle.git_client.specs.RunSteps.{window_of}
@@ -16,6 +16,7 @@ invariant-loop-request g l = record {
   reads : reads_of l.reader ≤ l.turns;
   sound_reader : has_failed l.reader ≡ false;
   open_ended : has_ended l.reader ≡ false;
+  useful : has_wasted l.reader ≡ has_wasted l.fn.reader;
   so_far : ReadsOn l.fn.stream l.stream [] (window_of l.fn.waiting l.fn.piece) (window_of l.waiting l.piece)
       (flow (g.R.Read.remaining (inner_of l.fn.reader)) (g.R.Read.remaining (inner_of l.reader)));
 }

@@ -38,6 +38,7 @@ loop-preserved g c = record {
   reads = search rules;
   reader_sound = search rules;
   open_ended = search rules;
+  useful = search rules;
   writer_sound = search rules;
   sound = c.in_ok-show_piece.ensures.shown.1;
   empty = search rules;

@@ -1,6 +1,6 @@
 -- Each turn is one read that brought some bytes, nothing has failed or ended, and the lines of what was read were written.
 use Rattle.std.proofs.Common.{◌≡◌, false, None, []}
-use Rattle.git_pkt.specs.Told.{inner_of, reads_of, has_failed, has_ended}
+use Rattle.git_pkt.specs.Told.{inner_of, reads_of, has_failed, has_ended, has_wasted}
 use Rattle.git_pkt.specs.PacketReader.{fault_of}
 use Rattle.git_pkt.specs.Streams.{flow}
 use Rattle.git_pkt.proofs.EngineLemmas.{Moved}
@@ -12,6 +12,7 @@ invariant-loop g l = record {
   reads : reads_of l.reader ≡ l.counter;
   reader_sound : has_failed l.reader ≡ false;
   open_ended : has_ended l.reader ≡ false;
+  useful : has_wasted l.reader ≡ false;
   writer_sound : has_failed l.writer ≡ false;
   sound : fault_of l.packets ≡ None;
   empty : l.lines ≡ [];

@@ -17,6 +17,7 @@ use Rattle.git_client.specs.RunSteps.{Says, no_counts, window_of}
 use Rattle.git_client.proofs.ClientRuns.{RunEnds, begins, counts_anew, asks_on, hears_on, ends_at, ends_at_write, breaks_unflushed}
 use Rattle.git_client.proofs.ClientRuns.{hearing_stopped, asking_stopped, stays_to_the_end, leaving_stopped, leaves_at_the_end}
 use Rattle.git_client.proofs.ClientRuns.{fails_at, shown_at, flush_fails, flush_shows, sound_last, sound_first}
+use Rattle.git_client.proofs.HandedBack.{back_at, back_unwritten, back_written, back_from_hearing, back_from_asking}
 use Rattle.git_client.proofs.Writing.{no_failure}
 use Rattle.git_client.proofs.conversing.converse.Goals as goal
 use Rattle.git_client.proofs.conversing.converse.Goals.{then-eq+in_ok-say, else-eq}
@@ -74,6 +75,7 @@ loop-request-init g c =
       reads = c.in_ok-waiting.ensures.reads;
       sound_reader = search rules;
       open_ended = search rules;
+      useful = c.in_ok-waiting.ensures.useful ∙ c.requires.new_reader.useful;
       sound_writer = no_failure _ _ _ c.in_ok-flush.ensures.failed c.requires.sound_writer;
       sound_out = (or_parts _ _ c.in_ok-waiting.ensures.told.1).0;
       sound_pack = (or_parts _ _ c.in_ok-waiting.ensures.told.1).1;
@@ -160,6 +162,7 @@ loop-request-preserved g c =
       reads = c.in_ok-waiting-2.ensures.reads;
       sound_reader = c.in_ok-waiting-2.ensures.told.0;
       open_ended = c.in_ok-waiting-2.ensures.goes_on;
+      useful = c.in_ok-waiting-2.ensures.useful ∙ at.invariant.useful;
       sound_writer = (or_parts _ _ c.in_ok-ask_next.ensures.told.1).0;
       sound_out = (or_parts _ _ c.in_ok-waiting-2.ensures.told.1).0;
       sound_pack = (or_parts _ _ c.in_ok-waiting-2.ensures.told.1).1;
@@ -228,3 +231,29 @@ returns-clause-told g c =
     ] in
     flush_fails (has_failed c.if-eq.writer) (has_failed c.flush-2.new.writer) (has_failed c.loop-request.out || has_failed c.loop-request.pack) sound
     c.flush-2.result _ at.sound_reader (or_from _ _ at.sound_out at.sound_pack) c.flush-2.ensures.failed c.flush-2.ensures.fault
+
+pub returns-in_err-flush-clause-handed_back : goal.returns-in_err-flush-clause-handed_back
+returns-in_err-flush-clause-handed_back g c = back_at c.from_residual.result _ _ c.from_residual.ensures.1 (back_unwritten _ _ c.in_err-flush.ensures.fault)
+
+pub returns-in_err-waiting-clause-handed_back : goal.returns-in_err-waiting-clause-handed_back
+returns-in_err-waiting-clause-handed_back g c =
+    back_at c.from_residual-in_err-waiting.result _ _ c.from_residual-in_err-waiting.ensures.1
+    (back_from_hearing c.in_err-waiting.field-0.0 _ c.args.client.now c.hear.new.client _ _ _ _ _ c.in_err-waiting.ensures.heard)
+
+pub returns-in_err-ask_next-clause-handed_back : goal.returns-in_err-ask_next-clause-handed_back
+returns-in_err-ask_next-clause-handed_back g c =
+    back_at c.from_residual-in_err-ask_next.result _ _ c.from_residual-in_err-ask_next.ensures.1
+    (back_from_asking c.in_err-ask_next.field-0.0 c.loop-request.client c.ask_next.new.client _ _ _ c.loop-request.invariant.ready
+    c.in_err-ask_next.ensures.asked)
+
+pub returns-in_err-waiting-2-clause-handed_back : goal.returns-in_err-waiting-2-clause-handed_back
+returns-in_err-waiting-2-clause-handed_back g c =
+    back_at c.from_residual-in_err-waiting-2.result _ _ c.from_residual-in_err-waiting-2.ensures.1
+    (back_from_hearing c.in_err-waiting-2.field-0.0 _ c.ask_next.new.client c.hear-in-loop-request.new.client _ _ _ _ _ c.in_err-waiting-2.ensures.heard)
+
+pub returns-in_err-say-clause-handed_back : goal.returns-in_err-say-clause-handed_back
+returns-in_err-say-clause-handed_back g c =
+    back_at c.from_residual-in_err-say.result _ _ c.from_residual-in_err-say.ensures.1 (back_unwritten _ _ c.in_err-say.ensures.fault)
+
+pub returns-clause-handed_back : goal.returns-clause-handed_back
+returns-clause-handed_back g c = back_written c.flush-2.result _ c.flush-2.ensures.fault

@@ -1,6 +1,6 @@
 use Rattle.std.proofs.Common.{◌≡◌, ◌≤◌, ◌<◌, ◌++◌, length, true, false}
 use Rattle.std.specs.Vec.Iter.{into_iter_items, into_iter_len}
-use Rattle.git_pkt.specs.Told.{inner_of, reads_of, has_failed, has_ended}
+use Rattle.git_pkt.specs.Told.{inner_of, reads_of, has_failed, has_ended, has_wasted}
 use Rattle.git_pkt.specs.Streams.{flow}
 use Rattle.git_client.specs.Parts.{Terms}
 use Rattle.git_client.specs.Client.{Converses, nothing_yet, can_ask}
@@ -26,6 +26,7 @@ invariant-loop-request g l = record {
   reads : reads_of l.reader ≤ l.turns;
   sound_reader : has_failed l.reader ≡ false;
   open_ended : has_ended l.reader ≡ false;
+  useful : has_wasted l.reader ≡ false;
   sound_writer : has_failed l.writer ≡ false;
   sound_out : has_failed l.out ≡ false;
   sound_pack : has_failed l.pack ≡ false;

@@ -1,5 +1,5 @@
 use Rattle.std.proofs.Common.{◌≡◌, ◌-◌, ◌≤◌, length, true, false}
-use Rattle.git_pkt.specs.Told.{inner_of, reads_of, has_failed, has_ended}
+use Rattle.git_pkt.specs.Told.{inner_of, reads_of, has_failed, has_ended, has_wasted}
 use Rattle.git_pkt.specs.Streams.{flow}
 use Rattle.git_client.specs.Client.{can_ask, wants_input}
 use Rattle.git_client.specs.RunSteps.{window_of}
@@ -17,6 +17,7 @@ invariant-loop-left g l = record {
   reads : reads_of l.reader ≤ l.turns;
   sound_reader : has_failed l.reader ≡ false;
   open_ended : has_ended l.reader ≡ false;
+  useful : has_wasted l.reader ≡ has_wasted l.fn.reader;
   sound_out : has_failed l.out ≡ false;
   sound_pack : g.P.Output.failed l.pack ≡ false;
   heard : HeardSoFar false l.fn.client l.client l.counts (window_of l.fn.waiting l.fn.piece) (window_of l.left l.piece)

@@ -14,5 +14,6 @@ loop-done-preserved g c = record {
   reads = record {
     reads = c.in_ok-write_block.ensures.reads.reads ∙ c.loop-done.invariant.reads.reads;
     ended = c.in_ok-write_block.ensures.reads.ended ∙ c.loop-done.invariant.reads.ended;
+    wasted = c.in_ok-write_block.ensures.reads.wasted ∙ c.loop-done.invariant.reads.wasted;
   };
 }

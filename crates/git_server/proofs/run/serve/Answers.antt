@@ -118,6 +118,7 @@ loop-preserved g c =
       reads = search rules;
       reader_sound = search rules;
       open_ended = search rules;
+      useful = search rules;
       writer_sound = search rules;
       wants = all.wants;
       run = λ s r. turns_on g.R.Repo.state s c.loop.counter c.in_ok-count.count c.receive.new.piece c.loop.server c.serve_piece.new.server

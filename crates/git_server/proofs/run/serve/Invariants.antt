@@ -1,6 +1,6 @@
 -- Each turn is one read that brought some bytes, nothing has failed or ended, and all that was given for what was read was written.
 use Rattle.std.proofs.Common.{◌≡◌, false, true, []}
-use Rattle.git_pkt.specs.Told.{inner_of, reads_of, has_failed, has_ended}
+use Rattle.git_pkt.specs.Told.{inner_of, reads_of, has_failed, has_ended, has_wasted}
 use Rattle.git_pkt.specs.Streams.{flow}
 use Rattle.git_pkt.proofs.EngineLemmas.{Moved}
 use Rattle.git_server.specs.Sessions.{Setting}
@@ -13,6 +13,7 @@ invariant-loop g l = record {
   reads : reads_of l.reader ≡ l.counter;
   reader_sound : has_failed l.reader ≡ false;
   open_ended : has_ended l.reader ≡ false;
+  useful : has_wasted l.reader ≡ false;
   writer_sound : has_failed l.writer ≡ false;
   wants : wants_input l.server ≡ true;
   run : (s : Setting) → Running g.R.Repo.state s [] false [] l.fn.server

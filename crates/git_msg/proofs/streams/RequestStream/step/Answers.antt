@@ -3,7 +3,8 @@ use Rattle.git_pkt.specs.Packets.{seen}
 use Rattle.git_pkt.specs.Splits.{Given}
 use Rattle.git_pkt.specs.PacketReader.{ShownByFeed}
 use Rattle.git_pkt.specs.declared.fault.Fault.{Fault}
-use Rattle.git_msg.proofs.StreamSteps.{open_read, feeds_with, packet_leaves, packet_news, packet_read, ready_behind, refused_read, some_taken_behind, sound_behind, within_behind}
+use Rattle.git_msg.proofs.StreamSteps.{open_read, feeds_with, packet_leaves, packet_news, packet_read, ready_behind, refused_read, some_taken_behind}
+use Rattle.git_msg.proofs.StreamSteps.{sound_behind, within_behind}
 use Rattle.git_msg.proofs.streams.RequestStream.step.Goals as goal
 
 pub invariant_of-self-in-Packet : goal.invariant_of-self-in-Packet

@@ -1,5 +1,4 @@
-use Rattle.std.proofs.Common.{arith, ◌≡◌, [], ◌++◌, length, List, ℕ, refl, ap, length-append}
-use Rattle.std.specs.Option.{option_copied}
+use Rattle.std.proofs.Common.{arith, ◌≡◌, [], ◌++◌, length, refl, ap, length-append}
 use Rattle.gitwire.specs.EventsTold.{digits_shown, text_shown, parts_shown}
 use Rattle.gitwire.specs.Rooms.{put_before}
 use Rattle.gitwire.proofs.FilledRooms.{filled_more}
