@@ -3,7 +3,15 @@
  * that a host of its own writes. Each call is a method of a library that is proved to meet its contract; docs/PROMISES.md
  * has the promises whole, docs/PROTOCOL.md the rules and the faults. The library reads and writes no stream, starts no
  * thread and keeps nothing but what its handles have: a program feeds it what it has read, in pieces of any size, and
- * writes what it gives.
+ * writes what it gives. Each end is a loop over what its pull tells, as in examples/daemon.c and examples/list.c:
+ *
+ *     a server   PACKET       write the packet to the client
+ *                NEED_INPUT   read from the client and feed what came; at the input's end close, and pull on
+ *                others       the session is over
+ *     a client   PACKET       write the packet to the server
+ *                CAN_ASK      ask a request, or leave
+ *                NEED_INPUT   read from the server and feed what came, which tells an event at a time; at the input's end close
+ *                others       the conversation is over: FINISHED, or FAILED
  *
  * Of every call:
  *
@@ -15,15 +23,21 @@
  *
  * What a program has to see to, since no call can:
  *
- *   - A handle begins as GITWIRE_NONE, is never copied, and its fields are touched by nobody else. It is freed once it is
- *     no more needed; freed twice is well, and a call on what was freed tells NO_HANDLE.
- *   - A handle is used by one thread at a time. It may go from one thread to another, by a lock, a thread's start or end,
- *     or an atomic of sequentially consistent order. Two handles of one repository may be used at the same time.
+ *   - A handle begins as GITWIRE_NONE, or as memory of zeros, which is the same. It is never copied, and its fields are touched
+ *     by nobody else. It is freed once it is no more needed; freed twice is well, and a call on what was freed tells NO_HANDLE.
+ *   - No pointer to a handle or to a gitwire_caps is NULL, that of a call `_free` neither.
+ *   - A handle is used by one thread at a time. Each call writes to each handle that it is given, also one that only asks: so
+ *     two threads that make a server each of one repository's handle need a lock. It may go from one thread to another, by a
+ *     lock, a thread's start or end, or an atomic of sequentially consistent order. Servers of one repository may be used at
+ *     the same time, and while its handle is used or freed.
  *   - Each text and each room lies where it says, whole, and no pointer is NULL where the length is above 0. No room
  *     overlaps a text, another room or a handle, and no two handles of a call are one. Nobody else writes to a text or
  *     touches a room while the call runs.
+ *   - Each field of a gitwire_offer is set.
  *   - malloc, realloc and free are those of one allocator, which aligns as the C standard says. No call is made from a
  *     signal handler, nor in the child of a fork of a process with more than one thread.
+ *
+ * This header is for C11, C++11 and later.
  */
 #ifndef GITWIRE_H
 #define GITWIRE_H
@@ -39,17 +53,22 @@ extern "C" {
 #define GITWIRE_STATIC_ASSERT _Static_assert
 #endif
 
+/* The version, which is that of the library beside which this header is installed. */
+#define GITWIRE_VERSION "0.1.0"
+#define GITWIRE_VERSION_MAJOR 0
+#define GITWIRE_VERSION_MINOR 1
+#define GITWIRE_VERSION_PATCH 0
+
 /* How many bytes a payload has at the most, and a packet, with its four digits. Rooms of these sizes always suffice. */
 #define GITWIRE_PAYLOAD_ROOM 65516
 #define GITWIRE_PACKET_ROOM 65520
 
-/* What an object name takes at the most, as its digits; a reference name; a fault's name; and what
- * gitwire_put_advertisement, gitwire_fault_text write. */
-#define GITWIRE_OBJECT_NAME_ROOM 64
-#define GITWIRE_REFERENCE_NAME_ROOM 32000
-#define GITWIRE_FAULT_NAME_ROOM 32
-#define GITWIRE_ADVERTISEMENT_ROOM 200
-#define GITWIRE_FAULT_TEXT_ROOM 64
+/* Rooms that suffice for smaller things. */
+#define GITWIRE_OBJECT_NAME_ROOM 64         /* the digits of an object name of either format */
+#define GITWIRE_REFERENCE_NAME_ROOM 32000   /* a reference name, and each other item of a request's lists */
+#define GITWIRE_FAULT_NAME_ROOM 32          /* what gitwire_fault_name writes */
+#define GITWIRE_FAULT_TEXT_ROOM 64          /* what gitwire_fault_text writes */
+#define GITWIRE_ADVERTISEMENT_ROOM 200      /* what gitwire_put_advertisement writes */
 
 /* How many bytes the texts of a request's argument lines may have together: a usual limit, and the greatest one. */
 #define GITWIRE_USUAL_LIMIT 16777216
@@ -58,8 +77,8 @@ extern "C" {
 /* What came of a call: `kind` of what it told, or its answer. */
 enum {
 	GITWIRE_DONE = 0,
-	GITWIRE_MORE = 1,             /* the piece is used up, and nothing is whole yet */
-	GITWIRE_FAILED = 2,           /* refused: `fault` says why, `offset` where */
+	GITWIRE_MORE = 1,             /* go on: `used` bytes of the piece were used, and nothing else is to be told */
+	GITWIRE_FAILED = 2,           /* refused: `fault` says why, `offset` where (gitwire_repository_new: `offset` alone) */
 	GITWIRE_NO_HANDLE = 3,        /* the handle has nothing: it was never made, or was freed */
 	GITWIRE_ROOM_TOO_SMALL = 4,   /* nothing was used or changed */
 	GITWIRE_NOT_NOW = 5,          /* the call may not be made at this moment; nothing changed */
@@ -129,7 +148,11 @@ enum {
 	GITWIRE_FAULT_UNEXPECTED_SECTION = 28,
 	GITWIRE_FAULT_BAD_LINE = 29,
 	GITWIRE_FAULT_OUT_OF_MEMORY = 30,
-	GITWIRE_FAULT_REMOTE_FATAL = 31
+	GITWIRE_FAULT_REMOTE_FATAL = 31,
+	/* of runs over streams, as git2show's: they have names and texts, and no call tells them */
+	GITWIRE_FAULT_READ_FAULT = 32,
+	GITWIRE_FAULT_WRITE_FAULT = 33,
+	GITWIRE_FAULT_READ_LIMIT = 34
 };
 
 /* Object formats, commands of requests, and how each response ends: with its flush alone, as on a connection that both ends
@@ -147,7 +170,7 @@ typedef struct {
 	uint8_t fault;
 } gitwire_told;
 
-/* What a server offers, beside `agent` and the commands `ls-refs` and `fetch`, which are in every offer. */
+/* What a server offers, beside `agent` and the commands `ls-refs` and `fetch`, which are in every offer. Each field is set. */
 typedef struct {
 	uint8_t format;    /* the object format that is spoken */
 	bool shallow;
@@ -169,8 +192,8 @@ typedef struct { void *at_; bool is_made_; } gitwire_client;
  * Making and freeing, of each kind of handle.
  *
  * A call `_new` frees what the handle had, and makes it a new one: DONE. OUT_OF_MEMORY where memory for it cannot be had, and
- * then the handle has nothing. A call `_free` frees what it has, and then it has nothing; where it had nothing, nothing
- * happens.
+ * then the handle has nothing. BAD_VALUE, and NO_HANDLE where another handle that it needs has nothing: then it stays as it was.
+ * A call `_free` frees what it has, and then it has nothing; where it had nothing, nothing happens.
  */
 
 /*
@@ -208,7 +231,7 @@ void gitwire_packet_reader_free(gitwire_packet_reader *reader);
 
 /*
  * A reader against this offer. `limit` is how many bytes the texts of a request's argument lines may have together. BAD_VALUE for
- * a format that is none and for a limit above GITWIRE_MOST_LIMIT; then the handle stays as it was.
+ * a format that is none and for a limit above GITWIRE_MOST_LIMIT.
  */
 uint8_t gitwire_request_reader_new(gitwire_request_reader *reader, gitwire_offer offer, uint32_t limit);
 
@@ -217,9 +240,10 @@ uint8_t gitwire_request_reader_new(gitwire_request_reader *reader, gitwire_offer
  * `used` says how many bytes. It is to be called again with those that were not used.
  *
  * MORE: the piece is used up; or the other end has left, and nothing is used. REQUEST: a whole request, which is what
- * the request handle has now; what it had is freed. STOP: the other end leaves, and nothing is read after it. FAILED: what
- * refuses a request, by its first bad packet. OUT_OF_MEMORY: there is no memory for what the request handle has to have
- * before anything is read; nothing was used or changed, and the call can be made again. NO_HANDLE.
+ * the request handle has now; what it had is freed. After no other answer has it one that was read: a handle that had nothing
+ * has an empty request then. STOP: the other end leaves, and nothing is read after it. FAILED: what refuses a request, by its
+ * first bad packet. OUT_OF_MEMORY: there is no memory for what the request handle has to have before anything is read; nothing
+ * was used or changed, and the call can be made again. NO_HANDLE.
  */
 gitwire_told gitwire_request_reader_feed(gitwire_request_reader *reader, gitwire_request *request,
 	const uint8_t *piece, size_t piece_length);
@@ -237,7 +261,7 @@ void gitwire_request_reader_free(gitwire_request_reader *reader);
  * lists keep the order of their lines, and repeats.
  */
 
-/* An empty request. BAD_VALUE for a command or a format that is none, and for such a limit; then the handle stays as it was. */
+/* An empty request. BAD_VALUE for a command or a format that is none, and for a limit above GITWIRE_MOST_LIMIT. */
 uint8_t gitwire_request_new(gitwire_request *request, uint8_t command, uint8_t format, uint32_t limit);
 
 /*
@@ -307,28 +331,33 @@ void gitwire_repository_free(gitwire_repository *repository);
 
 /*
  * The server's end of a conversation, over a repository: however the input is cut, the output is exactly the session that
- * the input calls for. What it keeps of its requests is within its limit at every return; beside that it has one buffer
- * of GITWIRE_PACKET_ROOM bytes.
+ * the input calls for. The texts of the argument lines that it keeps have together at most as many bytes as its limit, at every
+ * return; beside them it has one buffer of GITWIRE_PACKET_ROOM bytes.
+ *
+ * One pull can take long. For `ls-refs` it compares each reference with each prefix of the request, up to a reference that is
+ * asked for; for a `fetch` that cuts the history off, each line of the repository's boundary with each `shallow` of the request.
+ * How many these are the limit bounds: so one that serves many clients in one thread gives a low one.
  *
  * It offers what `git2show serve` does: `shallow`, `ref-in-want`, `server-option`, `object-info`, and the repository's format.
  */
 
 /*
  * A server at the beginning of a session, which gives its advertisement first where `advertise` is set. NO_HANDLE where the
- * repository's handle has nothing, and BAD_VALUE for a limit above GITWIRE_MOST_LIMIT; then the server's handle has nothing.
- * The repository's handle stays as it is.
+ * repository's handle has nothing, BAD_VALUE for a limit above GITWIRE_MOST_LIMIT. What the repository's handle has stays there.
  */
 uint8_t gitwire_server_new(gitwire_server *server, gitwire_repository *repository, uint32_t limit, bool advertise);
 
 /*
  * Takes bytes of the input: MORE, and `used` says how many, those up to the end of a request, a flush in the place of
- * one, or a fault, or all. None is used while a packet waits to be pulled, nor after the end. NO_HANDLE.
+ * one, or a fault, or all. None is used while a packet waits to be pulled, nor after the end: so pull until NEED_INPUT before
+ * you feed the others. NO_HANDLE.
  */
 gitwire_told gitwire_server_feed(gitwire_server *server, const uint8_t *piece, size_t piece_length);
 
 /*
- * Tells that the input ends here, where the server needs input: between two requests the session ends well, inside one it is
- * refused as Truncated. DONE, NOT_NOW where a packet waits to be pulled and after the end, NO_HANDLE.
+ * Tells that the input ends here, where the server needs input: DONE. Between two requests the session ends well, and no packet
+ * is owed; inside one it is refused as Truncated, and the error packet that tells so is to be pulled. NOT_NOW where a packet
+ * waits to be pulled and after the end, NO_HANDLE.
  */
 uint8_t gitwire_server_close(gitwire_server *server);
 
@@ -337,8 +366,9 @@ uint8_t gitwire_server_close(gitwire_server *server);
  * at least.
  *
  * PACKET: `length` bytes in the room. NEED_INPUT: nothing is owed until more is fed, or the input is closed.
- * ENDED_BY_FLUSH, ENDED_BY_CLOSE, FAILED: the session ended so, and all was given, an error packet that tells the
- * fault among it. NO_HANDLE, ROOM_TOO_SMALL.
+ * ENDED_BY_FLUSH, ENDED_BY_CLOSE: the session ended well, and all was given. FAILED: it was refused; the last packet given was
+ * an error packet that tells the fault, or, where the client itself had sent an error packet (RemoteError), there was none.
+ * NO_HANDLE, ROOM_TOO_SMALL.
  */
 gitwire_told gitwire_server_pull(gitwire_server *server, uint8_t *room, size_t room_length);
 
@@ -350,7 +380,7 @@ void gitwire_server_free(gitwire_server *server);
  * bytes of PACK, in order. Beside one request that it is asking it has one buffer of GITWIRE_PACKET_ROOM bytes.
  */
 
-/* A client before the first byte. BAD_VALUE for a format or an ending that is none; then the handle has nothing. */
+/* A client before the first byte. BAD_VALUE for a format or an ending that is none. */
 uint8_t gitwire_client_new(gitwire_client *client, uint8_t format, uint8_t ending);
 
 /*
@@ -448,7 +478,7 @@ void gitwire_client_free(gitwire_client *client);
  */
 
 /* The packet of a kind PAYLOAD, FLUSH, DELIM or RESPONSE_END: a payload of more than 65,516 bytes is TooLong, and bytes of
- * another kind BAD_VALUE. */
+ * another kind BAD_VALUE. A payload without bytes is written as `0004`, which Git's documents say should not be sent. */
 gitwire_told gitwire_put_packet(uint8_t kind, const uint8_t *payload, size_t payload_length,
 	uint8_t *room, size_t room_length);
 

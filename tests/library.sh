@@ -57,6 +57,9 @@ case_library_is_installed_whole() {
     expect_same 'the library of pkg-config' <(echo "-I$installed/include -L$installed/lib -lgitwire") \
         <(of_library --cflags --libs | sed 's/ *$//')
     expect_line 'what pkg-config tells' 'Version: 0.1.0' "$installed/lib/pkgconfig/gitwire.pc"
+    printf '#include <gitwire.h>\nGITWIRE_VERSION %s\n' 'GITWIRE_VERSION_MAJOR GITWIRE_VERSION_MINOR GITWIRE_VERSION_PATCH' |
+        gcc -E -P -I"$installed/include" - > preprocessed
+    expect_same 'the version of the header' <(echo '"0.1.0" 0 1 0') <(tail -n 1 preprocessed)
 }
 
 # DESTDIR stands before each path, and in no file.

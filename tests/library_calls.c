@@ -234,8 +234,10 @@ static void try_a_server(void)
 	EXPECT(gitwire_server_new(&server, &repository, GITWIRE_MOST_LIMIT + 1, true) == GITWIRE_BAD_VALUE);
 	EXPECT(gitwire_server_new(&server, &repository, 100, true) == GITWIRE_DONE);
 	EXPECT(gitwire_server_new(&other, &repository, 100, false) == GITWIRE_DONE);
+	EXPECT(gitwire_server_new(&other, &repository, GITWIRE_MOST_LIMIT + 1, true) == GITWIRE_BAD_VALUE); /* the handle stays as it was */
 	gitwire_repository_free(&repository); /* the servers keep it */
 	gitwire_repository_free(&repository);
+	EXPECT(gitwire_server_new(&server, &repository, 100, false) == GITWIRE_NO_HANDLE); /* the handle stays as it was */
 	EXPECT(tells(gitwire_server_pull(&server, room, GITWIRE_PACKET_ROOM - 1), GITWIRE_ROOM_TOO_SMALL, 0, 0, 0));
 	EXPECT(tells(gitwire_server_feed(&server, TEXT(LS_REFS)), GITWIRE_MORE, 0, 0, 0));
 	EXPECT(tells(gitwire_server_feed(&server, NULL, 0), GITWIRE_MORE, 0, 0, 0));
@@ -450,6 +452,8 @@ static void try_refusals_of_a_client(void)
 	event = gitwire_client_feed(&client, TEXT("000cERR gone"), ROOM);
 	EXPECT(event.kind == GITWIRE_FAILED && event.used == 12 && event.fault == GITWIRE_FAULT_REMOTE_ERROR && event.offset == 0);
 	EXPECT(tells_fault(gitwire_client_pull(&client, ROOM), GITWIRE_FAULT_REMOTE_ERROR, 0, 0));
+	EXPECT(gitwire_client_new(&client, 2, GITWIRE_ENDS_BY_FLUSH) == GITWIRE_BAD_VALUE); /* the handle stays as it was */
+	EXPECT(gitwire_client_new(&client, GITWIRE_SHA1, 2) == GITWIRE_BAD_VALUE);
 	memset(room, '#', sizeof room);
 	EXPECT(wrote(gitwire_client_message(&client, ROOM), "gone"));
 	EXPECT(gitwire_client_message(&client, room, 3).kind == GITWIRE_ROOM_TOO_SMALL);
@@ -534,13 +538,16 @@ static void try_texts_of_faults(void)
 	for (unsigned fault = 0; fault < 256; fault++) {
 		size_t length = gitwire_fault_name((uint8_t)fault, ROOM);
 
-		EXPECT((length > 0) == (fault >= 1 && fault <= 34));
+		EXPECT((length > 0) == (fault >= 1 && fault <= GITWIRE_FAULT_READ_LIMIT));
 		EXPECT(gitwire_fault_text((uint8_t)fault, UINT64_MAX, ROOM) == (length > 0 ? length + 24 : 0));
 		longest = length > longest ? length : longest;
 	}
 	EXPECT(longest <= GITWIRE_FAULT_NAME_ROOM && longest + 24 <= GITWIRE_FAULT_TEXT_ROOM);
 	EXPECT(gitwire_fault_name(GITWIRE_FAULT_TRUNCATED, ROOM) == 9 && memcmp(room, "Truncated", 9) == 0);
 	EXPECT(gitwire_fault_name(GITWIRE_FAULT_REMOTE_FATAL, ROOM) == 11 && memcmp(room, "RemoteFatal", 11) == 0);
+	EXPECT(gitwire_fault_name(GITWIRE_FAULT_READ_FAULT, ROOM) == 9 && memcmp(room, "ReadFault", 9) == 0);
+	EXPECT(gitwire_fault_name(GITWIRE_FAULT_WRITE_FAULT, ROOM) == 10 && memcmp(room, "WriteFault", 10) == 0);
+	EXPECT(gitwire_fault_name(GITWIRE_FAULT_READ_LIMIT, ROOM) == 9 && memcmp(room, "ReadLimit", 9) == 0);
 	EXPECT(gitwire_fault_name(GITWIRE_FAULT_TRUNCATED, room, 8) == 0);
 	EXPECT(gitwire_fault_text(GITWIRE_FAULT_TRUNCATED, 994, ROOM) == 16 && memcmp(room, "Truncated at 994", 16) == 0);
 	EXPECT(gitwire_fault_text(GITWIRE_FAULT_TRUNCATED, 994, room, 15) == 0);

@@ -6,11 +6,12 @@ use Rattle.git_names.specs.ObjectFormat.{digits_of, width_of}
 use Rattle.git_names.specs.ObjectName.{ObjectName, hex_of, hex_text}
 use Rattle.git_names.specs.declared.object_format.Format.{Format}
 use Rattle.git_names.specs.declared.object_format.Format.TheVariants.{Sha1, Sha256}
+use Rattle.git_pkt.specs.Packets.{longest_payload}
 use Rattle.git_client.specs.Events.{EventValue, all_parts_length, parts_length, pack, progress}
 use Rattle.git_client.specs.Turns.{values_of}
 use Rattle.git_client.specs.declared.events.Event.{Event}
-use Rattle.git_client.specs.declared.events.Event.TheVariants as Event
-use Rattle.gitwire.specs.EventsTold.{Parts, bytes_shown, digits_shown, parts_of, text_shown}
+use Rattle.gitwire.specs.EventsTold.{Parts, bytes_shown, digits_shown, parts_of, telling_parts, text_shown}
+use Rattle.gitwire.specs.declared.event.GitwireEvent.{GitwireEvent}
 
 hex_length : (bytes : List ℕ) → length (hex_text bytes) ≡ 2 * length bytes
 unfolding hex_text
@@ -72,3 +73,9 @@ shown_fits Event.Offered = omega arith
 shown_fits Event.Nak = omega arith
 shown_fits Event.Ready = omega arith
 shown_fits Event.Ended = omega arith
+
+-- C is told of no more bytes than a payload has
+pub told_fits : (used : ℕ) (event : Event) (p : Parts) (told : GitwireEvent) → all_parts_length (values_of event) ≤ longest_payload
+    → p ≡ parts_of event → told ≡ telling_parts used p
+    → told.id_length + told.name_length + told.text_length + told.peeled_length ≤ longest_payload
+told_fits used event p told fits same tells = rw (tells, same) (omega (arith, shown_length (parts_of event), shown_fits event, fits))

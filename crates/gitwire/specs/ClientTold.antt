@@ -9,7 +9,7 @@ use Rattle.git_pkt.specs.declared.fault.Kind.TheVariants.{Truncated}
 use Rattle.git_msg.specs.declared.offers.Caps.{Caps}
 use Rattle.git_msg.specs.declared.requests.Request.{Request}
 use Rattle.git_client.specs.Client.{Asks, Converses, EndsWithMessage, EndsWithoutMessage, Feeds, HearsOn, History, Leaves, Pulls, RefusesToAsk}
-use Rattle.git_client.specs.Client.{can_ask, caps_of, fault_of, nothing_yet, wants_input}
+use Rattle.git_client.specs.Client.{can_ask, caps_of, fault_of, given_by, nothing_yet, wants_input}
 use Rattle.git_client.specs.Conversation.{HasNoted}
 use Rattle.git_client.specs.Parts.{Terms, terms_of}
 use Rattle.git_client.specs.declared.client.Client.{Client}
@@ -19,7 +19,6 @@ use Rattle.git_client.specs.declared.events.Heard.{Heard}
 use Rattle.git_client.specs.declared.events.HeardGot.{HeardGot}
 use Rattle.git_client.specs.declared.events.HeardGot.TheVariants as Got
 use Rattle.git_client.specs.declared.events.Sent.{Sent}
-use Rattle.git_client.specs.declared.events.Sent.TheVariants as Sent
 use Rattle.gitwire.specs.EventsTold.{bytes_shown, parts_of, telling_none, telling_parts, telling_refusal}
 use Rattle.gitwire.specs.Rooms.{put_before}
 use Rattle.gitwire.specs.Told.{telling, telling_fault, telling_packet, what_number}
@@ -37,10 +36,10 @@ abbrev pub Begins : Terms → ℕ → Option (Client Global) → Type 0
 Begins t told None = told ≡ what_number What.OutOfMemory
 Begins t told (Some client) = (told ≡ what_number What.Done) × Converses t nothing_yet client × (wants_input client ≡ true)
 
--- the same by what two numbers stand for, of which one may stand for nothing
-abbrev pub BeginsBy : Option Format → Option Ending → ℕ → Option (Client Global) → Type 0
-BeginsBy (Some format) (Some ending) told new = Begins (terms_of format ending) told new
-BeginsBy format ending told new = (told ≡ what_number What.BadValue) × (new ≡ None)
+-- the same by what two numbers stand for; nothing changes where one of them stands for nothing
+abbrev pub BeginsBy : Option Format → Option Ending → Option (Client Global) → ℕ → Option (Client Global) → Type 0
+BeginsBy (Some format) (Some ending) old told new = Begins (terms_of format ending) told new
+BeginsBy format ending old told new = (told ≡ what_number What.BadValue) × (new ≡ old)
 
 -- what C is told of what was heard
 abbrev pub told_of : ℕ → HeardGot → GitwireEvent
@@ -54,11 +53,12 @@ filled_by Got.More room = room
 filled_by (Got.Event event) room = put_before (bytes_shown (parts_of event)) room
 filled_by (Got.Failed fault) room = room
 
--- the client hears on, and C is told what came
+-- the client hears on, and C is told what came, whose texts have no more bytes than a payload
 pub record FeedsTold (old : Client Global) (piece room : List ℕ) (told : GitwireEvent) (filled : List ℕ) (new : Client Global) : Type 0 where
   pub heard : Heard
   pub feeds : Feeds old piece heard new
   pub within : heard.used ≤ length piece
+  pub fits : told.id_length + told.name_length + told.text_length + told.peeled_length ≤ longest_payload
   pub told_is : told ≡ told_of heard.used heard.got
   pub room_is : filled ≡ filled_by heard.got room
 
@@ -85,10 +85,11 @@ abbrev pub filled_by_sent : Sent → List ℕ → List ℕ
 filled_by_sent (Sent.Packet bytes) room = put_before bytes.now room
 filled_by_sent sent room = room
 
--- the client says what is to be done next, and C is told it
+-- the client says what is to be done next, and C is told it; a packet that is to be sent has no more bytes than one may have
 pub record PullsTold (old : Client Global) (room : List ℕ) (told : GitwireTold) (filled : List ℕ) (new : Client Global) : Type 0 where
   pub sent : Sent
   pub pulls : Pulls old sent new
+  pub fits : length (given_by sent) ≤ 65520
   pub told_is : told ≡ told_of_sent sent
   pub room_is : filled ≡ filled_by_sent sent room
 

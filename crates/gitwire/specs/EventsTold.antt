@@ -5,12 +5,10 @@ use Rattle.git_names.specs.ObjectName.{ObjectName, hex_of}
 use Rattle.git_pkt.specs.FaultNames.{kind_number}
 use Rattle.git_pkt.specs.declared.fault.Fault.{Fault}
 use Rattle.git_client.specs.declared.events.Event.{Event}
-use Rattle.git_client.specs.declared.events.Event.TheVariants as Event
 use Rattle.gitwire.specs.Told.{what_number}
 use Rattle.gitwire.specs.declared.event.EventParts.{EventParts}
 use Rattle.gitwire.specs.declared.event.GitwireEvent.{GitwireEvent}
 use Rattle.gitwire.specs.declared.told.What.{What}
-use Rattle.gitwire.specs.declared.told.What.TheVariants as What
 
 -- the parts of an event, wherever its texts lie
 pub record Parts : Type 0 where

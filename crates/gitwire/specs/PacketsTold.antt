@@ -37,10 +37,11 @@ filled_by (Packet RespEnd offset) room = room
 filled_by (Packet (Payload bytes) offset) room = put_before bytes.now room
 filled_by (Failed fault) room = room
 
--- the reader reads on, and C is told what came
+-- the reader reads on, and C is told what came, with no more bytes used than the piece has
 pub record FeedsTold (old : PacketReader) (piece room : List ℕ) (told : GitwireTold) (filled : List ℕ) (new : PacketReader) : Type 0 where
   pub fed : Fed
   pub feeds : Feeds old piece fed new
+  pub within : fed.used ≤ length piece
   pub told_is : told ≡ told_of fed.used fed.got
   pub room_is : filled ≡ filled_by fed.got room
 

@@ -33,16 +33,21 @@ pub record Starts (repository : SharedRepo) (limit : ℕ) (advertise : Bool) (se
       }) [] false [] server
   pub shares : shared_by (repo_of server) ≡ shared_by repository
 
--- such a server, where the limit may be; or none, also where memory ran out
+-- such a server, or none where memory ran out
 abbrev pub Begins : SharedRepo → ℕ → Bool → ℕ → Option (Server SharedRepo Global) → Type 0
-Begins repository limit advertise told None =
-    ((told ≡ what_number What.BadValue) × (most_limit < limit)) ⊎ ((told ≡ what_number What.OutOfMemory) × (limit ≤ most_limit))
-Begins repository limit advertise told (Some server) = (told ≡ what_number What.Done) × (limit ≤ most_limit) × Starts repository limit advertise server
+Begins repository limit advertise told None = told ≡ what_number What.OutOfMemory
+Begins repository limit advertise told (Some server) = (told ≡ what_number What.Done) × Starts repository limit advertise server
 
--- a server over the repository of a handle
-abbrev pub BeginsOver : Option SharedRepo → ℕ → Bool → ℕ → Option (Server SharedRepo Global) → Type 0
-BeginsOver None limit advertise told server = (told ≡ what_number What.NoHandle) × (server ≡ None)
-BeginsOver (Some repository) limit advertise told server = Begins repository limit advertise told server
+-- nothing changes where the limit is more than one may be
+pub record BeginsWithin (repository : SharedRepo) (limit : ℕ) (advertise : Bool) (old : Option (Server SharedRepo Global)) (told : ℕ)
+    (new : Option (Server SharedRepo Global)) : Type 0 where
+  pub too_much : most_limit < limit → (told ≡ what_number What.BadValue) × (new ≡ old)
+  pub in_range : limit ≤ most_limit → Begins repository limit advertise told new
+
+-- a server over the repository of a handle; nothing changes where that has none
+abbrev pub BeginsOver : Option SharedRepo → ℕ → Bool → Option (Server SharedRepo Global) → ℕ → Option (Server SharedRepo Global) → Type 0
+BeginsOver None limit advertise old told new = (told ≡ what_number What.NoHandle) × (new ≡ old)
+BeginsOver (Some repository) limit advertise old told new = BeginsWithin repository limit advertise old told new
 
 -- the server uses bytes of the piece, and C is told how many
 pub record FeedsTold (old : Server SharedRepo Global) (piece : List ℕ) (told : GitwireTold) (new : Server SharedRepo Global) : Type 0 where

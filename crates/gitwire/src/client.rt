@@ -47,8 +47,9 @@ pub struct GitwireCaps {
     pub sha256: bool,
 }
 
-/// Makes the handle's client a new one, before the first byte of the advertisement. What it had before is freed. `Done`; or
-/// `BadValue`, for a number that stands for no format or no ending, or `OutOfMemory`, and the handle has none.
+/// Makes the handle's client a new one, before the first byte of the advertisement. What it had before is freed. `Done`;
+/// `BadValue`, and the handle stays as it was, for a number that stands for no format or no ending; or `OutOfMemory`, and the
+/// handle has none.
 #[unsafe(no_mangle)]
 pub extern "C" fn gitwire_client_new(
     alloc: Global,
@@ -56,15 +57,15 @@ pub extern "C" fn gitwire_client_new(
     format: u8,
     ending: u8,
 ) -> u8
-    ensures { BeginsBy (slice_get formats format) (slice_get endings ending) result (client_in client.new) }
+    ensures { BeginsBy (slice_get formats format) (slice_get endings ending) (client_in client.old) result (client_in client.new) }
 {
-    *client = GitwireClient::none(alloc);
     let Some(format) = format_numbered(format) else {
         return What::BadValue.number();
     };
     let Some(ending) = ending_numbered(ending) else {
         return What::BadValue.number();
     };
+    *client = GitwireClient::none(alloc);
     let Ok(made) = Box::new(alloc, Client::new(format, ending)) else {
         return What::OutOfMemory.number();
     };

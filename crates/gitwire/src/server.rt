@@ -1,10 +1,9 @@
 //! A server that C holds.
 
-ghost use Rattle.std.specs.Prelude.{◌≡◌, None, MatchResult};
+ghost use Rattle.std.specs.Prelude.{◌≡◌, IfSome, IsSomeAnd, None};
 ghost use Rattle.gitwire.specs.Handles.{repository_in, server_in};
 ghost use Rattle.gitwire.specs.Machines.{server_of};
-ghost use Rattle.gitwire.specs.ServerTold.{Begins, BeginsOver, ClosesIn, ClosesTold, FeedsIn, FeedsTold, PullsIn, PullsInRoom};
-ghost use Rattle.gitwire.specs.Told.{what_number};
+ghost use Rattle.gitwire.specs.ServerTold.{BeginsOver, BeginsWithin, ClosesIn, ClosesTold, FeedsIn, FeedsTold, PullsIn, PullsInRoom, Starts};
 
 use crate::handles::{GitwireRepository, GitwireServer};
 use crate::machine::Machine;
@@ -18,10 +17,10 @@ use std::mem::replace;
 /// How much a request may keep at the most.
 const MOST_KEPT: u32 = 1_073_741_824;
 
-/// Makes the handle's server a new one over the repository, which stays the handle's own. It offers all that the protocol has,
-/// keeps at most `limit` bytes of a request's arguments, and gives the advertisement first where `advertise` is set. What it had
-/// before is freed. `Done`; or `NoHandle` where there is no repository, `BadValue` where the limit is above 1,073,741,824, or
-/// `OutOfMemory`, and the handle has none.
+/// Makes the handle's server a new one over the repository, which stays its own handle's. It offers all that the protocol has,
+/// keeps at most `limit` bytes of a request's arguments, and gives the advertisement first where `advertise` is set. What the
+/// handle had before is freed. `Done`; `NoHandle` where there is no repository and `BadValue` where the limit is above
+/// 1,073,741,824, and the handle stays as it was; or `OutOfMemory`, and the handle has none.
 #[unsafe(no_mangle)]
 pub extern "C" fn gitwire_server_new(
     alloc: Global,
@@ -30,10 +29,9 @@ pub extern "C" fn gitwire_server_new(
     limit: u32,
     advertise: bool,
 ) -> u8
-    ensures begins { BeginsOver (repository_in repository.old) limit advertise result (server_in server.new) }
+    ensures begins { BeginsOver (repository_in repository.old) limit advertise (server_in server.old) result (server_in server.new) }
     ensures stays { repository_in repository.new ≡ repository_in repository.old }
 {
-    *server = GitwireServer::none(alloc);
     let taken = replace(repository, GitwireRepository::none(alloc));
     let Some(machine) = taken.into_machine() else {
         return What::NoHandle.number();
@@ -41,29 +39,40 @@ pub extern "C" fn gitwire_server_new(
     let Machine::Repository(shared) = &*machine else {
         unreachable!()
     };
-    let made = begin(alloc, shared, limit, advertise);
+    let told = begin(alloc, server, shared, limit, advertise);
     *repository = GitwireRepository::of(machine);
-    match made {
-        Ok(made) => {
-            *server = GitwireServer::of(made);
-            What::Done.number()
-        }
-        Err(what) => what.number(),
-    }
+    told
 }
 
 fn begin(
     alloc: Global,
+    server: &mut GitwireServer,
     repo: &SharedRepo,
     limit: u32,
     advertise: bool,
-) -> Result<Box<Machine, Global>, What>
-    ensures { MatchResult result (λ made. Begins repo.now limit advertise (what_number What.Done) (server_of made.value))
-        (λ what. Begins repo.now limit advertise (what_number what) None) }
+) -> u8
+    ensures { BeginsWithin repo.now limit advertise (server_in server.old) result (server_in server.new) }
 {
     if limit > MOST_KEPT {
-        return Err(What::BadValue);
+        return What::BadValue.number();
     }
+    *server = GitwireServer::none(alloc);
+    let Some(made) = make(alloc, repo, Limits { args: limit }, advertise) else {
+        return What::OutOfMemory.number();
+    };
+    *server = GitwireServer::of(made);
+    What::Done.number()
+}
+
+/// A server at the beginning of its session; none where memory runs out.
+fn make(
+    alloc: Global,
+    repo: &SharedRepo,
+    limits: Limits,
+    advertise: bool,
+) -> Option<Box<Machine, Global>>
+    ensures { IfSome result (λ made. IsSomeAnd (server_of made.value) (Starts repo.now limits.args advertise)) }
+{
     let offer = Offer {
         format: repo.format(),
         shallow: true,
@@ -72,16 +81,16 @@ fn begin(
         server_option: true,
     };
     let Ok(shared) = repo.share() else {
-        return Err(What::OutOfMemory);
+        return None;
     };
-    let server = Server::new(alloc, shared, offer, Limits { args: limit }, advertise);
+    let server = Server::new(alloc, shared, offer, limits, advertise);
     let Ok(server) = Box::new(alloc, server) else {
-        return Err(What::OutOfMemory);
+        return None;
     };
-    let Ok(made) = Box::new(alloc, Machine::Server(server)) else {
-        return Err(What::OutOfMemory);
-    };
-    Ok(made)
+    match Box::new(alloc, Machine::Server(server)) {
+        Ok(made) => Some(made),
+        Err(_) => None,
+    }
 }
 
 /// Takes bytes of the input: all of them, or those up to the end of a request, a flush in the place of one, or a fault. None is
