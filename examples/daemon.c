@@ -11,72 +11,51 @@
  * request's arguments take there, and nothing else. The repository is one for all.
  */
 #define _GNU_SOURCE
+#define PROGRAM "daemon"
 #include <gitwire.h>
+
+#include "common.h"
 
 #include <arpa/inet.h>
 #include <errno.h>
-#include <netinet/in.h>
 #include <poll.h>
 #include <signal.h>
-#include <stdio.h>
-#include <stdlib.h>
 #include <string.h>
 #include <sys/socket.h>
 #include <time.h>
 #include <unistd.h>
 
-#define MOST_CLIENTS 128
-#define MOST_KEPT (1 << 20)
-#define INPUT_BYTES 16384
-#define OUTPUT_BYTES (2 * GITWIRE_PACKET_ROOM)
+enum { MOST_CLIENTS = 128, TICK = 500 /* milliseconds */ };
 
-enum phase { NOBODY, GREETING, SERVING, ENDING, LEAVING };
+/*
+ * While one client's packet is made the others wait, and for `ls-refs` that is a comparison of each reference with each prefix.
+ * So a request may keep little: some 1,400 lines `want` or `have`. One with more is refused.
+ */
+enum { MOST_KEPT = 65536 };
 
 struct client {
-	enum phase phase;
-	int socket;
-	bool wants_input;                         /* what has come is used, and more is due */
-	bool input_ended;
-	int64_t deadline;
+	enum { NOBODY, GREETING, SERVING, ENDING, LEAVING } phase;
+	int connection;
+	time_t deadline;
+	bool wants_input, input_ended;            /* what has come is used, and more is due; no more comes */
 	gitwire_packet_reader packets;            /* while GREETING */
 	gitwire_server server;                    /* from SERVING on */
 	size_t in_at, in_end, out_at, out_end;    /* what is not yet used, and not yet sent */
-	uint8_t in[INPUT_BYTES];
-	uint8_t out[OUTPUT_BYTES];
+	uint8_t in[16384], out[2 * GITWIRE_PACKET_ROOM];
 };
 
 static struct client clients[MOST_CLIENTS];   /* of zeros, as each handle begins */
 static gitwire_repository repository = GITWIRE_NONE;
-static const char *name;
-static int64_t patience;
+static char asked_for[4096];                  /* what the first packet of a client has to begin with */
+static time_t now, patience;
 static volatile sig_atomic_t is_over;
-
-static void stop(const char *what)
-{
-	fprintf(stderr, "daemon: %s\n", what);
-	exit(1);
-}
-
-static int64_t milliseconds(void)
-{
-	struct timespec now;
-
-	clock_gettime(CLOCK_MONOTONIC, &now);
-	return now.tv_sec * 1000 + now.tv_nsec / 1000000;
-}
 
 static void forget(struct client *c)
 {
 	gitwire_packet_reader_free(&c->packets);
 	gitwire_server_free(&c->server);
-	close(c->socket);
+	close(c->connection);
 	c->phase = NOBODY;
-}
-
-/* Some bytes went over: the client has its time again. */
-static void has_moved(struct client *c)
-{
-	c->deadline = milliseconds() + patience;
 }
 
 /* Makes an error packet the last that is sent. */
@@ -87,84 +66,57 @@ static void refuse(struct client *c, const char *why)
 	c->phase = ENDING;
 }
 
-static void refuse_fault(struct client *c, gitwire_told told)
-{
-	char text[GITWIRE_FAULT_TEXT_ROOM + 1] = "";
-
-	gitwire_fault_text(told.fault, told.offset, (uint8_t *)text, sizeof text - 1);
-	refuse(c, text);
-}
-
-/* Takes a part off the front of a text, up to a NUL or the end, and says whether it is this word. */
-static bool take_word(const uint8_t **text, size_t *length, const char *word)
-{
-	size_t part = strnlen((const char *)*text, *length);
-	bool is_it = part == strlen(word) && memcmp(*text, word, part) == 0;
-	size_t taken = part < *length ? part + 1 : part;
-
-	*text += taken;
-	*length -= taken;
-	return is_it;
-}
-
 /*
  * Why the first packet is not served, or NULL. It is `git-upload-pack /NAME`, a NUL, `host=..` with a NUL or not, and after
  * one NUL more each further parameter with a NUL: gitprotocol-pack(5).
  */
 static const char *why_not(const uint8_t *text, size_t length)
 {
-	char wanted[4096];
-	bool is_further = false;
+	static const char version[] = "\0version=2";
+	size_t first = strnlen((const char *)text, length);
+	const uint8_t *further = memmem(text, length, "\0", 2);
 
-	snprintf(wanted, sizeof wanted, "git-upload-pack /%s", name);
-	if (!take_word(&text, &length, wanted))
+	if (first != strlen(asked_for) || memcmp(text, asked_for, first) != 0)
 		return "nothing but the fetch side of one repository is served here";
-	while (length > 0) {
-		if (!is_further)
-			is_further = take_word(&text, &length, "");
-		else if (take_word(&text, &length, "version=2"))
-			return NULL;
-	}
-	return "nothing but version 2 of the protocol is served here";
+	if (further == NULL || memmem(further, (size_t)(text + length - further), version, sizeof version) == NULL)
+		return "nothing but version 2 of the protocol is served here";
+	return NULL;
 }
 
 /* Reads on to the end of the first packet, whose payload comes to where the answer will stand. */
 static void greet(struct client *c)
 {
 	gitwire_told told = gitwire_packet_reader_feed(&c->packets, c->in + c->in_at, c->in_end - c->in_at, c->out, sizeof c->out);
+	char fault[GITWIRE_FAULT_TEXT_ROOM + 1] = "";
 	const char *why;
 
 	c->in_at += told.used;
-	if (told.kind == GITWIRE_MORE && c->input_ended)
+	if (told.kind == GITWIRE_MORE && !c->input_ended)
+		return;
+	if (told.kind == GITWIRE_MORE)
 		told = gitwire_packet_reader_close(&c->packets);
-	switch (told.kind) {
-	case GITWIRE_MORE:
-		return;
-	case GITWIRE_DONE: /* nothing was asked */
-		c->phase = ENDING;
-		return;
-	case GITWIRE_FAILED:
-		refuse_fault(c, told);
-		return;
-	}
-	why = why_not(c->out, told.length);
-	if (why != NULL)
-		refuse(c, why);
-	else if (gitwire_server_new(&c->server, &repository, MOST_KEPT, true) != GITWIRE_DONE)
-		refuse(c, "no memory");
-	else
-		c->phase = SERVING;
 	gitwire_packet_reader_free(&c->packets);
+	if (told.kind == GITWIRE_DONE) { /* nothing was asked */
+		c->phase = ENDING;
+	} else if (told.kind == GITWIRE_FAILED) {
+		gitwire_fault_text(told.fault, told.offset, (uint8_t *)fault, sizeof fault - 1);
+		refuse(c, fault);
+	} else if ((why = why_not(c->out, told.length)) != NULL) {
+		refuse(c, why);
+	} else if (gitwire_server_new(&c->server, &repository, MOST_KEPT, true) != GITWIRE_DONE) {
+		refuse(c, "no memory");
+	} else {
+		c->phase = SERVING;
+	}
 }
 
 /* Gives what the server owes, as long as there is room for a whole packet, and feeds it what has come. */
 static void serve(struct client *c)
 {
-	gitwire_told told;
-
 	c->wants_input = false;
-	while (sizeof c->out - c->out_end >= GITWIRE_PACKET_ROOM) {
-		told = gitwire_server_pull(&c->server, c->out + c->out_end, sizeof c->out - c->out_end);
+	while (sizeof c->out - c->out_end >= GITWIRE_PACKET_ROOM && !c->wants_input) {
+		gitwire_told told = gitwire_server_pull(&c->server, c->out + c->out_end, sizeof c->out - c->out_end);
+
 		if (told.kind == GITWIRE_PACKET) {
 			c->out_end += told.length;
 		} else if (told.kind != GITWIRE_NEED_INPUT) {
@@ -178,51 +130,8 @@ static void serve(struct client *c)
 			gitwire_server_close(&c->server);
 		} else {
 			c->wants_input = true;
-			return;
 		}
 	}
-}
-
-static void receive(struct client *c)
-{
-	ssize_t count = recv(c->socket, c->in, sizeof c->in, 0);
-
-	if (count < 0) {
-		if (errno != EAGAIN && errno != EINTR)
-			forget(c);
-		return;
-	}
-	c->in_at = 0;
-	c->in_end = (size_t)count;
-	c->input_ended = count == 0;
-	if (c->phase != LEAVING)
-		has_moved(c);
-	else if (c->input_ended)
-		forget(c);
-}
-
-static void send_out(struct client *c)
-{
-	ssize_t count = send(c->socket, c->out + c->out_at, c->out_end - c->out_at, MSG_NOSIGNAL);
-
-	if (count < 0) {
-		if (errno != EAGAIN && errno != EINTR)
-			forget(c);
-		return;
-	}
-	has_moved(c);
-	c->out_at += (size_t)count;
-	if (c->out_at == c->out_end)
-		c->out_at = c->out_end = 0;
-}
-
-/* All is sent: what the client still says is read and dropped, so that it can read to the end. */
-static void leave(struct client *c)
-{
-	c->phase = LEAVING;
-	c->wants_input = true;
-	if (c->input_ended || shutdown(c->socket, SHUT_WR) != 0)
-		forget(c);
 }
 
 /* What a client is waited for: that it takes what is owed, and only then that it says more. */
@@ -231,97 +140,101 @@ static short awaited(const struct client *c)
 	return c->wants_input && c->out_end == 0 ? POLLIN : POLLOUT;
 }
 
-/* One turn of a client: one read or one write at the most, so that none holds up the others. */
+/* Whether so many bytes went over, by which a client has its time again. One whose connection is broken is forgotten. */
+static bool has_moved(struct client *c, ssize_t count)
+{
+	if (count < 0 && errno != EAGAIN && errno != EINTR)
+		forget(c);
+	if (count >= 0 && c->phase != LEAVING)
+		c->deadline = now + patience;
+	return count >= 0;
+}
+
+/* One turn of a client: one read or one write at the most, so that what one sends or takes holds up no other. */
 static void turn(struct client *c)
 {
-	if (awaited(c) == POLLIN)
-		receive(c);
+	ssize_t count;
+
+	if (awaited(c) == POLLIN) {
+		count = recv(c->connection, c->in, sizeof c->in, 0);
+		if (!has_moved(c, count))
+			return;
+		c->in_at = 0;
+		c->in_end = (size_t)count;
+		c->input_ended = count == 0;
+	}
 	if (c->phase == GREETING)
 		greet(c);
 	if (c->phase == SERVING)
 		serve(c);
-	if (c->phase != NOBODY && c->out_end > 0)
-		send_out(c);
-	if (c->phase == ENDING && c->out_end == 0)
-		leave(c);
+	if (c->out_end > 0) {
+		count = send(c->connection, c->out + c->out_at, c->out_end - c->out_at, 0);
+		if (!has_moved(c, count))
+			return;
+		c->out_at += (size_t)count;
+		if (c->out_at < c->out_end)
+			return;
+		c->out_at = c->out_end = 0;
+	}
+	if (c->phase == ENDING) { /* all is sent: what the client still says is read and dropped, so that it can read to the end */
+		c->phase = LEAVING;
+		c->wants_input = true;
+		shutdown(c->connection, SHUT_WR);
+	}
+	if (c->phase == LEAVING && c->input_ended)
+		forget(c);
 }
 
-static struct client *free_place(void)
+/* Takes in who has connected, and says whether somebody had. */
+static bool welcome(struct client *c, int listener)
 {
-	for (struct client *c = clients; c < clients + MOST_CLIENTS; c++)
-		if (c->phase == NOBODY)
-			return c;
-	return NULL;
-}
+	int connection = accept4(listener, NULL, NULL, SOCK_NONBLOCK | SOCK_CLOEXEC);
 
-static void welcome(int listener)
-{
-	struct client *c = free_place();
-	int socket = accept4(listener, NULL, NULL, SOCK_NONBLOCK | SOCK_CLOEXEC);
-
-	if (socket < 0)
-		return;
-	c->socket = socket;
-	c->phase = GREETING;
-	c->wants_input = true;
-	c->input_ended = false;
-	c->in_at = c->in_end = c->out_at = c->out_end = 0;
-	has_moved(c);
+	if (connection < 0)
+		return false;
+	*c = (struct client){ .phase = GREETING, .connection = connection, .deadline = now + patience, .wants_input = true };
 	if (gitwire_packet_reader_new(&c->packets) != GITWIRE_DONE)
 		refuse(c, "no memory");
+	return true;
 }
 
-/* Serves until SIGINT, which comes only while poll waits. */
-static void run(int listener, const sigset_t *waiting)
+/* Serves until SIGINT. That a client's time is over, and a SIGINT that comes between two waits, is seen within a tick. */
+static void run(int listener)
 {
 	struct pollfd polled[MOST_CLIENTS + 1];
+	struct timespec time;
+	bool is_open = true; /* else one wait leaves the listener out: it would not wait while there is no descriptor for who comes */
 
 	while (!is_over) {
-		int64_t now = milliseconds(), next = -1;
+		struct client *vacant = NULL;
 
-		polled[MOST_CLIENTS] = (struct pollfd){ .fd = free_place() ? listener : -1, .events = POLLIN };
 		for (int i = 0; i < MOST_CLIENTS; i++) {
 			struct client *c = &clients[i];
 
-			if (c->phase != NOBODY && c->deadline <= now) {
-				fprintf(stderr, "daemon: a client was too slow\n");
-				forget(c);
-			}
-			polled[i] = (struct pollfd){ .fd = c->phase == NOBODY ? -1 : c->socket, .events = awaited(c) };
-			if (c->phase != NOBODY && (next < 0 || c->deadline - now < next))
-				next = c->deadline - now;
+			if (c->phase == NOBODY)
+				vacant = c;
+			polled[i] = (struct pollfd){ .fd = c->phase == NOBODY ? -1 : c->connection, .events = awaited(c) };
 		}
-		struct timespec rest = { .tv_sec = next / 1000, .tv_nsec = next % 1000 * 1000000 };
-		if (ppoll(polled, MOST_CLIENTS + 1, next < 0 ? NULL : &rest, waiting) < 0) {
+		polled[MOST_CLIENTS] = (struct pollfd){ .fd = vacant && is_open ? listener : -1, .events = POLLIN };
+		if (poll(polled, MOST_CLIENTS + 1, TICK) < 0) {
 			if (errno != EINTR)
 				stop(strerror(errno));
 			continue;
 		}
-		for (int i = 0; i < MOST_CLIENTS; i++)
+		clock_gettime(CLOCK_MONOTONIC, &time);
+		now = time.tv_sec;
+		for (int i = 0; i < MOST_CLIENTS; i++) {
+			struct client *c = &clients[i];
+
 			if (polled[i].revents)
-				turn(&clients[i]);
-		if (polled[MOST_CLIENTS].revents)
-			welcome(listener);
+				turn(c);
+			if (c->phase != NOBODY && c->deadline < now) { /* judged after its turn, which counts */
+				fprintf(stderr, "daemon: a client was too slow\n");
+				forget(c);
+			}
+		}
+		is_open = !polled[MOST_CLIENTS].revents || welcome(vacant, listener);
 	}
-}
-
-static uint8_t *read_file(const char *file_name, size_t *length)
-{
-	FILE *file = fopen(file_name, "rb");
-	uint8_t *bytes = NULL;
-	size_t room = 0;
-
-	if (file == NULL)
-		stop("a file cannot be opened");
-	for (*length = 0; *length == room; *length += fread(bytes + *length, 1, room - *length, file)) {
-		room = 2 * room + 65536;
-		bytes = realloc(bytes, room);
-		if (bytes == NULL)
-			stop("no memory");
-	}
-	if (ferror(file) || fclose(file) != 0)
-		stop("a file cannot be read");
-	return bytes;
 }
 
 static void open_repository(const char *text_name, const char *pack_name)
@@ -329,18 +242,17 @@ static void open_repository(const char *text_name, const char *pack_name)
 	size_t text_length, pack_length;
 	uint8_t *text = read_file(text_name, &text_length), *pack = read_file(pack_name, &pack_length);
 	gitwire_told told = gitwire_repository_new(&repository, text, text_length, pack, pack_length);
+	char why[64] = "no memory";
 
 	free(text);
 	free(pack);
-	if (told.kind == GITWIRE_FAILED) {
-		fprintf(stderr, "daemon: BadRepo at %llu\n", (unsigned long long)told.offset);
-		exit(1);
-	}
+	if (told.kind == GITWIRE_FAILED)
+		snprintf(why, sizeof why, "BadRepo at %llu", (unsigned long long)told.offset);
 	if (told.kind != GITWIRE_DONE)
-		stop("no memory");
+		stop(why);
 }
 
-static int listen_at(const char *address, uint16_t port)
+static int listen_at(const char *address, uint16_t port, const char *name)
 {
 	struct sockaddr_in at = { .sin_family = AF_INET, .sin_port = htons(port) };
 	int listener = socket(AF_INET, SOCK_STREAM | SOCK_NONBLOCK | SOCK_CLOEXEC, 0), yes = 1;
@@ -367,31 +279,25 @@ static long number_of(const char *word, long least, long most)
 	return number;
 }
 
-static void end(int signal)
+static void end(int number)
 {
-	(void)signal;
-	is_over = 1;
+	is_over = number;
 }
 
 int main(int count, char **words)
 {
-	struct sigaction ending = { .sa_handler = end };
-	sigset_t interrupt, waiting;
-
 	if (count != 7) {
 		fputs("usage: daemon ADDRESS PORT SECONDS NAME TEXT PACK\n", stderr);
 		return 2;
 	}
-	patience = number_of(words[3], 1, 86400) * 1000;
-	name = words[4];
-	sigemptyset(&interrupt);
-	sigaddset(&interrupt, SIGINT);
-	sigprocmask(SIG_BLOCK, &interrupt, &waiting);
-	sigdelset(&waiting, SIGINT); /* who starts a program in the background may have blocked or ignored it */
-	sigaction(SIGINT, &ending, NULL);
+	patience = number_of(words[3], 1, 86400);
+	if (snprintf(asked_for, sizeof asked_for, "git-upload-pack /%s", words[4]) >= (int)sizeof asked_for)
+		stop("the name is too long");
+	signal(SIGINT, end);
+	signal(SIGPIPE, SIG_IGN); /* who is gone is told by a write that fails, and nobody has to read what is told here */
 	open_repository(words[5], words[6]);
-	int listener = listen_at(words[1], (uint16_t)number_of(words[2], 0, 65535));
-	run(listener, &waiting);
+	int listener = listen_at(words[1], (uint16_t)number_of(words[2], 0, 65535), words[4]);
+	run(listener);
 	for (struct client *c = clients; c < clients + MOST_CLIENTS; c++)
 		if (c->phase != NOBODY)
 			forget(c);

@@ -5,14 +5,16 @@
  *
  * REFERENCES is a text of lines `ID NAME`, and PACK the pack that whoever fetches gets, whatever is wanted. The library hears
  * whole requests, and checks and writes each line of what is answered; what is answered is this program's own. A line of
- * REFERENCES that no answer may have is told, and left out.
+ * REFERENCES that no answer may have is told where it would be due, and left out.
  *
  *     git -c protocol.ext.allow=always clone "ext::host REFERENCES PACK" CLONE
  */
+#define PROGRAM "host"
 #include <gitwire.h>
 
-#include <stdio.h>
-#include <stdlib.h>
+#include "common.h"
+
+#include <errno.h>
 #include <string.h>
 #include <unistd.h>
 
@@ -25,12 +27,6 @@ struct text {
 };
 
 static struct text references, pack;
-
-static void stop(const char *what)
-{
-	fprintf(stderr, "host: %s\n", what);
-	exit(1);
-}
 
 /* Tells a fault by its name and offset. */
 static void tell(const char *what, gitwire_told told)
@@ -97,8 +93,10 @@ static void answer_references(gitwire_request *request)
 
 	while (next_line(&rest, &line)) {
 		space = memchr(line.at, ' ', line.length);
-		if (space == NULL)
+		if (space == NULL) {
+			fputs("host: a line without a name is left out\n", stderr);
 			continue;
+		}
 		name.at = space + 1;
 		name.length = line.length - (size_t)(name.at - line.at);
 		if (!is_asked(request, name))
@@ -162,7 +160,11 @@ static int serve(gitwire_request_reader *reader, gitwire_request *request)
 	gitwire_told told;
 	ssize_t length;
 
-	while ((length = read(STDIN_FILENO, piece, sizeof piece)) > 0) {
+	while ((length = read(STDIN_FILENO, piece, sizeof piece)) != 0) {
+		if (length < 0 && errno == EINTR)
+			continue;
+		if (length < 0)
+			stop("the input cannot be read");
 		for (size_t used = 0; used < (size_t)length; used += told.used) {
 			told = gitwire_request_reader_feed(reader, request, piece + used, (size_t)length - used);
 			if (told.kind == GITWIRE_REQUEST)
@@ -179,25 +181,6 @@ static int serve(gitwire_request_reader *reader, gitwire_request *request)
 	return told.kind == GITWIRE_FAILED ? refuse(told) : 0;
 }
 
-static struct text read_file(const char *name)
-{
-	FILE *file = fopen(name, "rb");
-	struct text text = { NULL, 0 };
-	size_t size = 0;
-
-	if (file == NULL)
-		stop("a file cannot be opened");
-	for (; text.length == size; text.length += fread(text.at + text.length, 1, size - text.length, file)) {
-		size = 2 * size + 65536;
-		text.at = realloc(text.at, size);
-		if (text.at == NULL)
-			stop("no memory");
-	}
-	if (ferror(file) || fclose(file) != 0)
-		stop("a file cannot be read");
-	return text;
-}
-
 int main(int count, char **words)
 {
 	gitwire_request_reader reader = GITWIRE_NONE;
@@ -207,8 +190,8 @@ int main(int count, char **words)
 		fputs("usage: host REFERENCES PACK\n", stderr);
 		return 2;
 	}
-	references = read_file(words[1]);
-	pack = read_file(words[2]);
+	references.at = read_file(words[1], &references.length);
+	pack.at = read_file(words[2], &pack.length);
 	if (gitwire_request_reader_new(&reader, offer, GITWIRE_USUAL_LIMIT) != GITWIRE_DONE)
 		stop("no memory");
 	give(gitwire_put_advertisement(offer, room, sizeof room));

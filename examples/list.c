@@ -60,27 +60,37 @@ static bool write_all(int to, const uint8_t *bytes, size_t length)
 	return true;
 }
 
-/* Adds an argument of a word and a value. */
-static bool add(gitwire_request *request, const char *word, const char *value)
+/* Adds an argument of a word and a value. Why it cannot be added, or NULL. */
+static const char *add(gitwire_request *request, const char *word, const char *value)
 {
 	char line[32100];
 	int length = snprintf(line, sizeof line, "%s%s", word, value);
+	gitwire_told told;
 
-	return length >= 0 && (size_t)length < sizeof line
-		&& gitwire_request_add(request, (const uint8_t *)line, (size_t)length).kind == GITWIRE_DONE;
+	if (length < 0 || (size_t)length >= sizeof line)
+		return "a prefix is too long";
+	told = gitwire_request_add(request, (const uint8_t *)line, (size_t)length);
+	if (told.kind == GITWIRE_DONE)
+		return NULL;
+	return told.fault == GITWIRE_FAULT_OUT_OF_MEMORY ? "no memory" : "a prefix is too long";
 }
 
-/* Makes the request: the references of these prefixes, with what symbolic ones point to and what tags stand for. */
-static bool make_request(gitwire_request *request, uint8_t format, char **prefixes)
+/*
+ * Makes the request: the references of these prefixes, with what symbolic ones point to and what tags stand for. Why it cannot be
+ * made, or NULL.
+ */
+static const char *make_request(gitwire_request *request, uint8_t format, char **prefixes)
 {
+	const char *why;
+
 	if (gitwire_request_new(request, GITWIRE_LS_REFS, format, GITWIRE_USUAL_LIMIT) != GITWIRE_DONE)
-		return false;
-	if (!add(request, "peel", "") || !add(request, "symrefs", ""))
-		return false;
-	for (; *prefixes != NULL; prefixes++)
-		if (!add(request, "ref-prefix ", *prefixes))
-			return false;
-	return true;
+		return "no memory";
+	why = add(request, "peel", "");
+	if (why == NULL)
+		why = add(request, "symrefs", "");
+	for (; why == NULL && *prefixes != NULL; prefixes++)
+		why = add(request, "ref-prefix ", *prefixes);
+	return why;
 }
 
 /* Prints a reference, whose parts lie in the room one after another. */
@@ -139,7 +149,9 @@ static int converse(gitwire_client *client, gitwire_request *request, int to, in
 		case GITWIRE_NEED_INPUT:
 			if (used == length) {
 				count = read(from, piece, sizeof piece);
-				if (count <= 0)
+				if (count < 0)
+					return tell("the server cannot be read from");
+				if (count == 0)
 					return refuse(client, gitwire_client_close(client));
 				used = 0;
 				length = (size_t)count;
@@ -163,6 +175,7 @@ int main(int count, char **words)
 	uint8_t format = is_sha256 ? GITWIRE_SHA256 : GITWIRE_SHA1;
 	gitwire_client client = GITWIRE_NONE;
 	gitwire_request request = GITWIRE_NONE;
+	const char *why;
 	int to, from, status;
 
 	words += 1 + is_sha256;
@@ -172,8 +185,9 @@ int main(int count, char **words)
 	}
 	if (gitwire_client_new(&client, format, GITWIRE_ENDS_BY_FLUSH) != GITWIRE_DONE)
 		return tell("no memory");
-	if (!make_request(&request, format, words + 1))
-		status = tell("a prefix is too long");
+	why = make_request(&request, format, words + 1);
+	if (why != NULL)
+		status = tell(why);
 	else if (start_server(*words, &to, &from) < 0)
 		status = tell("no server");
 	else {

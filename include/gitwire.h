@@ -5,13 +5,13 @@
  * thread and keeps nothing but what its handles have: a program feeds it what it has read, in pieces of any size, and
  * writes what it gives. Each end is a loop over what its pull tells, as in examples/daemon.c and examples/list.c:
  *
- *     a server   PACKET       write the packet to the client
- *                NEED_INPUT   read from the client and feed what came; at the input's end close, and pull on
- *                others       the session is over
- *     a client   PACKET       write the packet to the server
+ *     a server   PACKET       write it to the client
+ *                NEED_INPUT   read from the client and feed what came; at the input's end close
+ *                ENDED_BY_FLUSH, ENDED_BY_CLOSE, FAILED: the session is over
+ *     a client   PACKET       write it to the server
  *                CAN_ASK      ask a request, or leave
- *                NEED_INPUT   read from the server and feed what came, which tells an event at a time; at the input's end close
- *                others       the conversation is over: FINISHED, or FAILED
+ *                NEED_INPUT   read from the server and feed what came, which tells an event; at the input's end close
+ *                FINISHED, FAILED: the conversation is over
  *
  * Of every call:
  *
@@ -25,9 +25,9 @@
  *
  *   - A handle begins as GITWIRE_NONE, or as memory of zeros, which is the same. It is never copied, and its fields are touched
  *     by nobody else. It is freed once it is no more needed; freed twice is well, and a call on what was freed tells NO_HANDLE.
- *   - No pointer to a handle or to a gitwire_caps is NULL, that of a call `_free` neither.
+ *   - No pointer to a handle or to a gitwire_caps is NULL, nor that of a call `_free`.
  *   - A handle is used by one thread at a time. Each call writes to each handle that it is given, also one that only asks: so
- *     two threads that make a server each of one repository's handle need a lock. It may go from one thread to another, by a
+ *     two threads that make servers of one repository's handle need a lock. A handle may go from one thread to another, by a
  *     lock, a thread's start or end, or an atomic of sequentially consistent order. Servers of one repository may be used at
  *     the same time, and while its handle is used or freed.
  *   - Each text and each room lies where it says, whole, and no pointer is NULL where the length is above 0. No room
@@ -240,10 +240,12 @@ uint8_t gitwire_request_reader_new(gitwire_request_reader *reader, gitwire_offer
  * `used` says how many bytes. It is to be called again with those that were not used.
  *
  * MORE: the piece is used up; or the other end has left, and nothing is used. REQUEST: a whole request, which is what
- * the request handle has now; what it had is freed. After no other answer has it one that was read: a handle that had nothing
- * has an empty request then. STOP: the other end leaves, and nothing is read after it. FAILED: what refuses a request, by its
- * first bad packet. OUT_OF_MEMORY: there is no memory for what the request handle has to have before anything is read; nothing
- * was used or changed, and the call can be made again. NO_HANDLE.
+ * the request handle has now; what it had is freed. STOP: the other end leaves, and nothing is read after it. FAILED: what
+ * refuses a request, by its first bad packet. OUT_OF_MEMORY: there is no memory for what the request handle has to have
+ * before anything is read; nothing was used or changed, and the call can be made again. NO_HANDLE.
+ *
+ * No other answer than REQUEST gives the request handle a request that was read. One that had nothing has an empty request after
+ * them, which nobody asked.
  */
 gitwire_told gitwire_request_reader_feed(gitwire_request_reader *reader, gitwire_request *request,
 	const uint8_t *piece, size_t piece_length);
@@ -336,7 +338,7 @@ void gitwire_repository_free(gitwire_repository *repository);
  *
  * One pull can take long. For `ls-refs` it compares each reference with each prefix of the request, up to a reference that is
  * asked for; for a `fetch` that cuts the history off, each line of the repository's boundary with each `shallow` of the request.
- * How many these are the limit bounds: so one that serves many clients in one thread gives a low one.
+ * The limit bounds how many prefixes and `shallow` lines these can be: a program that serves many in one thread gives a low one.
  *
  * It offers what `git2show serve` does: `shallow`, `ref-in-want`, `server-option`, `object-info`, and the repository's format.
  */

@@ -265,10 +265,14 @@ case_a_host_in_c_leaves_out_what_no_answer_may_have() {
     write_host_files history-sha1 marred
     echo "$(git -C history-sha1 rev-parse HEAD) refs/heads/bad..name" >> marred.refs
     echo '1111 refs/heads/short' >> marred.refs
+    echo nameless >> marred.refs
     ls_remote --heads "$(hosted marred)"
     expect_status 0
     expect_same 'the list' <(git ls-remote --heads ./history-sha1) out
-    expect_same 'what the host told' <(printf 'host: a reference is left out: %s at 0\n' BadRefName BadObjectName) err
+    expect_same 'what the host told' <(
+        printf 'host: a reference is left out: %s at 0\n' BadRefName BadObjectName
+        echo 'host: a line without a name is left out'
+    ) err
 }
 
 case_a_host_in_c_tells_what_is_wrong() {
@@ -283,6 +287,9 @@ case_a_host_in_c_tells_what_is_wrong() {
     run host-watched hosted.refs hosted.pack < <(packet 'ERR I leave')
     expect_status 1
     ! grep -a -q ERR out || differs 'an answer to an error' out
+    run host-watched hosted.refs hosted.pack < .
+    expect_status 1
+    expect_same 'what is told of an input that cannot be read' <(echo 'host: the input cannot be read') err
     under_valgrind bin/host hosted.refs hosted.pack < <(packet command=fetch; printf 0001; packet "want $one"; packet 'done'; printf 00000000)
     expect_status 0
     expect_same 'standard error' /dev/null err
@@ -517,6 +524,10 @@ case_a_daemon_in_c_ends_a_session_at_its_fault() {
     hears_to_the_end answer
     expect_same 'the answer' <(advertisement sha1 && packet 'ERR NotOurs at 22') answer
     daemon_told 'daemon: a session ended with fault 25 at 22'
+    says "$(greeting here version=2)"
+    { packet command=fetch && printf 0001 && printf "0032have $one\\n%.0s" {1..1457}; } >&5
+    hears_to_the_end answer
+    expect_same 'the answer to one that asks for much' <(advertisement sha1 && packet 'ERR TooMuchKept at 72822') answer
     says "$(greeting here version=2)" 0000
     hears_to_the_end answer
     expect_same 'the answer to one that leaves' <(advertisement sha1) answer
@@ -551,6 +562,55 @@ case_a_daemon_in_c_closes_who_is_too_slow() {
     hears_to_the_end answer
     [ "$(grep -c -x 'daemon: a client was too slow' daemon.err)" = 3 ] || differs 'not three that are too slow' daemon.err
     [ "$(wc -c < answer)" -lt 21000000 ] || differs 'a whole pack for one that does not read'
+    end_daemon
+}
+
+# One that was refused and goes on talking is read no longer than its time.
+case_a_daemon_in_c_closes_who_talks_on() {
+    local begin=$SECONDS
+    patience=2
+    start_daemon history-sha1
+    says zzzz
+    for i in {1..50}; do
+        printf z
+        sleep 0.2
+    done >&5 2> /dev/null &
+    daemon_told 'daemon: a client was too slow'
+    [ $((SECONDS - begin)) -lt 8 ] || differs 'a daemon that went on reading'
+    kill $! 2> /dev/null || true
+    exec 5>&-
+    end_daemon
+}
+
+# Where it has no descriptor left for one more it waits until one is free, and does not ask for it over and over.
+case_a_daemon_in_c_waits_for_descriptors() {
+    local i connection before after
+    patience=3
+    start_daemon history-sha1 bash -c 'ulimit -n 130 && exec daemon "$@"' daemon
+    for i in {1..128}; do
+        exec {connection}<> "/dev/tcp/127.0.0.1/$port"
+    done
+    before=$(ticks)
+    sleep 2
+    after=$(ticks)
+    [ $((after - before)) -lt 50 ] || differs "$((after - before)) hundredths of a second of two for nothing"
+    ls_remote "$address"
+    expect_same 'the list' <(git ls-remote ./history-sha1) out
+    end_daemon
+}
+
+# ticks: the processor time of the daemon so far, in hundredths of a second.
+ticks() {
+    awk '{ print $14 + $15 }' "/proc/$daemon/stat"
+}
+
+case_a_daemon_in_c_outlives_who_read_its_errors() {
+    start_daemon history-sha1 bash -c 'exec daemon-watched "$@" 2> >(:)' daemon
+    says zzzz
+    hears_to_the_end answer
+    expect_same 'the answer' <(packet 'ERR BadDigit at 0') answer
+    ls_remote "$address"
+    expect_same 'the list' <(git ls-remote ./history-sha1) out
     end_daemon
 }
 

@@ -1,0 +1,30 @@
+/* What the programs of this folder share. Each defines PROGRAM before it, the name by which it tells what is wrong. */
+#include <stdint.h>
+#include <stdio.h>
+#include <stdlib.h>
+
+static void stop(const char *what)
+{
+	fprintf(stderr, PROGRAM ": %s\n", what);
+	exit(1);
+}
+
+/* Reads a whole file, whose bytes are the caller's to free, or ends the program. */
+static uint8_t *read_file(const char *name, size_t *length)
+{
+	FILE *file = fopen(name, "rb");
+	uint8_t *bytes = NULL;
+	size_t room = 0;
+
+	if (file == NULL)
+		stop("a file cannot be opened");
+	for (*length = 0; *length == room; *length += fread(bytes + *length, 1, room - *length, file)) {
+		room = 2 * room + 65536;
+		bytes = realloc(bytes, room);
+		if (bytes == NULL)
+			stop("no memory");
+	}
+	if (ferror(file) || fclose(file) != 0)
+		stop("a file cannot be read");
+	return bytes;
+}
