@@ -2,8 +2,8 @@
 
 ghost use Rattle.std.specs.Prelude.{◌≡◌, ℕ, Bool, List};
 ghost use Rattle.gitwire.specs.Offers.{offer_meant};
-ghost use Rattle.gitwire.specs.WrittenForC.{Advertises, IsDetermined, MeansAck, MeansBand, MeansBoundary, MeansError, MeansInfo, MeansLine};
-ghost use Rattle.gitwire.specs.WrittenForC.{MeansPacket, MeansReference, MeansWanted};
+ghost use Rattle.gitwire.specs.WrittenForC.{Advertises, IsDetermined, MeansAck, MeansBand, MeansBoundary, MeansError, MeansInfo};
+ghost use Rattle.gitwire.specs.WrittenForC.{MeansLine, MeansPacket, MeansReference, MeansWanted};
 ghost use Rattle.gitwire.specs.declared.offer.GitwireOffer.{GitwireOffer};
 ghost use Rattle.gitwire.specs.declared.told.GitwireTold.{GitwireTold};
 
