@@ -192,7 +192,12 @@ static bool welcome(struct client *c, int listener)
 
 	if (connection < 0)
 		return false;
-	*c = (struct client){ .phase = GREETING, .connection = connection, .deadline = now + patience, .wants_input = true };
+	c->phase = GREETING;
+	c->connection = connection;
+	c->deadline = now + patience;
+	c->wants_input = true;
+	c->input_ended = false;
+	c->in_at = c->in_end = c->out_at = c->out_end = 0;
 	if (gitwire_packet_reader_new(&c->packets) != GITWIRE_DONE)
 		refuse(c, "no memory");
 	return true;
@@ -203,7 +208,7 @@ static void run(int listener)
 {
 	struct pollfd polled[MOST_CLIENTS + 1];
 	struct timespec time;
-	bool is_open = true; /* else one wait leaves the listener out: it would not wait while there is no descriptor for who comes */
+	bool is_open = true; /* else one wait is without the listener, which ends each wait while no descriptor is left for who comes */
 
 	while (!is_over) {
 		struct client *vacant = NULL;
