@@ -150,7 +150,7 @@ static bool has_moved(struct client *c, ssize_t count)
 	return count >= 0;
 }
 
-/* One turn of a client: one read or one write at the most, so that what one sends or takes holds up no other. */
+/* One turn of a client: one read and one write at the most, so that what one sends or takes holds up no other. */
 static void turn(struct client *c)
 {
 	ssize_t count;
@@ -207,7 +207,7 @@ static bool welcome(struct client *c, int listener)
 static void run(int listener)
 {
 	struct pollfd polled[MOST_CLIENTS + 1];
-	struct timespec time;
+	struct timespec moment;
 	bool is_open = true; /* else one wait is without the listener, which ends each wait while no descriptor is left for who comes */
 
 	while (!is_over) {
@@ -226,8 +226,8 @@ static void run(int listener)
 				stop(strerror(errno));
 			continue;
 		}
-		clock_gettime(CLOCK_MONOTONIC, &time);
-		now = time.tv_sec;
+		clock_gettime(CLOCK_MONOTONIC, &moment);
+		now = moment.tv_sec;
 		for (int i = 0; i < MOST_CLIENTS; i++) {
 			struct client *c = &clients[i];
 

@@ -178,6 +178,7 @@ static void run_server(void)
 				gitwire_server_close(&server);
 		}
 		expect(told.kind == GITWIRE_ENDED_BY_FLUSH || (told.fault == GITWIRE_FAULT_OUT_OF_MEMORY && refused > 0), "a session");
+		expect(is_made(gitwire_server_new(&server, &repository, 1000, true), "a further server") == server.is_made_, "what its handle has");
 	}
 	gitwire_repository_free(&repository);
 	gitwire_server_free(&server);
@@ -204,6 +205,7 @@ static void run_client(void)
 			while (told.kind == GITWIRE_PACKET);
 			expect(told.kind == GITWIRE_NEED_INPUT || refused > 0, "what is said of it");
 		}
+		expect(is_made(gitwire_client_new(&client, GITWIRE_SHA1, GITWIRE_ENDS_BY_FLUSH), "a further client") == client.is_made_, "what its handle has");
 	}
 	gitwire_client_free(&client);
 	gitwire_request_free(&request);
