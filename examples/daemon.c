@@ -28,10 +28,10 @@
 enum { MOST_CLIENTS = 128, TICK = 500 /* milliseconds */ };
 
 /*
- * While one client's packet is made the others wait, and for `ls-refs` that is a comparison of each reference with each prefix.
- * So a request may keep little: some 1,400 lines `want` or `have`. One with more is refused.
+ * What a request may keep: some 23,000 lines `want` or `have`. One with more is refused. While one client's packet is made the
+ * others wait, and for `ls-refs` that is a comparison of each reference with each prefix: over many references less is better.
  */
-enum { MOST_KEPT = 65536 };
+enum { MOST_KEPT = 1048576 };
 
 struct client {
 	enum { NOBODY, GREETING, SERVING, ENDING, LEAVING } phase;

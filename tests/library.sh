@@ -525,9 +525,9 @@ case_a_daemon_in_c_ends_a_session_at_its_fault() {
     expect_same 'the answer' <(advertisement sha1 && packet 'ERR NotOurs at 22') answer
     daemon_told 'daemon: a session ended with fault 25 at 22'
     says "$(greeting here version=2)"
-    { packet command=fetch && printf 0001 && printf "0032have $one\\n%.0s" {1..1457}; } >&5
+    { packet command=fetch && printf 0001 && printf "0032have $one\\n%.0s" {1..23302}; } >&5
     hears_to_the_end answer
-    expect_same 'the answer to one that asks for much' <(advertisement sha1 && packet 'ERR TooMuchKept at 72822') answer
+    expect_same 'the answer to one that asks for much' <(advertisement sha1 && packet 'ERR TooMuchKept at 1165072') answer
     says "$(greeting here version=2)" 0000
     hears_to_the_end answer
     expect_same 'the answer to one that leaves' <(advertisement sha1) answer
