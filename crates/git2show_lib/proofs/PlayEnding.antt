@@ -170,10 +170,16 @@ module _ {R A : Type 0} (state : R → RepoState) (t : Terms) (limit : ℕ) (s0 
     asking_stopped alone WriteFault h front later request old new server after split ending ready r at step =
         play_ends t limit s0 requests (Err WriteFault) _ (front ++ request ∷ []) later new no_counts (split ∙ sym (append_assoc front (request ∷ []) later))
         (asks_runs t true h front old new request r step)
-        (let rest = turn_stays alone h server ending at in record {
+        (let rest = turn_stays alone h server ending at in
+        let all = has_said t h old r.along.stands (quiet_ready (phase_of old) ready) in
+        record {
           said = h;
           same_used = refl;
           asked = inr (asked_of request, refl);
+          before = h.used;
+          heard = [];
+          cut = sym (append-nil h.used);
+          all_said = record { caps = all.caps; noted = all.noted; said = all.said };
           is_served = record { first = rest.first; later = rest.later; unheard = []; served = rest.served; sessions = rest.talks };
         })
     asking_stopped alone (Refused fault) h front later request old new server after {pack} {o0} {o1} {o2} split ending ready r at (step, same) =

@@ -10,6 +10,7 @@ use Rattle.git_pkt.specs.declared.fault.RunFault.TheVariants.{ReadFault, WriteFa
 use Rattle.git_msg.specs.declared.requests.Request.{Request}
 use Rattle.git_client.specs.Client.{History, Converses, can_ask, nothing_yet, phase_of, questions_of, wants_input}
 use Rattle.git_client.specs.Events.{EventValue}
+use Rattle.git_client.specs.Runs.{HasSaid}
 use Rattle.git_client.specs.Parts.{Terms}
 use Rattle.git_client.specs.RunSteps.{no_counts}
 use Rattle.git_client.specs.declared.client.Client.{Client}
@@ -40,8 +41,18 @@ no_questions FlushOnly given = (refl, refl)
 no_questions ResponseEnd given = (refl, refl)
 
 -- all that was asked was said to the servers, and a write failed
-broken_off : (t : Terms) (limit : ℕ) (s0 : RepoState) (h : History) → IsServed t limit s0 h → IsBrokenPlay t limit s0 h
-broken_off t limit s0 h served = record { said = h; same_used = refl; asked = inl refl; is_served = served }
+broken_off : (t : Terms) (limit : ℕ) (s0 : RepoState) (h : History) (used : List ℕ) (events : List EventValue) → HasSaid t h
+    → IsServed t limit s0 (record h { used = h.used ++ used; events = events }) → IsBrokenPlay t limit s0 (record h { used = h.used ++ used; events = events })
+broken_off t limit s0 h used events all served = record {
+  said = record h { used = h.used ++ used; events = events };
+  same_used = refl;
+  asked = inl refl;
+  before = h.used;
+  heard = used;
+  cut = refl;
+  all_said = record { caps = all.caps; noted = all.noted; said = all.said };
+  is_served = served;
+}
 
 module _ {R A : Type 0} (state : R → RepoState) (t : Terms) (limit : ℕ) (s0 : RepoState) where
   -- a server that is at rest was said all, and gave all, that the client said and heard
@@ -117,7 +128,8 @@ module _ {R A : Type 0} (state : R → RepoState) (t : Terms) (limit : ℕ) (s0 
         let quietly = quiet_due (phase_of old) due in
         let stands = r.along.stands in
         play_ends t limit s0 requests (Err WriteFault) _ front rest new counts split on
-        (broken_off t limit s0 _ (served_one state t limit s0 h server after hears.given hears.used unheard one (has_said t h old stands quietly)
+        (broken_off t limit s0 h hears.used (h.events ++ events) (has_said t h old stands quietly)
+        (served_one state t limit s0 h server after hears.given hears.used unheard one (has_said t h old stands quietly)
         (has_stayed t h old stands quietly) hears.server_goes hears.parts (h.events ++ events)))
     one_stopped (Refused fault) h front rest old new server after split due one r (ended, counts, unheard, step) =
         let (events, on) = heard_runs state t limit s0 false h front old new counts server after [] unheard r step.hears in
@@ -128,18 +140,18 @@ module _ {R A : Type 0} (state : R → RepoState) (t : Terms) (limit : ℕ) (s0 
         (has_stayed t h old stands quietly) step.hears.server_goes step.hears.parts rest events new fault ended on.along.stands step.told step.timely step.done)
 
     many_stopped : (fault : RunFault) (h : History) (front rest : List (Request A)) (old new : Client A) (server after : Server R A)
-        {o0 o1 o2 p0 p1 p2 : Option (List ℕ)} → requests ≡ front ++ rest → t.ending ≡ ResponseEnd → Asks state t limit s0 h server
+        {o0 o1 o2 p0 p1 p2 : Option (List ℕ)} → requests ≡ front ++ rest → wants_input old ≡ true → t.ending ≡ ResponseEnd → Asks state t limit s0 h server
         → Runs t false h front old no_counts (flow o0 o1) (flow p0 p1)
         → HearsMessageTo state (Err fault) true old new server after (flow o1 o2) (flow p1 p2)
         → PlayEnds t limit s0 requests (Err fault) (flow o0 o2) (flow p0 p2)
-    many_stopped ReadFault h front rest old new server after split ending a r step = absurd step
-    many_stopped ReadLimit h front rest old new server after split ending a r step = absurd step
-    many_stopped WriteFault h front rest old new server after split ending a r (counts, unheard, hears) =
+    many_stopped ReadFault h front rest old new server after split due ending a r step = absurd step
+    many_stopped ReadLimit h front rest old new server after split due ending a r step = absurd step
+    many_stopped WriteFault h front rest old new server after split due ending a r (counts, unheard, hears) =
         let (events, on) = heard_runs state t limit s0 true h front old new counts server after _ unheard r hears in
         play_ends t limit s0 requests (Err WriteFault) _ front rest new counts split on
-        (broken_off t limit s0 _
+        (broken_off t limit s0 h hears.used (h.events ++ events) (has_said t h old r.along.stands (quiet_due (phase_of old) due))
         (served_many state t limit s0 h server after hears.given hears.used unheard a ending hears.server_goes hears.parts (h.events ++ events)))
-    many_stopped (Refused fault) h front rest old new server after split ending a r (ended, counts, unheard, step) =
+    many_stopped (Refused fault) h front rest old new server after split due ending a r (ended, counts, unheard, step) =
         let (events, on) = heard_runs state t limit s0 false h front old new counts server after _ unheard r step.hears in
         play_ends t limit s0 requests (Err (Refused fault)) _ front rest new counts split on
         (refused_many state t limit s0 h server after step.hears.given step.hears.used unheard a ending step.hears.server_goes step.hears.parts rest events new
@@ -152,7 +164,7 @@ module _ {R A : Type 0} (state : R → RepoState) (t : Terms) (limit : ℕ) (s0 
         → HearsMessageTo state (Err fault) alone old new server after (flow o1 o2) (flow p1 p2)
         → PlayEnds t limit s0 requests (Err fault) (flow o0 o2) (flow p0 p2)
     hearing_stopped true fault h front rest old new server after split ending due at r step =
-        many_stopped fault h front rest old new server after split ending at r step
+        many_stopped fault h front rest old new server after split due ending at r step
     hearing_stopped false fault h front rest old new server after split ending due at r step =
         one_stopped fault h front rest old new server after split due at r step
 

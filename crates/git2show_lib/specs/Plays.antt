@@ -98,11 +98,16 @@ AreWholeSessions ResponseEnd t limit state first later = AreAll (λ s talk. IsAn
 
 -- ---- how a play ended
 
--- a write failed: what was heard comes of the servers, to whom the last question may not have been said yet
+-- a write failed: what was heard comes of the servers, to whom all was said that is written of the questions when these bytes had
+-- been heard; the last question may not have been said yet
 pub record IsBrokenPlay (t : Terms) (limit : ℕ) (state : RepoState) (h : History) : Type 0 where
   pub said : History
   pub same_used : h.used ≡ said.used
   pub asked : (h.asked ≡ said.asked) ⊎ ((last : Asked) × (h.asked ≡ said.asked ++ last ∷ []))
+  pub before : List ℕ
+  pub heard : List ℕ
+  pub cut : said.used ≡ before ++ heard
+  pub all_said : HasSaid t (record said { used = before })
   pub is_served : IsServed t limit state said
 
 module _ {A : Type 0} where
