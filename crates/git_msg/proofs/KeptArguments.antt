@@ -22,7 +22,7 @@ use Rattle.git_msg.specs.Checks.{Passes}
 use Rattle.git_msg.specs.HeldRequest.{command_of, format_of, kept_of, limit_of, Keeps, keep_checks, IsRefused}
 use Rattle.git_msg.specs.Lines.{Line, argument, commands_of, arguments_of, IsLine, IsArgumentLine, HasFault, HasFaultIn}
 use Rattle.git_msg.specs.Requests.{AreLines, FirstFault, WantsMemory, IsTold}
-use Rattle.git_msg.specs.RequestReader.{WaitsIn, WaitsBehind, InArguments, KeepsOn, limit_in}
+use Rattle.git_msg.specs.RequestReader.{WaitsIn, WaitsBehind, InArguments, KeepsOn, limit_in, waiting_at, waiting_bytes}
 use Rattle.git_msg.proofs.ArgumentsInOrder.{asked_snoc}
 use Rattle.git_msg.proofs.DigitValues.{decimal_is_shortest}
 use Rattle.git_msg.proofs.Rows.{revision_or_none}
@@ -131,6 +131,7 @@ keeps_ok {A} r offset long arg q part k passes = record {
           in_part = one_more waits.lines arg long r q waits.in_part kept;
         };
       };
+  keeps = subst (λ (p : Part). Keeps r.request arg (max (waiting_bytes p) (length (written_text arg))) q) (sym part) k;
   leaves = (refl, refl);
   offer = refl;
   limit = k.limit;
@@ -229,6 +230,11 @@ keeps_err {A} r offset long arg q kind part same refused =
           told packets offset long arg r kind waits
           (subst (λ (n : ℕ). IsRefused (keep_checks r.request arg n) arg kind) (counted packets offset long arg r waits) refused) in
           (record { stands = it }, it);
+      keeps = (
+        refl,
+        subst (λ (p : Part). IsRefused (keep_checks r.request arg (max (waiting_bytes p) (length (written_text arg)))) arg kind) (sym part) refused,
+        sym (ap waiting_at part),
+      );
       leaves = (refl, refl);
       offer = refl;
       limit = refl;

@@ -1,10 +1,10 @@
 -- A reader of requests from bytes, a packet at a time.
 use Rattle.std.proofs.Common.{◌≡◌, ◌≢◌, ℕ, ◌+◌, ◌-◌, ◌<◌, ◌≤◌, true, false, List, [], ◌∷◌, ◌++◌, length, take, drop, length-drop, Some, None}
-use Rattle.std.proofs.Common.{refl, sym, ap, ◌∙◌, subst, append-nil, zero-add, inl, inr, arith}
+use Rattle.std.proofs.Common.{refl, sym, ap, ◌∙◌, subst, append-nil, append_assoc, zero-add, inl, inr, arith}
 use Rattle.std.proofs.Props.{props}
 use Rattle.std.proofs.Math.Logic.{∥∥₁_elim, ∥∥₁_prop}
 use Rattle.git_pkt.specs.Faults.{StopsBy}
-use Rattle.git_pkt.specs.Splits.{Given}
+use Rattle.git_pkt.specs.Splits.{Given, Splits}
 use Rattle.git_pkt.specs.PacketReader.{Feeds, Reads, ReadsOn, ShownByFeed, Tells, fault_of as packet_fault, given_by, is_open}
 use Rattle.git_pkt.specs.declared.fault.Fault.{Fault}
 use Rattle.git_pkt.specs.declared.fault.Kind.{Kind}
@@ -22,7 +22,7 @@ use Rattle.git_msg.specs.Requests.{IsTold}
 use Rattle.git_msg.specs.RequestReader.{Takes, offer_of as offer_in, limit_in, kept_so_far, fault_of as reader_fault, is_waiting}
 use Rattle.git_msg.specs.WholeRequests.{AreRequests}
 use Rattle.git_msg.specs.StreamStages.{AreBegun, Brings, HasTaken, IsBrought, IsWithin, fault_in, goes_on, stage_brought, takes_bytes, stage_is_between}
-use Rattle.git_msg.specs.RequestStreams.{HasRead, IsLeftIn, IsOne, Leaves, asked_by, fault_of, limit_of, offer_of, wants_input}
+use Rattle.git_msg.specs.RequestStreams.{EndsWith, HasRead, IsLeftIn, IsOne, Leaves, asked_by, fault_of, limit_of, offer_of, wants_input}
 use Rattle.git_msg.specs.RequestStreamSteps.{StepLeaves, Steps}
 use Rattle.git_msg.specs.declared.reader.RequestReader.{RequestReader}
 use Rattle.git_msg.specs.declared.streams.ReadGot.{ReadGot}
@@ -32,7 +32,7 @@ use Rattle.git_msg.specs.declared.streams.RequestStream.{RequestStream}
 use Rattle.git_msg.specs.declared.streams.Stage.{Stage}
 use Rattle.git_msg.specs.declared.streams.Stage.TheVariants.{Between, Within, Stopped, Failed as FailedStage}
 use Rattle.git_msg.proofs.PacketFaults.{NotOfPackets, told_of_packets}
-use Rattle.git_msg.proofs.WholeRequests.{one_more_request, requests_more}
+use Rattle.git_msg.proofs.WholeRequests.{left_at_the_end, one_more_request, requests_more}
 
 -- ---- the reader of packets
 
@@ -102,7 +102,7 @@ module _ {A : Type 0} where
 
   within_limit : (got : ReadGot A) (new : RequestReader A) → IsWithin got new → kept_so_far new ≤ limit_in new
   within_limit More new h = h
-  within_limit (Request request) new h = omega (arith, h.1)
+  within_limit (Request request) new h = omega (arith, h.2)
   within_limit Stop new h = h
   within_limit (Failed fault) new h = h
 
@@ -144,6 +144,7 @@ module _ {A : Type 0} (old new : RequestStream A) (g : Given) (used : ℕ) (piec
     ap stage_is_between is,
     shut,
     ∥∥₁_elim (old.taken wants) (hlevel props) (λ (h : HasTaken old.requests). let (left, takes) = h in (brings.brings left takes).2),
+    (brings.within old.within).1,
     (brings.within old.within).0,
   )
   packet_leaves Stop brings is = (some, ap takes_bytes is, ap fault_in is)
@@ -263,6 +264,26 @@ module _ {A : Type 0} (old new : RequestStream A) (u : List ℕ) (wants : wants_
             no_rest = none;
           })) (λ on. absurd (cc))
 
+  -- a request that they end is the last in the bytes
+  pub packet_counts : (g : Given) (got : ReadGot A) → Brings old.requests g got new.requests → packet_fault new.packets ≡ None
+      → is_open new.packets ≡ false → ReadsOn old.packets u (g ∷ []) new.packets → EndsWith got (used ++ u) new
+  packet_counts g More brings sound shut reads = tt
+  packet_counts g Stop brings sound shut reads = tt
+  packet_counts g (Failed fault) brings sound shut reads = tt
+  packet_counts g (Request request) brings sound shut reads =
+      let (rest, stream) = reads 0 used h.packets h.rest h.reads in
+      let none = rest_behind new.packets (used ++ u) (h.packets ++ g ∷ []) rest sound shut stream in
+      let (before, parts) = left_at_the_end (IsOne (offer_of old) (limit_of old)) h.packets asked h.left h.requests in
+      let whole : h.packets ++ g ∷ [] ≡ before ++ (h.left ++ g ∷ []) =
+      ap (λ (gs : List Given). gs ++ g ∷ []) parts ∙ append_assoc before h.left (g ∷ []) in
+      record {
+        before = before;
+        own = h.left ++ g ∷ [];
+        splits = subst (λ (gs : List Given). Splits 0 (used ++ u) gs []) whole
+            (subst (λ (bytes : List ℕ). Splits 0 (used ++ u) (h.packets ++ g ∷ []) bytes) none stream.splits);
+        asks = (brings.brings h.left (h.onward wants).takes).1;
+      }
+
 -- ---- a step over what is left of a piece
 
 -- what a step did, by its answer
@@ -278,6 +299,13 @@ module _ {A : Type 0} (old mid new : RequestStream A) (piece : List ℕ) (done :
       subst (λ (bytes : List ℕ). HasRead bytes (asked ++ asked_by got) new) (joined used piece done more within)
       (steps.reads (used ++ take done piece) asked (before used asked h))
 
+  -- a request that is handed out then is the last in the bytes
+  pub counts_further : ((used : List ℕ) (asked : List Asked) → HasRead used asked old → HasRead (used ++ take done piece) asked mid)
+      → (used : List ℕ) (asked : List Asked) → HasRead used asked old → EndsWith got (used ++ take (done + more) piece) new
+  counts_further before used asked h =
+      subst (λ (bytes : List ℕ). EndsWith got bytes new) (joined used piece done more within)
+      (steps.counts (used ++ take done piece) asked (before used asked h))
+
   -- a fault that what is left of the piece shows, the piece shows
   pub shows_further : wants_input mid ≡ true → (fault : Fault) → got ≡ Failed fault → ShownByFeed fault (done + more) piece
   shows_further wants fault is =
@@ -292,7 +320,7 @@ module _ {A : Type 0} (old mid new : RequestStream A) (piece : List ℕ) (done :
 pub leaves_further : {A : Type 0} (old mid new : RequestStream A) (piece rest : List ℕ) (done more : ℕ) (got : ReadGot A) → got ≢ More
     → StepLeaves got more rest mid new → Leaves got (done + more) piece old new
 leaves_further old mid new piece rest done more More other leaves = absurd (other refl)
-leaves_further old mid new piece rest done more (Request request) other (some, between, shut, format, kept) =
-    (omega (arith, some), between, shut, format, kept)
+leaves_further old mid new piece rest done more (Request request) other (some, between, shut, format, kept, limit) =
+    (omega (arith, some), between, shut, format, kept, limit)
 leaves_further old mid new piece rest done more Stop other (some, quiet, none) = (omega (arith, some), quiet, none)
 leaves_further old mid new piece rest done more (Failed fault) other leaves = leaves

@@ -25,6 +25,14 @@ module _ (IsOne : List Given → Asked → Type 0) where
   requests_more packets more (q ∷ qs) left (front, back, whole, first, rest) =
       (front, back ++ more, ap (λ (l : List Given). l ++ more) whole ∙ append_assoc front back more, first, requests_more back more qs left rest)
 
+  -- what is left is the end of the packets
+  pub left_at_the_end : (packets : List Given) (asked : List Asked) (left : List Given) → AreRequests IsOne packets asked left
+      → (before : List Given) × (packets ≡ before ++ left)
+  left_at_the_end packets [] left same = ([], same)
+  left_at_the_end packets (q ∷ qs) left (front, more, whole, first, rest) =
+      let (before, parts) = left_at_the_end more qs left rest in
+      (front ++ before, whole ∙ ap (λ (gs : List Given). front ++ gs) parts ∙ sym (append_assoc front before left))
+
   -- what is left is one more request
   pub one_more_request : (packets : List Given) (asked : List Asked) (left : List Given) (q : Asked) → AreRequests IsOne packets asked left → IsOne left q
       → AreRequests IsOne packets (asked ++ q ∷ []) []

@@ -1,5 +1,5 @@
 -- What a reader of requests stands for: the packets since the request began, as lines.
-use Rattle.std.specs.Prelude.{◌≡◌, ◌≢◌, ℕ, ◌≤◌, Bool, true, false, not, Option, Some, None, option_to_list, Result, Ok, Err, List, [], ◌∷◌, ◌++◌, length}
+use Rattle.std.specs.Prelude.{◌≡◌, ◌≢◌, ℕ, ◌≤◌, Bool, true, false, not, Option, Some, None, option_to_list, Result, Ok, Err, List, [], ◌∷◌, ◌++◌, length, max}
 use Rattle.git_pkt.specs.Packets.{payload, text_of}
 use Rattle.git_pkt.specs.Splits.{Given}
 use Rattle.git_pkt.specs.declared.fault.Fault.{Fault}
@@ -10,9 +10,9 @@ use Rattle.git_msg.specs.declared.reader.Part.TheVariants.{Capabilities, Argumen
 use Rattle.git_msg.specs.declared.reader.RequestReader.{RequestReader}
 use Rattle.git_msg.specs.declared.reader.Taken.{Taken}
 use Rattle.git_msg.specs.declared.reader.Taken.TheVariants.{More, Argument as TakenArgument, Request as TakenRequest, Stop}
-use Rattle.git_msg.specs.Arguments.{Arg, shown}
+use Rattle.git_msg.specs.Arguments.{Arg, shown, written_text}
 use Rattle.git_msg.specs.Asked.{asked_by}
-use Rattle.git_msg.specs.HeldRequest.{asked_of, command_of, format_of, kept_of, limit_of}
+use Rattle.git_msg.specs.HeldRequest.{asked_of, command_of, format_of, keep_checks, kept_of, limit_of, IsRefused, Keeps}
 use Rattle.git_msg.specs.Lines.{Line, commands_of, arguments_of, kept_in, has_format, has_delimiter, IsArgumentText}
 use Rattle.git_msg.specs.Requests.{AreLines, IsPlainLine, Asks, FirstFault, IsTold, IsStop}
 
@@ -28,6 +28,16 @@ fault_in _ = None
 abbrev pub waits_in : Part → Bool
 waits_in (Waiting offset long) = true
 waits_in _ = false
+
+-- where the argument stands that waits
+abbrev pub waiting_at : Part → ℕ
+waiting_at (Waiting offset long) = offset
+waiting_at _ = 0
+
+-- how many bytes its text has
+abbrev pub waiting_bytes : Part → ℕ
+waiting_bytes (Waiting offset long) = long
+waiting_bytes _ = 0
 
 module _ {A : Type 0} where
   -- what the requests are read against
@@ -152,9 +162,20 @@ module _ {A : Type 0} where
   LeavesKept (Ok done) new = (fault_of new ≡ None) × (is_waiting new ≡ false)
   LeavesKept (Err f) new = (fault_of new ≡ Some f) × (is_waiting new ≡ false)
 
+  -- how many bytes an argument counts that is kept now: those of the text that waits, and no fewer than are written of it
+  abbrev pub counted_as : Arg → RequestReader A → ℕ
+  counted_as arg r = max (waiting_bytes r.part) (length (written_text arg))
+
+  -- whether or not the argument is the one that waits, it is what is kept, or what is refused where that one stands
+  abbrev pub KeepsGiven : RequestReader A → Arg → Result (Unit {0}) Fault → RequestReader A → Type 0
+  KeepsGiven old arg (Ok done) new = Keeps old.request arg (counted_as arg old) new.request
+  KeepsGiven old arg (Err f) new =
+      (new.request ≡ old.request) × IsRefused (keep_checks old.request arg (counted_as arg old)) arg f.kind × (f.offset ≡ waiting_at old.part)
+
   -- what a call of `keep` does with the argument that waits
   pub record KeepsOn (old : RequestReader A) (arg : Arg) (result : Result (Unit {0}) Fault) (new : RequestReader A) : Type 0 where
     pub settles : (packets : List Given) → WaitsFor packets arg old → Settles packets result new
+    pub keeps : KeepsGiven old arg result new
     pub leaves : LeavesKept result new
     pub offer : offer_of new ≡ offer_of old
     pub limit : limit_in new ≡ limit_in old

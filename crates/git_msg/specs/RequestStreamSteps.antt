@@ -1,7 +1,7 @@
 -- What the bytes up to a packet do to a reader of requests from bytes.
 use Rattle.std.specs.Prelude.{◌≡◌, ◌<◌, ℕ, true, List, ◌++◌, take}
 use Rattle.git_msg.specs.Asked.{Asked}
-use Rattle.git_msg.specs.RequestStreams.{HasRead, Leaves, IsNews, asked_by, offer_of, limit_of, wants_input}
+use Rattle.git_msg.specs.RequestStreams.{EndsWith, HasRead, Leaves, IsNews, asked_by, offer_of, limit_of, wants_input}
 use Rattle.git_msg.specs.declared.streams.RequestStream.{RequestStream}
 use Rattle.git_msg.specs.declared.streams.ReadRequest.{ReadRequest}
 use Rattle.git_msg.specs.declared.streams.ReadGot.{ReadGot}
@@ -16,6 +16,7 @@ module _ {A : Type 0} where
   -- what the bytes up to a packet do, or all of them
   pub record Steps (old : RequestStream A) (piece : List ℕ) (read : ReadRequest A) (new : RequestStream A) : Type 0 where
     pub reads : (used : List ℕ) (asked : List Asked) → HasRead used asked old → HasRead (used ++ take read.used piece) (asked ++ asked_by read.got) new
+    pub counts : (used : List ℕ) (asked : List Asked) → HasRead used asked old → EndsWith read.got (used ++ take read.used piece) new
     pub leaves : StepLeaves read.got read.used piece old new
     pub news : IsNews old piece read
     pub offer : offer_of new ≡ offer_of old

@@ -6,8 +6,9 @@ use Rattle.git_pkt.specs.PacketReader.{Reads, ShownByFeed, is_open, position_of,
 use Rattle.git_pkt.specs.declared.fault.Fault.{Fault}
 use Rattle.git_pkt.specs.declared.fault.Kind.TheVariants.{Truncated}
 use Rattle.git_msg.specs.declared.offers.Offer.{Offer}
+use Rattle.git_msg.specs.declared.requests.Request.{Request}
 use Rattle.git_msg.specs.Asked.{Asked}
-use Rattle.git_msg.specs.HeldRequest.{asked_of, format_of, kept_of}
+use Rattle.git_msg.specs.HeldRequest.{asked_of, format_of, kept_of, limit_of as request_limit}
 use Rattle.git_msg.specs.Requests.{Asks, IsTold, IsStop}
 use Rattle.git_msg.specs.WholeRequests.{AreRequests}
 use Rattle.git_msg.specs.StreamStages.{AreBegun, fault_in, takes_bytes, stage_is_between}
@@ -116,16 +117,28 @@ module _ {A : Type 0} where
   asked_by (RequestGot request) = asked_of request ∷ []
   asked_by got = []
 
+  -- the last of the packets in these bytes are the request: they ask for what it does, and their texts have as many bytes as it counts
+  pub record IsAtTheEnd (bytes : List ℕ) (request : Request A) (s : RequestStream A) : Type 0 where
+    pub before : List Given
+    pub own : List Given
+    pub splits : Splits 0 bytes (before ++ own) []
+    pub asks : Asks (offer_of s) (limit_of s) own (asked_of request) (kept_of request)
+
+  -- a request that is handed out is the last in the bytes
+  abbrev pub EndsWith : ReadGot A → List ℕ → RequestStream A → Type 0
+  EndsWith (RequestGot request) bytes s = IsAtTheEnd bytes request s
+  EndsWith got bytes s = Unit {0}
+
   -- how the reader stands after each answer
   abbrev pub Leaves : ReadGot A → ℕ → List ℕ → RequestStream A → RequestStream A → Type 0
   Leaves More used piece old new = wants_input old ≡ true → (used ≡ length piece) × (wants_input new ≡ true)
   Leaves (RequestGot request) used piece old new =
       (0 < used) × (is_between new ≡ true) × (is_within_packet new ≡ false) × (format_of request ≡ (offer_of new).format)
-      × (kept_of request ≤ limit_of new)
+      × (kept_of request ≤ limit_of new) × (request_limit request ≡ limit_of new)
   Leaves StopGot used piece old new = (0 < used) × (wants_input new ≡ false) × (fault_of new ≡ None)
   Leaves (FailedGot fault) used piece old new = fault_of new ≡ Some fault
 
-  -- a reader that had no fault tells only what the piece shows
+  -- a reader that had no fault tells no end of the input, and that the stream is too long only where the piece has a further byte
   abbrev pub IsNews : RequestStream A → List ℕ → ReadRequest A → Type 0
   IsNews old piece read = (fault : Fault) → fault_of old ≡ None → read.got ≡ FailedGot fault → ShownByFeed fault read.used piece
 
@@ -141,6 +154,7 @@ module _ {A : Type 0} where
   -- what a call of `feed` does, whatever was read before
   pub record Feeds (old : RequestStream A) (piece : List ℕ) (read : ReadRequest A) (new : RequestStream A) : Type 0 where
     pub reads : (used : List ℕ) (asked : List Asked) → HasRead used asked old → HasRead (used ++ take read.used piece) (asked ++ asked_by read.got) new
+    pub counts : (used : List ℕ) (asked : List Asked) → HasRead used asked old → EndsWith read.got (used ++ take read.used piece) new
     pub leaves : Leaves read.got read.used piece old new
     pub news : IsNews old piece read
     pub stays : Stays old read new

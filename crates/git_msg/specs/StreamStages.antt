@@ -3,7 +3,7 @@ use Rattle.std.specs.Prelude.{◌≡◌, ◌≤◌, ℕ, Bool, true, false, Opti
 use Rattle.git_pkt.specs.Splits.{Given}
 use Rattle.git_pkt.specs.declared.fault.Fault.{Fault}
 use Rattle.git_msg.specs.declared.offers.Offer.{Offer}
-use Rattle.git_msg.specs.HeldRequest.{asked_of, format_of, kept_of}
+use Rattle.git_msg.specs.HeldRequest.{asked_of, format_of, kept_of, limit_of}
 use Rattle.git_msg.specs.Lines.{Line}
 use Rattle.git_msg.specs.Requests.{AreLines, Asks, IsTold, IsStop}
 use Rattle.git_msg.specs.RequestReader.{Takes, offer_of, limit_in, kept_so_far, fault_of, is_waiting}
@@ -60,9 +60,9 @@ module _ {A : Type 0} where
   goes_on Stop = false
   goes_on (Failed fault) = false
 
-  -- what is kept is within the limit; what was kept of a whole request is given away with it
+  -- what is kept is within the limit; what was kept of a whole request is given away with it, under the same limit
   abbrev pub IsWithin : ReadGot A → RequestReader A → Type 0
-  IsWithin (Request request) new = (kept_of request ≤ limit_in new) × (kept_so_far new ≡ 0)
+  IsWithin (Request request) new = (limit_of request ≡ limit_in new) × (kept_of request ≤ limit_in new) × (kept_so_far new ≡ 0)
   IsWithin got new = kept_so_far new ≤ limit_in new
 
   -- what a packet does

@@ -3,7 +3,7 @@ use Rattle.git_pkt.proofs.Pieces.{left_of}
 use Rattle.git_msg.specs.Asked.{Asked}
 use Rattle.git_msg.specs.RequestStreams.{HasRead, wants_input}
 use Rattle.git_msg.specs.declared.streams.ReadGot.TheVariants.{More}
-use Rattle.git_msg.proofs.StreamSteps.{leaves_further, reads_further, shows_further, steps_with}
+use Rattle.git_msg.proofs.StreamSteps.{counts_further, leaves_further, reads_further, shows_further, steps_with}
 use Rattle.git_msg.proofs.streams.RequestStream.feed.Goals as goal
 
 true_not_false : true ≡ false → ⊥
@@ -44,6 +44,7 @@ returns-in_default-got g c =
       used = omega (arith, c.step-step.ensures.used, ap length (left_of piece done was.within), length-drop done piece);
       feeds = record {
         reads = reads_further old mid new piece done was.within read.used read.got steps was.reads;
+        counts = counts_further old mid new piece done was.within read.used read.got steps was.reads;
         leaves = leaves_further old mid new piece _ done read.used read.got c.in_default-got.not-More steps.leaves;
         news = λ fault none is. shows_further old mid new piece done was.within read.used read.got steps loud fault is;
         stays = λ quiet. absurd (true_not_false (sym loud ∙ was.same ∙ quiet));

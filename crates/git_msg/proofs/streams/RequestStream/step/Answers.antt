@@ -3,8 +3,8 @@ use Rattle.git_pkt.specs.Packets.{seen}
 use Rattle.git_pkt.specs.Splits.{Given}
 use Rattle.git_pkt.specs.PacketReader.{ShownByFeed}
 use Rattle.git_pkt.specs.declared.fault.Fault.{Fault}
-use Rattle.git_msg.proofs.StreamSteps.{open_read, feeds_with, packet_leaves, packet_news, packet_read, ready_behind, refused_read, some_taken_behind}
-use Rattle.git_msg.proofs.StreamSteps.{sound_behind, within_behind}
+use Rattle.git_msg.proofs.StreamSteps.{open_read, feeds_with, packet_counts, packet_leaves, packet_news, packet_read, ready_behind, refused_read}
+use Rattle.git_msg.proofs.StreamSteps.{some_taken_behind, sound_behind, within_behind}
 use Rattle.git_msg.proofs.streams.RequestStream.step.Goals as goal
 
 pub invariant_of-self-in-Packet : goal.invariant_of-self-in-Packet
@@ -36,6 +36,9 @@ returns-in-Packet-clause-steps g c =
       reads = λ used asked h.
           packet_read old _ (take fed.used piece) c.requires.waits brings.offer brings.limit used asked h given got brings c.stage_after-self.ensures
           feeds.tells.1 feeds.tells.2 feeds.reads;
+      counts = λ used asked h.
+          packet_counts old _ (take fed.used piece) c.requires.waits brings.offer brings.limit used asked h given got brings
+          feeds.tells.1 feeds.tells.2 feeds.reads;
       leaves = packet_leaves old _ given fed.used piece c.requires.waits feeds.tells.0 feeds.tells.2 got brings c.stage_after-self.ensures;
       news = λ fault none is.
           packet_news old c.take_packet-got.new.requests given got c.stage_after-self.result c.requires.waits brings c.stage_after-self.ensures
@@ -55,6 +58,7 @@ returns-in-Failed-clause-steps g c =
     record {
       reads = λ used asked h.
           refused_read old _ (take fed.used piece) c.requires.waits refl refl used asked h fault refl feeds.tells news.not_the_end feeds.reads;
+      counts = λ used asked h. tt;
       leaves = refl;
       news = λ other none is. subst (λ (f : Fault). ShownByFeed f fed.used piece) (cc) news;
       offer = refl;
@@ -69,6 +73,7 @@ returns-in-More-clause-steps g c =
     let feeds = feeds_with old.packets c.feed-fed.follows.lender-at-none piece fed _ c.in-More.is c.feed-fed.follows.holds-at-none in
     record {
       reads = λ used asked h. open_read old _ (take fed.used piece) c.requires.waits refl refl used asked h refl refl feeds.reads;
+      counts = λ used asked h. tt;
       leaves = (search rules, c.requires.waits);
       news = λ fault none is. absurd (cc);
       offer = refl;
