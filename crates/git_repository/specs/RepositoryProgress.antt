@@ -25,7 +25,7 @@ HasFailed Start = ⊥
 HasFailed (Lines draft) = ⊥
 HasFailed (Failed fault) = Unit {0}
 
--- what is held is the line that has begun; behind a fault nothing is held
+-- what is held is the line that has begun; after a fault what is held does not matter
 abbrev pub IsBegun : Progress → List ℕ → List ℕ → Type 0
 IsBegun Start held begun = held ≡ begun
 IsBegun (Lines draft) held begun = held ≡ begun

@@ -1,6 +1,6 @@
 //! A repository that is a few lists, read from a text that comes in pieces.
 
-ghost use Rattle.std.specs.Prelude.{◌++◌, [], ℕ, List, MatchResult, OnErr, OnOk};
+ghost use Rattle.std.specs.Prelude.{◌≡◌, ◌++◌, [], ℕ, List, length, IsOk, MatchResult, OnErr, OnOk};
 ghost use Rattle.git_repository.specs.RepositoryFaults.{IsTextFault, IsWholeText};
 
 use crate::repository_progress::Progress;
@@ -11,17 +11,17 @@ use std::mem;
 
 /// Reads the text of a repository in pieces, however it is cut: what [`crate::read_repo`] reads from a whole one.
 ///
-/// It keeps what the lines said, and of the text no more than the line that a piece left open.
+/// It keeps what the lines said, and of the text no more than the line that a piece left open, or the one that was refused.
 #[derive(Drop)]
 pub struct RepositoryReader {
     alloc: Global,
     progress: Progress,
-    /// What came of the line that has not ended. Nothing more comes to it once a line was refused.
+    /// What came of the line that has not ended. It is not read once a line was refused.
     begun: Vec<u8>,
 }
 
 impl RepositoryReader {
-    ghost use Rattle.git_repository.specs.RepositoryReader.{Reads};
+    ghost use Rattle.git_repository.specs.RepositoryReader.{HasRefused, LacksRoom, Reads};
 
     /// A reader that was fed nothing.
     pub fn new(alloc: Global) -> RepositoryReader
@@ -41,6 +41,8 @@ impl RepositoryReader {
     pub fn feed(&mut self, piece: &[u8]) -> Result<(), AllocError>
         ensures fed { OnOk result ((text : List ℕ) → Reads self.old text → Reads self.new (text ++ piece.now)) }
         ensures stays { OnErr result ((text : List ℕ) → Reads self.old text → Reads self.new text) }
+        ensures full { OnErr result (LacksRoom self.old (length piece.now)) }
+        ensures passed { HasRefused self.old → IsOk result × (self.new ≡ self.old) }
     {
         if self.progress.has_failed() {
             return Ok(());

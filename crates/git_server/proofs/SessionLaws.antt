@@ -1,8 +1,8 @@
 -- What a server's moments and its end are, without the server.
-use Rattle.std.proofs.Common.{arith, ◌≡◌, ℕ, Bool, true, List, [], Option, Some, None, refl, sym, ap, ◌∙◌, append-nil, subst, inl, inr}
+use Rattle.std.proofs.Common.{arith, ◌≡◌, ℕ, Bool, true, false, List, [], Option, Some, None, refl, sym, ap, ◌∙◌, append-nil, subst, inl, inr}
 use Rattle.git_server.specs.Repository.{Repository, RepoState}
 use Rattle.git_server.specs.Answers.{AllFit, spelled}
-use Rattle.git_server.specs.Sessions.{Setting, IsTail, IsEnding, IsAnswered, IsRunning, IsSession}
+use Rattle.git_server.specs.Sessions.{Setting, GoesOn, IsTail, IsEnding, IsAnswered, IsRunning, IsSession}
 use Rattle.git_server.specs.Phases.{Owes, outcome_in, turn_in}
 use Rattle.git_server.specs.declared.server.Phase.{Phase}
 use Rattle.git_server.specs.declared.server.Phase.TheVariants.{Advertising, Between, Within, Answering, Refusing, Ended}
@@ -19,24 +19,27 @@ use Rattle.git_server.proofs.Going.{goes_nowhere, goes_on, no_outcome, owes_noth
 
 module _ {R A : Type 0} (state : R → RepoState) (server : Server R A) (s : Setting) (used : List ℕ)
     (over : Bool) (given : List ℕ) (r : Running state s used over given server) where
+  -- without an outcome the session goes on
+  pub going : StandsBy None s used over given server → (over ≡ false) × GoesOn s used given
+  going (not_over, h) = (
+    not_over,
+    record {
+      asked = h.asked;
+      left = h.left;
+      rest = h.rest;
+      sent = h.sent;
+      owed = (owes_some server.offer s.repo server.phase).0;
+      stream = record { packets = h.packets; splits = h.reads.splits; requests = h.requests };
+      begins = h.begins;
+      unrefused = (sound_rest server.reader 0 used h.packets h.rest h.no_fault h.reads).1;
+      is_sent = h.is_sent (owes_some server.offer s.repo server.phase).0 (owes_some server.offer s.repo server.phase).1;
+      given_is = h.given_is;
+      fit = h.fit;
+    },
+  )
+
   moment : (o : Option Outcome) → outcome_of server ≡ o → StandsBy o s used over given server → IsRunning s used over given
-  moment None none (not_over, h) =
-      inl (
-        not_over,
-        record {
-          asked = h.asked;
-          left = h.left;
-          rest = h.rest;
-          sent = h.sent;
-          owed = (owes_some server.offer s.repo server.phase).0;
-          stream = record { packets = h.packets; splits = h.reads.splits; requests = h.requests };
-          begins = h.begins;
-          unrefused = (sound_rest server.reader 0 used h.packets h.rest h.no_fault h.reads).1;
-          is_sent = h.is_sent (owes_some server.offer s.repo server.phase).0 (owes_some server.offer s.repo server.phase).1;
-          given_is = h.given_is;
-          fit = h.fit;
-        },
-      )
+  moment None none h = inl (going h)
   moment (Some outcome) some h = let some_owed = owes_some server.offer s.repo server.phase in inr (outcome, some_owed.0, h some_owed.0 some_owed.1)
 
   pub every_moment : IsRunning s used over given

@@ -32,7 +32,7 @@ IsAdmitted repo arg = barred repo arg ≡ None
 abbrev pub AreAdmitted : Repository → List Line → Type 0
 AreAdmitted repo lines = All (IsAdmitted repo) (arguments_of lines)
 
--- the repository has each object and each reference that is asked for
+-- the repository has each object and each reference that a fetch wants
 abbrev pub HasAsked : Repository → Asked → Type 0
 HasAsked repo (ls_refs q) = Unit {0}
 HasAsked repo (object_info q) = Unit {0}

@@ -39,12 +39,6 @@ AreSizesFrom whole q repo place later = later ≡ sizes_from q repo place
 AreSizesFrom broken q repo place later = ⊥
 
 module _ {A : Type 0} where
-  -- what is answered
-  abbrev pub asked_in : Answer A → Asked
-  asked_in (References request next) = ls_refs request.asked
-  asked_in (Fetching request place) = fetch request.asked
-  asked_in (Sizes request place) = object_info request.asked
-
   -- how many bytes the argument lines of the request have
   abbrev pub kept_with : Answer A → ℕ
   kept_with (References request next) = request.kept

@@ -51,7 +51,7 @@ module _ {A : Type 0} where
   outcome_in (Ended outcome) = Some outcome
   outcome_in _ = None
 
-  -- in this phase these packets may wait to be pulled, and then nothing does
+  -- in this phase these packets may be all that is still to be pulled, in this order
   abbrev pub Owes : Offer → Repository → Phase A → List Pkt → Type 0
   Owes offer repo (Advertising line) later = later ≡ advertisement_from offer line
   Owes offer repo (Answering answer offset) later = IsAnswerFrom whole repo answer later

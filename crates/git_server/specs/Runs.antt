@@ -60,7 +60,7 @@ pub record Waits (s : Setting) (used unused : List ℕ) (over : Bool) (given : L
   pub goes_on : over ≡ false
   pub answered : IsAnswered s used given
 
--- how a run ended. Where its reads were spent each of them had brought some bytes.
+-- how a run ended. Where its reads were spent there were at least as many bytes as reads.
 abbrev pub EndsRun : Setting → Result Outcome RunFault → ℕ → List ℕ → List ℕ → Bool → List ℕ → Type 0
 EndsRun s (Ok outcome) turns used unused over given = IsWholeRun s outcome used unused over given
 EndsRun s (Err ReadFault) turns used unused over given = Waits s used unused over given

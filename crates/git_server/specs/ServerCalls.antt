@@ -50,7 +50,7 @@ module _ {R A : Type 0} where
       (s : Setting) (so_far : List ℕ) (over : Bool) (before : List ℕ) → Running state s so_far over before old → wants_input old ≡ true
       → (fault : Fault) → outcome ≡ Some (Refused fault) → fault.kind ≡ StreamTooLong → used < length piece
 
-  -- these packets may wait to be pulled, and then nothing does
+  -- these packets may be all that is still to be pulled, in this order
   abbrev pub OwesNow : (R → RepoState) → Server R A → List Pkt → Type 0
   OwesNow state server later = Owes server.offer (state server.repo).answers server.phase later
 

@@ -31,7 +31,7 @@ pub record Setting : Type 0 where
 abbrev pub advertised : Setting → List Pkt
 advertised s = if s.advertise then advertisement_of s.offer else []
 
--- the packets are one whole request, which asks for this, and the repository has each object of it
+-- the packets are one whole request, which asks for this, and the repository has what a fetch wants
 abbrev pub IsRequest : Setting → List Given → Asked → Type 0
 IsRequest s packets q = (kept : ℕ) × Asks s.offer s.limit packets q kept × HasAsked s.repo q
 

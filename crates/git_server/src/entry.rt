@@ -1,6 +1,6 @@
 //! A reference of a repository.
 
-ghost use Rattle.std.specs.Prelude.{◌≡◌, ◌↔◌, IfOk, IsTrue, MatchResult, Some, None};
+ghost use Rattle.std.specs.Prelude.{◌≡◌, ◌≤◌, ◌↔◌, length, IfOk, IsOk, IsTrue, MatchResult, Some, None};
 ghost use Rattle.std.specs.Option.{option_copied, ForSome};
 ghost use Rattle.git_names.specs.RefName.{IsRefName};
 ghost use Rattle.git_server.specs.Repository.{Entry, IsNamed, IsOfFormat, bytes_of};
@@ -61,7 +61,8 @@ impl RefEntry {
     }
 
     /// The same reference with copies of a name and a target that are known to be names that a reference may have, as those
-    /// that were read from a line are. It fails only for want of memory.
+    /// that were read from a line are. It fails only for want of memory, which a name of at most 32 bytes without a target does not
+    /// take.
     pub fn copied(
         alloc: Global,
         name: &[u8],
@@ -70,7 +71,8 @@ impl RefEntry {
         peeled: Option<Oid>,
     ) -> Result<RefEntry, AllocError>
         requires { IsNamed name.now (option_copied target) }
-        ensures { IfOk result (λ e. e ≡ record { name = name.now; id = id; target = option_copied target.entry; peeled = peeled }) }
+        ensures copied { IfOk result (λ e. e ≡ record { name = name.now; id = id; target = option_copied target.entry; peeled = peeled }) }
+        ensures succeeds { length name.now ≤ SHORT_NAME → option_copied target.entry ≡ None → IsOk result }
     {
         let name = SmallVec::from_slice(alloc, name)?;
         let copy = copy_target(alloc, target)?;
@@ -128,7 +130,8 @@ impl RefEntry {
 }
 
 fn copy_target(alloc: Global, target: Option<&[u8]>) -> Result<Option<Vec<u8>>, AllocError>
-    ensures { IfOk result (λ copy. bytes_of copy ≡ option_copied target.entry) }
+    ensures copied { IfOk result (λ copy. bytes_of copy ≡ option_copied target.entry) }
+    ensures succeeds { option_copied target.entry ≡ None → IsOk result }
 {
     match target {
         Some(target) => {

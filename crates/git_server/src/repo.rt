@@ -47,7 +47,8 @@ pub trait Repo {
     fn has(&self, id: &Oid) -> bool
         ensures { result ≡ (state self.now).answers.has id.now };
 
-    /// How many bytes the object of this name has; none where it has no such object.
+    /// How many bytes the object of this name has: none where it has no such object, of which `object-info` is then told without a
+    /// size.
     fn object_size(&self, id: &Oid) -> Option<u64>
         ensures { result ≡ (state self.now).answers.object_size id.now };
 
@@ -79,8 +80,8 @@ pub trait Repo {
         ensures fine { OnOk result ((state self.new).failures ≡ (state self.old).failures) }
         ensures same { (state self.new).answers ≡ (state self.old).answers };
 
-    /// The names of the references rise, they and the targets are names that a reference may have, and all object names
-    /// are of the format, also those of a shallow boundary. There none but a commit that the request calls shallow is
+    /// The names of the references rise, they and the targets are names that a reference may have, and the object names of the
+    /// references and of a shallow boundary are of the format. There none but a commit that the request calls shallow is
     /// said to be no longer shallow.
     ghost sound: { (repo : Self) → IsSound (state repo).answers };
 
