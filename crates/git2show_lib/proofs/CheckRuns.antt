@@ -41,6 +41,7 @@ use Rattle.git_client.specs.declared.phase.Phase.{Phase}
 use Rattle.git_client.specs.declared.phase.Phase.TheVariants.{Hearing}
 use Rattle.git_client.proofs.Alongs.{written_then}
 use Rattle.git_client.proofs.Carries.{is_quiet, not_left, owes_nothing}
+use Rattle.git_client.proofs.AskedInTurn.{asked_in_turn, commands_advertised, heard_in_turn}
 use Rattle.git_client.proofs.ClientRuns.{Running, Ran, ran, begins}
 use Rattle.git_client.proofs.EventsHeard.{all_is_said, awaits_more, has_events, has_noted, is_whole, position_is}
 use Rattle.git_client.proofs.Faults.{first_fault}
@@ -148,7 +149,7 @@ module _ {A : Type 0} (t : Terms) where
           lines = r.lines ++ step.lines;
           packed = r.packed ++ step.packed;
           along = along;
-          asked = r.asked;
+          in_turn = heard_in_turn t r.h.asked r.h.used step.used r.h.events events front r.in_turn;
           read = bytes_on before held after r.h.used waiting step.came step.used unused r.read step.read step.parts;
           said = in_silence broken r.h.given;
           told = written_then broken out_before out_held out_after r.lines step.lines r.told step.told;
@@ -177,7 +178,7 @@ module _ {A : Type 0} (t : Terms) where
             pack_is = on.along.pack_is;
             within = omega arith;
           };
-          asked = on.asked;
+          in_turn = on.in_turn;
           read = on.read;
           said = on.said;
           told = on.told;
@@ -190,16 +191,16 @@ module _ {A : Type 0} (t : Terms) where
   asked_on : (broken : Bool) (front : List (Request A)) (old new : Client A) (request : Request A) (unused : List ℕ)
       {responses : Flow} {out_before out_held out_after : Option (List ℕ)}
       → (r : Running false t front old no_counts unused responses silent (flow out_before out_held) silent)
-      → AsksNext broken old new request silent (flow out_held out_after)
+      → can_ask old ≡ true → AsksNext broken old new request silent (flow out_held out_after)
       → (on : Running broken t (front ++ request ∷ []) new no_counts unused responses silent (flow out_before out_after) silent)
       × (on.h.used ≡ r.h.used)
-  asked_on broken front old new request unused {responses} {out_before} {out_held} {out_after} r step = (
+  asked_on broken front old new request unused {responses} {out_before} {out_held} {out_after} r ready step = (
     record {
       h = record r.h { asked = r.h.asked ++ asked_of request ∷ []; given = r.h.given ++ step.given };
       lines = _;
       packed = r.packed;
       along = step.goes t r.h r.lines r.packed no_counts r.along;
-      asked = ap (λ (l : List Asked). l ++ asked_of request ∷ []) r.asked ∙ sym (map-append asked_of front (request ∷ []));
+      in_turn = asked_in_turn t r.h old front request r.along.stands ready step.passes r.in_turn;
       read = r.read;
       said = in_silence broken (r.h.given ++ step.given);
       told = written_then broken out_before out_held out_after r.lines _ r.told step.told;
@@ -314,8 +315,8 @@ module _ {A : Type 0} (t : Terms) where
             events = on.h.events;
             caps = caps_of new;
             cut = sym (append-nil on.h.used);
-            whole = subst (λ (asked : List Asked). IsConversation t asked on.h.used on.h.events) on.asked (is_whole t on.h new stands heard.can_ask_on);
-            noted = subst (λ (asked : List Asked). HasNoted t asked on.h.used (caps_of new)) on.asked (has_noted t on.h new stands);
+            whole = subst (λ (asked : List Asked). IsConversation t asked on.h.used on.h.events) on.in_turn.are (is_whole t on.h new stands heard.can_ask_on);
+            noted = subst (λ (asked : List Asked). HasNoted t asked on.h.used (caps_of new)) on.in_turn.are (has_noted t on.h new stands);
             offers = offers;
           };
           ready = heard.can_ask_on;
@@ -332,7 +333,7 @@ module _ {A : Type 0} (t : Terms) where
         let asked = map asked_of c.front ++ asked_of request ∷ [] in
         let reading = reads_on c.reading step.reads in
         let (left, rest, are_asked, (nothing, none)) = step.alone reading.used asked reading.has_read in
-        let (on, same) = asked_on broken c.front old new request waiting c.runs asks in
+        let (on, same) = asked_on broken c.front old new request waiting c.runs c.ready asks in
         record {
           found = found_in reading left rest;
           offer = offer_of next;
@@ -355,7 +356,7 @@ module _ {A : Type 0} (t : Terms) where
         → HearsWhole window middle new waiting piece (flow heard heard_after) (flow out_asked out_after) silent
         → Checking new next later (window_of window piece) (flow before after) (flow heard_before heard_after) (flow out_before out_after)
     response_heard old middle new stream next request ended held later waiting window piece {before} {left} {after} c step asks heard =
-        let (asked, same) = asked_on false c.front old middle request waiting c.runs asks in
+        let (asked, same) = asked_on false c.front old middle request waiting c.runs c.ready asks in
         let (on, grown) = heard_whole (c.front ++ request ∷ []) middle new waiting window piece asked heard in
         record {
           front = c.front ++ request ∷ [];
@@ -404,6 +405,8 @@ module _ (A : Type 0) (t : Terms) (limit : ℕ) {Q R : Type 0} (of_requests : To
       were_read = refl;
       told = refl;
       heard = has_events t h client at.stands;
+      may_be = commands_advertised t h.asked h.used h.events front at.in_turn;
+      in_turn = at.in_turn.in_turn;
       offered = offered;
       asks = asks;
       ends = ended;
@@ -424,7 +427,7 @@ module _ (A : Type 0) (t : Terms) (limit : ℕ) {Q R : Type 0} (of_requests : To
     heard_up_to result unused step ended =
         let (on, grown) = heard_on t (is_broken (run_result result)) front old new waiting unused a.runs step in
         let all_asked : AreAllAsked on.h a.found =
-        record { asked = a.asked ∙ sym on.asked; nothing_left = a.nothing_left; no_rest = a.no_rest } in
+        record { asked = a.asked ∙ sym on.in_turn.are; nothing_left = a.nothing_left; no_rest = a.no_rest } in
         ends result a.found a.offer on.h front new unused _ _ _ a.read (ran on)
         (known_on t a.runs.h.used step.used on.h.used a.offer a.found grown a.offered) a.asks (ended on.h on.along.stands all_asked)
 
@@ -459,7 +462,7 @@ module _ (A : Type 0) (t : Terms) (limit : ℕ) {Q R : Type 0} (of_requests : To
   asking_stopped WriteFault old new stream next request ended held later waiting out_after c step asks =
       let a = response_due t limit true old new stream next request ended held later waiting c step asks in
       ends (Err CheckWriteFault) a.found a.offer a.runs.h (c.front ++ request ∷ []) new waiting _ _ _ a.read (ran a.runs) a.offered a.asks
-      (record { asked = a.asked ∙ sym a.runs.asked; nothing_left = a.nothing_left; no_rest = a.no_rest })
+      (record { asked = a.asked ∙ sym a.runs.in_turn.are; nothing_left = a.nothing_left; no_rest = a.no_rest })
   asking_stopped (Refused fault) old new stream next request ended held later waiting {responses} {before} {left} {after} {out_before} {out_held}
       out_after c step asks =
       let asked = map asked_of c.front ++ asked_of request ∷ [] in
@@ -471,7 +474,7 @@ module _ (A : Type 0) (t : Terms) (limit : ℕ) {Q R : Type 0} (of_requests : To
       let lines = transcript_of h.asked h.events in
       let so : Ran false t h c.front old waiting responses silent (flow out_before out_after) silent = record {
         stands = stands;
-        asked = at.asked;
+        in_turn = at.in_turn;
         read = at.read;
         said = at.said;
         told =
@@ -483,7 +486,7 @@ module _ (A : Type 0) (t : Terms) (limit : ℕ) {Q R : Type 0} (of_requests : To
       (inl (still_offered t step.reads.offer refl c.offered)) (asks_within t limit reading remaining rest are_asked) (inr (inl (record {
         request = request;
         format = step.format;
-        asked = ap (λ (l : List Asked). l ++ asked_of request ∷ []) (sym c.runs.asked);
+        asked = ap (λ (l : List Asked). l ++ asked_of request ∷ []) (sym c.runs.in_turn.are);
         nothing_left = nothing;
         no_rest = none;
         refused = record {
@@ -521,7 +524,7 @@ module _ (A : Type 0) (t : Terms) (limit : ℕ) {Q R : Type 0} (of_requests : To
         let (remaining, rest, are_asked, stands) = asking reading.used (map asked_of c.front) reading.has_read in
         let so : Ran false t h c.front client (waiting ++ came) (flow heard_before heard_after) silent out silent = record {
           stands = at.stands;
-          asked = at.asked;
+          in_turn = at.in_turn;
           read =
               subst (Consumes heard_before heard_after) (append_assoc h.used waiting came)
               (Consumes-trans heard_before heard heard_after (h.used ++ waiting) came at.read read);
@@ -532,7 +535,7 @@ module _ (A : Type 0) (t : Terms) (limit : ℕ) {Q R : Type 0} (of_requests : To
         ends result (found_after reading.used unused remaining rest) (offer_of next) h c.front client (waiting ++ came) _ _ _ reading.read
         (subst (λ (broken : Bool). Ran broken t h c.front client (waiting ++ came) (flow heard_before heard_after) silent out silent) (sym sound) so)
         (inl (still_offered t step.offer refl c.offered)) (asks_within t limit reading remaining rest are_asked)
-        (ended reading.used remaining rest stands (record { asked = sym c.runs.asked; whole = is_whole t h client at.stands c.ready }))
+        (ended reading.used remaining rest stands (record { asked = sym c.runs.in_turn.are; whole = is_whole t h client at.stands c.ready }))
 
     -- all bytes of the requests were read, and more can come
     all_read : (result : Result (Unit {0}) CheckFault) → is_broken (run_result result) ≡ false → has_ended of_responses ≡ false

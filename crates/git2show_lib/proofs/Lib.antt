@@ -17,7 +17,6 @@ pub mod PacksTold
 pub mod PlaysTold
 pub mod PlayFlushes
 pub mod PlayTalks
-pub mod PlayNotes
 pub mod PlayRuns
 pub mod PlayMany
 pub mod PlayTurns

@@ -32,15 +32,15 @@ use Rattle.git_client.proofs.ClientRuns.{Ran}
 use Rattle.git_client.proofs.Carries.{is_quiet, owes_nothing}
 use Rattle.git_client.proofs.Determined.{one_note}
 use Rattle.git_client.proofs.EventsHeard.{all_is_said, has_noted, is_whole, position_is}
+use Rattle.git_client.proofs.Notes.{noted_same}
 use Rattle.git_server.specs.Repository.{RepoState}
 use Rattle.git_server.specs.declared.server.Server.{Server}
 use Rattle.git_server.proofs.AtRest.{front_of, packets_of}
 use Rattle.git_server.proofs.Flushes.{flushes-append}
 use Rattle.git2show_lib.specs.PlaySteps.{AsksServer, AsksServerTo, Settled, Stands, StandsOn, TellsAll, silent}
-use Rattle.git2show_lib.specs.Plays.{AreAll, AreSaid, AreServed, AreWholeSessions, IsTalk, Talk, said_each, setting_of}
+use Rattle.git2show_lib.specs.Plays.{CanFail, AreAll, AreSaid, AreServed, AreWholeSessions, IsTalk, Talk, said_each, setting_of}
 use Rattle.git2show_lib.proofs.PlayFlushes.{Closes, advertises_once, closes_both, flushes_nearest, questions_close, questions_count}
 use Rattle.git2show_lib.proofs.PlayMany.{Earlier}
-use Rattle.git2show_lib.proofs.PlayNotes.{noted_same}
 use Rattle.git2show_lib.proofs.PlayRuns.{PlayEnds, Runs, asks_runs, has_said, has_stayed, play_ends, play_told, ran_of, quiet_due, quiet_ready}
 use Rattle.git2show_lib.proofs.PlayTalks.{settle, spelled-append, talk, talk_of}
 use Rattle.git2show_lib.proofs.PlayTurns.{AtAsk, AtRest, AtTurn, Meets, Plays, ending_for, next_server, still_stands}
@@ -77,7 +77,7 @@ module _ {A : Type 0} (t : Terms) where
         ∙ spelled-append first second in
         (append_cancel_length h.given h.given u (spelled second) refl (all ∙ ap (λ (l : List ℕ). l ++ spelled second) (sym before))).1
 
-module _ (t : Terms) (limit : ℕ) (s0 : RepoState) where
+module _ (Fails : Type 0) (t : Terms) (limit : ℕ) (s0 : RepoState) where
   -- the messages that were heard are as many as what was asked, and one
   messages_heard : (h : History) (whole : IsConversation t h.asked h.used h.events) (ps : List Pkt) → h.used ≡ spelled ps → suc (length h.asked) ≤ flushes ps
   messages_heard h whole ps e =
@@ -89,9 +89,9 @@ module _ (t : Terms) (limit : ℕ) (s0 : RepoState) where
     pub first : Talk
     pub later : List Talk
     pub served : AreServed t h [] first later
-    pub talks : AreAll IsTalk t limit s0 first later
+    pub talks : AreAll (IsTalk Fails) t limit s0 first later
 
-  earlier_stays : (h : History) → t.ending ≡ ResponseEnd → Earlier t limit s0 h → Stays h
+  earlier_stays : (h : History) → t.ending ≡ ResponseEnd → Earlier Fails t limit s0 h → Stays h
   earlier_stays h ending e = record {
     first = e.first;
     later = e.later;
@@ -115,7 +115,7 @@ module _ {R A : Type 0} (state : R → RepoState) (t : Terms) (limit : ℕ) (s0 
         (still_stands state t limit s0 (setting_of t limit s0 true) h.given h.used server at.stands));
     messages = λ ps fit e. omega (
       arith,
-      messages_heard t limit s0 h (is_whole t h old r.along.stands ready) ps e,
+      messages_heard (CanFail state s0.failures) t limit s0 h (is_whole t h old r.along.stands ready) ps e,
       length-append h.asked (asked_of request ∷ []),
     );
     said = λ caps given. subst (λ (e : Ending). AreSaid e (talk_of (h.given ++ step.asks.given) given) [] (h.given ++ step.asks.given)
@@ -146,8 +146,9 @@ module _ {R A : Type 0} (state : R → RepoState) (t : Terms) (limit : ℕ) (s0 
         stands = step.server_goes (setting_of t limit s0 false) [] [] at.1;
       }
 
-  turn_stays : (alone : Bool) (h : History) (server : Server R A) → t.ending ≡ ending_for alone → AtTurn state t limit s0 alone h server → Stays t limit s0 h
-  turn_stays true h server ending at = earlier_stays t limit s0 h ending at.0
+  turn_stays : (alone : Bool) (h : History) (server : Server R A) → t.ending ≡ ending_for alone → AtTurn state t limit s0 alone h server
+      → Stays (CanFail state s0.failures) t limit s0 h
+  turn_stays true h server ending at = earlier_stays (CanFail state s0.failures) t limit s0 h ending at.0
   turn_stays false h server ending at = record {
     first = talk_of h.given h.used;
     later = [];
@@ -155,7 +156,7 @@ module _ {R A : Type 0} (state : R → RepoState) (t : Terms) (limit : ℕ) (s0 
       said = λ caps noted. subst (λ (x : Ending). AreSaid x (talk_of h.given h.used) [] h.given (said_each t caps h.asked)) (sym ending) (refl, refl);
       gave = refl;
     };
-    talks = (at.rests.talk, All-nil (IsTalk (setting_of t limit s0 false)));
+    talks = (at.rests.talk, All-nil (IsTalk (CanFail state s0.failures) (setting_of t limit s0 false)));
   }
 
   module _ (requests : List (Request A)) where
@@ -164,12 +165,13 @@ module _ {R A : Type 0} (state : R → RepoState) (t : Terms) (limit : ℕ) (s0 
         (server after : Server R A) {pack : Flow} {o0 o1 o2 : Option (List ℕ)} → requests ≡ front ++ request ∷ later → t.ending ≡ ending_for alone
         → can_ask old ≡ true → Runs t false h front old no_counts (flow o0 o1) pack → AtTurn state t limit s0 alone h server
         → AsksServerTo state (Err fault) old new request server after (flow o1 o2)
-        → PlayEnds t limit s0 requests (Err fault) (flow o0 o2) pack
+        → PlayEnds t (CanFail state s0.failures) limit s0 requests (Err fault) (flow o0 o2) pack
     asking_stopped alone ReadFault h front later request old new server after split ending ready r at step = absurd step
     asking_stopped alone ReadLimit h front later request old new server after split ending ready r at step = absurd step
     asking_stopped alone WriteFault h front later request old new server after split ending ready r at step =
-        play_ends t limit s0 requests (Err WriteFault) _ (front ++ request ∷ []) later new no_counts (split ∙ sym (append_assoc front (request ∷ []) later))
-        (asks_runs t true h front old new request r step)
+        play_ends t (CanFail state s0.failures) limit s0 requests (Err WriteFault) _ (front ++ request ∷ []) later new no_counts
+        (split ∙ sym (append_assoc front (request ∷ []) later))
+        (asks_runs t true h front old new request r ready step)
         (let rest = turn_stays alone h server ending at in
         let all = has_said t h old r.along.stands (quiet_ready (phase_of old) ready) in
         record {
@@ -190,11 +192,11 @@ module _ {R A : Type 0} (state : R → RepoState) (t : Terms) (limit : ℕ) (s0 
           lines = r.lines;
           packed = r.packed;
           along = r.along;
-          asked = r.asked;
+          in_turn = r.in_turn;
           told = subst (WrittenAs false (flow o0 o2)) (append-nil r.lines) (written_then false o0 o1 o2 r.lines [] r.told step.told);
           sent = r.sent;
         } in
-        play_ends t limit s0 requests (Err (Refused fault)) h front (request ∷ later) old no_counts split so (record {
+        play_ends t (CanFail state s0.failures) limit s0 requests (Err (Refused fault)) h front (request ∷ later) old no_counts split so (record {
           first = rest.first;
           later = rest.later;
           unheard = [];
@@ -218,12 +220,12 @@ module _ {R A : Type 0} (state : R → RepoState) (t : Terms) (limit : ℕ) (s0 
 
     -- each request was answered by a server of its own
     pub many_end : (front : List (Request A)) (client : Client A) (server : Server R A) {out pack : Flow} → requests ≡ front ++ [] → t.ending ≡ ResponseEnd
-        → Plays state t limit s0 true front client server out pack → PlayEnds t limit s0 requests (Ok tt) out pack
+        → Plays state t limit s0 true front client server out pack → PlayEnds t (CanFail state s0.failures) limit s0 requests (Ok tt) out pack
     unfolding earlier_stays
     many_end front client server split ending p =
         let stands = p.runs.along.stands in
         let quietly = quiet_ready (phase_of client) p.ready in
-        play_ends t limit s0 requests (Ok tt) p.h front [] client no_counts split p.runs (record {
+        play_ends t (CanFail state s0.failures) limit s0 requests (Ok tt) p.h front [] client no_counts split p.runs (record {
           first = p.rests.0.first;
           later = p.rests.0.later;
           run = record {
@@ -232,8 +234,9 @@ module _ {R A : Type 0} (state : R → RepoState) (t : Terms) (limit : ℕ) (s0 
             leaves = has_stayed t p.h client stands quietly ∙ ap leaves_last (sym ending);
             said = has_said t p.h client stands quietly;
           };
-          served = (earlier_stays t limit s0 p.h ending p.rests.0).served;
-          sessions = subst (λ (x : Ending). AreWholeSessions x t limit s0 p.rests.0.first p.rests.0.later) (sym ending) p.rests.0.answered;
+          served = (earlier_stays (CanFail state s0.failures) t limit s0 p.h ending p.rests.0).served;
+          sessions = subst (λ (x : Ending). AreWholeSessions (CanFail state s0.failures) x t limit s0 p.rests.0.first p.rests.0.later) (sym ending)
+              p.rests.0.answered;
         })
 
     -- the only server, after the flush at leaving
@@ -259,14 +262,14 @@ module _ {R A : Type 0} (state : R → RepoState) (t : Terms) (limit : ℕ) (s0 
             advertises_once (setting_of t limit s0 true) refl,
           ))
 
-      left_talk : IsTalk (setting_of t limit s0 true) (talk_of (h.given ++ given) h.used)
+      left_talk : IsTalk (CanFail state s0.failures) (setting_of t limit s0 true) (talk_of (h.given ++ given) h.used)
       left_talk =
           talk state (setting_of t limit s0 true) (questions_of t.format caps h.asked ++ flush ∷ []) left_closes (h.given ++ given) h.used after left_at said
 
     -- one server answered all requests, and the client left it
     pub one_end : (front : List (Request A)) (old mid new : Client A) (server after : Server R A) {out pack : Flow} → requests ≡ front ++ []
         → t.ending ≡ FlushOnly → Plays state t limit s0 false front old server out pack → Leaves old mid → TellsAll state mid new server after
-        → PlayEnds t limit s0 requests (Ok tt) out pack
+        → PlayEnds t (CanFail state s0.failures) limit s0 requests (Ok tt) out pack
     one_end front old mid new server after {out} {pack} split ending p leaving tells =
         let h = p.h in
         let now : History = record h { left = true; given = h.given ++ tells.says.given } in
@@ -282,16 +285,16 @@ module _ {R A : Type 0} (state : R → RepoState) (t : Terms) (limit : ℕ) (s0 
         said ∙ ap (λ (caps : Caps). spelled (questions_of t.format caps h.asked ++ flush ∷ [])) same ∙ sym leaves.spoken
         ∙ ap (λ (owed : List Pkt). h.given ++ spelled owed) leaving.owes in
         let heard : (ps : List Pkt) → h.used ≡ spelled ps → suc (length h.asked) ≤ flushes ps =
-        messages_heard t limit s0 h (is_whole t h old before p.ready) in
+        messages_heard (CanFail state s0.failures) t limit s0 h (is_whole t h old before p.ready) in
         let ran : Ran false t now front new [] silent silent out pack = record {
           stands = stands;
-          asked = at.asked;
+          in_turn = at.in_turn;
           read = tt;
           said = tt;
           told = at.told;
           sent = at.sent;
         } in
-        play_told t limit s0 requests (Ok tt) now front [] new split ran (record {
+        play_told t (CanFail state s0.failures) limit s0 requests (Ok tt) now front [] new split ran (record {
           first = talk_of (h.given ++ tells.says.given) h.used;
           later = [];
           run = record {
@@ -305,12 +308,13 @@ module _ {R A : Type 0} (state : R → RepoState) (t : Terms) (limit : ℕ) (s0 
                 (said_each t caps h.asked)) (sym ending) (refl, refl);
             gave = refl;
           };
-          sessions = subst (λ (x : Ending). AreWholeSessions x t limit s0 (talk_of (h.given ++ tells.says.given) h.used) []) (sym ending) (record {
-            questions = h.given;
-            parts = parts;
-            answered = p.rests.rests.done;
-            talks = left_talk h server after tells.says.given (caps_of new) said heard p.rests tells.server_goes;
-          });
+          sessions = subst (λ (x : Ending). AreWholeSessions (CanFail state s0.failures) x t limit s0 (talk_of (h.given ++ tells.says.given) h.used) [])
+              (sym ending) (record {
+                questions = h.given;
+                parts = parts;
+                answered = p.rests.rests.done;
+                talks = left_talk h server after tells.says.given (caps_of new) said heard p.rests tells.server_goes;
+              });
         })
 
   -- ---- the next server
@@ -327,10 +331,10 @@ module _ {R A : Type 0} (state : R → RepoState) (t : Terms) (limit : ℕ) (s0 
   turn_else false h server is at = at
   turn_else true h server is at = absurd (cc)
 
-module _ {A : Type 0} (t : Terms) (limit : ℕ) (s0 : RepoState) (requests : List (Request A)) where
+module _ {A : Type 0} (Fails : Type 0) (t : Terms) (limit : ℕ) (s0 : RepoState) (requests : List (Request A)) where
   -- what `?` answers is the fault that it met
   pub ends_at : (result : Result (Unit {0}) RunFault) (fault : RunFault) (out pack : Flow) → IsErrAnd result (λ e. e ≡ fault)
-      → PlayEnds t limit s0 requests (Err fault) out pack → PlayEnds t limit s0 requests result out pack
+      → PlayEnds t Fails limit s0 requests (Err fault) out pack → PlayEnds t Fails limit s0 requests result out pack
   ends_at result fault out pack met ends =
       let (e, is, same) = err_from_is_err_and result met in
-      subst (λ (x : Result (Unit {0}) RunFault). PlayEnds t limit s0 requests x out pack) (sym (is ∙ ap Err same)) ends
+      subst (λ (x : Result (Unit {0}) RunFault). PlayEnds t Fails limit s0 requests x out pack) (sym (is ∙ ap Err same)) ends

@@ -25,7 +25,7 @@ use Rattle.git_server.proofs.AtRest.{packets_of}
 use Rattle.git_server.proofs.Flushes.{flushes-append}
 use Rattle.git_server.proofs.Going.{no_outcome}
 use Rattle.git2show_lib.specs.PlaySteps.{GivesOn, IsSpent, Settled, Stands}
-use Rattle.git2show_lib.specs.Plays.{AreAll, AreSaid, IsDone, IsRefusedPlay, IsServed, IsTalk, Talk, said_each, setting_of, with_end}
+use Rattle.git2show_lib.specs.Plays.{AreAll, AreSaid, CanFail, IsDone, IsRefusedPlay, IsServed, IsTalk, Talk, said_each, setting_of, with_end}
 use Rattle.git2show_lib.proofs.PlayFlushes.{Closes, flushes_nearest}
 use Rattle.git2show_lib.proofs.PlayRuns.{has_said, has_stayed, late, quiet_failed}
 use Rattle.git2show_lib.proofs.PlayTalks.{Enough, Rests, behind, done, enough_heard, last_of_closed}
@@ -46,7 +46,7 @@ keeps_repo state t limit s0 advertise said given server st waits =
       failures = st.runs.failures.same (λ lost. let no : None ≡ Some _ = sym none ∙ lost.1 in cc);
     }
 
-module _ (t : Terms) (limit : ℕ) (s0 : RepoState) where
+module _ (Fails : Type 0) (t : Terms) (limit : ℕ) (s0 : RepoState) where
   -- a server advertised, and then one answered each question, and all are at rest
   pub record Earlier (h : History) : Type 0 where
     pub first : Talk
@@ -54,8 +54,8 @@ module _ (t : Terms) (limit : ℕ) (s0 : RepoState) where
     pub none_said : first.said ≡ []
     pub said : (caps : Caps) → HasNoted t h.asked h.used caps → map (λ talk. talk.said) later ≡ said_each t caps h.asked
     pub gave : h.used ≡ first.given ++ flat_map with_end later
-    pub talks : AreAll IsTalk t limit s0 first later
-    pub done : AreAll IsDone t limit s0 first later
+    pub talks : AreAll (IsTalk Fails) t limit s0 first later
+    pub done : AreAll (IsDone Fails) t limit s0 first later
     pub answered : AreAll (λ s talk. IsAnswered s talk.said talk.given) t limit s0 first later
     pub packets : List Pkt
     pub packets_are : h.used ≡ spelled packets
@@ -65,7 +65,7 @@ module _ {R A : Type 0} (state : R → RepoState) (t : Terms) (limit : ℕ) (s0 
   -- and a further one was asked a question
   pub record Asks (h : History) (server : Server R A) : Type 0 where
     pub h0 : History
-    pub earlier : Earlier t limit s0 h0
+    pub earlier : Earlier (CanFail state s0.failures) t limit s0 h0
     pub same_used : h.used ≡ h0.used
     pub question : List ℕ
     pub asks : List Pkt
@@ -111,7 +111,7 @@ module _ {R A : Type 0} (state : R → RepoState) (t : Terms) (limit : ℕ) (s0 
     )
 
     -- what was heard comes of the servers
-    pub served_many : (events : List EventValue) → IsServed t limit s0 (record h { used = h.used ++ used; events = events })
+    pub served_many : (events : List EventValue) → IsServed (CanFail state s0.failures) t limit s0 (record h { used = h.used ++ used; events = events })
     served_many events = record {
       first = a.earlier.first;
       later = a.earlier.later ++ talk_of a.question given ∷ [];
@@ -122,14 +122,15 @@ module _ {R A : Type 0} (state : R → RepoState) (t : Terms) (limit : ℕ) (s0 
         gave = many_gave ∙ many_given;
       };
       sessions =
-          many_all IsTalk a.earlier.talks (talk state (setting_of t limit s0 false) a.asks a.closes a.question given after many_settled a.question_is);
+          many_all (IsTalk (CanFail state s0.failures)) a.earlier.talks
+          (talk state (setting_of t limit s0 false) a.asks a.closes a.question given after many_settled a.question_is);
     }
 
     -- what was heard is refused
     pub refused_many : (rest : List (Request A)) (events : List EventValue) (new : Client A) (fault : Fault) (ended : Bool)
         → Converses t (record h { used = h.used ++ used; events = h.events ++ events }) new → fault_of new ≡ Some fault → IsTimely fault.kind ended unheard
         → (ended ≡ true → IsSpent state after)
-        → IsRefusedPlay t limit s0 rest (record h { used = h.used ++ used; events = h.events ++ events }) fault
+        → IsRefusedPlay (CanFail state s0.failures) t limit s0 rest (record h { used = h.used ++ used; events = h.events ++ events }) fault
     unfolding served_many
     refused_many rest events new fault ended stands told timely spent =
         let heard = served_many (h.events ++ events) in
@@ -149,7 +150,7 @@ module _ {R A : Type 0} (state : R → RepoState) (t : Terms) (limit : ℕ) (s0 
           sessions = heard.sessions;
           done = λ over. (
             (in_time.at_end over).0,
-            many_all IsDone a.earlier.done
+            many_all (IsDone (CanFail state s0.failures)) a.earlier.done
                 (done state (setting_of t limit s0 false) a.asks a.closes a.question given after st a.question_is (in_time.at_end over).1),
           );
         }
@@ -167,7 +168,7 @@ module _ {R A : Type 0} (state : R → RepoState) (t : Terms) (limit : ℕ) (s0 
           enough_heard state (setting_of t limit s0 false) a.asks a.closes a.question given after many_settled a.question_is
           (h.used ++ used) unheard whole.given a.earlier.packets (resp_end ∷ []) whole.splits.spelled refl many_parts many_count
 
-      many_rests : Rests (setting_of t limit s0 false) (flushes a.asks + 0) a.question given
+      many_rests : Rests (CanFail state s0.failures) (setting_of t limit s0 false) (flushes a.asks + 0) a.question given
       many_rests = rests state (setting_of t limit s0 false) a.asks a.closes a.question given after many_settled a.question_is many_enough
 
       pub many_waits : waits_for_input after ≡ true
@@ -188,7 +189,8 @@ module _ {R A : Type 0} (state : R → RepoState) (t : Terms) (limit : ℕ) (s0 
       pub many_repo : KeepsRepo state s0 after
       many_repo = keeps_repo state t limit s0 false a.question given after many_settled many_waits
 
-      pub many_earlier : (more : List EventValue) → Earlier t limit s0 (record h { used = h.used ++ used; events = h.events ++ more })
+      pub many_earlier : (more : List EventValue)
+          → Earlier (CanFail state s0.failures) t limit s0 (record h { used = h.used ++ used; events = h.events ++ more })
       many_earlier more =
           let rest = many_rests in
           record {
@@ -197,8 +199,8 @@ module _ {R A : Type 0} (state : R → RepoState) (t : Terms) (limit : ℕ) (s0 
             none_said = a.earlier.none_said;
             said = many_said;
             gave = many_heard ∙ many_given;
-            talks = many_all IsTalk a.earlier.talks rest.talk;
-            done = many_all IsDone a.earlier.done
+            talks = many_all (IsTalk (CanFail state s0.failures)) a.earlier.talks rest.talk;
+            done = many_all (IsDone (CanFail state s0.failures)) a.earlier.done
                 (done state (setting_of t limit s0 false) a.asks a.closes a.question given after many_settled a.question_is (inl many_waits));
             answered = many_all (λ s talk. IsAnswered s talk.said talk.given) a.earlier.answered rest.done;
             packets = a.earlier.packets ++ (rest.packets ++ resp_end ∷ []);

@@ -155,4 +155,4 @@ module _ {R A : Type 0} (state : R → RepoState) where
       → (new ≡ old) × IsSpent state new
   spent_ended old new pulled outcome pulls is =
       let tells : TellsPulled state old (Finished outcome) new = subst (λ (p : Pulled). TellsPulled state old p new) is pulls.tells in
-      (tells.2, inr (outcome, subst (λ (x : Server R A). EndsServer state x outcome) (sym tells.2) tells.3))
+      (tells.2, inr (outcome, ap outcome_of tells.2 ∙ tells.0, subst (λ (x : Server R A). EndsServer state x outcome) (sym tells.2) tells.3))

@@ -31,6 +31,7 @@ use Rattle.git_client.specs.declared.phase.Phase.{Phase}
 use Rattle.git_client.specs.declared.phase.Phase.TheVariants.{Hearing, Ready, Failed}
 use Rattle.git_client.proofs.Alongs.{written_nothing, written_then, written_whole}
 use Rattle.git_client.proofs.Carries.{is_quiet, not_left, owes_nothing}
+use Rattle.git_client.proofs.AskedInTurn.{AskedInTurn, asked_in_turn, heard_in_turn, may_be_asked, none_in_turn}
 use Rattle.git_client.proofs.ClientRuns.{Ran, ran}
 use Rattle.git_client.proofs.EventsHeard.{all_is_said, has_events, has_noted}
 use Rattle.git_client.proofs.Faults.{first_fault}
@@ -42,7 +43,7 @@ use Rattle.git_server.specs.Sessions.{Setting, advertised}
 use Rattle.git_server.specs.declared.server.Server.{Server}
 use Rattle.git_server.proofs.AtRest.{packets_of}
 use Rattle.git2show_lib.specs.PlaySteps.{GivesOn, Hears, IsSpent, Settled, Stands, silent}
-use Rattle.git2show_lib.specs.Plays.{AreSaid, EndsAs, IsDone, IsRefusedPlay, IsServed, IsTalk, Played, said_each, setting_of}
+use Rattle.git2show_lib.specs.Plays.{AreSaid, CanFail, EndsAs, IsDone, IsRefusedPlay, IsServed, IsTalk, Played, said_each, setting_of}
 use Rattle.git2show_lib.proofs.PlayFlushes.{Closes, advertises_once, flushes_nearest, questions_close, questions_count}
 use Rattle.git2show_lib.proofs.PlayTalks.{Enough, Quota, Rests, behind, done, enough_heard, nothing_unheard, rests, settle, talk, talk_of, waits_on}
 
@@ -99,7 +100,7 @@ module _ {A : Type 0} (t : Terms) where
     pub lines : List ℕ
     pub packed : List ℕ
     pub along : Along t h client lines packed counts
-    pub asked : h.asked ≡ map asked_of front
+    pub in_turn : AskedInTurn t h.asked h.used h.events front
     pub told : WrittenAs broken out lines
     pub sent : WrittenAs broken pack packed
 
@@ -114,7 +115,7 @@ module _ {A : Type 0} (t : Terms) where
       pack_is = refl;
       within = omega arith;
     };
-    asked = refl;
+    in_turn = none_in_turn t;
     told = written_nothing out;
     sent = written_nothing pack;
   }
@@ -130,21 +131,21 @@ module _ {A : Type 0} (t : Terms) where
       pack_is = r.along.pack_is;
       within = omega arith;
     };
-    asked = r.asked;
+    in_turn = r.in_turn;
     told = r.told;
     sent = r.sent;
   }
 
   pub asks_runs : (broken : Bool) (h : History) (front : List (Request A)) (old new : Client A) (request : Request A)
-      {pack : Flow} {o0 o1 o2 : Option (List ℕ)} → Runs false h front old no_counts (flow o0 o1) pack
+      {pack : Flow} {o0 o1 o2 : Option (List ℕ)} → Runs false h front old no_counts (flow o0 o1) pack → can_ask old ≡ true
       → (step : AsksNext broken old new request silent (flow o1 o2))
       → Runs broken (record h { asked = h.asked ++ asked_of request ∷ []; given = h.given ++ step.given }) (front ++ request ∷ []) new no_counts
       (flow o0 o2) pack
-  asks_runs broken h front old new request {pack} {o0} {o1} {o2} r step = record {
+  asks_runs broken h front old new request {pack} {o0} {o1} {o2} r ready step = record {
     lines = r.lines ++ asked_line (command_asked (asked_of request));
     packed = r.packed;
     along = step.goes t h r.lines r.packed no_counts r.along;
-    asked = ap (λ (l : List Asked). l ++ asked_of request ∷ []) r.asked ∙ sym (map-append asked_of front (request ∷ []));
+    in_turn = asked_in_turn t h old front request r.along.stands ready step.passes r.in_turn;
     told = written_then broken o0 o1 o2 r.lines (asked_line (command_asked (asked_of request))) r.told step.told;
     sent = written_whole broken pack r.packed r.sent;
   }
@@ -167,20 +168,20 @@ module _ {A : Type 0} (t : Terms) where
     lines = r.lines;
     packed = r.packed;
     along = r.along;
-    asked = r.asked;
+    in_turn = r.in_turn;
     read = tt;
     said = written_whole broken silent h.given tt;
     told = r.told;
     sent = r.sent;
   })
 
-  module _ (limit : ℕ) (s0 : RepoState) (requests : List (Request A)) where
+  module _ (Fails : Type 0) (limit : ℕ) (s0 : RepoState) (requests : List (Request A)) where
     -- how a play with this answer moved its streams
     abbrev pub PlayEnds : Result (Unit {0}) RunFault → Flow → Flow → Type 0
-    PlayEnds result out pack = Moves (is_broken result) (Played t limit s0 requests result) [] (out ∷ pack ∷ [])
+    PlayEnds result out pack = Moves (is_broken result) (Played Fails t limit s0 requests result) [] (out ∷ pack ∷ [])
 
     pub play_told : (result : Result (Unit {0}) RunFault) (h : History) (front rest : List (Request A)) (client : Client A) {out pack : Flow}
-        → requests ≡ front ++ rest → Ran (is_broken result) t h front client [] silent silent out pack → EndsAs t limit s0 result rest h
+        → requests ≡ front ++ rest → Ran (is_broken result) t h front client [] silent silent out pack → EndsAs Fails t limit s0 result rest h
         → PlayEnds result out pack
     play_told result h front rest client split at ends = record {
       used = [];
@@ -193,13 +194,19 @@ module _ {A : Type 0} (t : Terms) where
         nothing_read = refl;
         told = refl;
         heard = has_events t h client at.stands;
-        asked = record { front = front; all = split; asked = at.asked };
+        asked = record {
+          front = front;
+          all = split;
+          asked = at.in_turn.are;
+          may_be = may_be_asked t h.asked h.used h.events front at.in_turn;
+          in_turn = at.in_turn.in_turn;
+        };
         ends = ends;
       };
     }
 
     pub play_ends : (result : Result (Unit {0}) RunFault) (h : History) (front rest : List (Request A)) (client : Client A) (counts : Counts) {out pack : Flow}
-        → requests ≡ front ++ rest → Runs (is_broken result) h front client counts out pack → EndsAs t limit s0 result rest h → PlayEnds result out pack
+        → requests ≡ front ++ rest → Runs (is_broken result) h front client counts out pack → EndsAs Fails t limit s0 result rest h → PlayEnds result out pack
     play_ends result h front rest client counts split r ends = play_told result h front rest client split (ran_of r) ends
 
 -- ---- one server alone, or the first one
@@ -226,7 +233,7 @@ module _ {R A : Type 0} (state : R → RepoState) (t : Terms) (limit : ℕ) (s0 
           lines = r.lines ++ hears.lines;
           packed = r.packed ++ hears.packed;
           along = along;
-          asked = r.asked;
+          in_turn = heard_in_turn t h.asked h.used hears.used h.events events front r.in_turn;
           told = written_then broken o0 o1 o2 r.lines hears.lines r.told hears.told;
           sent = written_then broken p0 p1 p2 r.packed hears.packed r.sent hears.sent;
         },
@@ -257,7 +264,7 @@ module _ {R A : Type 0} (state : R → RepoState) (t : Terms) (limit : ℕ) (s0 
         append_assoc h.used used unheard ∙ ap (λ (l : List ℕ). h.used ++ l) (sym parts) ∙ sym (append_assoc h.used given [])
 
     -- what was heard comes of the server
-    pub served_one : (events : List EventValue) → IsServed t limit s0 (record h { used = h.used ++ used; events = events })
+    pub served_one : (events : List EventValue) → IsServed (CanFail state s0.failures) t limit s0 (record h { used = h.used ++ used; events = events })
     served_one events = record {
       first = talk_of h.given (h.used ++ given);
       later = [];
@@ -265,7 +272,7 @@ module _ {R A : Type 0} (state : R → RepoState) (t : Terms) (limit : ℕ) (s0 
       served = record { said = λ caps noted. one.said caps (h.used ++ given); gave = gave_all };
       sessions = (
         talk state (only t limit s0) (questions_of t.format all.caps h.asked) closes h.given (h.used ++ given) after stands_on (questions_are t h all stays),
-        All-nil (IsTalk (setting_of t limit s0 false)),
+        All-nil (IsTalk (CanFail state s0.failures) (setting_of t limit s0 false)),
       );
     }
 
@@ -273,7 +280,7 @@ module _ {R A : Type 0} (state : R → RepoState) (t : Terms) (limit : ℕ) (s0 
     pub refused_one : (rest : List (Request A)) (events : List EventValue) (new : Client A) (fault : Fault) (ended : Bool)
         → Converses t (record h { used = h.used ++ used; events = h.events ++ events }) new → fault_of new ≡ Some fault → IsTimely fault.kind ended unheard
         → (ended ≡ true → IsSpent state after)
-        → IsRefusedPlay t limit s0 rest (record h { used = h.used ++ used; events = h.events ++ events }) fault
+        → IsRefusedPlay (CanFail state s0.failures) t limit s0 rest (record h { used = h.used ++ used; events = h.events ++ events }) fault
     unfolding served_one
     refused_one rest events new fault ended stands told timely spent =
         let heard = served_one (h.events ++ events) in
@@ -295,7 +302,7 @@ module _ {R A : Type 0} (state : R → RepoState) (t : Terms) (limit : ℕ) (s0 
             (in_time.at_end over).0,
             (
               done state (only t limit s0) (questions_of t.format all.caps h.asked) closes h.given (h.used ++ given) after stands_on is (in_time.at_end over).1,
-              All-nil (IsDone (setting_of t limit s0 false)),
+              All-nil (IsDone (CanFail state s0.failures) (setting_of t limit s0 false)),
             ),
           );
         }
@@ -313,7 +320,8 @@ module _ {R A : Type 0} (state : R → RepoState) (t : Terms) (limit : ℕ) (s0 
           (questions_are t h all stays)
           (h.used ++ used) unheard whole.given [] [] whole.splits.spelled refl gave_all heard_count
 
-      pub rests_one : Rests (only t limit s0) (flushes (questions_of t.format all.caps h.asked) + flushes (advertised (only t limit s0))) h.given
+      pub rests_one : Rests (CanFail state s0.failures) (only t limit s0)
+          (flushes (questions_of t.format all.caps h.asked) + flushes (advertised (only t limit s0))) h.given
           (h.used ++ given)
       rests_one =
           rests state (only t limit s0) (questions_of t.format all.caps h.asked) closes h.given (h.used ++ given) after stands_on

@@ -10,7 +10,7 @@ use Rattle.git_client.specs.Parts.{nearest, is_end_due, is_zero}
 use Rattle.git_client.specs.declared.events.Ending.TheVariants.{ResponseEnd}
 use Rattle.git_server.specs.Answers.{AllFit}
 use Rattle.git_server.specs.Repository.{RepoState}
-use Rattle.git_server.specs.Server.{StandsBy, outcome_of, wants_input as waits_for_input}
+use Rattle.git_server.specs.Server.{IsPackLost, StandsBy, outcome_of, repo_of, wants_input as waits_for_input}
 use Rattle.git_server.specs.Sessions.{Setting, IsAnswered, IsEnding, Stream, advertised}
 use Rattle.git_server.specs.declared.outcome.Outcome.{Outcome}
 use Rattle.git_server.specs.declared.server.Server.{Server}
@@ -19,9 +19,9 @@ use Rattle.git_server.proofs.Flushes.{flushes-append}
 use Rattle.git_server.proofs.Going.{no_outcome, owes_some}
 use Rattle.git_server.proofs.OneSession.{answers_end, one_spelling, owes_flush}
 use Rattle.git_server.proofs.Sent.{is_whole}
-use Rattle.git_server.proofs.SessionLaws.{all_answered, every_moment}
+use Rattle.git_server.proofs.SessionLaws.{all_answered, going}
 use Rattle.git2show_lib.specs.PlaySteps.{IsSpent, Settled, Stands}
-use Rattle.git2show_lib.specs.Plays.{IsDone, IsTalk, Talk}
+use Rattle.git2show_lib.specs.Plays.{CanFail, IsDone, IsLostFor, IsTalk, Talk}
 use Rattle.git2show_lib.proofs.PlayFlushes.{Closes, LastFlush, closes_both, ends_closed, flushes_nearest, given_close}
 
 pub spelled-append : (ps qs : List Pkt) → spelled (ps ++ qs) ≡ spelled ps ++ spelled qs
@@ -31,8 +31,8 @@ abbrev pub talk_of : List ℕ → List ℕ → Talk
 talk_of said given = record { said = said; given = given }
 
 -- all was given that is due for what was said
-pub record Rests (s : Setting) (count : ℕ) (said given : List ℕ) : Type 0 where
-  pub talk : IsTalk s (talk_of said given)
+pub record Rests (Fails : Type 0) (s : Setting) (count : ℕ) (said given : List ℕ) : Type 0 where
+  pub talk : IsTalk Fails s (talk_of said given)
   pub done : IsAnswered s said given
   pub packets : List Pkt
   pub given_is : given ≡ spelled packets
@@ -113,28 +113,36 @@ module _ {R A : Type 0} (state : R → RepoState) (s : Setting) (qs : List Pkt) 
   pub gave : Gave
   gave = gave_by (outcome_of server) refl st.runs.stands
 
-  talk_by : (o : Option Outcome) → outcome_of server ≡ o → StandsBy o s st.used false given server → IsTalk s (talk_of said given)
+  -- a pack was given up after a read that failed
+  lost_for : (outcome : Outcome) → outcome_of server ≡ Some outcome → IsLostFor (CanFail state s.failures) outcome
+  lost_for outcome some lost = (repo_of server, st.runs.failures.risen (subst IsPackLost (sym some) lost))
+
+  talk_by : (o : Option Outcome) → outcome_of server ≡ o → StandsBy o s st.used false given server
+      → IsTalk (CanFail state s.failures) s (talk_of said given)
   talk_by None none h =
-      elim (every_moment state server s st.used false given st.runs) [
-        | inl goes ↦ record { used = st.used; unused = st.unused; parts = st.parts; runs = inl (st.settled none, goes.1) }
-        | inr ends ↦ record { used = st.used; unused = st.unused; parts = st.parts; runs = inr ends }
-      ]
+      let goes = going state server s st.used false given st.runs h in
+      record { used = st.used; unused = st.unused; parts = st.parts; runs = inl (st.settled none, goes.1) }
   talk_by (Some outcome) some h =
       let (owed, owes) = owes_some server.offer s.repo server.phase in
-      record { used = st.used; unused = st.unused; parts = st.parts; runs = inr (outcome, owed, h owed owes) }
+      record { used = st.used; unused = st.unused; parts = st.parts; runs = inr (outcome, owed, h owed owes, lost_for outcome some) }
 
-  pub talk : IsTalk s (talk_of said given)
+  pub talk : IsTalk (CanFail state s.failures) s (talk_of said given)
   talk = talk_by (outcome_of server) refl st.runs.stands
 
   -- a server that gives nothing more
-  pub done : IsSpent state server → IsDone s (talk_of said given)
+  pub done : IsSpent state server → IsDone (CanFail state s.failures) s (talk_of said given)
   done (inl waits) = record {
     used = st.used;
     unused = st.unused;
     parts = st.parts;
     done = inl (st.settled (no_outcome server.phase waits), all_answered state server s st.used false given st.runs waits);
   }
-  done (inr (outcome, ends)) = record { used = st.used; unused = st.unused; parts = st.parts; done = inr (outcome, ends s st.used false given st.runs) }
+  done (inr (outcome, some, ends)) = record {
+    used = st.used;
+    unused = st.unused;
+    parts = st.parts;
+    done = inr (outcome, ends s st.used false given st.runs, lost_for outcome some);
+  }
 
   -- all messages were given
   abbrev pub Enough : Type 0
@@ -144,7 +152,7 @@ module _ {R A : Type 0} (state : R → RepoState) (s : Setting) (qs : List Pkt) 
   waits_on enough =
       (at_rest state server s qs st.used st.unused given st.runs (sym is ∙ st.parts) (ends_closed qs closes) enough st.in_time).waits
 
-  pub rests : Enough → Rests s (flushes qs + flushes (advertised s)) said given
+  pub rests : Enough → Rests (CanFail state s.failures) s (flushes qs + flushes (advertised s)) said given
   rests enough =
       let rest = at_rest state server s qs st.used st.unused given st.runs (sym is ∙ st.parts) (ends_closed qs closes) enough st.in_time in
       let used_all : st.used ≡ said = sym (st.parts ∙ ap (λ (l : List ℕ). st.used ++ l) rest.all ∙ append-nil st.used) in
@@ -194,7 +202,7 @@ module _ {R A : Type 0} (state : R → RepoState) (s : Setting) (qs : List Pkt) 
       pub unheard_is : unheard ≡ spelled more
       pub none : flushes more ≡ 0
 
-    pub behind : (r : Rests s (flushes qs + flushes (advertised s)) said given) → IsBehind r.packets
+    pub behind : (r : Rests (CanFail state s.failures) s (flushes qs + flushes (advertised s)) said given) → IsBehind r.packets
     behind r =
         let front = front_of 0 heard unheard [] gs (before ++ (r.packets ++ tail)) spells (in_all r.packets r.given_is) in
         record {

@@ -23,7 +23,7 @@ use Rattle.git_server.specs.Sessions.{Setting, IsAnswered, advertised}
 use Rattle.git_server.specs.declared.server.Server.{Server}
 use Rattle.git_server.proofs.Going.{no_outcome}
 use Rattle.git2show_lib.specs.PlaySteps.{HearsMessage, HearsMessageTo, Settled, Stands}
-use Rattle.git2show_lib.specs.Plays.{AreSaid, IsBrokenPlay, IsDone, IsServed, IsTalk, Talk, said_each, setting_of}
+use Rattle.git2show_lib.specs.Plays.{AreSaid, CanFail, IsBrokenPlay, IsDone, IsServed, IsTalk, Talk, said_each, setting_of}
 use Rattle.git2show_lib.proofs.PlayFlushes.{advertises_once, questions_count}
 use Rattle.git2show_lib.proofs.PlayMany.{Asks, Earlier, KeepsRepo, keeps_repo, many_earlier, many_repo, refused_many, served_many}
 use Rattle.git2show_lib.proofs.PlayRuns.{OneServer, PlayEnds, Runs, anew, begun, has_said, has_stayed, heard_runs, play_ends}
@@ -41,9 +41,10 @@ no_questions FlushOnly given = (refl, refl)
 no_questions ResponseEnd given = (refl, refl)
 
 -- all that was asked was said to the servers, and a write failed
-broken_off : (t : Terms) (limit : ℕ) (s0 : RepoState) (h : History) (used : List ℕ) (events : List EventValue) → HasSaid t h
-    → IsServed t limit s0 (record h { used = h.used ++ used; events = events }) → IsBrokenPlay t limit s0 (record h { used = h.used ++ used; events = events })
-broken_off t limit s0 h used events all served = record {
+broken_off : (Fails : Type 0) (t : Terms) (limit : ℕ) (s0 : RepoState) (h : History) (used : List ℕ) (events : List EventValue) → HasSaid t h
+    → IsServed Fails t limit s0 (record h { used = h.used ++ used; events = events })
+    → IsBrokenPlay Fails t limit s0 (record h { used = h.used ++ used; events = events })
+broken_off Fails t limit s0 h used events all served = record {
   said = record h { used = h.used ++ used; events = events };
   same_used = refl;
   asked = inl refl;
@@ -59,17 +60,17 @@ module _ {R A : Type 0} (state : R → RepoState) (t : Terms) (limit : ℕ) (s0 
   pub record Meets (h : History) (server : Server R A) : Type 0 where
     pub stands : Settled state (setting_of t limit s0 true) h.given h.used server
     pub waits : waits_for_input server ≡ true
-    pub rests : Rests (setting_of t limit s0 true) (suc (length h.asked)) h.given h.used
+    pub rests : Rests (CanFail state s0.failures) (setting_of t limit s0 true) (suc (length h.asked)) h.given h.used
 
   -- between two requests
   abbrev pub AtRest : Bool → History → Server R A → Type 0
   AtRest false h server = Meets h server
-  AtRest true h server = Earlier t limit s0 h × KeepsRepo state s0 server
+  AtRest true h server = Earlier (CanFail state s0.failures) t limit s0 h × KeepsRepo state s0 server
 
   -- where the next request comes
   abbrev pub AtTurn : Bool → History → Server R A → Type 0
   AtTurn false h server = Meets h server
-  AtTurn true h server = Earlier t limit s0 h × Stands state (setting_of t limit s0 false) [] [] server
+  AtTurn true h server = Earlier (CanFail state s0.failures) t limit s0 h × Stands state (setting_of t limit s0 false) [] [] server
 
   -- a request was asked
   abbrev pub AtAsk : Bool → History → Server R A → Type 0
@@ -120,22 +121,22 @@ module _ {R A : Type 0} (state : R → RepoState) (t : Terms) (limit : ℕ) (s0 
         {o0 o1 o2 p0 p1 p2 : Option (List ℕ)} → requests ≡ front ++ rest → wants_input old ≡ true → OneServer state t limit s0 h server
         → Runs t false h front old no_counts (flow o0 o1) (flow p0 p1)
         → HearsMessageTo state (Err fault) false old new server after (flow o1 o2) (flow p1 p2)
-        → PlayEnds t limit s0 requests (Err fault) (flow o0 o2) (flow p0 p2)
+        → PlayEnds t (CanFail state s0.failures) limit s0 requests (Err fault) (flow o0 o2) (flow p0 p2)
     one_stopped ReadFault h front rest old new server after split due one r step = absurd step
     one_stopped ReadLimit h front rest old new server after split due one r step = absurd step
     one_stopped WriteFault h front rest old new server after split due one r (counts, unheard, hears) =
         let (events, on) = heard_runs state t limit s0 true h front old new counts server after [] unheard r hears in
         let quietly = quiet_due (phase_of old) due in
         let stands = r.along.stands in
-        play_ends t limit s0 requests (Err WriteFault) _ front rest new counts split on
-        (broken_off t limit s0 h hears.used (h.events ++ events) (has_said t h old stands quietly)
+        play_ends t (CanFail state s0.failures) limit s0 requests (Err WriteFault) _ front rest new counts split on
+        (broken_off (CanFail state s0.failures) t limit s0 h hears.used (h.events ++ events) (has_said t h old stands quietly)
         (served_one state t limit s0 h server after hears.given hears.used unheard one (has_said t h old stands quietly)
         (has_stayed t h old stands quietly) hears.server_goes hears.parts (h.events ++ events)))
     one_stopped (Refused fault) h front rest old new server after split due one r (ended, counts, unheard, step) =
         let (events, on) = heard_runs state t limit s0 false h front old new counts server after [] unheard r step.hears in
         let quietly = quiet_due (phase_of old) due in
         let stands = r.along.stands in
-        play_ends t limit s0 requests (Err (Refused fault)) _ front rest new counts split on
+        play_ends t (CanFail state s0.failures) limit s0 requests (Err (Refused fault)) _ front rest new counts split on
         (refused_one state t limit s0 h server after step.hears.given step.hears.used unheard one (has_said t h old stands quietly)
         (has_stayed t h old stands quietly) step.hears.server_goes step.hears.parts rest events new fault ended on.along.stands step.told step.timely step.done)
 
@@ -143,17 +144,17 @@ module _ {R A : Type 0} (state : R → RepoState) (t : Terms) (limit : ℕ) (s0 
         {o0 o1 o2 p0 p1 p2 : Option (List ℕ)} → requests ≡ front ++ rest → wants_input old ≡ true → t.ending ≡ ResponseEnd → Asks state t limit s0 h server
         → Runs t false h front old no_counts (flow o0 o1) (flow p0 p1)
         → HearsMessageTo state (Err fault) true old new server after (flow o1 o2) (flow p1 p2)
-        → PlayEnds t limit s0 requests (Err fault) (flow o0 o2) (flow p0 p2)
+        → PlayEnds t (CanFail state s0.failures) limit s0 requests (Err fault) (flow o0 o2) (flow p0 p2)
     many_stopped ReadFault h front rest old new server after split due ending a r step = absurd step
     many_stopped ReadLimit h front rest old new server after split due ending a r step = absurd step
     many_stopped WriteFault h front rest old new server after split due ending a r (counts, unheard, hears) =
         let (events, on) = heard_runs state t limit s0 true h front old new counts server after _ unheard r hears in
-        play_ends t limit s0 requests (Err WriteFault) _ front rest new counts split on
-        (broken_off t limit s0 h hears.used (h.events ++ events) (has_said t h old r.along.stands (quiet_due (phase_of old) due))
+        play_ends t (CanFail state s0.failures) limit s0 requests (Err WriteFault) _ front rest new counts split on
+        (broken_off (CanFail state s0.failures) t limit s0 h hears.used (h.events ++ events) (has_said t h old r.along.stands (quiet_due (phase_of old) due))
         (served_many state t limit s0 h server after hears.given hears.used unheard a ending hears.server_goes hears.parts (h.events ++ events)))
     many_stopped (Refused fault) h front rest old new server after split due ending a r (ended, counts, unheard, step) =
         let (events, on) = heard_runs state t limit s0 false h front old new counts server after _ unheard r step.hears in
-        play_ends t limit s0 requests (Err (Refused fault)) _ front rest new counts split on
+        play_ends t (CanFail state s0.failures) limit s0 requests (Err (Refused fault)) _ front rest new counts split on
         (refused_many state t limit s0 h server after step.hears.given step.hears.used unheard a ending step.hears.server_goes step.hears.parts rest events new
         fault ended on.along.stands step.told step.timely step.done)
 
@@ -162,7 +163,7 @@ module _ {R A : Type 0} (state : R → RepoState) (t : Terms) (limit : ℕ) (s0 
         {o0 o1 o2 p0 p1 p2 : Option (List ℕ)} → requests ≡ front ++ rest → t.ending ≡ ending_for alone → wants_input old ≡ true → AtAsk alone h server
         → Runs t false h front old no_counts (flow o0 o1) (flow p0 p1)
         → HearsMessageTo state (Err fault) alone old new server after (flow o1 o2) (flow p1 p2)
-        → PlayEnds t limit s0 requests (Err fault) (flow o0 o2) (flow p0 p2)
+        → PlayEnds t (CanFail state s0.failures) limit s0 requests (Err fault) (flow o0 o2) (flow p0 p2)
     hearing_stopped true fault h front rest old new server after split ending due at r step =
         many_stopped fault h front rest old new server after split due ending at r step
     hearing_stopped false fault h front rest old new server after split ending due at r step =
@@ -172,7 +173,7 @@ module _ {R A : Type 0} (state : R → RepoState) (t : Terms) (limit : ℕ) (s0 
     pub advertising_stopped : (fault : RunFault) (old new : Client A) (server after : Server R A) {o1 o2 p1 p2 : Option (List ℕ)}
         → wants_input old ≡ true → Converses t nothing_yet old → Stands state (setting_of t limit s0 true) [] [] server
         → HearsMessageTo state (Err fault) false old new server after (flow o1 o2) (flow p1 p2)
-        → PlayEnds t limit s0 requests (Err fault) (flow o1 o2) (flow p1 p2)
+        → PlayEnds t (CanFail state s0.failures) limit s0 requests (Err fault) (flow o1 o2) (flow p1 p2)
     advertising_stopped fault old new server after {o1} {o2} {p1} {p2} due stands st step =
         one_stopped fault nothing_yet [] requests old new server after refl due (first_server server st) (begun t old o1 p1 due stands) step
 
@@ -207,30 +208,31 @@ module _ {R A : Type 0} (state : R → RepoState) (t : Terms) (limit : ℕ) (s0 
               (stands_on state t limit s0 h server after given used step.unheard one all stays step.hears.server_goes step.hears.parts);
           waits = waits_one state t limit s0 h server after given used step.unheard one all stays step.hears.server_goes step.hears.parts
               (h.events ++ events) whole;
-          rests = subst (λ (l : List ℕ). Rests (setting_of t limit s0 true) (suc (length h.asked)) h.given l) same
-              (subst (λ (n : ℕ). Rests (setting_of t limit s0 true) n h.given (h.used ++ given)) count
+          rests = subst (λ (l : List ℕ). Rests (CanFail state s0.failures) (setting_of t limit s0 true) (suc (length h.asked)) h.given l) same
+              (subst (λ (n : ℕ). Rests (CanFail state s0.failures) (setting_of t limit s0 true) n h.given (h.used ++ given)) count
               (rests_one state t limit s0 h server after given used step.unheard one all stays step.hears.server_goes step.hears.parts
               (h.events ++ events) whole));
         };
       }
 
   -- a server that advertised is the first of many
-  begins_many : (h : History) (server : Server R A) → h.asked ≡ [] → h.given ≡ [] → Meets h server → Earlier t limit s0 h × KeepsRepo state s0 server
+  begins_many : (h : History) (server : Server R A) → h.asked ≡ [] → h.given ≡ [] → Meets h server
+      → Earlier (CanFail state s0.failures) t limit s0 h × KeepsRepo state s0 server
   begins_many h server none_asked none_given m =
       let st : Settled state (setting_of t limit s0 true) [] h.used server =
       subst (λ (l : List ℕ). Settled state (setting_of t limit s0 true) l h.used server) none_given m.stands in
-      let rest : Rests (setting_of t limit s0 true) (suc (length h.asked)) [] h.used =
-      subst (λ (l : List ℕ). Rests (setting_of t limit s0 true) (suc (length h.asked)) l h.used) none_given m.rests in (
+      let rest : Rests (CanFail state s0.failures) (setting_of t limit s0 true) (suc (length h.asked)) [] h.used =
+      subst (λ (l : List ℕ). Rests (CanFail state s0.failures) (setting_of t limit s0 true) (suc (length h.asked)) l h.used) none_given m.rests in (
         record {
           first = talk_of [] h.used;
           later = [];
           none_said = refl;
           said = λ caps noted. ap (said_each t caps) (sym none_asked);
           gave = sym (append-nil h.used);
-          talks = (rest.talk, All-nil (IsTalk (setting_of t limit s0 false)));
+          talks = (rest.talk, All-nil (IsTalk (CanFail state s0.failures) (setting_of t limit s0 false)));
           done = (
             done state (setting_of t limit s0 true) [] (inl refl) [] h.used server st refl (inl m.waits),
-            All-nil (IsDone (setting_of t limit s0 false)),
+            All-nil (IsDone (CanFail state s0.failures) (setting_of t limit s0 false)),
           );
           answered = (rest.done, All-nil (λ (talk : Talk). IsAnswered (setting_of t limit s0 false) talk.said talk.given));
           packets = rest.packets;

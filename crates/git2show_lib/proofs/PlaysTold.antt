@@ -207,10 +207,10 @@ module _ (format : Format) (limit : ℕ) (state : RepoState) where
         in_format = All-cons (HasValues format) q asked (All-head (HasValues format) q [] read.1) then.in_format;
       }
 
-module _ {A : Type 0} (format : Format) (limit : ℕ) (state : RepoState) (sound : IsSound state.answers) (written : CanBeWritten state.answers)
+module _ {A : Type 0} (Fails : Type 0) (format : Format) (limit : ℕ) (state : RepoState) (sound : IsSound state.answers) (written : CanBeWritten state.answers)
     (same : state.answers.format ≡ format) where
   -- one server answers all requests
-  told_by_flush : (rest : List (Request A)) (h : History) → HaveValues h.asked → IsWholePlay (terms_of format FlushOnly) limit state rest h
+  told_by_flush : (rest : List (Request A)) (h : History) → HaveValues h.asked → IsWholePlay Fails (terms_of format FlushOnly) limit state rest h
       → h.events ≡ told_play format state.answers h.asked
   told_by_flush rest h values p =
       let t = terms_of format FlushOnly in
@@ -238,7 +238,7 @@ module _ {A : Type 0} (format : Format) (limit : ℕ) (state : RepoState) (sound
       p.run.whole
 
   -- the first server only advertises, and each request has a server of its own
-  told_by_ends : (rest : List (Request A)) (h : History) → HaveValues h.asked → IsWholePlay (terms_of format ResponseEnd) limit state rest h
+  told_by_ends : (rest : List (Request A)) (h : History) → HaveValues h.asked → IsWholePlay Fails (terms_of format ResponseEnd) limit state rest h
       → h.events ≡ told_play format state.answers h.asked
   told_by_ends rest h values p =
       let t = terms_of format ResponseEnd in
@@ -262,18 +262,19 @@ module _ {A : Type 0} (format : Format) (limit : ℕ) (state : RepoState) (sound
 
   -- either ending
   told_whole : (ending : Ending) (rest : List (Request A)) (h : History) → HaveValues h.asked
-      → IsWholePlay (terms_of format ending) limit state rest h → h.events ≡ told_play format state.answers h.asked
+      → IsWholePlay Fails (terms_of format ending) limit state rest h → h.events ≡ told_play format state.answers h.asked
   told_whole FlushOnly rest h values p = told_by_flush rest h values p
   told_whole ResponseEnd rest h values p = told_by_ends rest h values p
 
 -- ---- what is given
 
-pub as_told : {A : Type 0} (t : Terms) (limit : ℕ) (state : RepoState) (requests : List (Request A)) (done : Unit {0}) (read given : List (List ℕ))
-    → Played t limit state requests (Ok done) read given → IsSound state.answers → CanBeWritten state.answers → state.answers.format ≡ t.format
+pub as_told : {A : Type 0} (Fails : Type 0) (t : Terms) (limit : ℕ) (state : RepoState) (requests : List (Request A)) (done : Unit {0})
+    (read given : List (List ℕ))
+    → Played Fails t limit state requests (Ok done) read given → IsSound state.answers → CanBeWritten state.answers → state.answers.format ≡ t.format
     → All (λ request. HasValues (format_of request) (asked_of request)) requests
     → given ≡ transcript_of (map asked_of requests) (told_play t.format state.answers (map asked_of requests))
     ∷ pack_bytes (told_all state.answers (map asked_of requests)) ∷ []
-as_told {A = A} t limit state requests done read given p sound written same values =
+as_told {A = A} Fails t limit state requests done read given p sound written same values =
     let h = p.h in
     let repo = state.answers in
     let all : requests ≡ p.asked.front =
@@ -282,7 +283,7 @@ as_told {A = A} t limit state requests done read given p sound written same valu
     let own : All (λ (request : Request A). HasOwn (asked_of request)) requests =
     All-weaker (λ (request : Request A). HasValues (format_of request) (asked_of request)) (λ (request : Request A). HasOwn (asked_of request))
     (λ request values. (format_of request, values)) requests values in
-    let events = told_whole t.format limit state sound written same t.ending p.rest h
+    let events = told_whole Fails t.format limit state sound written same t.ending p.rest h
     (subst HaveValues (sym asked) (All-map HasOwn asked_of requests own)) p.ends in
     let told = told_play t.format repo in
     p.told ∙ ap (λ (l : List EventValue). transcript_of h.asked l ∷ pack_bytes l ∷ []) events

@@ -104,7 +104,7 @@ module _ {A : Type 0} where
       unfolding fed
       fed_request {ended = ended} {request = request} is feeds within rest_is open_ended =
           let news = feeds_with read is feeds in
-          let (some, between, shut, format, kept) = news.leaves in
+          let (some, between, shut, format, kept, limit) = news.leaves in
           subst (λ (l : List ℕ). ReadsRequest ended old new request waiting l (flow before left)) rest_is (record {
             reads = fed news;
             onward = reads_between new.stage between;

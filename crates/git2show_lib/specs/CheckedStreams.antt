@@ -1,5 +1,5 @@
 -- What a check of two recorded streams comes to: what the requests ask, what the responses say to them, and how it ended.
-use Rattle.std.specs.Prelude.{◌≡◌, ◌⊎◌, ℕ, ◌<◌, Bool, true, false, List, [], ◌∷◌, ◌++◌, length, Result, Ok, Err}
+use Rattle.std.specs.Prelude.{◌≡◌, ◌⊎◌, ℕ, ◌<◌, ◌≤◌, All, Bool, true, false, List, [], ◌∷◌, ◌++◌, length, Result, Ok, Err}
 use Rattle.git_pkt.specs.Splits.{Given}
 use Rattle.git_pkt.specs.Faults.{IsOpen}
 use Rattle.git_pkt.specs.Streams.{IsTimely}
@@ -7,8 +7,8 @@ use Rattle.git_pkt.specs.declared.fault.Fault.{Fault}
 use Rattle.git_pkt.specs.declared.fault.RunFault.{RunFault}
 use Rattle.git_pkt.specs.declared.fault.RunFault.TheVariants.{ReadFault as RunReadFault, WriteFault as RunWriteFault, ReadLimit as RunReadLimit, Refused}
 use Rattle.git_pkt.specs.declared.fault.Kind.TheVariants.{UnexpectedPacket}
-use Rattle.git_msg.specs.Advertisement.{noted_offer}
-use Rattle.git_msg.specs.Asked.{Asked}
+use Rattle.git_msg.specs.Advertisement.{noted_offer, offers_command}
+use Rattle.git_msg.specs.Asked.{Asked, command_asked}
 use Rattle.git_msg.specs.HeldRequest.{asked_of, format_of}
 use Rattle.git_msg.specs.Requests.{IsStop}
 use Rattle.git_msg.specs.RequestStreams.{AreAsked, IsRefusedAs}
@@ -18,7 +18,7 @@ use Rattle.git_msg.specs.declared.offers.Offer.{Offer}
 use Rattle.git_msg.specs.declared.requests.Request.{Request}
 use Rattle.git_client.specs.Client.{History}
 use Rattle.git_client.specs.Conversation.{HasEvents, HasNoted, IsConversation}
-use Rattle.git_client.specs.Events.{EventValue}
+use Rattle.git_client.specs.Events.{EventValue, turns_of}
 use Rattle.git_client.specs.Parts.{Terms}
 use Rattle.git_client.specs.Runs.{IsMalformed, IsInterrupted, IsRefusedRequest}
 use Rattle.git_client.specs.Transcript.{transcript_of}
@@ -152,7 +152,8 @@ EndsAs A t offer limit (Err ReadLimit) requests responses unused h found =
     IsCutOff t offer limit (Unit {0}) (responses.ended ≡ false) requests responses unused h found
 
 -- what a check has to do with the bytes of its streams: the requests are read against what the advertisement offers, and not before
--- it is whole; what is given is the transcript of what was asked and heard
+-- it is whole; each that counts as asked has a command that is advertised, and there are no more of them than one for the advertisement
+-- and one for each whole response; what is given is the transcript of what was asked and heard
 pub record Checked (A : Type 0) (t : Terms) (limit : ℕ) (result : Result (Unit {0}) CheckFault) (requests responses : Standing)
     (read given : List (List ℕ)) : Type 0 where
   pub h : History
@@ -162,6 +163,8 @@ pub record Checked (A : Type 0) (t : Terms) (limit : ℕ) (result : Result (Unit
   pub were_read : read ≡ (found.used ++ found.unused) ∷ (h.used ++ unused) ∷ []
   pub told : given ≡ transcript_of h.asked h.events ∷ []
   pub heard : HasEvents t h.asked h.used h.events
+  pub may_be : (caps : Caps) → HasNoted t h.asked h.used caps → All (λ q. offers_command caps (command_asked q) ≡ true) h.asked
+  pub in_turn : length h.asked ≤ turns_of h.events
   pub offered : IsOffered t h.used offer ⊎ AreUnread found
   pub asks : AreAsked offer limit found.used found.asked found.left found.rest
   pub ends : EndsAs A t offer limit result requests responses unused h found

@@ -59,7 +59,7 @@ module _ {R A : Type 0} (state : R → RepoState) where
 
   -- a server gives nothing more: it waits, or its session ended
   abbrev pub IsSpent : Server R A → Type 0
-  IsSpent server = (waits_for_input server ≡ true) ⊎ ((outcome : Outcome) × EndsServer state server outcome)
+  IsSpent server = (waits_for_input server ≡ true) ⊎ ((outcome : Outcome) × (outcome_of server ≡ Some outcome) × EndsServer state server outcome)
 
   -- a server gave these bytes, of which the client used a front, and what that says was written
   pub record Hears (broken : Bool) (old new : Client A) (counts counts_after : Counts) (server after : Server R A) (end unheard : List ℕ)

@@ -1,6 +1,6 @@
 -- What a play of both ends against each other comes to: what the client asked and heard, and the sessions of the servers that
 -- answered it.
-use Rattle.std.specs.Prelude.{◌≡◌, ◌⊎◌, ℕ, Bool, true, false, All, List, [], ◌∷◌, ◌++◌, map, flat_map, Result, Ok, Err}
+use Rattle.std.specs.Prelude.{◌≡◌, ◌⊎◌, ℕ, ◌<◌, Bool, true, false, All, List, [], ◌∷◌, ◌++◌, map, flat_map, Some, Result, Ok, Err}
 use Rattle.git_pkt.specs.Packets.{Pkt, flush, resp_end}
 use Rattle.git_pkt.specs.declared.fault.Fault.{Fault}
 use Rattle.git_pkt.specs.declared.fault.RunFault.{RunFault}
@@ -17,6 +17,7 @@ use Rattle.git_client.specs.Transcript.{transcript_of}
 use Rattle.git_client.specs.declared.events.Ending.{Ending}
 use Rattle.git_client.specs.declared.events.Ending.TheVariants.{FlushOnly, ResponseEnd}
 use Rattle.git_server.specs.Repository.{RepoState}
+use Rattle.git_server.specs.Server.{IsPackLost}
 use Rattle.git_server.specs.Sessions.{Setting, GoesOn, IsAnswered, IsEnding, IsSession}
 use Rattle.git_server.specs.declared.outcome.Outcome.{Outcome}
 use Rattle.git2show_lib.specs.Scripts.{everything}
@@ -38,20 +39,29 @@ pub record Talk : Type 0 where
   pub said : List ℕ
   pub given : List ℕ
 
+-- more reads of the repository can fail than have failed so far
+abbrev pub CanFail : {R : Type 0} → (R → RepoState) → ℕ → Type 0
+CanFail {R} state failures = (repo : R) × (failures < (state repo).failures)
+
+-- a pack was given up only where its reads can fail
+abbrev pub IsLostFor : Type 0 → Outcome → Type 0
+IsLostFor Fails outcome = IsPackLost (Some outcome) → Fails
+
 -- a server goes on with all that was said to it, or its session ended after a front of that
-pub record IsTalk (s : Setting) (talk : Talk) : Type 0 where
+pub record IsTalk (Fails : Type 0) (s : Setting) (talk : Talk) : Type 0 where
   pub used : List ℕ
   pub unused : List ℕ
   pub parts : talk.said ≡ used ++ unused
   pub runs : ((unused ≡ []) × GoesOn s used talk.given)
-      ⊎ ((outcome : Outcome) × (owed : List Pkt) × IsEnding s used false talk.given outcome owed)
+      ⊎ ((outcome : Outcome) × (owed : List Pkt) × IsEnding s used false talk.given outcome owed × IsLostFor Fails outcome)
 
 -- a server gave all that it gives: it waits for more, or its session ended after a front of what was said to it
-pub record IsDone (s : Setting) (talk : Talk) : Type 0 where
+pub record IsDone (Fails : Type 0) (s : Setting) (talk : Talk) : Type 0 where
   pub used : List ℕ
   pub unused : List ℕ
   pub parts : talk.said ≡ used ++ unused
-  pub done : ((unused ≡ []) × IsAnswered s used talk.given) ⊎ ((outcome : Outcome) × IsSession s used false talk.given outcome)
+  pub done : ((unused ≡ []) × IsAnswered s used talk.given)
+      ⊎ ((outcome : Outcome) × IsSession s used false talk.given outcome × IsLostFor Fails outcome)
 
 -- what the client gets of a server that answers one request alone: all that it gave, and after it a response end
 abbrev pub with_end : Talk → List ℕ
@@ -77,30 +87,30 @@ AreAll Stands t limit state first later =
     Stands (setting_of t limit state true) first × All (Stands (setting_of t limit state false)) later
 
 -- what was said to the servers, and their sessions, of which the client has heard a front
-pub record IsServed (t : Terms) (limit : ℕ) (state : RepoState) (h : History) : Type 0 where
+pub record IsServed (Fails : Type 0) (t : Terms) (limit : ℕ) (state : RepoState) (h : History) : Type 0 where
   pub first : Talk
   pub later : List Talk
   pub unheard : List ℕ
   pub served : AreServed t h unheard first later
-  pub sessions : AreAll IsTalk t limit state first later
+  pub sessions : AreAll (IsTalk Fails) t limit state first later
 
 -- a server answered all questions that were said to it, and after them it was told by a flush that the client leaves
-pub record IsAnsweredAndLeft (s : Setting) (talk : Talk) : Type 0 where
+pub record IsAnsweredAndLeft (Fails : Type 0) (s : Setting) (talk : Talk) : Type 0 where
   pub questions : List ℕ
   pub parts : talk.said ≡ questions ++ spelled (flush ∷ [])
   pub answered : IsAnswered s questions talk.given
-  pub talks : IsTalk s talk
+  pub talks : IsTalk Fails s talk
 
 -- each server gave all that its session gives for what it was asked
-abbrev pub AreWholeSessions : Ending → Terms → ℕ → RepoState → Talk → List Talk → Type 0
-AreWholeSessions FlushOnly t limit state first later = IsAnsweredAndLeft (setting_of t limit state true) first
-AreWholeSessions ResponseEnd t limit state first later = AreAll (λ s talk. IsAnswered s talk.said talk.given) t limit state first later
+abbrev pub AreWholeSessions : (Fails : Type 0) → Ending → Terms → ℕ → RepoState → Talk → List Talk → Type 0
+AreWholeSessions Fails FlushOnly t limit state first later = IsAnsweredAndLeft Fails (setting_of t limit state true) first
+AreWholeSessions Fails ResponseEnd t limit state first later = AreAll (λ s talk. IsAnswered s talk.said talk.given) t limit state first later
 
 -- ---- how a play ended
 
 -- a write failed: what was heard comes of the servers, to whom all was said that is written of the questions when these bytes had
 -- been heard; the last question may not have been said yet
-pub record IsBrokenPlay (t : Terms) (limit : ℕ) (state : RepoState) (h : History) : Type 0 where
+pub record IsBrokenPlay (Fails : Type 0) (t : Terms) (limit : ℕ) (state : RepoState) (h : History) : Type 0 where
   pub said : History
   pub same_used : h.used ≡ said.used
   pub asked : (h.asked ≡ said.asked) ⊎ ((last : Asked) × (h.asked ≡ said.asked ++ last ∷ []))
@@ -108,19 +118,19 @@ pub record IsBrokenPlay (t : Terms) (limit : ℕ) (state : RepoState) (h : Histo
   pub heard : List ℕ
   pub cut : said.used ≡ before ++ heard
   pub all_said : HasSaid t (record said { used = before })
-  pub is_served : IsServed t limit state said
+  pub is_served : IsServed Fails t limit state said
 
 module _ {A : Type 0} where
   -- each request was asked, answered and heard whole, and all that was given was heard
-  pub record IsWholePlay (t : Terms) (limit : ℕ) (state : RepoState) (rest : List (Request A)) (h : History) : Type 0 where
+  pub record IsWholePlay (Fails : Type 0) (t : Terms) (limit : ℕ) (state : RepoState) (rest : List (Request A)) (h : History) : Type 0 where
     pub first : Talk
     pub later : List Talk
     pub run : IsWholeRun t rest h
     pub served : AreServed t h [] first later
-    pub sessions : AreWholeSessions t.ending t limit state first later
+    pub sessions : AreWholeSessions Fails t.ending t limit state first later
 
   -- what was heard is refused for its first fault, truncated only where the servers give nothing more; or the next request is
-  pub record IsRefusedPlay (t : Terms) (limit : ℕ) (state : RepoState) (rest : List (Request A)) (h : History) (fault : Fault) : Type 0 where
+  pub record IsRefusedPlay (Fails : Type 0) (t : Terms) (limit : ℕ) (state : RepoState) (rest : List (Request A)) (h : History) (fault : Fault) : Type 0 where
     pub first : Talk
     pub later : List Talk
     pub unheard : List ℕ
@@ -129,23 +139,23 @@ module _ {A : Type 0} where
     pub stays : h.left ≡ false
     pub said : HasSaid t h
     pub served : AreServed t h unheard first later
-    pub sessions : AreAll IsTalk t limit state first later
-    pub done : ended ≡ true → (unheard ≡ []) × AreAll IsDone t limit state first later
+    pub sessions : AreAll (IsTalk Fails) t limit state first later
+    pub done : ended ≡ true → (unheard ≡ []) × AreAll (IsDone Fails) t limit state first later
 
-  abbrev pub EndsAs : Terms → ℕ → RepoState → Result (Unit {0}) RunFault → List (Request A) → History → Type 0
-  EndsAs t limit state (Ok done) rest h = IsWholePlay t limit state rest h
-  EndsAs t limit state (Err (Refused fault)) rest h = IsRefusedPlay t limit state rest h fault
-  EndsAs t limit state (Err WriteFault) rest h = IsBrokenPlay t limit state h
-  EndsAs t limit state (Err ReadFault) rest h = ⊥
-  EndsAs t limit state (Err ReadLimit) rest h = ⊥
+  abbrev pub EndsAs : (Fails : Type 0) → Terms → ℕ → RepoState → Result (Unit {0}) RunFault → List (Request A) → History → Type 0
+  EndsAs Fails t limit state (Ok done) rest h = IsWholePlay Fails t limit state rest h
+  EndsAs Fails t limit state (Err (Refused fault)) rest h = IsRefusedPlay Fails t limit state rest h fault
+  EndsAs Fails t limit state (Err WriteFault) rest h = IsBrokenPlay Fails t limit state h
+  EndsAs Fails t limit state (Err ReadFault) rest h = ⊥
+  EndsAs Fails t limit state (Err ReadLimit) rest h = ⊥
 
-  -- what a play of these requests gives: the transcript of what was asked and heard, and what came of packs
-  pub record Played (t : Terms) (limit : ℕ) (state : RepoState) (requests : List (Request A)) (result : Result (Unit {0}) RunFault)
+  -- what a play of these requests, in which a pack is given up only where this is so, gives: the transcript of what was asked and heard, and what came of packs
+  pub record Played (Fails : Type 0) (t : Terms) (limit : ℕ) (state : RepoState) (requests : List (Request A)) (result : Result (Unit {0}) RunFault)
       (read given : List (List ℕ)) : Type 0 where
     pub h : History
     pub rest : List (Request A)
     pub nothing_read : read ≡ []
     pub told : given ≡ transcript_of h.asked h.events ∷ pack_bytes h.events ∷ []
     pub heard : HasEvents t h.asked h.used h.events
-    pub asked : HasAsked requests rest h
-    pub ends : EndsAs t limit state result rest h
+    pub asked : HasAsked t requests rest h
+    pub ends : EndsAs Fails t limit state result rest h

@@ -8,7 +8,7 @@ ghost use Rattle.git_client.specs.Client.{can_ask, fault_of, wants_input};
 ghost use Rattle.git_client.specs.Parts.{terms_of};
 ghost use Rattle.git_client.specs.RunSteps.{HearsPieceTo};
 ghost use Rattle.git_server.specs.Server.{outcome_of};
-ghost use Rattle.git2show_lib.specs.Plays.{Played, setting_of};
+ghost use Rattle.git2show_lib.specs.Plays.{CanFail, Played, setting_of};
 ghost use Rattle.git2show_lib.specs.PlaySteps.{AsksServerTo, HearsMessageTo, HearsServerTo, Stands, StandsOn, TellsAll};
 ghost use Rattle.git2show_lib.specs.Scripts.{everything};
 
@@ -208,7 +208,8 @@ pub fn play<R: Repo + Drop, O: Write, P: Output, A: Allocator + Copy>(
     requires sound_out { has_failed out.old ≡ false }
     requires sound_pack { P.failed pack.old ≡ false }
     ensures played { Moves (is_broken result)
-        (Played (terms_of (R.state repo).answers.format ending) Limits.USUAL (R.state repo) requests.items result) []
+        (Played (CanFail R.state (R.state repo).failures) (terms_of (R.state repo).answers.format ending) Limits.USUAL (R.state repo)
+        requests.items result) []
         (flow (O.contents (inner_of out.old)) (O.contents (inner_of out.new)) ∷ flow (P.contents pack.old) (P.contents pack.new) ∷ []) }
     ensures fault { IfErr result (IsShownBy ⊥ (IsTrue (has_failed out.new || P.failed pack.new)) ⊥) }
     ensures told { FailsAs result false (has_failed out.new || P.failed pack.new) }

@@ -37,6 +37,7 @@ use Rattle.git_client.proofs.Carries.{is_quiet, not_left, owes_nothing}
 use Rattle.git_client.proofs.Phases.{not_ready_where_due}
 use Rattle.git_client.proofs.EventsHeard.{has_noted, awaits_more, is_whole, position_is, all_is_said}
 use Rattle.git_client.proofs.Faults.{first_fault}
+use Rattle.git_client.proofs.AskedInTurn.{AskedInTurn, asked_in_turn, heard_in_turn, may_be_asked, none_in_turn}
 
 -- ---- what a phase is in which the client can ask, hears, or has failed
 
@@ -128,7 +129,7 @@ module _ {A : Type 0} where
     pub lines : List ℕ
     pub packed : List ℕ
     pub along : Along t h client lines packed counts
-    pub asked : h.asked ≡ map asked_of front
+    pub in_turn : AskedInTurn t h.asked h.used h.events front
     pub read : Consumes reader.before reader.after (h.used ++ unused)
     pub said : WrittenAs broken writer h.given
     pub told : WrittenAs broken out lines
@@ -138,7 +139,7 @@ module _ {A : Type 0} where
   pub record Ran (broken : Bool) (t : Terms) (h : History) (front : List (Request A)) (client : Client A) (unused : List ℕ)
       (reader writer out pack : Flow) : Type 0 where
     pub stands : Converses t h client
-    pub asked : h.asked ≡ map asked_of front
+    pub in_turn : AskedInTurn t h.asked h.used h.events front
     pub read : Consumes reader.before reader.after (h.used ++ unused)
     pub said : WrittenAs broken writer h.given
     pub told : WrittenAs broken out (transcript_of h.asked h.events)
@@ -149,7 +150,7 @@ module _ {A : Type 0} where
       → (r : Running broken t front client counts unused reader writer out pack) → Ran broken t r.h front client unused reader writer out pack
   ran {broken} {t} {front} {client} {counts} {unused} {reader} {writer} {out} {pack} r = record {
     stands = r.along.stands;
-    asked = r.asked;
+    in_turn = r.in_turn;
     read = r.read;
     said = r.said;
     told = subst (WrittenAs broken out) (all_told (can_ask client) r.h r.lines counts r.along.told) r.told;
@@ -172,7 +173,7 @@ module _ {A : Type 0} where
         pack_is = refl;
         within = omega arith;
       };
-      asked = refl;
+      in_turn = none_in_turn t;
       read = Consumes-nil reader;
       said = Appends-kept writer writer flushed [] (written_nothing writer) kept;
       told = written_nothing out;
@@ -194,7 +195,7 @@ module _ {A : Type 0} where
         pack_is = r.along.pack_is;
         within = omega arith;
       };
-      asked = r.asked;
+      in_turn = r.in_turn;
       read = r.read;
       said = r.said;
       told = r.told;
@@ -205,15 +206,15 @@ module _ {A : Type 0} where
     pub asks_on : (broken : Bool) (front : List (Request A)) (old new : Client A) (request : Request A) (counts : Counts) (unused : List ℕ)
         {reader pack : Flow} {writer_before writer_held writer_after out_before out_held out_after : Option (List ℕ)}
         → Running false t front old counts unused reader (flow writer_before writer_held) (flow out_before out_held) pack
-        → AsksNext broken old new request (flow writer_held writer_after) (flow out_held out_after)
+        → can_ask old ≡ true → AsksNext broken old new request (flow writer_held writer_after) (flow out_held out_after)
         → Running broken t (front ++ request ∷ []) new no_counts unused reader (flow writer_before writer_after) (flow out_before out_after) pack
     asks_on broken front old new request counts unused {reader} {pack} {writer_before = w0} {writer_held = w1} {writer_after = w2}
-        {out_before = o0} {out_held = o1} {out_after = o2} r step = record {
+        {out_before = o0} {out_held = o1} {out_after = o2} r ready step = record {
           h = record r.h { asked = r.h.asked ++ asked_of request ∷ []; given = r.h.given ++ step.given };
           lines = _;
           packed = r.packed;
           along = step.goes t r.h r.lines r.packed counts r.along;
-          asked = ap (λ (l : List Asked). l ++ asked_of request ∷ []) r.asked ∙ sym (map-append asked_of front (request ∷ []));
+          in_turn = asked_in_turn t r.h old front request r.along.stands ready step.passes r.in_turn;
           read = r.read;
           said = written_then broken w0 w1 w2 r.h.given step.given r.said step.said;
           told = written_then broken o0 o1 o2 r.lines _ r.told step.told;
@@ -234,7 +235,7 @@ module _ {A : Type 0} where
           lines = r.lines ++ step.lines;
           packed = r.packed ++ step.packed;
           along = along;
-          asked = r.asked;
+          in_turn = heard_in_turn t r.h.asked r.h.used step.used r.h.events events front r.in_turn;
           read = read_on r0 r1 r2 r.h.used waiting step.came step.used unused r.read step.read step.parts;
           said = written_whole broken writer r.h.given r.said;
           told = written_then broken o0 o1 o2 r.lines step.lines r.told step.told;
@@ -250,7 +251,7 @@ module _ {A : Type 0} where
         let at = ran r in
         record {
           stands = step.says t (record r.h { left = true }) (leaving.leaves t r.h at.stands);
-          asked = at.asked;
+          in_turn = at.in_turn;
           read = at.read;
           said = written_then broken before held after r.h.given step.given at.said step.written;
           told = written_whole broken out (transcript_of r.h.asked r.h.events) at.told;
@@ -263,7 +264,7 @@ module _ {A : Type 0} where
         → Ran false t h front client unused reader (flow before after) out pack
     ran_flushed {h} {before} {held} {after} r kept = record {
       stands = r.stands;
-      asked = r.asked;
+      in_turn = r.in_turn;
       read = r.read;
       said = Appends-kept before held after h.given r.said kept;
       told = r.told;
@@ -275,7 +276,7 @@ module _ {A : Type 0} where
         → Ran false t h front client unused reader writer out pack → Ran true t h front client unused reader writer out pack
     ran_in_part {h} {writer} {out} {pack} r = record {
       stands = r.stands;
-      asked = r.asked;
+      in_turn = r.in_turn;
       read = r.read;
       said = in_part writer h.given r.said;
       told = in_part out (transcript_of h.asked h.events) r.told;
@@ -349,7 +350,13 @@ module _ {A : Type 0} (t : Terms) where
           heard = refl;
           told = refl;
           stands = r.stands;
-          asked = record { front = front; all = split; asked = r.asked };
+          asked = record {
+            front = front;
+            all = split;
+            asked = r.in_turn.are;
+            may_be = may_be_asked t h.asked h.used h.events front r.in_turn;
+            in_turn = r.in_turn.in_turn;
+          };
           ends = ends;
         };
       }
@@ -397,7 +404,7 @@ module _ {A : Type 0} (t : Terms) where
     asking_stopped ReadFault ended front later request old new counts unused split ready r step = absurd step
     asking_stopped WriteFault ended front later request old new counts unused split ready r step =
         breaks_off (front ++ request ∷ []) later (split ∙ sym (append_assoc front (request ∷ []) later)) ended new no_counts unused
-        (asks_on t true front old new request counts unused r step)
+        (asks_on t true front old new request counts unused r ready step)
     asking_stopped ReadLimit ended front later request old new counts unused split ready r step = absurd step
     asking_stopped (Refused fault) ended front later request old new counts unused {reader} {pack} {writer_before = w0} {writer_held = w1} {writer_after = w2}
         {out_before = o0} {out_held = o1} {out_after = o2} split ready r step =
@@ -406,7 +413,7 @@ module _ {A : Type 0} (t : Terms) where
         let stands = at.stands in
         let so : Ran false t r.h front old unused reader (flow w0 w2) (flow o0 o2) pack = record {
           stands = stands;
-          asked = at.asked;
+          in_turn = at.in_turn;
           read = at.read;
           said = subst (WrittenAs false (flow w0 w2)) (append-nil r.h.given) (written_then false w0 w1 w2 r.h.given [] at.said step.said);
           told = subst (WrittenAs false (flow o0 o2)) (append-nil told) (written_then false o0 o1 o2 told [] at.told step.told);

@@ -26,5 +26,7 @@ pub mod Telling
 pub mod HearingSteps
 pub mod SayingSteps
 pub mod HearingBytes
+pub mod Notes
+pub mod AskedInTurn
 pub mod ClientRuns
 pub mod HandedBack

@@ -12,7 +12,7 @@ use Rattle.git_msg.specs.declared.requests.Request.{Request}
 use Rattle.git_pkt.specs.Streams.{Flow, flow, WrittenAs, is_broken}
 use Rattle.git_client.specs.Transcript.{asked_line, transcript_of}
 use Rattle.git_client.specs.Turns.{takes_packets, fault_in, is_ready, is_asking, has_left_in, left_in}
-use Rattle.git_client.specs.Client.{History, Converses, Asks, AsksOn, SaysOn, Pulls, TellsSent, given_by, can_ask, fault_of, has_left, left_to_say}
+use Rattle.git_client.specs.Client.{History, Converses, Asks, SaysOn, Pulls, TellsSent, given_by, can_ask, fault_of, has_left, left_to_say}
 use Rattle.git_client.specs.Client.{wants_input}
 use Rattle.git_client.specs.RunSteps.{IsTold, Says, AsksNext, AsksTo, no_counts}
 use Rattle.git_client.specs.declared.phase.Phase.{Phase}
@@ -146,16 +146,17 @@ module _ {A : Type 0} where
   -- ---- what asking does to the history
 
   module _ (broken : Bool) (old middle new : Client A) (request : Request A) (writer out : Flow) (ready : can_ask old ≡ true)
-      (asks : AsksOn old (asked_of request) middle) where
+      (asks : Asks old request middle) where
     -- the question was asked, its line written as far as that went, and these bytes of it given, and written as far as that went
     asks_giving : (given : List ℕ) → WrittenAs broken writer given → WrittenAs broken out (asked_line (command_asked (asked_of request)))
         → SaysOn middle given new → can_ask new ≡ false → AsksNext broken old new request writer out
     asks_giving given said told says not_ready = record {
+      passes = asks.passes;
       given = given;
       said = said;
       told = told;
       goes = λ t h lines packed counts along. record {
-        stands = says t (record h { asked = h.asked ++ asked_of request ∷ [] }) (asks t h along.stands);
+        stands = says t (record h { asked = h.asked ++ asked_of request ∷ [] }) (asks.asks t h along.stands);
         told = subst (λ (can : Bool). IsTold can (record h { asked = h.asked ++ asked_of request ∷ []; given = h.given ++ given })
             (lines ++ asked_line (command_asked (asked_of request))) no_counts) (sym not_ready)
             (told_asked h (asked_of request) lines counts (subst (λ (can : Bool). IsTold can h lines counts) ready along.told));
@@ -168,7 +169,7 @@ module _ {A : Type 0} where
   pub asks_unsaid : (old middle : Client A) (request : Request A) (held : Option (List ℕ)) (out : Flow) → can_ask old ≡ true → Asks old request middle
       → WrittenAs true out (asked_line (command_asked (asked_of request))) → AsksNext true old middle request (flow held held) out
   asks_unsaid old middle request held out ready asks told =
-      asks_giving true old middle middle request (flow held held) out ready asks.asks [] (in_part (flow held held) [] (written_nothing held)) told
+      asks_giving true old middle middle request (flow held held) out ready asks [] (in_part (flow held held) [] (written_nothing held)) told
       (says_nothing middle) asks.no_more
 
   -- all of the question was said, so its response is due
@@ -183,11 +184,11 @@ module _ {A : Type 0} where
       → Asks old request middle → WrittenAs false out (asked_line (command_asked (asked_of request))) → Says (is_broken r) middle new writer
       → IfErr r (λ fault. fault ≡ WriteFault) → AsksTo r old new request writer out
   asks_said (Ok done) old middle new request writer out ready asks told says named = (
-    asks_giving false old middle new request writer out ready asks.asks says.given says.written told says.says says.not_ready,
+    asks_giving false old middle new request writer out ready asks says.given says.written told says.says says.not_ready,
     hears_next old middle new request writer asks says,
   )
   asks_said (Err WriteFault) old middle new request writer out ready asks told says named =
-      asks_giving true old middle new request writer out ready asks.asks says.given says.written (in_part out _ told) says.says says.not_ready
+      asks_giving true old middle new request writer out ready asks says.given says.written (in_part out _ told) says.says says.not_ready
   asks_said (Err fault) old middle new request writer out ready asks told says named = absurd (cc)
 
   -- the same where all of it was said: just what was given was said
@@ -196,4 +197,4 @@ module _ {A : Type 0} where
       → (step : AsksNext false old new request writer out) × (step.given ≡ says.given)
   unfolding asks_giving
   asks_whole old middle new request writer out ready asks told says =
-      (asks_giving false old middle new request writer out ready asks.asks says.given says.written told says.says says.not_ready, refl)
+      (asks_giving false old middle new request writer out ready asks says.given says.written told says.says says.not_ready, refl)

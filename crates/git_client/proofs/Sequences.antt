@@ -75,7 +75,7 @@ gives_more t asked more before [] events e = e
 gives_more t asked more before (g ∷ gs) events (now, later, e, at, rest) =
     (now, later, e, gives_at_more t asked more before g.packet now at, gives_more t asked more (g.packet ∷ before) gs later rest)
 
-turns-append : (events later : List EventValue) → turns_of (events ++ later) ≡ turns_of events + turns_of later
+pub turns-append : (events later : List EventValue) → turns_of (events ++ later) ≡ turns_of events + turns_of later
 turns-append [] later = omega arith
 turns-append (offered ∷ events) later = omega (arith, turns-append events later)
 turns-append (ended ∷ events) later = omega (arith, turns-append events later)

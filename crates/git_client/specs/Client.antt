@@ -79,7 +79,7 @@ farewell false = []
 abbrev pub said_of : Format → Caps → List Asked → Bool → List Pkt
 said_of format caps asked left = questions_of format caps asked ++ farewell left
 
--- whether the first or only response end is due
+-- 1 where a response end is due, whose flush is counted already; else 0
 abbrev pub awaits_end : Due → ℕ
 awaits_end ResponseEnd = 1
 awaits_end due = 0

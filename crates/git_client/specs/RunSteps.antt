@@ -7,7 +7,7 @@ use Rattle.git_pkt.specs.declared.fault.Fault.{Fault}
 use Rattle.git_pkt.specs.declared.fault.RunFault.{RunFault}
 use Rattle.git_pkt.specs.declared.fault.RunFault.TheVariants.{ReadFault, WriteFault, ReadLimit, Refused}
 use Rattle.git_msg.specs.Asked.{Asked, command_asked}
-use Rattle.git_msg.specs.Checks.{Refuses as RefusesBy}
+use Rattle.git_msg.specs.Checks.{Passes, Refuses as RefusesBy}
 use Rattle.git_msg.specs.HeldRequest.{asked_of}
 use Rattle.git_msg.specs.declared.requests.Request.{Request}
 use Rattle.git_client.specs.Parts.{Terms}
@@ -143,8 +143,9 @@ module _ {A : Type 0} where
     pub sound : fault_of new ≡ None
     pub not_ready : can_ask new ≡ false
 
-  -- the request was asked, with its line in the transcript
+  -- the request may be asked and was, with its line in the transcript
   pub record AsksNext (broken : Bool) (old new : Client A) (request : Request A) (writer out : Flow) : Type 0 where
+    pub passes : Passes (ask_checks (format_of old) (caps_of old) request)
     pub given : List ℕ
     pub said : WrittenAs broken writer given
     pub told : WrittenAs broken out (asked_line (command_asked (asked_of request)))

@@ -1,15 +1,15 @@
 -- What a run of a client over its streams comes to: what it asked and heard, what it said, the transcript and the pack.
-use Rattle.std.specs.Prelude.{◌≡◌, ◌⊎◌, Bool, true, false, ℕ, List, [], ◌∷◌, ◌++◌, length, Some, Result, Ok, Err, map}
+use Rattle.std.specs.Prelude.{◌≡◌, ◌⊎◌, ◌≤◌, All, Bool, true, false, ℕ, List, [], ◌∷◌, ◌++◌, length, Some, Result, Ok, Err, map}
 use Rattle.git_pkt.specs.Streams.{IsTimely}
 use Rattle.git_pkt.specs.declared.fault.Fault.{Fault}
 use Rattle.git_pkt.specs.declared.fault.RunFault.{RunFault}
 use Rattle.git_pkt.specs.declared.fault.RunFault.TheVariants.{ReadFault, WriteFault, ReadLimit, Refused}
-use Rattle.git_msg.specs.Checks.{Refuses as RefusesBy}
+use Rattle.git_msg.specs.Checks.{Passes, Refuses as RefusesBy}
 use Rattle.git_msg.specs.HeldRequest.{asked_of}
 use Rattle.git_msg.specs.declared.offers.Caps.{Caps}
 use Rattle.git_msg.specs.declared.requests.Request.{Request}
 use Rattle.git_client.specs.Parts.{Terms}
-use Rattle.git_client.specs.Events.{pack_bytes}
+use Rattle.git_client.specs.Events.{pack_bytes, turns_of}
 use Rattle.git_client.specs.Conversation.{HasNoted, FirstMalformed, GoesOn, IsConversation}
 use Rattle.git_client.specs.Transcript.{transcript_of}
 use Rattle.git_client.specs.Client.{History, Converses, ask_checks, can_ask, fault_of, said_of, spelled, wants_input}
@@ -41,11 +41,14 @@ pub record IsInterrupted (t : Terms) (unused : List ℕ) (h : History) : Type 0 
   pub said : HasSaid t h
 
 module _ {A : Type 0} where
-  -- of the requests these were not asked, and all before them were
-  pub record HasAsked (requests rest : List (Request A)) (h : History) : Type 0 where
+  -- of the requests these were not asked, and all before them were: each may be asked by what was advertised, and there are no more
+  -- of them than one for the advertisement and one for each whole response
+  pub record HasAsked (t : Terms) (requests rest : List (Request A)) (h : History) : Type 0 where
     pub front : List (Request A)
     pub all : requests ≡ front ++ rest
     pub asked : h.asked ≡ map asked_of front
+    pub may_be : (caps : Caps) → HasNoted t h.asked h.used caps → All (λ request. Passes (ask_checks t.format caps request)) front
+    pub in_turn : length h.asked ≤ turns_of h.events
 
   -- after the responses to all that was asked, the next request was refused
   pub record IsRefusedRequest (t : Terms) (rest : List (Request A)) (h : History) (fault : Fault) : Type 0 where
@@ -93,5 +96,5 @@ module _ {A : Type 0} where
     pub heard : read ≡ (h.used ++ unused) ∷ []
     pub told : given ≡ h.given ∷ transcript_of h.asked h.events ∷ pack_bytes h.events ∷ []
     pub stands : Converses t h client
-    pub asked : HasAsked requests rest h
+    pub asked : HasAsked t requests rest h
     pub ends : EndsAs t result ended unused rest h

@@ -15,7 +15,7 @@ use Rattle.git_client.specs.contracts.events.Ending.{the_type}
 use Rattle.git_client.specs.declared.events.Ending.{Ending}
 use Rattle.git_client.specs.declared.events.Ending.TheVariants.{FlushOnly, ResponseEnd}
 use Rattle.git_client.proofs.ClientRuns.{fails_at, shown_at}
-use Rattle.git2show_lib.specs.Plays.{setting_of}
+use Rattle.git2show_lib.specs.Plays.{CanFail, setting_of}
 use Rattle.git2show_lib.specs.PlaySteps.{Stands}
 use Rattle.git2show_lib.proofs.PlayTurns.{AtTurn, Plays, advertised_whole, advertising_stopped, ending_for, hearing_stopped, response_whole}
 use Rattle.git2show_lib.proofs.PlayEnding.{asking_stopped, asks_on, ends_at, many_end, one_end, turn_else, turn_then}
@@ -49,7 +49,8 @@ pub returns-in_err-hear_message-clause-played : goal.returns-in_err-hear_message
 returns-in_err-hear_message-clause-played g c =
     let s0 = g.R.Repo.state c.args.repo in
     let t = terms_of s0.answers.format c.args.ending in
-    ends_at t USUAL s0 c.args.requests.items c.from_residual.result c.in_err-hear_message.field-0.0 _ _ c.from_residual.ensures.1
+    ends_at (CanFail g.R.Repo.state s0.failures) t USUAL s0 c.args.requests.items c.from_residual.result c.in_err-hear_message.field-0.0 _ _
+    c.from_residual.ensures.1
     (advertising_stopped g.R.Repo.state t USUAL s0 c.args.requests.items c.in_err-hear_message.field-0.0 c.new-client.result c.hear_message.new.client
     c.new_server-server.result c.hear_message.new.server c.new-client.ensures.waits
     (subst (λ (f : Format). Converses (terms_of f c.args.ending) nothing_yet c.new-client.result) c.format-format.ensures
@@ -101,7 +102,7 @@ returns-in_err-ask_server-clause-played g c =
           subst (λ (server : Server _ _). AtTurn g.R.Repo.state t USUAL s0 c.eq-alone.result p.h server) (sym w.server-is)
           (turn_else g.R.Repo.state t USUAL s0 c.eq-alone.result p.h at.server (search rules) p.rests)
     ] in
-    ends_at t USUAL s0 c.args.requests.items c.from_residual-in_err-ask_server.result c.in_err-ask_server.field-0.0 _ _
+    ends_at (CanFail g.R.Repo.state s0.failures) t USUAL s0 c.args.requests.items c.from_residual-in_err-ask_server.result c.in_err-ask_server.field-0.0 _ _
     c.from_residual-in_err-ask_server.ensures.1
     (asking_stopped g.R.Repo.state t USUAL s0 c.args.requests.items c.eq-alone.result c.in_err-ask_server.field-0.0 p.h at.yielded later request at.client
     c.ask_server.new.client c.if-alone.server c.ask_server.new.server
@@ -148,7 +149,7 @@ loop-request-preserved g c =
     let step = c.in_ok-ask_server.ensures.asked in
     let asks = asks_on g.R.Repo.state t USUAL s0 c.eq-alone.result p.h at.yielded at.client c.ask_server.new.client request c.if-alone.server
     c.ask_server.new.server at.invariant.ending p.ready p.runs turn step in
-    let runs = asks_runs t false p.h at.yielded at.client c.ask_server.new.client request p.runs step.asks in
+    let runs = asks_runs t false p.h at.yielded at.client c.ask_server.new.client request p.runs p.ready step.asks in
     record {
       plays = response_whole g.R.Repo.state t USUAL s0 c.eq-alone.result _ (at.yielded ++ request ∷ []) c.ask_server.new.client
           c.hear_message-in-loop-request.new.client c.ask_server.new.server c.hear_message-in-loop-request.new.server at.invariant.ending step.waits asks
@@ -184,8 +185,9 @@ returns-in_err-hear_message-2-clause-played g c =
     let step = c.in_ok-ask_server.ensures.asked in
     let asks = asks_on g.R.Repo.state t USUAL s0 c.eq-alone.result p.h at.yielded at.client c.ask_server.new.client request c.if-alone.server
     c.ask_server.new.server at.invariant.ending p.ready p.runs turn step in
-    let runs = asks_runs t false p.h at.yielded at.client c.ask_server.new.client request p.runs step.asks in
-    ends_at t USUAL s0 c.args.requests.items c.from_residual-in_err-hear_message-2.result c.in_err-hear_message-2.field-0.0 _ _
+    let runs = asks_runs t false p.h at.yielded at.client c.ask_server.new.client request p.runs p.ready step.asks in
+    ends_at (CanFail g.R.Repo.state s0.failures) t USUAL s0 c.args.requests.items c.from_residual-in_err-hear_message-2.result
+    c.in_err-hear_message-2.field-0.0 _ _
     c.from_residual-in_err-hear_message-2.ensures.1
     (hearing_stopped g.R.Repo.state t USUAL s0 c.args.requests.items c.eq-alone.result c.in_err-hear_message-2.field-0.0 _ (at.yielded ++ request ∷ []) later
     c.ask_server.new.client c.hear_message-in-loop-request.new.client c.ask_server.new.server c.hear_message-in-loop-request.new.server
@@ -218,3 +220,6 @@ returns-clause-played g c =
 
 pub returns-clause-told : goal.returns-clause-told
 returns-clause-told g c = (refl, or_from _ _ c.loop-request.invariant.sound_out c.loop-request.invariant.sound_pack)
+
+pub invariant_of-server-in_err-hear_message-2-clause-sound : goal.invariant_of-server-in_err-hear_message-2-clause-sound
+invariant_of-server-in_err-hear_message-2-clause-sound g c = c.hear_message-in-loop-request.new.server.sound

@@ -123,7 +123,7 @@ returns-in_err-waiting-2-clause-conversed g c =
     (one_more c.args.requests.items at.yielded (into_iter_items at.request-iterator) later request at.invariant.left_to_ask c.in-Some.ensures.steps.0)
     c.in_err-waiting-2.field-0.0 _ c.ask_next.new.client c.hear-in-loop-request.new.client (window_of at.waiting at.piece) c.hear-in-loop-request.new.piece
     (asks_on t false at.yielded at.client c.ask_next.new.client request no_counts (window_of at.waiting at.piece) (at.invariant.runs t begun)
-    c.in_ok-ask_next.ensures.asked.0) c.in_err-waiting-2.ensures.heard)
+    at.invariant.ready c.in_ok-ask_next.ensures.asked.0) c.in_err-waiting-2.ensures.heard)
 
 pub returns-in_err-waiting-2-clause-fault : goal.returns-in_err-waiting-2-clause-fault
 returns-in_err-waiting-2-clause-fault g c =
@@ -151,7 +151,7 @@ loop-request-preserved g c =
           counts_anew t (at.yielded ++ request ∷ []) c.hear-in-loop-request.new.client heard.hears.counts unused heard.can_ask_on
           (hears_on t false (at.yielded ++ request ∷ []) c.ask_next.new.client c.hear-in-loop-request.new.client waiting unused
           (asks_on t false at.yielded at.client c.ask_next.new.client request no_counts waiting (at.invariant.runs t begun)
-          c.in_ok-ask_next.ensures.asked.0) heard.hears);
+          at.invariant.ready c.in_ok-ask_next.ensures.asked.0) heard.hears);
       ready = heard.can_ask_on;
       left_to_ask =
           one_more c.args.requests.items at.yielded (into_iter_items at.request-iterator) later request at.invariant.left_to_ask c.in-Some.ensures.steps.0;

@@ -1,0 +1,152 @@
+-- Requests that were asked, each in its turn, and that may be asked by what was advertised.
+use Rattle.std.proofs.Common.{arith, ◌≡◌, ◌⊎◌, inl, inr, ℕ, suc, ◌≤◌, true, All, List, [], ◌∷◌, ◌++◌, length, map}
+use Rattle.std.proofs.Common.{refl, sym, ap, ◌∙◌, subst, append_assoc, append-nil, length-append}
+use Rattle.std.proofs.lemmas.List.{map-append}
+use Rattle.std.proofs.lemmas.List.Elements.{All-cons, All-head, All-nil, All-push, All-tail}
+use Rattle.git_names.specs.declared.object_format.Format.{Format}
+use Rattle.git_msg.specs.Advertisement.{noted_of, offers_command}
+use Rattle.git_msg.specs.Asked.{Asked, command_asked}
+use Rattle.git_msg.specs.Checks.{Passes}
+use Rattle.git_msg.specs.HeldRequest.{asked_of}
+use Rattle.git_msg.specs.declared.offers.Caps.{Caps}
+use Rattle.git_msg.specs.declared.requests.Request.{Request}
+use Rattle.git_client.specs.Parts.{Terms, advertisement_of, nearest}
+use Rattle.git_client.specs.Events.{EventValue, turns_of}
+use Rattle.git_client.specs.Conversation.{HasNoted, IsConversation}
+use Rattle.git_client.specs.Client.{History, Converses, ask_checks, can_ask, caps_of, format_of}
+use Rattle.git_client.specs.declared.client.Client.{Client}
+use Rattle.git_client.proofs.CanAsk.{can_ask_tells}
+use Rattle.git_client.proofs.EventsHeard.{has_noted, is_whole}
+use Rattle.git_client.proofs.Notes.{noted_at}
+use Rattle.git_client.proofs.Sequences.{turns-append}
+
+-- the command of a question was advertised
+abbrev pub HasCommand : Caps → Asked → Type 0
+HasCommand caps q = offers_command caps (command_asked q) ≡ true
+
+module _ {A : Type 0} (t : Terms) where
+  -- the request may be asked by what was noted
+  abbrev pub MayAsk : Caps → Request A → Type 0
+  MayAsk caps request = Passes (ask_checks t.format caps request)
+
+  -- a whole conversation began these bytes, and each of the requests may be asked by what it noted
+  pub record MayBeAsked (asked : List Asked) (used : List ℕ) (front : List (Request A)) : Type 0 where
+    pub first : List Asked
+    pub begun : List ℕ
+    pub events : List EventValue
+    pub whole : IsConversation t first begun events
+    pub more : List Asked
+    pub later : List ℕ
+    pub asked_is : asked ≡ first ++ more
+    pub used_is : used ≡ begun ++ later
+    pub passes : All (MayAsk (noted_of (advertisement_of (nearest whole.given [])))) front
+
+  -- just these requests were asked, and no more than one for the advertisement and one for each whole response
+  pub record AskedInTurn (asked : List Asked) (used : List ℕ) (events : List EventValue) (front : List (Request A)) : Type 0 where
+    pub are : asked ≡ map asked_of front
+    pub in_turn : length asked ≤ turns_of events
+    pub may_be : (front ≡ []) ⊎ MayBeAsked asked used front
+
+  pub none_in_turn : AskedInTurn [] [] [] []
+  none_in_turn = record { are = refl; in_turn = omega arith; may_be = inl refl }
+
+  -- more bytes were used
+  pub heard_in_turn : (asked : List Asked) (used more : List ℕ) (events now : List EventValue) (front : List (Request A))
+      → AskedInTurn asked used events front → AskedInTurn asked (used ++ more) (events ++ now) front
+  heard_in_turn asked used more events now front h = record {
+    are = h.are;
+    in_turn = omega (arith, h.in_turn, turns-append events now);
+    may_be = elim h.may_be [
+      | inl none ↦ inl none
+      | inr m ↦ inr (record {
+        first = m.first;
+        begun = m.begun;
+        events = m.events;
+        whole = m.whole;
+        more = m.more;
+        later = m.later ++ more;
+        asked_is = m.asked_is;
+        used_is = ap (λ (l : List ℕ). l ++ more) m.used_is ∙ append_assoc m.begun m.later more;
+        passes = m.passes;
+      })
+    ];
+  }
+
+  -- a request was asked where that may be
+  module _ (h : History) (client : Client A) (front : List (Request A)) (request : Request A) (stands : Converses t h client)
+      (ready : can_ask client ≡ true) (passes : Passes (ask_checks (format_of client) (caps_of client) request)) where
+    -- it may be asked by what was noted, also of a conversation that began this one
+    passes_by : (caps : Caps) → caps_of client ≡ caps → Passes (ask_checks t.format caps request)
+    passes_by caps same =
+        subst (λ (c : Caps). Passes (ask_checks t.format c request)) same
+        (subst (λ (f : Format). Passes (ask_checks f (caps_of client) request)) stands.format_is passes)
+
+    may_be_first : front ≡ [] → MayBeAsked (h.asked ++ asked_of request ∷ []) h.used (front ++ request ∷ [])
+    may_be_first none =
+        let whole = is_whole t h client stands ready in
+        let caps = noted_of (advertisement_of (nearest whole.given [])) in
+        let same : caps_of client ≡ caps =
+        noted_at t h.asked h.used h.events whole [] h.asked [] h.used (caps_of client) (sym (append-nil h.asked)) (sym (append-nil h.used))
+        (has_noted t h client stands) in
+        record {
+          first = h.asked;
+          begun = h.used;
+          events = h.events;
+          whole = whole;
+          more = asked_of request ∷ [];
+          later = [];
+          asked_is = refl;
+          used_is = sym (append-nil h.used);
+          passes = All-push (MayAsk caps) front request (subst (All (MayAsk caps)) (sym none) (All-nil (MayAsk caps))) (passes_by caps same);
+        }
+
+    may_be_next : (m : MayBeAsked h.asked h.used front) → MayBeAsked (h.asked ++ asked_of request ∷ []) h.used (front ++ request ∷ [])
+    may_be_next m =
+        let caps = noted_of (advertisement_of (nearest m.whole.given [])) in
+        let same : caps_of client ≡ caps =
+        noted_at t m.first m.begun m.events m.whole m.more h.asked m.later h.used (caps_of client) m.asked_is m.used_is (has_noted t h client stands) in
+        record {
+          first = m.first;
+          begun = m.begun;
+          events = m.events;
+          whole = m.whole;
+          more = m.more ++ asked_of request ∷ [];
+          later = m.later;
+          asked_is = ap (λ (l : List Asked). l ++ asked_of request ∷ []) m.asked_is ∙ append_assoc m.first m.more (asked_of request ∷ []);
+          used_is = m.used_is;
+          passes = All-push (MayAsk caps) front request m.passes (passes_by caps same);
+        }
+
+    pub asked_in_turn : AskedInTurn h.asked h.used h.events front
+        → AskedInTurn (h.asked ++ asked_of request ∷ []) h.used h.events (front ++ request ∷ [])
+    asked_in_turn a =
+        let turn = ((can_ask_tells client true ready t h stands).0 refl).2 in
+        record {
+          are = ap (λ (l : List Asked). l ++ asked_of request ∷ []) a.are ∙ sym (map-append asked_of front (request ∷ []));
+          in_turn = omega (arith, turn, length-append h.asked (asked_of request ∷ []));
+          may_be = inr (elim a.may_be [ inl none ↦ may_be_first none | inr m ↦ may_be_next m ]);
+        }
+
+  -- so each may be asked by what was noted
+  pub may_be_asked : (asked : List Asked) (used : List ℕ) (events : List EventValue) (front : List (Request A)) → AskedInTurn asked used events front
+      → (caps : Caps) → HasNoted t asked used caps → All (MayAsk caps) front
+  may_be_asked asked used events front a caps noted = elim a.may_be [
+    | inl none ↦ subst (All (MayAsk caps)) (sym none) (All-nil (MayAsk caps))
+    | inr m ↦ subst (λ (c : Caps). All (MayAsk c) front)
+        (sym (noted_at t m.first m.begun m.events m.whole m.more asked m.later used caps m.asked_is m.used_is noted)) m.passes
+  ]
+
+  -- and the command of each question was advertised
+  commands_of_each : (caps : Caps) (front : List (Request A)) → All (MayAsk caps) front
+      → All (HasCommand caps) (map asked_of front)
+  commands_of_each caps [] all = All-nil (HasCommand caps)
+  commands_of_each caps (request ∷ front) all =
+      All-cons (HasCommand caps) (asked_of request) (map asked_of front) (All-head (MayAsk caps) request front all).1.0
+      (commands_of_each caps front (All-tail (MayAsk caps) request front all))
+
+  pub commands_advertised : (asked : List Asked) (used : List ℕ) (events : List EventValue) (front : List (Request A))
+      → AskedInTurn asked used events front → (caps : Caps) → HasNoted t asked used caps
+      → All (HasCommand caps) asked
+  commands_advertised asked used events front a caps noted =
+      subst (All (HasCommand caps)) (sym a.are)
+      (commands_of_each caps front (may_be_asked asked used events front a caps noted))
