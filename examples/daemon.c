@@ -47,8 +47,16 @@ struct client {
 static struct client clients[MOST_CLIENTS];   /* of zeros, as each handle begins */
 static gitwire_repository repository = GITWIRE_NONE;
 static char asked_for[4096];                  /* what the first packet of a client has to begin with */
-static time_t now, patience;
+static time_t patience;
 static volatile sig_atomic_t is_over;
+
+static time_t seconds(void)
+{
+	struct timespec moment;
+
+	clock_gettime(CLOCK_MONOTONIC, &moment);
+	return moment.tv_sec;
+}
 
 static void forget(struct client *c)
 {
@@ -56,6 +64,15 @@ static void forget(struct client *c)
 	gitwire_server_free(&c->server);
 	close(c->connection);
 	c->phase = NOBODY;
+}
+
+/* A fault by its name and offset, until the next one is asked for. */
+static const char *text_of(gitwire_told told)
+{
+	static char text[GITWIRE_FAULT_TEXT_ROOM + 1];
+
+	text[gitwire_fault_text(told.fault, told.offset, (uint8_t *)text, GITWIRE_FAULT_TEXT_ROOM)] = 0;
+	return text;
 }
 
 /* Makes an error packet the last that is sent. */
@@ -87,7 +104,6 @@ static const char *why_not(const uint8_t *text, size_t length)
 static void greet(struct client *c)
 {
 	gitwire_told told = gitwire_packet_reader_feed(&c->packets, c->in + c->in_at, c->in_end - c->in_at, c->out, sizeof c->out);
-	char fault[GITWIRE_FAULT_TEXT_ROOM + 1] = "";
 	const char *why;
 
 	c->in_at += told.used;
@@ -99,8 +115,7 @@ static void greet(struct client *c)
 	if (told.kind == GITWIRE_DONE) { /* nothing was asked */
 		c->phase = ENDING;
 	} else if (told.kind == GITWIRE_FAILED) {
-		gitwire_fault_text(told.fault, told.offset, (uint8_t *)fault, sizeof fault - 1);
-		refuse(c, fault);
+		refuse(c, text_of(told));
 	} else if ((why = why_not(c->out, told.length)) != NULL) {
 		refuse(c, why);
 	} else if (gitwire_server_new(&c->server, &repository, MOST_KEPT, true) != GITWIRE_DONE) {
@@ -122,7 +137,7 @@ static void serve(struct client *c)
 		} else if (told.kind != GITWIRE_NEED_INPUT) {
 			c->phase = ENDING;
 			if (told.kind == GITWIRE_FAILED)
-				fprintf(stderr, "daemon: a session ended with fault %d at %llu\n", told.fault, (unsigned long long)told.offset);
+				fprintf(stderr, "daemon: a session ended with %s\n", text_of(told));
 			return;
 		} else if (c->in_at < c->in_end) {
 			c->in_at += gitwire_server_feed(&c->server, c->in + c->in_at, c->in_end - c->in_at).used;
@@ -146,7 +161,7 @@ static bool has_moved(struct client *c, ssize_t count)
 	if (count < 0 && errno != EAGAIN && errno != EINTR)
 		forget(c);
 	if (count >= 0 && c->phase != LEAVING)
-		c->deadline = now + patience;
+		c->deadline = seconds() + patience;
 	return count >= 0;
 }
 
@@ -194,7 +209,7 @@ static bool welcome(struct client *c, int listener)
 		return false;
 	c->phase = GREETING;
 	c->connection = connection;
-	c->deadline = now + patience;
+	c->deadline = seconds() + patience;
 	c->wants_input = true;
 	c->input_ended = false;
 	c->in_at = c->in_end = c->out_at = c->out_end = 0;
@@ -207,11 +222,11 @@ static bool welcome(struct client *c, int listener)
 static void run(int listener)
 {
 	struct pollfd polled[MOST_CLIENTS + 1];
-	struct timespec moment;
 	bool is_open = true; /* else one wait is without the listener, which ends each wait while no descriptor is left for who comes */
 
 	while (!is_over) {
 		struct client *vacant = NULL;
+		time_t now;
 
 		for (int i = 0; i < MOST_CLIENTS; i++) {
 			struct client *c = &clients[i];
@@ -226,8 +241,7 @@ static void run(int listener)
 				stop(strerror(errno));
 			continue;
 		}
-		clock_gettime(CLOCK_MONOTONIC, &moment);
-		now = moment.tv_sec;
+		now = seconds();
 		for (int i = 0; i < MOST_CLIENTS; i++) {
 			struct client *c = &clients[i];
 

@@ -37,7 +37,7 @@ static pid_t start_server(const char *folder, int *to, int *from)
 		close(asked[1]);
 		close(answered[0]);
 		setenv("GIT_PROTOCOL", "version=2", 1);
-		execlp("git", "git", "upload-pack", folder, (char *)NULL);
+		execlp("git", "git", "upload-pack", "--", folder, (char *)NULL);
 		_exit(127);
 	}
 	signal(SIGPIPE, SIG_IGN); /* a server that is gone is told by a write that fails */
@@ -198,5 +198,5 @@ int main(int count, char **words)
 	}
 	gitwire_request_free(&request);
 	gitwire_client_free(&client);
-	return fflush(stdout) != 0 ? 1 : status;
+	return fflush(stdout) != 0 || ferror(stdout) ? tell("the output cannot be written") : status;
 }

@@ -47,6 +47,12 @@ static void show(gitwire_told packet, const uint8_t *payload)
 	putchar('\n');
 }
 
+static int tell(const char *what)
+{
+	fprintf(stderr, "packets: %s\n", what);
+	return 1;
+}
+
 /* Tells a fault by its name and offset. */
 static int refuse(gitwire_told told)
 {
@@ -74,24 +80,33 @@ static int list(gitwire_packet_reader *reader, size_t most)
 				show(told, room);
 		}
 	}
+	if (ferror(stdin))
+		return tell("the input cannot be read");
 	told = gitwire_packet_reader_close(reader);
 	return told.kind == GITWIRE_DONE ? 0 : refuse(told);
 }
 
+/* The number that a word is, or 0. */
+static size_t number_of(const char *word)
+{
+	char *end;
+	size_t number = strtoul(word, &end, 10);
+
+	return *end == 0 ? number : 0;
+}
+
 int main(int count, char **words)
 {
-	size_t most = count > 1 ? strtoul(words[1], NULL, 10) : MOST_PIECE;
+	size_t most = count > 1 ? number_of(words[1]) : MOST_PIECE;
 	gitwire_packet_reader reader = GITWIRE_NONE;
 
 	if (most < 1 || most > MOST_PIECE) {
 		fputs("usage: packets [PIECE]\n", stderr);
 		return 2;
 	}
-	if (gitwire_packet_reader_new(&reader) != GITWIRE_DONE) {
-		fputs("packets: no memory\n", stderr);
-		return 1;
-	}
+	if (gitwire_packet_reader_new(&reader) != GITWIRE_DONE)
+		return tell("no memory");
 	int status = list(&reader, most);
 	gitwire_packet_reader_free(&reader);
-	return ferror(stdin) || fflush(stdout) != 0 ? 1 : status;
+	return fflush(stdout) != 0 || ferror(stdout) ? tell("the output cannot be written") : status;
 }

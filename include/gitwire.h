@@ -1,9 +1,10 @@
 /*
  * Git's wire protocol, version 2 (fetch side), for programs in C: packets, requests, a server, a client, and the lines
  * that a host of its own writes. Each call is a method of a library that is proved to meet its contract; docs/PROMISES.md
- * has the promises whole, docs/PROTOCOL.md the rules and the faults. The library reads and writes no stream, starts no
- * thread and keeps nothing but what its handles have: a program feeds it what it has read, in pieces of any size, and
- * writes what it gives. Each end is a loop over what its pull tells, as in examples/daemon.c and examples/list.c:
+ * has the promises whole, docs/PROTOCOL.md the rules and the faults. Files are named as in the project's repository;
+ * docs/PROTOCOL.md is installed too, in share/doc/gitwire. The library reads and writes no stream, starts no thread and
+ * keeps nothing but what its handles have: a program feeds it what it has read, in pieces of any size, and writes what it
+ * gives. Each end is a loop over what its pull tells, as in examples/daemon.c and examples/list.c:
  *
  *     a server   PACKET       write it to the client
  *                NEED_INPUT   read from the client and feed what came; at the input's end close
@@ -16,15 +17,18 @@
  * Of every call:
  *
  *   - It returns, whatever the bytes are. What is not allowed at a moment, a room that is too small, a number that stands
- *     for nothing and a handle with nothing in it are told by a code, and then nothing was used or changed.
+ *     for nothing and a handle with nothing in it are told by a code, and then nothing was used or changed: by false of
+ *     gitwire_request_flag, and by 0 of gitwire_fault_name and gitwire_fault_text. A feed that is not due uses nothing, and
+ *     tells MORE, or the fault that there was: so no loop goes on until all is used.
  *   - A text is a pointer and a length, and has no NUL at its end. A room is where a call writes: a pointer and how many
  *     bytes are there. What it writes stands at the front of the room, and it says how many bytes that are; those after
  *     them stay as they were.
  *
  * What a program has to see to, since no call can:
  *
- *   - A handle begins as GITWIRE_NONE, or as memory of zeros, which is the same. It is never copied, and its fields are touched
- *     by nobody else. It is freed once it is no more needed; freed twice is well, and a call on what was freed tells NO_HANDLE.
+ *   - A handle begins as GITWIRE_NONE, or as memory of zeros, which is the same. Its fields are touched by nobody else. It may
+ *     be moved, as by realloc; of two copies only one is used from then on, and freed. It is freed once it is no more needed;
+ *     to free it twice does no harm, and a call on what was freed tells NO_HANDLE.
  *   - No pointer to a handle or to a gitwire_caps is NULL, nor that of a call `_free`.
  *   - A handle is used by one thread at a time. Each call writes to each handle that it is given, also one that only asks: so
  *     two threads that make servers of one repository's handle need a lock. A handle may go from one thread to another, by a
@@ -34,6 +38,7 @@
  *     overlaps a text, another room or a handle, and no two handles of a call are one. Nobody else writes to a text or
  *     touches a room while the call runs.
  *   - Each field of a gitwire_offer is set.
+ *   - The stack has room for a call. As measured, a call gitwire_put_.. takes up to 65 KiB of it, and each other call up to 6.
  *   - malloc, realloc and free are those of one allocator, which aligns as the C standard says. No call is made from a
  *     signal handler, nor in the child of a fork of a process with more than one thread.
  *
@@ -143,7 +148,7 @@ enum {
 	GITWIRE_FAULT_REMOTE_ERROR = 23,
 	GITWIRE_FAULT_UNKNOWN_REF = 24,
 	GITWIRE_FAULT_NOT_OURS = 25,
-	GITWIRE_FAULT_PACK_SOURCE = 26,
+	GITWIRE_FAULT_PACK_SOURCE = 26,   /* no call tells it: here a pack is in memory */
 	GITWIRE_FAULT_NOT_VERSION_2 = 27,
 	GITWIRE_FAULT_UNEXPECTED_SECTION = 28,
 	GITWIRE_FAULT_BAD_LINE = 29,
@@ -155,8 +160,12 @@ enum {
 	GITWIRE_FAULT_READ_LIMIT = 34
 };
 
-/* Object formats, commands of requests, and how each response ends: with its flush alone, as on a connection that both ends
- * keep, or with one response-end packet more, as where each request has a connection of its own. */
+/*
+ * Object formats, commands of requests, and how each response ends: with its flush alone, or with one response-end packet more,
+ * which Git's stateless-connect helpers put after each response, gitremote-helpers(7). gitwire_server gives none, nor does Git's
+ * server: a program whose client has this ending, over a connection for each request, feeds it `0002` after each response, but
+ * not after the advertisement.
+ */
 enum { GITWIRE_SHA1 = 0, GITWIRE_SHA256 = 1 };
 enum { GITWIRE_LS_REFS = 0, GITWIRE_FETCH = 1, GITWIRE_OBJECT_INFO = 2 };
 enum { GITWIRE_ENDS_BY_FLUSH = 0, GITWIRE_ENDS_BY_RESPONSE_END = 1 };
@@ -206,8 +215,8 @@ typedef struct { void *at_; bool is_made_; } gitwire_client;
 uint8_t gitwire_packet_reader_new(gitwire_packet_reader *reader);
 
 /*
- * Reads on, up to the end of a packet, with the whole piece used, or at the first fault: `used` says how many bytes. It
- * is to be called again with those that were not used. The room has GITWIRE_PAYLOAD_ROOM bytes at least.
+ * Reads on to the end of a packet, the end of the piece or the first fault, whichever comes first: `used` says how many
+ * bytes. It is to be called again with those that were not used. The room has GITWIRE_PAYLOAD_ROOM bytes at least.
  *
  * MORE: the piece is used up. PAYLOAD: `length` bytes in the room, none for the packet `0004`. FLUSH, DELIM,
  * RESPONSE_END: these packets. `offset` is that of the packet's first digit. FAILED: BadDigit, BadLength, TooLong, and
@@ -236,34 +245,37 @@ void gitwire_packet_reader_free(gitwire_packet_reader *reader);
 uint8_t gitwire_request_reader_new(gitwire_request_reader *reader, gitwire_offer offer, uint32_t limit);
 
 /*
- * Reads on, up to the end of a request, a flush in the place of one, with the whole piece used, or at the first fault:
- * `used` says how many bytes. It is to be called again with those that were not used.
+ * Reads on to the end of a request, a flush in the place of one, the end of the piece or the first fault, whichever comes
+ * first: `used` says how many bytes. It is to be called again with those that were not used.
  *
  * MORE: the piece is used up; or the other end has left, and nothing is used. REQUEST: a whole request, which is what
  * the request handle has now; what it had is freed. STOP: the other end leaves, and nothing is read after it. FAILED: what
  * refuses a request, by its first bad packet. OUT_OF_MEMORY: there is no memory for what the request handle has to have
  * before anything is read; nothing was used or changed, and the call can be made again. NO_HANDLE.
  *
- * No other answer than REQUEST gives the request handle a request that was read. One that had nothing has an empty request after
- * them, which nobody asked.
+ * No other answer than REQUEST gives the request handle a request that was read. After MORE, STOP and FAILED one that had nothing
+ * has an empty request, which nobody asked.
  */
 gitwire_told gitwire_request_reader_feed(gitwire_request_reader *reader, gitwire_request *request,
 	const uint8_t *piece, size_t piece_length);
 
 /*
- * Tells that the input ends here. DONE between two requests. FAILED inside one, with Truncated where the last whole
- * packet ended. NOT_NOW after a fault, and once the other end has left. NO_HANDLE.
+ * Tells that the input ends here. DONE between two requests, and nothing changes. FAILED inside one, with Truncated where
+ * the last whole packet ended. NOT_NOW after a fault, and once the other end has left. NO_HANDLE.
  */
 gitwire_told gitwire_request_reader_close(gitwire_request_reader *reader);
 
 void gitwire_request_reader_free(gitwire_request_reader *reader);
 
 /*
- * A request: what a reader of requests hands out, or what a client is to ask. One that is made has no arguments. Its
- * lists keep the order of their lines, and repeats.
+ * A request: what a reader of requests hands out, or what a client is to ask. One that is made has no arguments. One that a
+ * reader handed out has the reader's limit. The lists of each keep the order of their lines, and repeats.
  */
 
-/* An empty request. BAD_VALUE for a command or a format that is none, and for a limit above GITWIRE_MOST_LIMIT. */
+/*
+ * An empty request. `limit` is how many bytes the texts of its argument lines may have together. BAD_VALUE for a command or a
+ * format that is none, and for a limit above GITWIRE_MOST_LIMIT.
+ */
 uint8_t gitwire_request_new(gitwire_request *request, uint8_t command, uint8_t format, uint32_t limit);
 
 /*
@@ -273,10 +285,13 @@ uint8_t gitwire_request_new(gitwire_request *request, uint8_t command, uint8_t f
  */
 gitwire_told gitwire_request_add(gitwire_request *request, const uint8_t *line, size_t line_length);
 
-/* What is looked at where a request ends. DONE, or FAILED with DeepenConflict, NoWants or NoSize. NO_HANDLE. */
+/*
+ * Checks what a reader checks where a request ends, and changes nothing. DONE, or FAILED, at offset 0, with DeepenConflict, NoWants
+ * or NoSize. NO_HANDLE.
+ */
 gitwire_told gitwire_request_end(gitwire_request *request);
 
-/* DONE with `offset` the number of its command, of its object format. NO_HANDLE. */
+/* DONE with `offset` the number of its command; of its object format. NO_HANDLE. */
 gitwire_told gitwire_request_command(gitwire_request *request);
 gitwire_told gitwire_request_format(gitwire_request *request);
 
@@ -294,9 +309,12 @@ enum {
 };
 bool gitwire_request_flag(gitwire_request *request, uint8_t flag);
 
-/* DONE with `offset` the number that was asked for last, or NOTHING. BAD_VALUE, NO_HANDLE. */
+/*
+ * The depth in commits (DEEPEN), or the time in seconds since 1970 (DEEPEN_SINCE), that the request gives: DONE with it in
+ * `offset`; of several the last counts. NOTHING where it gives none. BAD_VALUE, NO_HANDLE.
+ */
 enum { GITWIRE_NUMBER_DEEPEN = 0, GITWIRE_NUMBER_DEEPEN_SINCE = 1 };
-gitwire_told gitwire_request_number(gitwire_request *request, uint8_t number);
+gitwire_told gitwire_request_number(gitwire_request *request, uint8_t which);
 
 /*
  * An item of a list, counted from 0. DONE with `length` bytes in the room, of an object name its digits; or NOTHING past the
@@ -317,14 +335,15 @@ gitwire_told gitwire_request_item(gitwire_request *request, uint8_t list, size_t
 void gitwire_request_free(gitwire_request *request);
 
 /*
- * A repository: a few lists in memory, read from a text, and one pack for each request. The text is that of docs/PROTOCOL.md,
- * which sample/repository-text.sh writes of a Git repository. It is never changed, and servers share it: each keeps it for
- * as long as it needs it, also after the handle was freed.
+ * A repository: a few lists in memory, read from a text, and one pack, which is the same for every fetch and is not looked into.
+ * The text is that of docs/PROTOCOL.md, which sample/repository-text.sh writes of a Git repository. A repository is never changed,
+ * and servers share it: each keeps it for as long as it needs it, also after the handle was freed.
  */
 
 /*
- * Copies what it keeps, so that the text and the pack need not last. DONE. FAILED: the text is refused, with `offset` the
- * number of its first bad line, from 1, and `fault` 0. OUT_OF_MEMORY. After these two the handle has nothing.
+ * Copies what it keeps, so that the text and the pack need not last. What the handle had is freed before the text is read. DONE.
+ * FAILED: the text is refused, with `offset` the number of its first bad line, from 1, and `fault` 0. OUT_OF_MEMORY. After these
+ * two the handle has nothing.
  */
 gitwire_told gitwire_repository_new(gitwire_repository *repository, const uint8_t *text, size_t text_length,
 	const uint8_t *pack, size_t pack_length);
@@ -413,9 +432,9 @@ typedef struct {
 } gitwire_event;
 
 /*
- * Reads on, up to one event, with the whole piece used, or at the first fault: `used` says how many bytes. It is to be called
- * again with those that were not used. A client that waits for no input uses nothing, and tells MORE; gitwire_client_pull says
- * what it waits for. The room has GITWIRE_PAYLOAD_ROOM bytes at least.
+ * Reads on to an event, the end of the piece or the first fault, whichever comes first: `used` says how many bytes. It is to be
+ * called again with those that were not used. A client that waits for no input uses nothing, and tells MORE, or its fault again;
+ * gitwire_client_pull says what it waits for. The room has GITWIRE_PAYLOAD_ROOM bytes at least.
  *
  * MORE, an event, or FAILED. NO_HANDLE, ROOM_TOO_SMALL.
  */

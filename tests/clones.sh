@@ -283,7 +283,7 @@ cd "$room"
 } | {
     dd bs=65536 count=20 status=none # 20 writes at the most, passed on as they come
     echo yes > halfway
-    while [ ! -e killed ]; do sleep 0.1; done
+    for i in {1..3000}; do [ ! -e killed ] || break; sleep 0.1; done
     cat
 }
 EOF

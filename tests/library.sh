@@ -2,9 +2,10 @@
 # streams of packets meet them, and the C programs of this folder, which call each function. `NAME-watched` is a program that was
 # built with sanitizers, whose status tells what was touched that may not be, and what was not freed.
 
-# What `make install` installs goes here, and how long the daemon of the examples waits for a client, in seconds.
+# What `make install` installs goes here, and how long the daemon of the examples waits for a client, in seconds: longer than one that
+# goes on takes for a step, also under load.
 installed=$room/installed
-patience=5
+patience=30
 
 # write_examples: installs the program and the library, and builds what uses it. What a compiler says is a case's to judge.
 write_examples() {
@@ -39,24 +40,29 @@ compile() {
     } > "$name.said" 2>&1 || true
 }
 
-# under_valgrind COMMAND..: runs a program, where there is valgrind; it fails where it touches what it may not, or frees not all.
+# under_valgrind COMMAND..: runs a program, under valgrind where there is one; it fails where it touches what it may not, or frees not
+# all.
 under_valgrind() {
-    command -v valgrind > /dev/null || return 0
+    command -v valgrind > /dev/null || { run "$@"; return; }
     status=0
     timeout -k 5 120 valgrind -q --error-exitcode=99 --leak-check=full --errors-for-leak-kinds=definite,indirect,possible "$@" \
         > out 2> err || status=$?
 }
 
 case_library_is_installed_whole() {
-    local file
-    for file in bin/git2show lib/libgitwire.a include/gitwire.h lib/pkgconfig/gitwire.pc share/man/man1/git2show.1; do
+    local file line
+    for file in bin/git2show lib/libgitwire.a include/gitwire.h lib/pkgconfig/gitwire.pc share/man/man1/git2show.1 \
+        share/doc/gitwire/PROTOCOL.md; do
         [ -s "$installed/$file" ] || differs "no $file"
     done
     run "$installed/bin/git2show" --version
     expect 0 <(echo 'git2show 0.1.0') /dev/null
     expect_same 'the library of pkg-config' <(echo "-I$installed/include -L$installed/lib -lgitwire") \
         <(of_library --cflags --libs | sed 's/ *$//')
-    expect_line 'what pkg-config tells' 'Version: 0.1.0' "$installed/lib/pkgconfig/gitwire.pc"
+    for line in "prefix=$installed" 'libdir=${prefix}/lib' 'includedir=${prefix}/include' 'Version: 0.1.0' \
+        'Libs: -L${libdir} -lgitwire' 'Cflags: -I${includedir}'; do
+        expect_line 'what pkg-config tells' "$line" "$installed/lib/pkgconfig/gitwire.pc"
+    done
     printf '#include <gitwire.h>\nGITWIRE_VERSION %s\n' 'GITWIRE_VERSION_MAJOR GITWIRE_VERSION_MINOR GITWIRE_VERSION_PATCH' |
         gcc -E -P -I"$installed/include" - > preprocessed
     expect_same 'the version of the header' <(echo '"0.1.0" 0 1 0') <(tail -n 1 preprocessed)
@@ -117,6 +123,8 @@ case_library_calls_tell_what_the_header_says() {
     expect 0 /dev/null /dev/null
     under_valgrind bin/library_calls
     expect 0 /dev/null /dev/null
+    run env -i bash -c 'ulimit -s 128 && exec bin/library_calls' # KiB of stack, of which the header says what a call takes
+    expect 0 /dev/null /dev/null
 }
 
 # The program prints how often each kind of handle asks for memory: once at the least.
@@ -138,7 +146,7 @@ every_packet() {
 }
 
 # lists_as_show COMMAND..: that a program lists the packets of streams, good ones and bad ones, as `git2show show` does, and tells the
-# same fault.
+# same fault; and that it takes no other word than a number of bytes.
 lists_as_show() {
     local stream piece wanted_status faults=0
     every_packet > every.pkt
@@ -156,12 +164,27 @@ lists_as_show() {
             expect "$wanted_status" wanted wanted_err
         done
     done
+    for piece in 0 65537 5x x ''; do
+        run "$@" "$piece" < /dev/null
+        expect 2 /dev/null <(echo 'usage: packets [PIECE]')
+    done
+}
+
+# tells_a_full_device NAME WORD..: that a program tells of an output that takes nothing.
+tells_a_full_device() {
+    status=0
+    limited "$1-watched" "${@:2}" > /dev/full 2> err || status=$?
+    expect_status 1
+    expect_line "standard error of $1" "$1: the output cannot be written" err
 }
 
 case_packets_are_listed_by_a_program_in_c() {
     lists_as_show packets-watched
-    run packets-watched 0 < /dev/null
-    expect_status 2
+    run packets-watched < .
+    expect 1 /dev/null <(echo 'packets: the input cannot be read')
+    tells_a_full_device packets < every.pkt
+    tells_a_full_device packets < fault-2.pkt
+    expect_line 'standard error' 'packets: BadDigit at 8' err
 }
 
 case_packets_are_listed_under_valgrind() {
@@ -203,6 +226,8 @@ case_a_client_in_c_lists_what_git_serves() {
     lists_from_git history-sha1
     [ "$(wc -l < list)" -gt 12 ] || differs 'a list that is too short' list
     lists_from_git history-sha256 --sha256
+    cp -r history-sha1 ./-folder
+    lists_from_git -folder
     run list-watched history-sha1 refs/tags/ refs/heads/to
     expect 0 <(git ls-remote ./history-sha1 'refs/tags/*' refs/heads/topic) /dev/null
     git init -q void
@@ -221,6 +246,7 @@ case_a_client_in_c_tells_what_is_wrong() {
     grep -q '^list: WrongFormat at [0-9]*$' err || differs 'no WrongFormat' err
     run list-watched history-sha1 "$(printf '%032001d' 0)"
     expect 1 /dev/null <(echo 'list: a prefix is too long')
+    tells_a_full_device list history-sha1
     run list-watched
     expect_status 2
 }
@@ -313,20 +339,25 @@ start_daemon() {
 
 # end_daemon: interrupts it, and that it ends well: nothing was touched that may not be, and all was freed.
 end_daemon() {
-    local ended=0
+    local i ended=0
     kill -INT $daemon
+    for ((i = 0; i < 300; i++)); do
+        kill -0 $daemon 2> /dev/null || break
+        sleep 0.1
+    done
+    ! kill -KILL $daemon 2> /dev/null || differs 'a daemon that did not end'
     wait $daemon || ended=$?
     [ $ended = 0 ] || differs "status $ended of the daemon" daemon.err
 }
 
-# daemon_told LINE: that the daemon tells this, within half a minute.
+# daemon_told LINE [COUNT]: that the daemon tells this, once or so many times at the least, within half a minute.
 daemon_told() {
     local i
     for ((i = 0; i < 300; i++)); do
-        ! grep -q -x -F -e "$1" daemon.err || return 0
+        [ "$(grep -c -x -F -e "$1" daemon.err)" -lt "${2:-1}" ] || return 0
         sleep 0.1
     done
-    differs "a daemon that did not tell '$1'" daemon.err
+    differs "a daemon that did not tell '$1'${2:+ $2 times}" daemon.err
 }
 
 # says BYTES..: a connection to the daemon, descriptor 5, over which this is sent, each as printf's format.
@@ -340,7 +371,7 @@ says() {
 
 # hears_to_the_end FILE: what the daemon says over that connection, until it closes it.
 hears_to_the_end() {
-    limited cat <&5 > "$1" || true # a connection may be broken off
+    limited cat <&5 > "$1" || [ $? = 1 ] || differs 'a connection that did not end' # 1 is of one that is broken off
     exec 5>&-
 }
 
@@ -396,18 +427,18 @@ case_a_daemon_in_c_serves_fetches() {
     end_daemon
 }
 
-# A way to the daemon that stops in the middle of the pack, until a file `resumed` is there.
+# A way to the daemon that stops in the middle of the pack, until a file `resumed` is there. What comes first goes over byte by byte, so
+# that Git has each as it comes, and just so many. The sender is in the background, where it has its input by its own word alone.
 write_halting_way() {
     cat > bin/halting-way << EOF
 #!/bin/bash
 cd "$room"
 exec 5<> "/dev/tcp/127.0.0.1/\$2"
-cat >&5 &
+cat <&0 >&5 &
 sender=\$!
 {
-    dd bs=65536 count=40 status=none
-    echo yes > halted
-    while [ ! -e resumed ]; do sleep 0.1; done
+    dd bs=1 count=100000 2> halted
+    for i in {1..3000}; do [ ! -e resumed ] || break; sleep 0.1; done
     cat || true
 } <&5
 kill \$sender
@@ -438,6 +469,7 @@ visit() {
 # Twenty at once, and beside them one that stops in the middle of its clone, one that sends what is no packet, and one that says nothing.
 case_a_daemon_in_c_serves_twenty_at_once() {
     local i clients=() halting status
+    patience=10
     rm -rf halted resumed many
     mkdir many
     git -C heavy rev-parse main > many/wanted
@@ -448,6 +480,7 @@ case_a_daemon_in_c_serves_twenty_at_once() {
     git -c protocol.version=2 -c core.gitProxy="$room/bin/halting-way" clone -q "$address" many/halting > /dev/null 2>&1 &
     halting=$!
     wait_for halted
+    [ "$(head -n 1 halted)" = '100000+0 records in' ] || differs 'a clone that did not come to its middle' halted
     for i in {1..20}; do
         visit $i > "many/$i.main" 2> "many/$i.err" &
         clients+=($!)
@@ -461,7 +494,7 @@ case_a_daemon_in_c_serves_twenty_at_once() {
     done
     git -C many/6 fsck --full --strict --no-dangling
     git -C many/7 fsck --full --strict --no-dangling
-    daemon_told 'daemon: a client was too slow'
+    daemon_told 'daemon: a client was too slow' 2
     : > resumed
     status=0
     wait $halting || status=$?
@@ -471,11 +504,19 @@ case_a_daemon_in_c_serves_twenty_at_once() {
     rm -rf many
 }
 
-# The pack is in memory once, and a client takes what its struct has and the library's buffer: half a megabyte at the most.
+# memory_of KEY: how much memory the daemon has by this line of its status, in KiB.
+memory_of() {
+    sed -n "s/^$1:[^0-9]*\([0-9]*\) kB/\1/p" "/proc/$daemon/status"
+}
+
+# The pack is in memory once, and a client takes what its struct has and the library's buffer: half a megabyte at the most. It is the
+# peak that is looked at, once that of the start is forgotten; where that may not be, what the daemon has in the end.
 case_a_daemon_in_c_takes_a_fixed_memory() {
-    local before after i clients=()
+    local before after i clients=() peak=VmHWM
     start_daemon heavy daemon
-    before=$(sed -n 's/^VmHWM:[^0-9]*\([0-9]*\) kB/\1/p' "/proc/$daemon/status")
+    before=$(memory_of VmRSS)
+    [ "$before" -lt 32768 ] || differs "$before KiB for a pack that is there once"
+    { echo 5 > "/proc/$daemon/clear_refs"; } 2> /dev/null || peak=VmRSS
     for i in {1..8}; do
         timeout 200 git -c protocol.version=2 clone -q --bare "$address" "fixed-$i" > /dev/null 2>&1 &
         clients+=($!)
@@ -484,17 +525,18 @@ case_a_daemon_in_c_takes_a_fixed_memory() {
         wait "${clients[i - 1]}" || differs 'a clone that failed'
     done
     rm -rf fixed-*
-    after=$(sed -n 's/^VmHWM:[^0-9]*\([0-9]*\) kB/\1/p' "/proc/$daemon/status")
+    after=$(memory_of $peak)
     [ $((after - before)) -lt 4096 ] || differs "$((after - before)) KiB for eight clients"
     end_daemon
 }
 
 # refuses TEXT BYTES..: that the daemon answers this with an error packet of the text, and ends the connection.
 refuses() {
-    local text=$1
+    local text=$1 begin=$SECONDS
     shift
     says "$@"
     hears_to_the_end answer
+    [ $((SECONDS - begin)) -lt 15 ] || differs "a connection that was kept after '$*'"
     expect_same "the answer to '$*'" <(packet "ERR $text") answer
     daemon_told "daemon: refused: $text"
 }
@@ -523,7 +565,7 @@ case_a_daemon_in_c_ends_a_session_at_its_fault() {
     { packet command=fetch && printf 0001 && packet "want $one"; } >&5
     hears_to_the_end answer
     expect_same 'the answer' <(advertisement sha1 && packet 'ERR NotOurs at 22') answer
-    daemon_told 'daemon: a session ended with fault 25 at 22'
+    daemon_told 'daemon: a session ended with NotOurs at 22'
     says "$(greeting here version=2)"
     { packet command=fetch && printf 0001 && printf "0032have $one\\n%.0s" {1..23302}; } >&5
     hears_to_the_end answer
@@ -543,40 +585,40 @@ case_a_daemon_in_c_ends_a_session_at_its_fault() {
 
 # One says nothing, one not all, and one does not read what it asked for.
 case_a_daemon_in_c_closes_who_is_too_slow() {
-    local begin=$SECONDS i
+    local begin id
     patience=2
     start_daemon heavy
+    begin=$SECONDS
     says
     hears_to_the_end nothing
     expect_same 'what is said to one that says nothing' /dev/null nothing
-    [ $((SECONDS - begin)) -ge $((patience - 1)) ] || differs 'a daemon that did not wait'
+    [ $((SECONDS - begin)) -ge $patience ] || differs 'a daemon that did not wait'
     says "$(greeting here version=2)" 0014comm
     hears_to_the_end answer
     expect_same 'what is said to one that does not go on' <(advertisement sha1) answer
+    id=$(git -C heavy rev-parse main)
     says "$(greeting here version=2)"
-    fetch "$(git -C heavy rev-parse main)" >&5
-    for ((i = 0; i < 300; i++)); do
-        [ "$(grep -c 'too slow' daemon.err)" -lt 3 ] || break
-        sleep 0.1
-    done
+    fetch "$id" >&5
+    daemon_told 'daemon: a client was too slow' 3
     hears_to_the_end answer
-    [ "$(grep -c -x 'daemon: a client was too slow' daemon.err)" = 3 ] || differs 'not three that are too slow' daemon.err
+    expect_same 'what the daemon told' <(printf 'daemon: a client was too slow\n%.0s' 1 2 3) daemon.err
     [ "$(wc -c < answer)" -lt 21000000 ] || differs 'a whole pack for one that does not read'
     end_daemon
 }
 
 # One that was refused and goes on talking is read no longer than its time.
 case_a_daemon_in_c_closes_who_talks_on() {
-    local begin=$SECONDS
+    local begin i
     patience=2
     start_daemon history-sha1
     says zzzz
-    for i in {1..50}; do
+    begin=$SECONDS
+    for i in {1..150}; do
         printf z
         sleep 0.2
     done >&5 2> /dev/null &
     daemon_told 'daemon: a client was too slow'
-    [ $((SECONDS - begin)) -lt 8 ] || differs 'a daemon that went on reading'
+    [ $((SECONDS - begin)) -lt 20 ] || differs 'a daemon that went on reading'
     kill $! 2> /dev/null || true
     exec 5>&-
     end_daemon
@@ -585,7 +627,7 @@ case_a_daemon_in_c_closes_who_talks_on() {
 # Where it has no descriptor left for one more it waits until one is free, and does not ask for it over and over.
 case_a_daemon_in_c_waits_for_descriptors() {
     local i connection before after
-    patience=3
+    patience=10
     start_daemon history-sha1 bash -c 'ulimit -n 130 && exec daemon "$@"' daemon
     for i in {1..128}; do
         exec {connection}<> "/dev/tcp/127.0.0.1/$port"
@@ -593,6 +635,7 @@ case_a_daemon_in_c_waits_for_descriptors() {
     before=$(ticks)
     sleep 2
     after=$(ticks)
+    [ "$(ls "/proc/$daemon/fd" | awk '$1 < 130' | wc -l)" = 130 ] || differs 'a daemon with descriptors left'
     [ $((after - before)) -lt 50 ] || differs "$((after - before)) hundredths of a second of two for nothing"
     ls_remote "$address"
     expect_same 'the list' <(git ls-remote ./history-sha1) out
@@ -617,7 +660,7 @@ case_a_daemon_in_c_outlives_who_read_its_errors() {
 # A hundred and twenty-eight that say nothing have all its places, until they are closed.
 case_a_daemon_in_c_lets_others_wait() {
     local i connection
-    patience=2
+    patience=10
     start_daemon history-sha1
     for i in {1..128}; do
         exec {connection}<> "/dev/tcp/127.0.0.1/$port"

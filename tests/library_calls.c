@@ -177,19 +177,24 @@ static void try_a_reader_of_requests(void)
 	gitwire_request_reader_free(&reader);
 	EXPECT(tells(gitwire_request_reader_feed(&reader, &request, TEXT(LS_REFS)), GITWIRE_NO_HANDLE, 0, 0, 0));
 	EXPECT(tells(gitwire_request_reader_close(&reader), GITWIRE_NO_HANDLE, 0, 0, 0));
+	EXPECT(gitwire_request_end(&request).kind == GITWIRE_NO_HANDLE);
 	EXPECT(gitwire_request_reader_new(&reader, bad, 0) == GITWIRE_BAD_VALUE);
 	EXPECT(gitwire_request_reader_new(&reader, offer, GITWIRE_MOST_LIMIT + 1) == GITWIRE_BAD_VALUE);
 	EXPECT(gitwire_request_reader_new(&reader, offer, 100) == GITWIRE_DONE);
 	EXPECT(gitwire_request_reader_new(&reader, bad, 0) == GITWIRE_BAD_VALUE); /* the handle stays as it was */
 	EXPECT(tells(gitwire_request_reader_close(&reader), GITWIRE_DONE, 0, 0, 0));
 	EXPECT(tells(gitwire_request_reader_feed(&reader, &request, whole, 8), GITWIRE_MORE, 8, 0, 0));
+	EXPECT(tells(gitwire_request_end(&request), GITWIRE_DONE, 0, 0, 0)); /* an empty one, which nobody asked */
 	EXPECT(tells(gitwire_request_reader_feed(&reader, &request, whole + 8, first), GITWIRE_REQUEST, first - 8, 0, 0));
 	EXPECT(tells(gitwire_request_command(&request), GITWIRE_DONE, 0, GITWIRE_LS_REFS, 0));
 	EXPECT(gitwire_request_flag(&request, GITWIRE_FLAG_PEEL));
+	/* It has the reader's limit: of 100 bytes its argument has four, and a line here 75. */
+	EXPECT(tells(gitwire_request_add(&request, TEXT("ref-prefix " LONG_ONE)), GITWIRE_DONE, 0, 0, 0));
+	EXPECT(tells_fault(gitwire_request_add(&request, TEXT("ref-prefix " LONG_ONE)), GITWIRE_FAULT_TOO_MUCH_KEPT, 0, 0));
 	EXPECT(tells(gitwire_request_reader_feed(&reader, &request, TEXT("0000")), GITWIRE_STOP, 4, 0, 0));
 	EXPECT(tells(gitwire_request_reader_feed(&reader, &request, TEXT("0000")), GITWIRE_MORE, 0, 0, 0));
 	EXPECT(tells(gitwire_request_reader_close(&reader), GITWIRE_NOT_NOW, 0, 0, 0));
-	/* Each field of the offer is where the library looks for it: what is offered is taken, and nothing else. */
+	/* What is offered is taken, and nothing else. */
 	EXPECT(gitwire_request_reader_new(&reader, offer, 100) == GITWIRE_DONE);
 	EXPECT(tells_fault(gitwire_request_reader_feed(&reader, &request, TEXT(OBJECT_INFO)), GITWIRE_FAULT_NOT_ADVERTISED, 24, 0));
 	EXPECT(tells(gitwire_request_reader_close(&reader), GITWIRE_NOT_NOW, 0, 0, 0));
@@ -226,10 +231,11 @@ static void try_a_server(void)
 	EXPECT(tells(gitwire_server_feed(&server, TEXT("0000")), GITWIRE_NO_HANDLE, 0, 0, 0));
 	EXPECT(tells(gitwire_server_pull(&server, ROOM), GITWIRE_NO_HANDLE, 0, 0, 0));
 	EXPECT(gitwire_server_close(&server) == GITWIRE_NO_HANDLE);
+	EXPECT(tells(gitwire_repository_new(&repository, NULL, 0, NULL, 0), GITWIRE_FAILED, 0, 1, 0));
+	EXPECT(tells(gitwire_repository_new(&repository, TEXT(SMALL_TEXT), TEXT("PACK")), GITWIRE_DONE, 0, 0, 0));
 	told = gitwire_repository_new(&repository, TEXT("format sha1\nref here\n"), TEXT("PACK"));
 	EXPECT(tells(told, GITWIRE_FAILED, 0, 2, 0));
-	EXPECT(tells(gitwire_repository_new(&repository, NULL, 0, NULL, 0), GITWIRE_FAILED, 0, 1, 0));
-	EXPECT(gitwire_server_new(&server, &repository, 0, true) == GITWIRE_NO_HANDLE);
+	EXPECT(gitwire_server_new(&server, &repository, 0, true) == GITWIRE_NO_HANDLE); /* what it had is freed */
 	EXPECT(tells(gitwire_repository_new(&repository, TEXT(SMALL_TEXT), TEXT("PACK")), GITWIRE_DONE, 0, 0, 0));
 	EXPECT(gitwire_server_new(&server, &repository, GITWIRE_MOST_LIMIT + 1, true) == GITWIRE_BAD_VALUE);
 	EXPECT(gitwire_server_new(&server, &repository, 100, true) == GITWIRE_DONE);
@@ -254,6 +260,7 @@ static void try_a_server(void)
 		told = gitwire_server_pull(&server, ROOM);
 	EXPECT(tells(gitwire_server_feed(&server, TEXT("0000")), GITWIRE_MORE, 4, 0, 0));
 	EXPECT(tells(gitwire_server_pull(&server, ROOM), GITWIRE_ENDED_BY_FLUSH, 0, 0, 0));
+	EXPECT(tells(gitwire_server_feed(&server, TEXT("0000")), GITWIRE_MORE, 0, 0, 0));
 	EXPECT(gitwire_server_close(&server) == GITWIRE_NOT_NOW);
 	gitwire_server_free(&server);
 	gitwire_server_free(&server);
@@ -441,6 +448,8 @@ static void try_refusals_of_a_client(void)
 	EXPECT(event.kind == GITWIRE_CAPABILITY && event.used == 23 && event.name_length == 4 && !event.has_text);
 	event = gitwire_client_feed(&client, TEXT("0000"), ROOM);
 	EXPECT(event.kind == GITWIRE_OFFERED && event.used == 4);
+	event = gitwire_client_feed(&client, TEXT("0000"), ROOM); /* it waits for no input */
+	EXPECT(event.kind == GITWIRE_MORE && event.used == 0);
 	EXPECT(gitwire_client_ask(&client, &request).kind == GITWIRE_NO_HANDLE);
 	EXPECT(gitwire_request_new(&request, GITWIRE_LS_REFS, GITWIRE_SHA1, 0) == GITWIRE_DONE);
 	EXPECT(tells_fault(gitwire_client_ask(&client, &request), GITWIRE_FAULT_NOT_ADVERTISED, 0, 27));
@@ -451,6 +460,8 @@ static void try_refusals_of_a_client(void)
 	EXPECT(gitwire_client_new(&client, GITWIRE_SHA1, GITWIRE_ENDS_BY_FLUSH) == GITWIRE_DONE); /* what it had is freed */
 	event = gitwire_client_feed(&client, TEXT("000cERR gone"), ROOM);
 	EXPECT(event.kind == GITWIRE_FAILED && event.used == 12 && event.fault == GITWIRE_FAULT_REMOTE_ERROR && event.offset == 0);
+	event = gitwire_client_feed(&client, TEXT("0000"), ROOM);
+	EXPECT(event.kind == GITWIRE_FAILED && event.used == 0 && event.fault == GITWIRE_FAULT_REMOTE_ERROR && event.offset == 0);
 	EXPECT(tells_fault(gitwire_client_pull(&client, ROOM), GITWIRE_FAULT_REMOTE_ERROR, 0, 0));
 	EXPECT(gitwire_client_new(&client, 2, GITWIRE_ENDS_BY_FLUSH) == GITWIRE_BAD_VALUE); /* the handle stays as it was */
 	EXPECT(gitwire_client_new(&client, GITWIRE_SHA1, 2) == GITWIRE_BAD_VALUE);
@@ -462,6 +473,35 @@ static void try_refusals_of_a_client(void)
 	EXPECT(gitwire_client_feed(&client, TEXT("000eversion 2\n" "00"), ROOM).used == 16);
 	EXPECT(tells_fault(gitwire_client_close(&client), GITWIRE_FAULT_TRUNCATED, 0, 14));
 	gitwire_client_free(&client);
+	memset(room, '#', sizeof room);
+}
+
+/* Each line is noted in its own fields, and in no other. */
+static void try_what_is_noted(void)
+{
+	static const struct {
+		const char *line;
+		gitwire_caps caps;
+	} cases[] = {
+		{ "agent=git/2", { .agent = true } }, { "ls-refs", { .ls_refs = true } }, { "fetch", { .fetch = true } },
+		{ "fetch=shallow", { .fetch = true, .shallow = true } }, { "fetch=ref-in-want", { .fetch = true, .ref_in_want = true } },
+		{ "server-option", { .server_option = true } }, { "object-info", { .object_info = true } },
+		{ "object-format", { .object_format = true } }, { "object-format=sha1", { .object_format = true, .sha1 = true } },
+		{ "object-format=sha256", { .object_format = true, .sha256 = true } },
+	};
+	static uint8_t packet[GITWIRE_PACKET_ROOM];
+
+	for (size_t i = 0; i < sizeof cases / sizeof *cases; i++) {
+		gitwire_client client = GITWIRE_NONE;
+		gitwire_caps caps = { .agent = false };
+		gitwire_told line = gitwire_put_line(TEXT(cases[i].line), packet, sizeof packet);
+
+		EXPECT(gitwire_client_new(&client, GITWIRE_SHA1, GITWIRE_ENDS_BY_FLUSH) == GITWIRE_DONE);
+		EXPECT(gitwire_client_feed(&client, TEXT("000eversion 2\n"), ROOM).kind == GITWIRE_MORE);
+		EXPECT(gitwire_client_feed(&client, packet, line.length, ROOM).kind == GITWIRE_CAPABILITY);
+		EXPECT(gitwire_client_caps(&client, &caps) == GITWIRE_DONE && memcmp(&caps, &cases[i].caps, sizeof caps) == 0);
+		gitwire_client_free(&client);
+	}
 	memset(room, '#', sizeof room);
 }
 
@@ -506,6 +546,27 @@ static void try_writers_of_advertisements(void)
 	memset(room, '#', sizeof room);
 	offer.format = 2;
 	EXPECT(gitwire_put_advertisement(offer, ROOM).kind == GITWIRE_BAD_VALUE);
+}
+
+/* Each field of the offer is where the library looks for it. */
+static void try_offers_of_one_thing(void)
+{
+	static const struct {
+		gitwire_offer offer;
+		const char *lines;
+	} cases[] = {
+		{ { .format = GITWIRE_SHA256 }, "000afetch\n" "0019object-format=sha256\n" },
+		{ { .shallow = true }, "0012fetch=shallow\n" "0017object-format=sha1\n" },
+		{ { .ref_in_want = true }, "0016fetch=ref-in-want\n" "0017object-format=sha1\n" },
+		{ { .object_info = true }, "000afetch\n" "0017object-format=sha1\n" "0010object-info\n" },
+		{ { .server_option = true }, "000afetch\n" "0012server-option\n" "0017object-format=sha1\n" },
+	};
+	char wanted[GITWIRE_ADVERTISEMENT_ROOM];
+
+	for (size_t i = 0; i < sizeof cases / sizeof *cases; i++) {
+		snprintf(wanted, sizeof wanted, "000eversion 2\n" "0011agent=git2/1\n" "000cls-refs\n" "%s" "0000", cases[i].lines);
+		EXPECT(wrote(gitwire_put_advertisement(cases[i].offer, ROOM), wanted));
+	}
 }
 
 static void try_writers_of_lines(void)
@@ -565,8 +626,10 @@ int main(void)
 	try_a_refused_session();
 	try_a_conversation();
 	try_refusals_of_a_client();
+	try_what_is_noted();
 	try_writers_of_packets();
 	try_writers_of_advertisements();
+	try_offers_of_one_thing();
 	try_writers_of_lines();
 	try_texts_of_faults();
 	return failures > 0;

@@ -76,7 +76,7 @@ is_refused_well() {
 withstands_damage() {
     local stream size number place start
     for stream in requests responses; do
-        git2show show < $stream > $stream.packets
+        limited git2show show < $stream > $stream.packets
         size=$(wc -c < $stream)
         for number in {0..49}; do
             place=$((size * number / 50))
@@ -84,7 +84,8 @@ withstands_damage() {
             cp requests requests.tried
             cp responses responses.tried
             head -c "$start" $stream > $stream.tried
-            git2show check "$@" requests.tried responses.tried > before 2> /dev/null || true
+            limited git2show check "$@" requests.tried responses.tried > before 2> /dev/null || [ $? = 1 ] ||
+                differs "a check that did not end well before byte $place of the $stream"
             damaged $stream $place > $stream.tried
             run git2show check "$@" requests.tried responses.tried
             cmp -s -n "$(wc -c < before)" before out || differs "another transcript before byte $place of the $stream" out

@@ -168,6 +168,7 @@ static void run_server(void)
 	gitwire_server server = GITWIRE_NONE;
 	gitwire_told told = { .kind = GITWIRE_PACKET };
 	size_t used = 0;
+	bool made;
 
 	if (make_repository(&repository) && is_made(gitwire_server_new(&server, &repository, 1000, true), "a server")) {
 		while (told.kind == GITWIRE_PACKET || told.kind == GITWIRE_NEED_INPUT) {
@@ -178,7 +179,8 @@ static void run_server(void)
 				gitwire_server_close(&server);
 		}
 		expect(told.kind == GITWIRE_ENDED_BY_FLUSH || (told.fault == GITWIRE_FAULT_OUT_OF_MEMORY && refused > 0), "a session");
-		expect(is_made(gitwire_server_new(&server, &repository, 1000, true), "a further server") == server.is_made_, "what its handle has");
+		made = is_made(gitwire_server_new(&server, &repository, 1000, true), "a further server");
+		expect(server.is_made_ == made, "what its handle has");
 	}
 	gitwire_repository_free(&repository);
 	gitwire_server_free(&server);
@@ -190,6 +192,7 @@ static void run_client(void)
 	gitwire_request request = GITWIRE_NONE;
 	gitwire_event event;
 	gitwire_told told;
+	bool made;
 
 	if (is_made(gitwire_client_new(&client, GITWIRE_SHA1, GITWIRE_ENDS_BY_FLUSH), "a client")) {
 		event = gitwire_client_feed(&client, TEXT("000eversion 2\n"), room, sizeof room);
@@ -205,7 +208,8 @@ static void run_client(void)
 			while (told.kind == GITWIRE_PACKET);
 			expect(told.kind == GITWIRE_NEED_INPUT || refused > 0, "what is said of it");
 		}
-		expect(is_made(gitwire_client_new(&client, GITWIRE_SHA1, GITWIRE_ENDS_BY_FLUSH), "a further client") == client.is_made_, "what its handle has");
+		made = is_made(gitwire_client_new(&client, GITWIRE_SHA1, GITWIRE_ENDS_BY_FLUSH), "a further client");
+		expect(client.is_made_ == made, "what its handle has");
 	}
 	gitwire_client_free(&client);
 	gitwire_request_free(&request);

@@ -7,8 +7,8 @@
 #
 # PROGRAM is the program to test, and LIBRARY the static library; without them, what the gate, `make run` and `make library` left
 # in this repository, which is built first where it is missing or older than a source. Where there is no git, no C compiler or no
-# valgrind, Debian's package is installed. Each failed case is told as it fails; the last line is 'N passed, N failed', and the
-# status is 1 where one failed.
+# valgrind, Debian's package is installed; where another tool is missing, it is told, and what needs it is passed over. Each failed
+# case is told as it fails; the last line is 'N passed, N failed', and the status is 1 where one failed.
 set -eu -o pipefail
 shopt -s inherit_errexit
 export LC_ALL=C TZ=UTC
@@ -68,13 +68,16 @@ fetcher=$(built example_fetch)
 command -v git > /dev/null || install_packages git || stop "no git, and it could not be installed"
 command -v gcc > /dev/null || install_packages gcc libc6-dev || stop "no C compiler, and it could not be installed"
 command -v valgrind > /dev/null || install_packages valgrind || echo 'no valgrind, and it could not be installed: nothing is run under it' >&2
+for tool in g++ man pkg-config rustc go; do
+    command -v $tool > /dev/null || echo "no $tool: what needs it is passed over" >&2
+done
 
 room=$(mktemp -d "${TMPDIR:-/tmp}/git2show-tests.XXXXXX")
 trap 'rm -rf "$room"' EXIT
 cd "$room"
 
-# Nobody's own configuration takes part, nor a repository that the folder happens to lie in.
-unset "${!GIT_@}" XDG_CONFIG_HOME
+# Nobody's own configuration takes part, nor a repository that the folder happens to lie in, nor the `make` that runs this.
+unset "${!GIT_@}" "${!MAKE@}" MFLAGS XDG_CONFIG_HOME
 own_home=$HOME
 export HOME=$room/home GIT_CONFIG_NOSYSTEM=1 GIT_CEILING_DIRECTORIES=${room%/*}
 mkdir "$HOME"
