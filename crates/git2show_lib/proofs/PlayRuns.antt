@@ -31,7 +31,7 @@ use Rattle.git_client.specs.declared.phase.Phase.{Phase}
 use Rattle.git_client.specs.declared.phase.Phase.TheVariants.{Hearing, Ready, Failed}
 use Rattle.git_client.proofs.Alongs.{written_nothing, written_then, written_whole}
 use Rattle.git_client.proofs.Carries.{is_quiet, not_left, owes_nothing}
-use Rattle.git_client.proofs.AskedInTurn.{AskedInTurn, asked_in_turn, heard_in_turn, may_be_asked, none_in_turn}
+use Rattle.git_client.proofs.AskedInTurn.{AskedInTurn, asked_in_turn, has_asked, heard_in_turn, none_in_turn}
 use Rattle.git_client.proofs.ClientRuns.{Ran, ran}
 use Rattle.git_client.proofs.EventsHeard.{all_is_said, has_events, has_noted}
 use Rattle.git_client.proofs.Faults.{first_fault}
@@ -194,13 +194,7 @@ module _ {A : Type 0} (t : Terms) where
         nothing_read = refl;
         told = refl;
         heard = has_events t h client at.stands;
-        asked = record {
-          front = front;
-          all = split;
-          asked = at.in_turn.are;
-          may_be = may_be_asked t h.asked h.used h.events front at.in_turn;
-          in_turn = at.in_turn.in_turn;
-        };
+        asked = has_asked t requests front rest h split at.in_turn;
         ends = ends;
       };
     }

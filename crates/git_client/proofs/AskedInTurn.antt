@@ -14,6 +14,7 @@ use Rattle.git_client.specs.Parts.{Terms, advertisement_of, nearest}
 use Rattle.git_client.specs.Events.{EventValue, turns_of}
 use Rattle.git_client.specs.Conversation.{HasNoted, IsConversation}
 use Rattle.git_client.specs.Client.{History, Converses, ask_checks, can_ask, caps_of, format_of}
+use Rattle.git_client.specs.Runs.{HasAsked}
 use Rattle.git_client.specs.declared.client.Client.{Client}
 use Rattle.git_client.proofs.CanAsk.{can_ask_tells}
 use Rattle.git_client.proofs.EventsHeard.{has_noted, is_whole}
@@ -150,3 +151,14 @@ module _ {A : Type 0} (t : Terms) where
   commands_advertised asked used events front a caps noted =
       subst (All (HasCommand caps)) (sym a.are)
       (commands_of_each caps front (may_be_asked asked used events front a caps noted))
+
+  -- of these requests just these were asked
+  pub has_asked : (requests front rest : List (Request A)) (h : History) → requests ≡ front ++ rest → AskedInTurn h.asked h.used h.events front
+      → HasAsked t requests rest h
+  has_asked requests front rest h split a = record {
+    front = front;
+    all = split;
+    asked = a.are;
+    may_be = may_be_asked h.asked h.used h.events front a;
+    in_turn = a.in_turn;
+  }

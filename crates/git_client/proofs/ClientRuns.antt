@@ -37,7 +37,7 @@ use Rattle.git_client.proofs.Carries.{is_quiet, not_left, owes_nothing}
 use Rattle.git_client.proofs.Phases.{not_ready_where_due}
 use Rattle.git_client.proofs.EventsHeard.{has_noted, awaits_more, is_whole, position_is, all_is_said}
 use Rattle.git_client.proofs.Faults.{first_fault}
-use Rattle.git_client.proofs.AskedInTurn.{AskedInTurn, asked_in_turn, heard_in_turn, may_be_asked, none_in_turn}
+use Rattle.git_client.proofs.AskedInTurn.{AskedInTurn, asked_in_turn, has_asked, heard_in_turn, none_in_turn}
 
 -- ---- what a phase is in which the client can ask, hears, or has failed
 
@@ -350,13 +350,7 @@ module _ {A : Type 0} (t : Terms) where
           heard = refl;
           told = refl;
           stands = r.stands;
-          asked = record {
-            front = front;
-            all = split;
-            asked = r.in_turn.are;
-            may_be = may_be_asked t h.asked h.used h.events front r.in_turn;
-            in_turn = r.in_turn.in_turn;
-          };
+          asked = has_asked t requests front rest h split r.in_turn;
           ends = ends;
         };
       }
