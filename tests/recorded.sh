@@ -148,3 +148,28 @@ case_check_tells_an_error_of_the_server() {
     expect_line 'the transcript' 'request fetch' out
     withstands_damage
 }
+
+# takes_sample WORDS..: that the program takes a recording of `sample/`, and complains of nothing.
+takes_sample() {
+    run git2show "$@"
+    expect_status 0
+    expect_same "standard error of '$*'" /dev/null err
+}
+
+case_the_samples_are_taken() {
+    local file name
+    for file in "$top"/sample/*.pkt "$top"/sample/*/*.pkt; do
+        takes_sample show < "$file"
+    done
+    for name in clone fetch shallow-clone; do
+        takes_sample check "$top/sample/git-client/$name-requests.pkt" "$top/sample/git-client/$name-responses.pkt"
+        expect_line "the transcript of $name" 'request fetch' out
+    done
+    for file in "$top"/sample/advertisement.pkt "$top"/sample/advertisements/*.pkt; do
+        case $file in
+        */sha256.pkt) name=sha256 ;;
+        *) name=sha1 ;;
+        esac
+        takes_sample check --format $name /dev/null "$file"
+    done
+}

@@ -206,13 +206,7 @@ fn buffered_output(rt: &HostRuntime) -> Result<BufWriter<Stdout>, ProgramFault> 
 fn run_serve(rt: &HostRuntime, matches: &ArgMatches<'_>) -> Result<(), ProgramFault> {
     let alloc = rt.alloc();
     let repo = read_repository(rt, matches)?;
-    let offer = Offer {
-        format: repo.format(),
-        shallow: true,
-        ref_in_want: true,
-        object_info: true,
-        server_option: true,
-    };
+    let offer = Offer::everything(repo.format());
     // clap refuses more than the most, which is said once more for the prover.
     let args = match matches.get_one::<u32>("limit") {
         Some(args) => args.min(MOST_KEPT),

@@ -143,7 +143,7 @@ module _ {A : Type 0} (t : Terms) where
       → (on : Running broken t front new step.counts unused (flow before after) silent (flow out_before out_after) silent)
       × (on.h.used ≡ r.h.used ++ step.used)
   heard_on broken front old new waiting unused {before} {held} {after} {out_before} {out_held} {out_after} r step =
-      let (events, along) = step.goes t r.h r.lines r.packed r.along in (
+      let (events, along, risen) = step.goes t r.h r.lines r.packed r.along in (
         record {
           h = record r.h { used = r.h.used ++ step.used; events = r.h.events ++ events };
           lines = r.lines ++ step.lines;

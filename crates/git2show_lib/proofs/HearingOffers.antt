@@ -8,7 +8,7 @@ use Rattle.git_pkt.specs.Packets.{Pkt, flush, delim, resp_end, payload, flushes}
 use Rattle.git_pkt.specs.Splits.{Given}
 use Rattle.git_pkt.specs.declared.fault.Kind.TheVariants.{WrongFormat}
 use Rattle.git_pkt.proofs.Texts.{text_of-line_end}
-use Rattle.git_msg.specs.Advertisement.{is_spoken, noted_of}
+use Rattle.git_msg.specs.Advertisement.{everything, is_spoken, noted_of}
 use Rattle.git_msg.specs.Capability.{IsCapability}
 use Rattle.git_msg.specs.Lines.{IsFormatMeant}
 use Rattle.git_msg.specs.Texts.{IsErrorText}
@@ -23,7 +23,6 @@ use Rattle.git_client.specs.declared.events.Ending.{Ending}
 use Rattle.git_client.specs.declared.events.Ending.TheVariants.{FlushOnly, ResponseEnd}
 use Rattle.git_client.proofs.Sequences.{gives_more}
 use Rattle.git_server.specs.Answers.{advertisement_of as server_says}
-use Rattle.git2show_lib.specs.Scripts.{everything}
 use Rattle.git2show_lib.specs.ToldAnswers.{packets_of, told_offer}
 use Rattle.git2show_lib.proofs.Hearing.{AnswerGives, given_give, given_whole, no_error}
 

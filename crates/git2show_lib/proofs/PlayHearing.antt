@@ -1,6 +1,6 @@
 -- A packet heard by a client, piece by piece.
-use Rattle.std.proofs.Common.{arith, ◌≡◌, ℕ, ◌+◌, ◌-◌, ◌<◌, ◌≤◌, Bool, true, false, length, take, min, List, [], ◌∷◌, ◌++◌, Option}
-use Rattle.std.proofs.Common.{Err, sym, ap, ◌∙◌, subst, length-drop}
+use Rattle.std.proofs.Common.{arith, ℕ, ◌+◌, ◌≤◌, Bool, true, false, length, take, min, List, ◌++◌, Option}
+use Rattle.std.proofs.Common.{Err, sym, ap, subst, length-drop}
 use Rattle.std.proofs.lemmas.List.{length-take, take_min}
 use Rattle.git_pkt.specs.Streams.{Flow, flow}
 use Rattle.git_pkt.specs.declared.fault.RunFault.{RunFault}

@@ -1,5 +1,5 @@
 -- A play in which each request is answered by a server of its own.
-use Rattle.std.proofs.Common.{arith, ◌≡◌, inl, ℕ, suc, ◌+◌, ◌<◌, Bool, true, false, map, flat_map, List, [], ◌∷◌, ◌++◌, length, Some, None}
+use Rattle.std.proofs.Common.{arith, ◌≡◌, inl, ℕ, suc, ◌+◌, Bool, true, false, map, flat_map, List, [], ◌∷◌, ◌++◌, length, Some, None}
 use Rattle.std.proofs.Common.{refl, sym, ap, ◌∙◌, subst, append_assoc, append-nil}
 use Rattle.std.proofs.lemmas.Grind.{flat_map-append}
 use Rattle.std.proofs.lemmas.List.{map-append}

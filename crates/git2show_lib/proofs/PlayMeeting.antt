@@ -1,5 +1,5 @@
 -- A client that hears a server, packet by packet.
-use Rattle.std.proofs.Common.{arith, ◌≡◌, ℕ, ◌+◌, Bool, true, false, take, drop, List, [], ◌++◌, Option, Some, None}
+use Rattle.std.proofs.Common.{arith, ◌≡◌, ℕ, Bool, true, false, take, drop, List, [], ◌++◌, Option, Some, None}
 use Rattle.std.proofs.Common.{Err, refl, sym, ap, ◌∙◌, subst, append_assoc, append-nil, length-drop, take-append-drop, inl, inr}
 use Rattle.std.proofs.lemmas.List.{drop_all}
 use Rattle.git_pkt.specs.Streams.{Flow, flow}

@@ -1,6 +1,7 @@
 -- A server of a play before its first byte.
 use Rattle.std.proofs.Common.{◌≡◌, ℕ, Bool, false, [], None, refl, ◌∙◌, ap, subst}
 use Rattle.git_names.specs.declared.object_format.Format.{Format}
+use Rattle.git_msg.specs.Advertisement.{everything}
 use Rattle.git_msg.specs.declared.offers.Offer.{Offer}
 use Rattle.git_client.specs.Parts.{terms_of}
 use Rattle.git_client.specs.declared.events.Ending.TheVariants.{FlushOnly}
@@ -11,7 +12,6 @@ use Rattle.git_server.specs.declared.server.Server.{Server}
 use Rattle.git_server.proofs.AtRest.{open_at_first}
 use Rattle.git2show_lib.specs.Plays.{setting_of}
 use Rattle.git2show_lib.specs.PlaySteps.{Stands}
-use Rattle.git2show_lib.specs.Scripts.{everything}
 
 -- the setting of a server with this offer
 abbrev pub setting_with : Offer → ℕ → Bool → RepoState → Setting

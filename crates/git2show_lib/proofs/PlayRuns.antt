@@ -1,7 +1,6 @@
 -- A play so far: what the client asked and heard, and how the server stands that it hears.
-use Rattle.std.proofs.Common.{arith, ◌≡◌, ◌⊎◌, inl, ℕ, ◌+◌, ◌≤◌, ◌<◌, Bool, true, false, map, List, [], ◌∷◌, ◌++◌, length, Option, Some}
+use Rattle.std.proofs.Common.{arith, ◌≡◌, inl, ℕ, ◌+◌, ◌≤◌, Bool, true, false, List, [], ◌∷◌, ◌++◌, length, Option, Some}
 use Rattle.std.proofs.Common.{Result, refl, sym, ap, ◌∙◌, subst, append_assoc, append-nil, length-append}
-use Rattle.std.proofs.lemmas.List.{map-append}
 use Rattle.std.proofs.lemmas.List.Elements.{All-nil}
 use Rattle.git_pkt.specs.Digits.{digits_of}
 use Rattle.git_pkt.specs.Packets.{Pkt, flushes, body_of, length_field, spelling_of}
@@ -12,7 +11,7 @@ use Rattle.git_pkt.specs.declared.fault.Kind.TheVariants.{Truncated, StreamTooLo
 use Rattle.git_pkt.specs.declared.fault.RunFault.{RunFault}
 use Rattle.git_pkt.proofs.Spelling.{same_start}
 use Rattle.git_pkt.proofs.Written.{spells_written}
-use Rattle.git_msg.specs.Asked.{Asked, command_asked}
+use Rattle.git_msg.specs.Asked.{command_asked}
 use Rattle.git_msg.specs.HeldRequest.{asked_of}
 use Rattle.git_msg.specs.declared.offers.Caps.{Caps}
 use Rattle.git_msg.specs.declared.requests.Request.{Request}
@@ -221,7 +220,7 @@ module _ {R A : Type 0} (state : R → RepoState) (t : Terms) (limit : ℕ) (s0 
       → (events : List EventValue)
       × Runs t broken (record h { used = h.used ++ hears.used; events = h.events ++ events }) front new counts (flow o0 o2) (flow p0 p2)
   heard_runs broken h front old new counts server after end unheard {o0} {o1} {o2} {p0} {p1} {p2} r hears =
-      let (events, along) = hears.client_goes t h r.lines r.packed r.along in (
+      let (events, along, risen) = hears.client_goes t h r.lines r.packed r.along in (
         events,
         record {
           lines = r.lines ++ hears.lines;

@@ -1,6 +1,6 @@
 -- The turns of a play, and its ends.
-use Rattle.std.proofs.Common.{arith, ◌≡◌, ◌⊎◌, inl, ℕ, suc, ◌+◌, ◌≤◌, Bool, true, false, List, [], ◌∷◌, ◌++◌, length, Option}
-use Rattle.std.proofs.Common.{Err, refl, sym, ap, ◌∙◌, subst, append-nil}
+use Rattle.std.proofs.Common.{arith, ◌≡◌, inl, ℕ, suc, ◌+◌, Bool, true, false, List, [], ◌++◌, length, Option}
+use Rattle.std.proofs.Common.{Err, refl, sym, ap, subst, append-nil}
 use Rattle.std.proofs.lemmas.List.Elements.{All-nil}
 use Rattle.git_names.specs.declared.object_format.Format.{Format}
 use Rattle.git_pkt.specs.Packets.{flushes}

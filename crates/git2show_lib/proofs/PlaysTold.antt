@@ -12,7 +12,7 @@ use Rattle.git_msg.specs.declared.arguments.Command.{Command}
 use Rattle.git_msg.specs.declared.arguments.Command.TheVariants.{LsRefs, Fetch, ObjectInfo}
 use Rattle.git_msg.specs.declared.offers.Caps.{Caps}
 use Rattle.git_msg.specs.declared.requests.Request.{Request}
-use Rattle.git_msg.specs.Advertisement.{noted_of, takes_command}
+use Rattle.git_msg.specs.Advertisement.{everything, noted_of, takes_command}
 use Rattle.git_msg.specs.Arguments.{Arg, IsNameIn, IsValue, deepen, deepen_not, deepen_relative, deepen_since, have, is_offered, object_id, shallow, want_ref}
 use Rattle.git_msg.specs.Asked.{Asked, HasValues, arguments_in, fetch, have_in, haves_of, ls_refs, object_id_in, object_info, oids_of}
 use Rattle.git_msg.specs.HeldRequest.{asked_of, format_of}
@@ -33,7 +33,6 @@ use Rattle.git_server.specs.Repository.{IsSound, Repository, RepoState}
 use Rattle.git_server.specs.Sessions.{AreAnswers, IsAnswered, Setting, Stream}
 use Rattle.git_server.proofs.Sent.{spelled_both}
 use Rattle.git2show_lib.specs.Plays.{IsWholePlay, Played, Talk, said_each, setting_of, with_end}
-use Rattle.git2show_lib.specs.Scripts.{everything}
 use Rattle.git2show_lib.specs.ToldAnswers.{AsksIn, CanBeWritten, told_all, told_offer, told_play}
 use Rattle.git2show_lib.proofs.HearingOffers.{advertisement_stays, format_meant, lines_said, nearest_offer, offer_heard, offer_whole}
 use Rattle.git2show_lib.proofs.HearingSessions.{AreEnded, all_give, all_heard, cut_at, ended_by_flush, nearest-append}

@@ -7,6 +7,7 @@ use Rattle.git_msg.specs.declared.arguments.Command.{Command}
 use Rattle.git_msg.specs.declared.arguments.Command.TheVariants.{LsRefs, Fetch, ObjectInfo}
 use Rattle.git_msg.specs.Arguments.{Arg, IsNoArgument, ReadsAs, name_of}
 use Rattle.git_msg.specs.Asked.{Asked}
+use Rattle.git_msg.specs.Kept.{Kept}
 use Rattle.git_msg.proofs.Rows.{argument_or_fault, one_argument}
 use Rattle.git_repository.specs.RepositoryLines.{lines_of}
 use Rattle.git_repository.proofs.TextLaws.{earlier_in}
@@ -76,10 +77,10 @@ one_list offer limit before [] (x ∷ xs) b h k = absurd h
 one_list offer limit before (t ∷ ts) [] b h k = absurd h
 one_list offer limit before (t ∷ ts) (x ∷ xs) [] h k = absurd k
 
-pub one_script : (offer : Offer) (limit : ℕ) (text : List ℕ) (asked other : List Asked) → IsScript offer limit text asked
-    → IsScript offer limit text other → asked ≡ other
-one_script offer limit text asked other h k =
-    h.asked_is ∙ ap requests_in (one_list offer limit [] (lines_of text) h.lines k.lines h.follow k.follow) ∙ sym k.asked_is
+pub one_script : (offer : Offer) (limit : ℕ) (text : List ℕ) (requests other : List (Kept Asked)) → IsScript offer limit text requests
+    → IsScript offer limit text other → requests ≡ other
+one_script offer limit text requests other h k =
+    h.requests_are ∙ ap (requests_in offer.format limit) (one_list offer limit [] (lines_of text) h.lines k.lines h.follow k.follow) ∙ sym k.requests_are
 
 -- lines, cut after the first of their texts
 record Split (offer : Offer) (limit : ℕ) (before : List ScriptLine) (texts : List (List ℕ)) (text : List ℕ) : Type 0 where
@@ -105,9 +106,9 @@ lines_or_bad offer limit texts lines number h bad =
     let same = one_list offer limit [] bad.before split.front bad.lines split.follow bad.follow in
     bad.refused split.next (subst (λ (ls : List ScriptLine). MayFollow offer limit (nearest ls []) bad.bad split.next) same split.may_follow)
 
-pub script_or_bad : (offer : Offer) (limit : ℕ) (text : List ℕ) (asked : List Asked) (number : ℕ) → IsScript offer limit text asked
+pub script_or_bad : (offer : Offer) (limit : ℕ) (text : List ℕ) (requests : List (Kept Asked)) (number : ℕ) → IsScript offer limit text requests
     → HasBadScriptLine offer limit (lines_of text) number → ⊥
-script_or_bad offer limit text asked number h bad = lines_or_bad offer limit (lines_of text) h.lines number h.follow bad
+script_or_bad offer limit text requests number h bad = lines_or_bad offer limit (lines_of text) h.lines number h.follow bad
 
 not_earlier : (offer : Offer) (limit : ℕ) (texts : List (List ℕ)) (n m : ℕ) → HasBadScriptLine offer limit texts n → HasBadScriptLine offer limit texts m
     → n < m → ⊥

@@ -1,10 +1,13 @@
 -- The lines of a script with one more after them.
 use Rattle.std.proofs.Common.{◌≡◌, ◌⊎◌, ℕ, List, [], ◌∷◌, ◌++◌, Some, refl, ap, ◌∙◌, inl, inr, map}
+use Rattle.git_names.specs.declared.object_format.Format.{Format}
 use Rattle.git_msg.specs.declared.offers.Offer.{Offer}
 use Rattle.git_msg.specs.declared.arguments.Command.{Command}
 use Rattle.git_msg.specs.Arguments.{Arg}
-use Rattle.git_msg.specs.Asked.{Asked, asked_by}
-use Rattle.git2show_lib.specs.Scripts.{ScriptLine, blank, command, argument, FollowAll, MayFollow, arguments_upto, nearest, open_after, requests_in}
+use Rattle.git_msg.specs.Asked.{Asked}
+use Rattle.git_msg.specs.Kept.{Kept}
+use Rattle.git2show_lib.specs.Scripts.{ScriptLine, blank, command, argument, FollowAll, MayFollow, arguments_upto, nearest, open_after}
+use Rattle.git2show_lib.specs.Scripts.{request_of, requests_in}
 
 pub nearest_more : (lines before : List ScriptLine) (line : ScriptLine) → nearest (lines ++ line ∷ []) before ≡ line ∷ nearest lines before
 nearest_more [] before line = refl
@@ -25,13 +28,13 @@ upto_blank (command c ∷ lines) = refl
 upto_blank (argument arg ∷ lines) = ap (λ (args : List Arg). arg ∷ args) (upto_blank lines)
 
 -- an empty line says no request
-pub requests_blank : (lines : List ScriptLine) → requests_in (lines ++ blank ∷ []) ≡ requests_in lines
-requests_blank [] = refl
-requests_blank (blank ∷ lines) = requests_blank lines
-requests_blank (command c ∷ lines) =
-    ap (λ (args : List Arg). asked_by c args ∷ requests_in (lines ++ blank ∷ [])) (upto_blank lines)
-    ∙ ap (λ (qs : List Asked). asked_by c (arguments_upto lines) ∷ qs) (requests_blank lines)
-requests_blank (argument arg ∷ lines) = requests_blank lines
+pub requests_blank : (format : Format) (limit : ℕ) (lines : List ScriptLine) → requests_in format limit (lines ++ blank ∷ []) ≡ requests_in format limit lines
+requests_blank format limit [] = refl
+requests_blank format limit (blank ∷ lines) = requests_blank format limit lines
+requests_blank format limit (command c ∷ lines) =
+    ap (λ (args : List Arg). request_of format limit c args ∷ requests_in format limit (lines ++ blank ∷ [])) (upto_blank lines)
+    ∙ ap (λ (qs : List (Kept Asked)). request_of format limit c (arguments_upto lines) ∷ qs) (requests_blank format limit lines)
+requests_blank format limit (argument arg ∷ lines) = requests_blank format limit lines
 
 upto_command : (lines : List ScriptLine) (c : Command) (more : List ScriptLine) → arguments_upto (lines ++ command c ∷ more) ≡ arguments_upto lines
 upto_command [] c more = refl
@@ -40,22 +43,23 @@ upto_command (command d ∷ lines) c more = refl
 upto_command (argument arg ∷ lines) c more = ap (λ (args : List Arg). arg ∷ args) (upto_command lines c more)
 
 -- a command begins a request, whatever stands before it
-pub requests_cut : (lines : List ScriptLine) (c : Command) (more : List ScriptLine)
-    → requests_in (lines ++ command c ∷ more) ≡ requests_in lines ++ (asked_by c (arguments_upto more) ∷ requests_in more)
-requests_cut [] c more = refl
-requests_cut (blank ∷ lines) c more = requests_cut lines c more
-requests_cut (command d ∷ lines) c more =
-    ap (λ (args : List Arg). asked_by d args ∷ requests_in (lines ++ command c ∷ more)) (upto_command lines c more)
-    ∙ ap (λ (qs : List Asked). asked_by d (arguments_upto lines) ∷ qs) (requests_cut lines c more)
-requests_cut (argument arg ∷ lines) c more = requests_cut lines c more
+pub requests_cut : (format : Format) (limit : ℕ) (lines : List ScriptLine) (c : Command) (more : List ScriptLine)
+    → requests_in format limit (lines ++ command c ∷ more)
+    ≡ requests_in format limit lines ++ (request_of format limit c (arguments_upto more) ∷ requests_in format limit more)
+requests_cut format limit [] c more = refl
+requests_cut format limit (blank ∷ lines) c more = requests_cut format limit lines c more
+requests_cut format limit (command d ∷ lines) c more =
+    ap (λ (args : List Arg). request_of format limit d args ∷ requests_in format limit (lines ++ command c ∷ more)) (upto_command lines c more)
+    ∙ ap (λ (qs : List (Kept Asked)). request_of format limit d (arguments_upto lines) ∷ qs) (requests_cut format limit lines c more)
+requests_cut format limit (argument arg ∷ lines) c more = requests_cut format limit lines c more
 
 upto_all : (args : List Arg) → arguments_upto (map argument args) ≡ args
 upto_all [] = refl
 upto_all (arg ∷ args) = ap (λ (xs : List Arg). arg ∷ xs) (upto_all args)
 
-none_in_arguments : (args : List Arg) → requests_in (map argument args) ≡ []
-none_in_arguments [] = refl
-none_in_arguments (arg ∷ args) = none_in_arguments args
+none_in_arguments : (format : Format) (limit : ℕ) (args : List Arg) → requests_in format limit (map argument args) ≡ []
+none_in_arguments format limit [] = refl
+none_in_arguments format limit (arg ∷ args) = none_in_arguments format limit args
 
 -- lines that end in a request of this command with these arguments
 pub record Cut (lines : List ScriptLine) (c : Command) : Type 0 where
@@ -103,8 +107,11 @@ cut_of lines c e = elim (cut_or_arguments [] lines c e) [
   | inr cut ↦ cut
 ]
 
-pub requests_of_cut : (lines : List ScriptLine) (c : Command) (cut : Cut lines c) → requests_in lines ≡ requests_in cut.front ++ asked_by c cut.args ∷ []
-requests_of_cut lines c cut =
-    ap requests_in cut.whole ∙ requests_cut cut.front c (map argument cut.args)
-    ∙ ap (λ (args : List Arg). requests_in cut.front ++ asked_by c args ∷ requests_in (map argument cut.args)) (upto_all cut.args)
-    ∙ ap (λ (qs : List Asked). requests_in cut.front ++ asked_by c cut.args ∷ qs) (none_in_arguments cut.args)
+pub requests_of_cut : (format : Format) (limit : ℕ) (lines : List ScriptLine) (c : Command) (cut : Cut lines c)
+    → requests_in format limit lines ≡ requests_in format limit cut.front ++ request_of format limit c cut.args ∷ []
+requests_of_cut format limit lines c cut =
+    ap (requests_in format limit) cut.whole ∙ requests_cut format limit cut.front c (map argument cut.args)
+    ∙ ap (λ (args : List Arg). requests_in format limit cut.front ++ request_of format limit c args ∷ requests_in format limit (map argument cut.args))
+    (upto_all cut.args)
+    ∙ ap (λ (qs : List (Kept Asked)). requests_in format limit cut.front ++ request_of format limit c cut.args ∷ qs)
+    (none_in_arguments format limit cut.args)

@@ -6,6 +6,7 @@ use Rattle.std.specs.Prelude.{MatchResult}
 use Rattle.std.proofs.Math.Seq.{get_or-append_seam}
 use Rattle.std.proofs.lemmas.Bool.Decides.{nat_tests}
 use Rattle.std.proofs.lemmas.List.{map-append, set_at}
+use Rattle.std.proofs.lemmas.List.Sums.{sum_by-append}
 use Rattle.std.proofs.lemmas.List.Elements.{All-nil, All-pop, All-push}
 use Rattle.git_names.specs.declared.object_format.Format.{Format}
 use Rattle.git_pkt.specs.declared.fault.Kind.{Kind}
@@ -17,14 +18,15 @@ use Rattle.git_msg.specs.Arguments.{Arg, ref_prefix, want, have, shallow, deepen
 use Rattle.git_msg.specs.Arguments.{IsArgumentFault, IsInRange, ReadsAs, SaysArgument, name_of, written_text}
 use Rattle.git_msg.specs.Asked.{Asked, asked_by, nothing_asked, with_argument}
 use Rattle.git_msg.specs.Checks.{Passes, Refuses}
-use Rattle.git_msg.specs.HeldRequest.{IsEmpty, Keeps, add_checks, asked_of, command_of, format_of, limit_of}
+use Rattle.git_msg.specs.HeldRequest.{IsEmpty, Keeps, add_checks, command_of, format_of, holding_of, limit_of}
+use Rattle.git_msg.specs.Kept.{IsNew, Kept, KeepsArgument}
 use Rattle.git_msg.proofs.ArgumentsInOrder.{asked_snoc}
 use Rattle.git_msg.proofs.Rows.{argument_or_fault, one_argument}
 use Rattle.git_msg.proofs.Values.{added_or_refused}
 use Rattle.git_msg.proofs.WrittenNames.{named_in}
 use Rattle.git_repository.specs.declared.text_faults.LineFault.{LineFault}
 use Rattle.git_repository.specs.declared.text_faults.LineFault.TheVariants.{Refused, OutOfMemory}
-use Rattle.git2show_lib.specs.Scripts.{ScriptLine, blank, command, argument, MayFollow, kept_after, nearest, open_after, requests_in}
+use Rattle.git2show_lib.specs.Scripts.{ScriptLine, blank, command, argument, MayFollow, kept_after, nearest, open_after, request_of, requests_in}
 use Rattle.git2show_lib.specs.HeldScripts.{Held, AddsArgument, Begins, FitsIn, GoesOn, HasOpen, Holds, IsBeginFault, IsLineFault, IsOpenAs, TakesLine}
 use Rattle.git2show_lib.specs.HeldScripts.{nothing_held, with_requests}
 use Rattle.git2show_lib.proofs.ScriptLists.{Cut, cut_of, nearest_more, requests_blank, requests_cut, requests_of_cut}
@@ -77,6 +79,28 @@ nothing_yet LsRefs = refl
 nothing_yet Fetch = refl
 nothing_yet ObjectInfo = refl
 
+-- what is kept is equal where its parts are
+same_kept : (k l : Kept Asked) → k.format ≡ l.format → k.asked ≡ l.asked → k.kept ≡ l.kept → k.limit ≡ l.limit → k ≡ l
+same_kept k l formats asks counts limits =
+    ap (λ (f : Format). record { format = f; asked = k.asked; kept = k.kept; limit = k.limit }) formats
+    ∙ ap (λ (q : Asked). record { format = l.format; asked = q; kept = k.kept; limit = k.limit }) asks
+    ∙ ap (λ (n : ℕ). record { format = l.format; asked = l.asked; kept = n; limit = k.limit }) counts
+    ∙ ap (λ (n : ℕ). record { format = l.format; asked = l.asked; kept = l.kept; limit = n }) limits
+
+-- a new request has no arguments
+new_request : (c : Command) (format : Format) (limit : ℕ) (k : Kept Asked) → IsNew c format limit k → k ≡ request_of format limit c []
+new_request c format limit k new = same_kept k (request_of format limit c []) new.format_is (new.asked ∙ nothing_yet c) new.kept new.limit_is
+
+-- and one that keeps an argument more has it after the others
+request_more : (c : Command) (format : Format) (limit : ℕ) (args : List Arg) (arg : Arg) (old new : Kept Asked) → old ≡ request_of format limit c args
+    → KeepsArgument old arg (length (written_text arg)) new → new ≡ request_of format limit c (args ++ arg ∷ [])
+request_more c format limit args arg old new is keeps =
+    same_kept new (request_of format limit c (args ++ arg ∷ []))
+    (keeps.format ∙ ap (λ (k : Kept Asked). k.format) is)
+    (keeps.asked ∙ ap (λ (k : Kept Asked). with_argument k.asked arg) is ∙ sym (asked_snoc c args arg))
+    (omega (arith, keeps.kept, ap (λ (k : Kept Asked). k.kept) is, sum_by-append (λ a. length (written_text a)) args (arg ∷ [])))
+    (keeps.limit ∙ ap (λ (k : Kept Asked). k.limit) is)
+
 module _ {A : Type 0} where
   -- an argument that fits passes the checks
   fits_passes : (offer : Offer) (last : Request A) (text : List ℕ) (arg : Arg) → format_of last ≡ offer.format → FitsIn offer last text arg
@@ -97,7 +121,7 @@ module _ {A : Type 0} where
   fits_of_passes offer last text arg reads passes = record { reads = reads; fits = passes.1.0 }
 
   pub holds_nothing : (offer : Offer) (limit : ℕ) → Holds {A = A} [] (nothing_held offer limit)
-  holds_nothing offer limit = record { asked = refl; of_format = All-nil _; of_limit = All-nil _; open_as = refl }
+  holds_nothing offer limit = record { requests_are = refl; of_format = All-nil _; of_limit = All-nil _; open_as = refl }
 
   -- an empty line
   pub takes_blank : (old : Held A) (text : List ℕ) → text ≡ [] → TakesLine old text (with_requests old old.requests false)
@@ -105,7 +129,7 @@ module _ {A : Type 0} where
     line = blank;
     may_follow = empty;
     holds = record {
-      asked = h.asked ∙ sym (requests_blank lines);
+      requests_are = h.requests_are ∙ sym (requests_blank old.offer.format old.limit lines);
       of_format = h.of_format;
       of_limit = h.of_limit;
       open_as = open_more lines blank;
@@ -127,10 +151,11 @@ module _ {A : Type 0} where
     line = command of;
     may_follow = (none_open lines old shut h, spelled);
     holds = record {
-      asked = map-append asked_of old.requests (request ∷ [])
-          ∙ ap (λ (qs : List Asked). qs ++ asked_of request ∷ []) h.asked
-          ∙ ap (λ (q : Asked). requests_in lines ++ q ∷ []) (empty.asked ∙ nothing_yet of)
-          ∙ sym (requests_cut lines of []);
+      requests_are = map-append holding_of old.requests (request ∷ [])
+          ∙ ap (λ (qs : List (Kept Asked)). qs ++ holding_of request ∷ []) h.requests_are
+          ∙ ap (λ (q : Kept Asked). requests_in old.offer.format old.limit lines ++ q ∷ [])
+          (new_request of old.offer.format old.limit (holding_of request) empty)
+          ∙ sym (requests_cut old.offer.format old.limit lines of []);
       of_format = All-push (λ (q : Request A). format_of q ≡ old.offer.format) old.requests request h.of_format empty.format_is;
       of_limit = All-push (λ (q : Request A). limit_of q ≡ old.limit) old.requests request h.of_limit empty.limit_is;
       open_as = record {
@@ -191,13 +216,17 @@ module _ {A : Type 0} where
       }
 
   -- what the lines say with an argument more
-  asked_more : (lines : List ScriptLine) (held : Held A) (arg : Arg) (request : Request A) (h : Holds lines held) (o : HasOpen lines held.requests)
-      → asked_of request ≡ with_argument (asked_of o.last) arg → map asked_of (o.others ++ request ∷ []) ≡ requests_in (lines ++ argument arg ∷ [])
-  asked_more lines held arg request h o asked =
+  requests_more : (lines : List ScriptLine) (held : Held A) (arg : Arg) (request : Request A) (h : Holds lines held) (o : HasOpen lines held.requests)
+      → Keeps o.last arg (length (written_text arg)) request
+      → map holding_of (o.others ++ request ∷ []) ≡ requests_in held.offer.format held.limit (lines ++ argument arg ∷ [])
+  requests_more lines held arg request h o keeps =
+      let format = held.offer.format in
+      let limit = held.limit in
       let c = command_of o.last in
       let cut : Cut lines c = cut_of lines c o.open_is in
-      let same = same_ends (map asked_of o.others) (requests_in cut.front) (asked_of o.last) (asked_by c cut.args)
-      (sym (map-append asked_of o.others (o.last ∷ [])) ∙ ap (map asked_of) (sym o.requests_are) ∙ h.asked ∙ requests_of_cut lines c cut) in
+      let same = same_ends (map holding_of o.others) (requests_in format limit cut.front) (holding_of o.last) (request_of format limit c cut.args)
+      (sym (map-append holding_of o.others (o.last ∷ [])) ∙ ap (map holding_of) (sym o.requests_are) ∙ h.requests_are
+      ∙ requests_of_cut format limit lines c cut) in
       let more : Cut (lines ++ argument arg ∷ []) c = record {
         front = cut.front;
         args = cut.args ++ arg ∷ [];
@@ -205,11 +234,11 @@ module _ {A : Type 0} where
             ∙ append_assoc cut.front (command c ∷ map argument cut.args) (argument arg ∷ [])
             ∙ ap (λ (ls : List ScriptLine). cut.front ++ command c ∷ ls) (sym (map-append argument cut.args (arg ∷ [])));
       } in
-      map-append asked_of o.others (request ∷ [])
-      ∙ ap (λ (qs : List Asked). qs ++ asked_of request ∷ []) same.0
-      ∙ ap (λ (q : Asked). requests_in cut.front ++ q ∷ [])
-      (asked ∙ ap (λ (q : Asked). with_argument q arg) same.1 ∙ sym (asked_snoc c cut.args arg))
-      ∙ sym (requests_of_cut (lines ++ argument arg ∷ []) c more)
+      map-append holding_of o.others (request ∷ [])
+      ∙ ap (λ (qs : List (Kept Asked)). qs ++ holding_of request ∷ []) same.0
+      ∙ ap (λ (q : Kept Asked). requests_in format limit cut.front ++ q ∷ [])
+      (request_more c format limit cut.args arg (holding_of o.last) (holding_of request) same.1 keeps)
+      ∙ sym (requests_of_cut format limit (lines ++ argument arg ∷ []) c more)
 
   -- an argument, where a request is open
   added : (lines : List ScriptLine) (old : Held A) (text : List ℕ) (h : Holds lines old) (o : HasOpen lines old.requests) (arg : Arg) (request : Request A)
@@ -222,7 +251,7 @@ module _ {A : Type 0} where
         line = argument arg;
         may_follow = may_follow lines old text arg h o fits_in;
         holds = record {
-          asked = asked_more lines old arg request h o keeps.asked;
+          requests_are = requests_more lines old arg request h o keeps;
           of_format = All-push (λ (q : Request A). format_of q ≡ old.offer.format) o.others request formats.0 (keeps.format ∙ formats.1);
           of_limit = All-push (λ (q : Request A). limit_of q ≡ old.limit) o.others request limits.0 (keeps.limit ∙ limits.1);
           open_as = record {

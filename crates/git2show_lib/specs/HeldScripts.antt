@@ -4,7 +4,7 @@ use Rattle.git_msg.specs.declared.offers.Offer.{Offer}
 use Rattle.git_msg.specs.declared.arguments.Command.{Command}
 use Rattle.git_msg.specs.declared.requests.Request.{Request}
 use Rattle.git_msg.specs.Arguments.{Arg, ReadsAs, TakesMemory as TakesMemoryFor, name_of, written_text}
-use Rattle.git_msg.specs.HeldRequest.{IsEmpty, Keeps, asked_of, command_of, format_of, kept_of, limit_of}
+use Rattle.git_msg.specs.HeldRequest.{IsEmpty, Keeps, command_of, format_of, holding_of, kept_of, limit_of}
 use Rattle.git_repository.specs.declared.text_faults.LineFault.{LineFault}
 use Rattle.git_repository.specs.declared.text_faults.LineFault.TheVariants.{Refused, OutOfMemory}
 use Rattle.git2show_lib.specs.Scripts.{ScriptLine, MayFollow, TakesMemory, kept_after, nearest, open_after, requests_in}
@@ -45,7 +45,7 @@ module _ {A : Type 0} where
 
   -- this is held after the lines
   pub record Holds (lines : List ScriptLine) (held : Held A) : Type 0 where
-    pub asked : map asked_of held.requests ≡ requests_in lines
+    pub requests_are : map holding_of held.requests ≡ requests_in held.offer.format held.limit lines
     pub of_format : All (λ request. format_of request ≡ held.offer.format) held.requests
     pub of_limit : All (λ request. limit_of request ≡ held.limit) held.requests
     pub open_as : IsOpenAs held.is_open lines held.requests

@@ -5,6 +5,7 @@ use Rattle.git_pkt.specs.Packets.{Pkt, flush, resp_end}
 use Rattle.git_pkt.specs.declared.fault.Fault.{Fault}
 use Rattle.git_pkt.specs.declared.fault.RunFault.{RunFault}
 use Rattle.git_pkt.specs.declared.fault.RunFault.TheVariants.{ReadFault, WriteFault, ReadLimit, Refused}
+use Rattle.git_msg.specs.Advertisement.{everything}
 use Rattle.git_msg.specs.Asked.{Asked}
 use Rattle.git_msg.specs.declared.offers.Caps.{Caps}
 use Rattle.git_msg.specs.declared.requests.Request.{Request}
@@ -20,7 +21,6 @@ use Rattle.git_server.specs.Repository.{RepoState}
 use Rattle.git_server.specs.Server.{IsPackLost}
 use Rattle.git_server.specs.Sessions.{Setting, GoesOn, IsAnswered, IsEnding, IsSession}
 use Rattle.git_server.specs.declared.outcome.Outcome.{Outcome}
-use Rattle.git2show_lib.specs.Scripts.{everything}
 
 -- ---- the sessions
 

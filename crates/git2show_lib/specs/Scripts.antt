@@ -1,10 +1,11 @@
 -- What the text of a script says, requests one after another, and which of its lines is refused.
-use Rattle.std.specs.Prelude.{◌≡◌, ℕ, ◌+◌, ◌≤◌, true, List, [], ◌∷◌, ◌++◌, Option, Some, None, length}
+use Rattle.std.specs.Prelude.{◌≡◌, ℕ, ◌+◌, ◌≤◌, List, [], ◌∷◌, ◌++◌, Option, Some, None, length}
 use Rattle.git_names.specs.declared.object_format.Format.{Format}
 use Rattle.git_msg.specs.declared.offers.Offer.{Offer}
 use Rattle.git_msg.specs.declared.arguments.Command.{Command}
 use Rattle.git_msg.specs.Arguments.{Arg, ReadsAs, TakesMemory as TakesMemoryFor, name_of, written_text}
-use Rattle.git_msg.specs.Asked.{Asked, asked_by}
+use Rattle.git_msg.specs.Asked.{Asked, asked_by, bytes_of}
+use Rattle.git_msg.specs.Kept.{Kept}
 use Rattle.git_repository.specs.RepositoryLines.{lines_of}
 
 -- what a line is: an empty one, which ends a request; a command, which begins one; an argument of the request that is open
@@ -12,10 +13,6 @@ pub data ScriptLine : Type 0 where
   blank : ScriptLine
   command : Command → ScriptLine
   argument : Arg → ScriptLine
-
--- what is offered by one who offers everything
-abbrev pub everything : Format → Offer
-everything format = record { format = format; shallow = true; ref_in_want = true; object_info = true; server_option = true }
 
 -- the command of the request that is open after these lines, the nearest first
 abbrev pub open_after : List ScriptLine → Option Command
@@ -63,18 +60,22 @@ arguments_upto (blank ∷ lines) = []
 arguments_upto (command c ∷ lines) = []
 arguments_upto (argument arg ∷ lines) = arg ∷ arguments_upto lines
 
+-- a request of this command with these arguments, as it is kept: the texts of all their lines count
+abbrev pub request_of : Format → ℕ → Command → List Arg → Kept Asked
+request_of format limit c args = record { format = format; asked = asked_by c args; kept = bytes_of args; limit = limit }
+
 -- the requests that the lines say, in their order
-abbrev pub requests_in : List ScriptLine → List Asked
-requests_in [] = []
-requests_in (blank ∷ lines) = requests_in lines
-requests_in (command c ∷ lines) = asked_by c (arguments_upto lines) ∷ requests_in lines
-requests_in (argument arg ∷ lines) = requests_in lines
+abbrev pub requests_in : Format → ℕ → List ScriptLine → List (Kept Asked)
+requests_in format limit [] = []
+requests_in format limit (blank ∷ lines) = requests_in format limit lines
+requests_in format limit (command c ∷ lines) = request_of format limit c (arguments_upto lines) ∷ requests_in format limit lines
+requests_in format limit (argument arg ∷ lines) = requests_in format limit lines
 
 -- the lines of the text say these requests
-pub record IsScript (offer : Offer) (limit : ℕ) (text : List ℕ) (asked : List Asked) : Type 0 where
+pub record IsScript (offer : Offer) (limit : ℕ) (text : List ℕ) (requests : List (Kept Asked)) : Type 0 where
   pub lines : List ScriptLine
   pub follow : FollowAll offer limit [] (lines_of text) lines
-  pub asked_is : asked ≡ requests_in lines
+  pub requests_are : requests ≡ requests_in offer.format limit lines
 
 -- the lines before this one may stand, and after them it is none that may
 pub record HasBadScriptLine (offer : Offer) (limit : ℕ) (texts : List (List ℕ)) (number : ℕ) : Type 0 where

@@ -7,6 +7,7 @@ use Rattle.git_names.specs.ObjectName.{ObjectName, IsOid}
 use Rattle.git_names.specs.declared.object_format.Format.{Format}
 use Rattle.git_pkt.specs.Packets.{Pkt, resp_end}
 use Rattle.git_pkt.specs.Splits.{Given}
+use Rattle.git_msg.specs.Advertisement.{everything}
 use Rattle.git_msg.specs.declared.offers.Offer.{Offer}
 use Rattle.git_msg.specs.declared.Boundary.{Boundary}
 use Rattle.git_msg.specs.declared.Boundary.TheVariants.{Shallow, Unshallow}
@@ -19,7 +20,6 @@ use Rattle.git_client.specs.declared.events.Ending.TheVariants.{FlushOnly, Respo
 use Rattle.git_server.specs.Answers.{shown_line, shown_refs}
 use Rattle.git_server.specs.FetchAnswers.{common, negotiates}
 use Rattle.git_server.specs.Repository.{Entry, Repository, found_ref}
-use Rattle.git2show_lib.specs.Scripts.{everything}
 
 -- the references that are shown
 abbrev pub told_refs : Repository → LsRefsAsked → List EventValue

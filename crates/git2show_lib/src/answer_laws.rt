@@ -3,6 +3,7 @@
 ghost use Rattle.std.specs.Prelude.{ℕ, ◌≡◌, ◌∷◌, ◌++◌, [], All, List};
 ghost use Rattle.git_pkt.specs.Packets.{Pkt};
 ghost use Rattle.git_pkt.specs.Splits.{Given};
+ghost use Rattle.git_msg.specs.Advertisement.{everything};
 ghost use Rattle.git_msg.specs.Asked.{Asked};
 ghost use Rattle.git_client.specs.Client.{AreWhole};
 ghost use Rattle.git_client.specs.Conversation.{GiveAll};
@@ -15,7 +16,6 @@ ghost use Rattle.git_server.specs.Repository.{Repository, IsSound};
 ghost use Rattle.git_server.specs.Sessions.{AreAnswers};
 ghost use Rattle.git_server.specs.declared.list_repo.ListRepo.{ListRepo};
 ghost use Rattle.git_repository.specs.RepositoryText.{IsRepositoryText};
-ghost use Rattle.git2show_lib.specs.Scripts.{everything};
 ghost use Rattle.git2show_lib.specs.ToldAnswers.{AsksIn, CanBeWritten, end_packets, packets_of, told_all, told_by, told_offer};
 
 /// The advertisement of a server that offers everything is heard as it was meant, whatever is asked later. Then the first answer may follow.

@@ -10,11 +10,9 @@ ghost use Rattle.git_client.specs.RunSteps.{HearsPieceTo};
 ghost use Rattle.git_server.specs.Server.{outcome_of};
 ghost use Rattle.git2show_lib.specs.Plays.{CanFail, Played, setting_of};
 ghost use Rattle.git2show_lib.specs.PlaySteps.{AsksServerTo, HearsMessageTo, HearsServerTo, Stands, StandsOn, TellsAll};
-ghost use Rattle.git2show_lib.specs.Scripts.{everything};
 
 use git_client::{Client, Counts, Ending, Sent, hear_piece, write_asked};
 use git_msg::{Limits, Offer, Request};
-use git_names::Format;
 use git_pkt::{Output, RunFault, Told, flush};
 use git_server::{Pulled, Repo, Server};
 use std::alloc::Allocator;
@@ -172,19 +170,6 @@ fn ask_server<R: Repo, O: Write, A: Allocator + Copy>(
     Ok(())
 }
 
-/// An offer of everything.
-fn offer_of_everything(format: Format) -> Offer
-    ensures { result ≡ everything format }
-{
-    Offer {
-        format,
-        shallow: true,
-        ref_in_want: true,
-        object_info: true,
-        server_option: true,
-    }
-}
-
 /// Plays both ends against each other in memory: a client of the repository's format asks the requests in their order of a server of
 /// the repository that offers everything, by gitprotocol-v2(5), and each hears the other in pieces of at most `cut` bytes. Where each
 /// response ends with its flush alone one server answers all requests, and the client leaves it after the last. Where a response
@@ -238,7 +223,7 @@ fn new_server<R: Repo, A: Allocator + Copy>(alloc: A, repo: R, advertise: bool) 
     ensures begins { Stands R.state (setting_of (terms_of (R.state repo).answers.format Ending.FlushOnly) Limits.USUAL (R.state repo) advertise) [] [] result }
     ensures goes_on { outcome_of result ≡ None }
 {
-    let offer = offer_of_everything(repo.format());
+    let offer = Offer::everything(repo.format());
     let limits = Limits {
         args: Limits::USUAL,
     };

@@ -3,18 +3,19 @@
 ghost use Rattle.std.specs.Prelude.{◌≡◌, ℕ, List};
 ghost use Rattle.git_msg.specs.declared.offers.Offer.{Offer};
 ghost use Rattle.git_msg.specs.Asked.{Asked};
+ghost use Rattle.git_msg.specs.Kept.{Kept};
 ghost use Rattle.git_repository.specs.RepositoryLines.{lines_of};
 ghost use Rattle.git2show_lib.specs.Scripts.{HasBadScriptLine, IsScript};
 
 /// A text is one script at most.
 pub fn one_script()
-    ensures { (offer : Offer) (limit : ℕ) (text : List ℕ) (asked other : List Asked) → IsScript offer limit text asked
-        → IsScript offer limit text other → asked ≡ other }
+    ensures { (offer : Offer) (limit : ℕ) (text : List ℕ) (requests other : List (Kept Asked))
+        → IsScript offer limit text requests → IsScript offer limit text other → requests ≡ other }
 {}
 
 /// A text with a bad line is no script.
 pub fn script_or_bad()
-    ensures { (offer : Offer) (limit : ℕ) (text : List ℕ) (asked : List Asked) (number : ℕ) → IsScript offer limit text asked
+    ensures { (offer : Offer) (limit : ℕ) (text : List ℕ) (requests : List (Kept Asked)) (number : ℕ) → IsScript offer limit text requests
         → HasBadScriptLine offer limit (lines_of text) number → ⊥ }
 {}
 

@@ -1,9 +1,9 @@
 //! The lines of a script, and what they said so far.
 
 ghost use Rattle.std.specs.Prelude.{◌≡◌, MatchOption, MatchResult};
+ghost use Rattle.git_msg.specs.Advertisement.{everything};
 ghost use Rattle.git_msg.specs.Arguments.{name_of};
 ghost use Rattle.git_msg.specs.declared.arguments.Command.{Command};
-ghost use Rattle.git2show_lib.specs.Scripts.{everything};
 ghost use Rattle.git2show_lib.specs.HeldScripts.{AddsArgument, Begins, IsBeginFault, IsLineFault, TakesLine, nothing_held};
 
 use git_msg::{Command, Limits, Offer, Request, read_argument};
@@ -29,15 +29,8 @@ impl Script {
     pub(crate) fn new(alloc: Global, format: Format, limits: Limits) -> Script
         ensures { held result ≡ nothing_held (everything format) limits.args }
     {
-        let offer = Offer {
-            format,
-            shallow: true,
-            ref_in_want: true,
-            object_info: true,
-            server_option: true,
-        };
         Script {
-            offer,
+            offer: Offer::everything(format),
             limits,
             requests: Vec::new(alloc),
             is_open: false,

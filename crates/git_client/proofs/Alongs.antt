@@ -1,5 +1,5 @@
 -- The steps of a run, one after another: what was written, and how the history goes on.
-use Rattle.std.proofs.Common.{◌≡◌, ℕ, Bool, true, false, List, [], ◌++◌, Option}
+use Rattle.std.proofs.Common.{arith, ◌≡◌, ℕ, Bool, true, false, List, [], ◌++◌, Option}
 use Rattle.std.proofs.Common.{Result, Err, IsErrAnd, sym, ap, ◌∙◌, subst, append_assoc, append-nil}
 use Rattle.std.proofs.lemmas.Result.{err_from_is_err_and}
 use Rattle.std.proofs.KnownBytes.{Appends-nil, Appends-trans}
@@ -9,9 +9,11 @@ use Rattle.git_client.specs.Events.{EventValue}
 use Rattle.git_client.specs.Parts.{Terms}
 use Rattle.git_pkt.specs.Streams.{Flow, flow, WrittenAs}
 use Rattle.git_client.specs.Client.{History}
-use Rattle.git_client.specs.RunSteps.{Along, GoesAlong}
+use Rattle.git_client.specs.RunSteps.{counted, Along, GoesAlong}
 use Rattle.git_client.specs.declared.client.Client.{Client}
 use Rattle.git_client.specs.declared.hearing.Counts.{Counts}
+use Rattle.git_client.proofs.Counting.{counted_nothing, counted_then}
+use Rattle.git_client.proofs.EventCounts.{few_events}
 
 -- ---- what was written
 
@@ -53,13 +55,14 @@ module _ {A : Type 0} where
         (subst (λ (events : List EventValue). AlongAfter t h c counts h.used events (lines ++ []) (packed ++ [])) (sym (append-nil h.events))
         (subst (λ (told : List ℕ). AlongAfter t h c counts h.used h.events told (packed ++ [])) (sym (append-nil lines))
         (subst (λ (sent : List ℕ). AlongAfter t h c counts h.used h.events lines sent) (sym (append-nil packed)) along))),
+    counted_nothing counts (omega (arith, along.within, few_events t h c along.stands)),
   )
 
   pub along_then : (a b c : Client A) (k l m : Counts) (u v o1 o2 p1 p2 : List ℕ) → GoesAlong a b k l u o1 p1 → GoesAlong b c l m v o2 p2
       → GoesAlong a c k m (u ++ v) (o1 ++ o2) (p1 ++ p2)
   along_then a b c k l m u v o1 o2 p1 p2 first second t h lines packed along =
-      let (now, there) = first t h lines packed along in
-      let (later, at) = second t (record h { used = h.used ++ u; events = h.events ++ now }) (lines ++ o1) (packed ++ p1) there in (
+      let (now, there, risen) = first t h lines packed along in
+      let (later, at, risen_on) = second t (record h { used = h.used ++ u; events = h.events ++ now }) (lines ++ o1) (packed ++ p1) there in (
         now ++ later,
         subst (λ (used : List ℕ). AlongAfter t h c m used (h.events ++ (now ++ later)) (lines ++ (o1 ++ o2)) (packed ++ (p1 ++ p2)))
             (append_assoc h.used u v)
@@ -69,4 +72,5 @@ module _ {A : Type 0} where
             (append_assoc lines o1 o2)
             (subst (λ (sent : List ℕ). AlongAfter t h c m ((h.used ++ u) ++ v) ((h.events ++ now) ++ later) ((lines ++ o1) ++ o2) sent)
             (append_assoc packed p1 p2) at))),
+        risen_on ∙ ap (λ (n : Counts). counted n later) risen ∙ counted_then k now later,
       )

@@ -1,7 +1,6 @@
 -- A run of a client over its streams so far, and what it comes to at each of its ends.
-use Rattle.std.proofs.Common.{arith, ◌≡◌, inl, inr, ℕ, Bool, true, false, List, [], ◌∷◌, ◌++◌, map, Option, Some}
+use Rattle.std.proofs.Common.{arith, ◌≡◌, inl, inr, ℕ, Bool, true, false, List, [], ◌∷◌, ◌++◌, Option, Some}
 use Rattle.std.proofs.Common.{◌||◌, IsTrue, Result, Ok, Err, is_err, IfErr, IsErrAnd, refl, sym, ap, ◌∙◌, subst, append_assoc, append-nil}
-use Rattle.std.proofs.lemmas.List.{map-append}
 use Rattle.std.proofs.Math.Bool.{or-false}
 use Rattle.std.proofs.lemmas.Bool.{or_from, or_left}
 use Rattle.std.proofs.lemmas.Result.{err_from_is_err_and}
@@ -229,7 +228,7 @@ module _ {A : Type 0} where
         → Running broken t front new step.counts unused (flow left_before left_after) writer (flow out_before out_after) (flow pack_before pack_after)
     hears_on broken front old new waiting unused {writer} {left_before = r0} {left = r1} {left_after = r2} {out_before = o0} {out_held = o1} {out_after = o2}
         {pack_before = p0} {pack_held = p1} {pack_after = p2} r step =
-        let (events, along) = step.goes t r.h r.lines r.packed r.along in
+        let (events, along, risen) = step.goes t r.h r.lines r.packed r.along in
         record {
           h = record r.h { used = r.h.used ++ step.used; events = r.h.events ++ events };
           lines = r.lines ++ step.lines;

@@ -21,21 +21,14 @@ use Rattle.git_client.specs.declared.events.Heard.{Heard}
 use Rattle.git_client.specs.declared.events.HeardGot.{HeardGot}
 use Rattle.git_client.specs.declared.events.HeardGot.TheVariants.{More, Event as EventGot, Failed}
 use Rattle.git_client.specs.declared.hearing.Counts.{Counts}
+use Rattle.git_client.proofs.Counting.{same_counts, bytes_fit, counted_nothing}
 use Rattle.git_client.proofs.PlaceLines.{band_is}
 use Rattle.git_client.proofs.Packs.{pack_bytes-append}
 use Rattle.git_client.proofs.EventCounts.{few_events}
 use Rattle.git_client.proofs.Phases.{not_ready_where_due, not_ready_where_failed, sound_where_due, sound_where_ready}
-use Rattle.git_client.proofs.Telling.{same_counts}
 use Rattle.git_client.proofs.Alongs.{along_nothing, along_then, written_nothing, written_then, written_whole}
 
 -- ---- the counts
-
--- of events no more are of the pack and the progress than there are
-bytes_fit : (events : List EventValue) → length (pack_bytes events) + length (progress_bytes events) ≤ length events
-bytes_fit [] = omega arith
-bytes_fit (pack byte ∷ events) = omega (arith, bytes_fit events)
-bytes_fit (progress byte ∷ events) = omega (arith, bytes_fit events)
-bytes_fit (event ∷ events) = omega (arith, bytes_fit events)
 
 -- the counts where they can rise on
 abbrev added : Counts → List EventValue → Counts
@@ -156,6 +149,7 @@ module _ {A : Type 0} where
       subst (λ (k : Counts). Along t (record h { used = h.used ++ used; events = h.events ++ events }) new
           (lines ++ lines_of events counts.pack counts.progress) (packed ++ pack_bytes events) k) (added_is t h lines packed along)
           (along_added t h lines packed along),
+      refl,
     )
 
   -- it goes on without events
@@ -166,6 +160,7 @@ module _ {A : Type 0} where
         [],
         subst (λ (k : Counts). Along t (record h { used = h.used ++ used; events = h.events ++ [] }) new (lines ++ []) (packed ++ []) k)
             (same_counts _ _ _ _ (omega arith) (omega arith)) (along_added old new used [] hears waits adds counts t h lines packed along),
+        counted_nothing counts (omega (arith, along.within, few_events t h old along.stands)),
       )
 
   sound_after : (e : Event) (c : Client A) → LeavesAfter e c → fault_of c ≡ None

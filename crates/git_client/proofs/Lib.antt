@@ -20,6 +20,7 @@ pub mod OneFault
 pub mod Packs
 pub mod EventsHeard
 pub mod Phases
+pub mod Counting
 pub mod Alongs
 pub mod EventCounts
 pub mod Telling

@@ -13,6 +13,7 @@ use Rattle.git_client.specs.Turns.{values_of}
 use Rattle.git_client.specs.declared.events.Event.{Event}
 use Rattle.git_client.specs.declared.events.Event.TheVariants.{Pack, Progress}
 use Rattle.git_client.specs.declared.hearing.Counts.{Counts}
+use Rattle.git_client.proofs.Counting.{counts_of, same_counts}
 use Rattle.git_client.proofs.PlaceLines.{band_is}
 use Rattle.git_client.proofs.Alongs.{written_nothing, written_whole}
 
@@ -29,14 +30,6 @@ pub written_by : {T : Type 0} (result : Result T RunFault) (before after : Optio
 written_by (Ok done) before after bytes whole front failed = whole
 written_by (Err WriteFault) before after bytes whole front failed = front
 written_by (Err fault) before after bytes whole front failed = absurd (cc)
-
--- ---- the counts
-
-abbrev pub counts_of : ℕ → ℕ → Counts
-counts_of p q = record { pack = p; progress = q }
-
-pub same_counts : (p q r s : ℕ) → p ≡ r → q ≡ s → counts_of p q ≡ counts_of r s
-same_counts p q r s e f = ap (λ (n : ℕ). counts_of n q) e ∙ ap (λ (n : ℕ). counts_of r n) f
 
 -- ---- bytes of the pack and of the progress
 

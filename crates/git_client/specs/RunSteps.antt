@@ -55,12 +55,14 @@ module _ {A : Type 0} where
     pub pack_is : packed ≡ pack_bytes h.events
     pub within : counts.pack + counts.progress ≤ length h.events
 
-  -- whatever the history was, it goes on by the bytes used, with these lines more, and these bytes of the pack
+  -- whatever the history was, it goes on by the bytes used, with these lines more, and these bytes of the pack; the counts rise by what
+  -- was heard
   abbrev pub GoesAlong : Client A → Client A → Counts → Counts → List ℕ → List ℕ → List ℕ → Type 0
   GoesAlong old new counts counts_after used lines packed =
       (t : Terms) (h : History) (lines_before packed_before : List ℕ) → Along t h old lines_before packed_before counts
       → (events : List EventValue)
       × Along t (record h { used = h.used ++ used; events = h.events ++ events }) new (lines_before ++ lines) (packed_before ++ packed) counts_after
+      × (counts_after ≡ counted counts events)
 
   -- so many bytes of the piece were heard, and what they say was written
   pub record HearsPiece (broken : Bool) (old new : Client A) (counts counts_after : Counts) (piece : List ℕ) (used : ℕ) (out packs : Flow) : Type 0 where

@@ -67,6 +67,10 @@ abbrev pub takes_command : Offer → Command → Bool
 takes_command offer ObjectInfo = offer.object_info
 takes_command offer command = true
 
+-- what is offered by one who offers everything
+abbrev pub everything : Format → Offer
+everything format = record { format = format; shallow = true; ref_in_want = true; object_info = true; server_option = true }
+
 -- what is offered to a side that speaks this format
 abbrev pub noted_offer : Caps → Format → Offer
 noted_offer caps format = record {

@@ -6,7 +6,7 @@ ghost use Rattle.std.specs.List.{list_any};
 ghost use Rattle.std.specs.Str.{bytes_eq};
 ghost use Rattle.git_pkt.specs.Packets.{Pkt, payload, text_of};
 ghost use Rattle.git_msg.specs.Capability.{IsCapability};
-ghost use Rattle.git_msg.specs.Advertisement.{noted_of, noted_offer, noted_with, is_spoken, offers_command, takes_command};
+ghost use Rattle.git_msg.specs.Advertisement.{everything, noted_of, noted_offer, noted_with, is_spoken, offers_command, takes_command};
 ghost use Rattle.git_msg.specs.Texts.{spaced_words};
 
 use crate::arguments::Command;
@@ -30,6 +30,19 @@ pub struct Offer {
 }
 
 impl Offer {
+    /// An offer of everything, for object names of this format.
+    pub fn everything(format: Format) -> Offer
+        ensures { result ≡ everything format }
+    {
+        Offer {
+            format,
+            shallow: true,
+            ref_in_want: true,
+            object_info: true,
+            server_option: true,
+        }
+    }
+
     /// Whether requests of this command are taken.
     pub(crate) fn takes(&self, command: Command) -> bool
         ensures { result ≡ takes_command self.now command }

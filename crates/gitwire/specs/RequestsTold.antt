@@ -3,15 +3,14 @@ use Rattle.std.specs.Prelude.{◌≡◌, ◌⊎◌, ℕ, ◌<◌, ◌≤◌, Boo
 use Rattle.std.specs.Option.{option_map}
 use Rattle.std.specs.Global.{Global}
 use Rattle.git_names.specs.ObjectName.{hex_of}
-use Rattle.git_names.specs.declared.object_format.Format.{Format}
 use Rattle.git_pkt.specs.declared.fault.Kind.{Kind}
+use Rattle.git_msg.specs.Advertisement.{everything}
 use Rattle.git_msg.specs.Arguments.{Arg, IsArgumentFault, ReadsAs, most_limit, written_text}
 use Rattle.git_msg.specs.Asked.{Asked, symrefs_of, peel_of, done_of, thin_pack_of, no_progress_of, include_tag_of, ofs_delta_of, deepen_relative_of, size_of}
 use Rattle.git_msg.specs.Asked.{deepen_of, deepen_since_of, ref_prefixes_of, wants_of, haves_of, shallows_of, deepen_nots_of, want_refs_of, oids_of}
 use Rattle.git_msg.specs.Checks.{Passes, Refuses}
 use Rattle.git_msg.specs.HeldRequest.{IsEmpty, IsRefused, Keeps, add_checks, asked_of, command_of, format_of}
 use Rattle.git_msg.specs.Lines.{end_checks}
-use Rattle.git_msg.specs.declared.offers.Offer.{Offer}
 use Rattle.git_msg.specs.declared.requests.Request.{Request}
 use Rattle.gitwire.specs.Numbers.{command_number, commands, flags, format_number, formats, given_numbers, item_lists}
 use Rattle.gitwire.specs.Rooms.{Fills}
@@ -52,10 +51,6 @@ abbrev pub Makes : ℕ → ℕ → ℕ → Option (Request Global) → ℕ → O
 Makes command format limit old told new =
     (MeanNoRequest command format limit × (told ≡ what_number What.BadValue) × (new ≡ old))
     ⊎ ((request : Request Global) × MeanRequest command format limit request × HasOrNone told request new)
-
--- an offer of everything
-abbrev pub everything : Format → Offer
-everything format = record { format = format; shallow = true; ref_in_want = true; object_info = true; server_option = true }
 
 -- the line is this argument of the request's command, in its format
 abbrev pub IsLineOf : Request Global → List ℕ → Arg → Type 0

@@ -1,9 +1,8 @@
 -- What C is told of a server's calls.
 use Rattle.std.specs.Prelude.{◌≡◌, ◌⊎◌, ℕ, ◌≤◌, ◌<◌, Bool, true, false, List, [], length, take, Option, Some, None, IsSome}
 use Rattle.std.specs.Global.{Global}
-use Rattle.git_names.specs.declared.object_format.Format.{Format}
+use Rattle.git_msg.specs.Advertisement.{everything}
 use Rattle.git_msg.specs.Arguments.{most_limit}
-use Rattle.git_msg.specs.declared.offers.Offer.{Offer}
 use Rattle.git_server.specs.Server.{Running, outcome_of, repo_of, wants_input}
 use Rattle.git_server.specs.ServerCalls.{Closes, Goes, Pulls, StopsInTime}
 use Rattle.git_server.specs.SharedRepo.{shared_by, shared_state}
@@ -17,15 +16,11 @@ use Rattle.gitwire.specs.Told.{telling, telling_fault, telling_packet, telling_u
 use Rattle.gitwire.specs.declared.told.GitwireTold.{GitwireTold}
 use Rattle.gitwire.specs.declared.told.What.TheVariants as What
 
--- all that the protocol has, for object names of this format
-abbrev pub whole_offer : Format → Offer
-whole_offer format = record { format = format; shallow = true; ref_in_want = true; object_info = true; server_option = true }
-
 -- a server at the beginning of its session over the repository, which offers all
 pub record Starts (repository : SharedRepo) (limit : ℕ) (advertise : Bool) (server : Server SharedRepo Global) : Type 0 where
   pub running : Running shared_state
       (record {
-        offer = whole_offer (shared_state repository).answers.format;
+        offer = everything (shared_state repository).answers.format;
         limit = limit;
         advertise = advertise;
         repo = (shared_state repository).answers;

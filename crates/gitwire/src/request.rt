@@ -5,7 +5,7 @@ ghost use Rattle.git_msg.specs.HeldRequest.{asked_of};
 ghost use Rattle.gitwire.specs.Handles.{request_in};
 ghost use Rattle.gitwire.specs.RequestsTold.{AddsIn, AddsLine, AddsTold, CommandIn, EndsIn, EndsTold, FlagIn, FormatIn, ItemIn, NumberIn};
 ghost use Rattle.gitwire.specs.RequestsTold.{Makes, MeanNoRequest, MeanRequest};
-ghost use Rattle.gitwire.specs.RequestsTold.{everything, is_set, telling_number, telling_result, telling_which};
+ghost use Rattle.gitwire.specs.RequestsTold.{is_set, telling_number, telling_result, telling_which};
 
 use crate::handles::GitwireRequest;
 use crate::machine::Machine;
@@ -15,7 +15,6 @@ use crate::numbers::{
 use crate::request_items::put_item;
 use crate::told::{GitwireTold, What};
 use git_msg::{Limits, Offer, Request, read_argument};
-use git_names::Format;
 use git_pkt::{Fault, Kind};
 use std::alloc::Global;
 use std::mem::replace;
@@ -94,23 +93,11 @@ fn add(request: &mut Request<Global>, line: &[u8]) -> GitwireTold
 fn add_line(request: &mut Request<Global>, line: &[u8]) -> Result<(), Kind>
     ensures { AddsLine request.old line.now result request.new }
 {
-    let offer = offer_everything(request.format());
+    // So that a line is judged by what it says alone.
+    let offer = Offer::everything(request.format());
     match read_argument(request.command(), &offer, line) {
         Ok(argument) => request.add(argument),
         Err(kind) => Err(kind),
-    }
-}
-
-// So that a line is judged by what it says alone.
-fn offer_everything(format: Format) -> Offer
-    ensures { result ≡ everything format }
-{
-    Offer {
-        format,
-        shallow: true,
-        ref_in_want: true,
-        object_info: true,
-        server_option: true,
     }
 }
 

@@ -73,13 +73,7 @@ fn make(
 ) -> Option<Box<Machine, Global>>
     ensures { IfSome result (λ made. IsSomeAnd (server_of made.value) (Starts repo.now limits.args advertise)) }
 {
-    let offer = Offer {
-        format: repo.format(),
-        shallow: true,
-        ref_in_want: true,
-        object_info: true,
-        server_option: true,
-    };
+    let offer = Offer::everything(repo.format());
     let Ok(shared) = repo.share() else {
         return None;
     };

@@ -1,6 +1,6 @@
 use Rattle.std.proofs.Common.{length}
 use Rattle.std.specs.Option.{option_copied}
-use Rattle.git2show_lib.specs.Scripts.{everything}
+use Rattle.git_msg.specs.Advertisement.{everything}
 use Rattle.git2show_lib.specs.ScriptLines.{held}
 use Rattle.git2show_lib.proofs.ScriptReading.{room_at_all, room_behind, started, stepped}
 use Rattle.git2show_lib.proofs.scripts.read_script.Goals as goal
