@@ -190,6 +190,12 @@ fn reads_that_are_spent(rt: HostRuntime) -> Result<(), Fail> {
     let run = serve(&mut reader, &mut writer, &mut piece, &mut server, 24);
     assert_eq!(rt; run, Err(RunFault::ReadLimit));
     assert_eq!(rt; given.len(), 173);
+    // The session goes on over another reader.
+    let mut reader = Told::new(b"0014command=ls-refs\n00000000".as_slice());
+    let mut writer = Told::new(&mut given);
+    let run = serve(&mut reader, &mut writer, &mut piece, &mut server, 100);
+    assert_eq!(rt; run, Ok(Outcome::Flush));
+    assert_eq!(rt; given.len(), 346);
     Ok(())
 }
 

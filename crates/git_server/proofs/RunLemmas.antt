@@ -1,9 +1,10 @@
 -- A run of a server, one call after another.
-use Rattle.std.proofs.Common.{arith, ◌≡◌, ◌≢◌, ℕ, ◌+◌, ◌-◌, ◌<◌, ◌≤◌, length, length-append, length-drop, take, drop, take-append-drop}
+use Rattle.std.proofs.Common.{arith, ◌≡◌, ◌≢◌, ◌⊎◌, inl, inr, ℕ, ◌+◌, ◌-◌, ◌<◌, ◌≤◌, length, length-append, length-drop, take, drop, take-append-drop}
 use Rattle.std.proofs.Common.{OnErr, IsErrAnd, Result, Ok, Err, Bool, true, false, List, [], ◌∷◌, ◌++◌, Option, Some, None, refl, sym, ap}
 use Rattle.std.proofs.Common.{◌∙◌, append_assoc, append-nil, subst}
 use Rattle.std.specs.Io.KnownBytes.{Consumes, Keeps}
 use Rattle.std.proofs.KnownBytes.{Consumes-nil}
+use Rattle.git_pkt.specs.Faults.{last_position}
 use Rattle.git_pkt.specs.Streams.{Flow, flow, WrittenAs, Moves, is_broken}
 use Rattle.git_pkt.proofs.EngineLemmas.{written_nothing, written_then, written_flushed, at_fault, brings_more}
 use Rattle.git_pkt.proofs.EngineLemmas.{Moved, moved_nothing, moved_flushed, moved_unread, moved_on, moves}
@@ -152,14 +153,40 @@ keeps_same : (o : Option (List ℕ)) → Keeps o o
 keeps_same None = tt
 keeps_same (Some bytes) = refl
 
-module _ {R A : Type 0} (state : R → RepoState) (s : Setting) where
-  -- the server stands to the bytes used and given while its input goes on, and so many reads brought some bytes
+module _ {R A : Type 0} (state : R → RepoState) (s : Setting) (used_before given_before : List ℕ) where
+  -- the server stands to the bytes used and given, those of the run after those before it
+  abbrev Stands : Bool → Server R A → List ℕ → List ℕ → Type 0
+  Stands over server used given = Running state s (used_before ++ used) over (given_before ++ given) server
+
+  -- the same while its input goes on, and so many reads brought some bytes
   abbrev pub StandsAfter : ℕ → Server R A → List ℕ → List ℕ → Type 0
-  StandsAfter count server used given = Running state s used false given server × (count ≤ length used)
+  StandsAfter count server used given = Stands false server used given × (count ≤ length used)
 
   -- how a run with this answer moved its streams
   abbrev pub RunEnds : Result Outcome RunFault → Bool → ℕ → Server R A → Flow → Flow → Type 0
-  RunEnds result ended turns server reader writer = Moves (is_broken result) (Served state s result ended turns server) (reader ∷ []) (writer ∷ [])
+  RunEnds result ended turns server reader writer =
+      Moves (is_broken result) (Served state s used_before given_before result ended turns server) (reader ∷ []) (writer ∷ [])
+
+  stands_at_once : (over : Bool) (server : Server R A) → Running state s used_before over given_before server → Stands over server [] []
+  stands_at_once over server r =
+      subst (λ (l : List ℕ). Running state s l over (given_before ++ []) server) (sym (append-nil used_before))
+      (subst (λ (l : List ℕ). Running state s used_before over l server) (sym (append-nil given_before)) r)
+
+  -- a call used some bytes more and gave others
+  stands_on : (over : Bool) (old new : Server R A) (bytes more used given : List ℕ) → Goes state bytes more old new → Stands over old used given
+      → Stands over new (used ++ bytes) (given ++ more)
+  stands_on over old new bytes more used given goes r =
+      subst (λ (l : List ℕ). Running state s l over (given_before ++ (given ++ more)) new) (append_assoc used_before used bytes)
+      (subst (λ (l : List ℕ). Running state s ((used_before ++ used) ++ bytes) over l new) (append_assoc given_before given more)
+      (goes s (used_before ++ used) over (given_before ++ given) r))
+
+  -- all that was owed was written, and nothing was read yet
+  pub starts : (old new : Server R A) (left : Option (List ℕ)) (held held_after : Option (List ℕ)) → Running state s used_before false given_before old
+      → WritesAll state old new [] (flow held held_after) → Moved false (StandsAfter 0 new) (flow left left) (flow held held_after)
+  starts old new left held held_after r all =
+      moved_on false (StandsAfter 0 new) [] all.writes.given
+      (λ used given stands. (stands_on false old new [] all.writes.given used given all.writes.goes stands, omega arith))
+      (moved_nothing left held (stands_at_once false old r)) (Consumes-nil left) all.writes.written
 
   -- a turn: the writer was flushed, bytes were read, and all that was given for them was written
   pub turns_on : (count n : ℕ) (piece : List ℕ) (old new : Server R A) {left_before left left_after held_before held flushed held_after : Option (List ℕ)}
@@ -168,7 +195,7 @@ module _ {R A : Type 0} (state : R → RepoState) (s : Setting) where
       → Moved false (StandsAfter (count + 1) new) (flow left_before left_after) (flow held_before held_after)
   turns_on count n piece old new so_far kept read all within some =
       moved_on false (StandsAfter (count + 1) new) (take n piece) all.writes.given
-      (λ used given r. (all.writes.goes s used false given r.0, brings_more count n used piece r.1 within some))
+      (λ used given r. (stands_on false old new (take n piece) all.writes.given used given all.writes.goes r.0, brings_more count n used piece r.1 within some))
       (moved_flushed false so_far kept) read all.writes.written
 
   -- ---- the run ended where the server waits for bytes
@@ -176,7 +203,7 @@ module _ {R A : Type 0} (state : R → RepoState) (s : Setting) where
   module _ (ended : Bool) (turns count : ℕ) (server : Server R A) where
     -- all that was read was used
     rests : (result : Result Outcome RunFault) {reader writer : Flow} → Moved (is_broken result) (StandsAfter count server) reader writer
-        → ((used given : List ℕ) → StandsAfter count server used given → EndsRun s result turns used [] false given)
+        → ((used given : List ℕ) → StandsAfter count server used given → EndsRun s result turns used_before used [] false (given_before ++ given))
         → RunEnds result ended turns server reader writer
     rests result so_far ends =
         moves (λ used given r. record {
@@ -195,12 +222,12 @@ module _ {R A : Type 0} (state : R → RepoState) (s : Setting) where
     pub breaks_unflushed : {reader : Flow} {before held after : Option (List ℕ)} → Moved false (StandsAfter count server) reader (flow before held)
         → Keeps held after → RunEnds (Err WriteFault) ended turns server reader (flow before after)
     breaks_unflushed so_far kept =
-        rests (Err WriteFault) (moved_flushed true so_far kept) (λ used given r. every_moment state server s used false given r.0)
+        rests (Err WriteFault) (moved_flushed true so_far kept) (λ used given r. every_moment state server s (used_before ++ used) false (given_before ++ given) r.0)
 
     module _ (wants : wants_input server ≡ true) where
       -- all answers were given
-      waits : (used given : List ℕ) → StandsAfter count server used given → Waits s used [] false given
-      waits used given r = record { all = refl; goes_on = refl; answered = all_answered state server s used false given r.0 wants }
+      waits : (used given : List ℕ) → StandsAfter count server used given → Waits s (used_before ++ used) [] false (given_before ++ given)
+      waits used given r = record { all = refl; goes_on = refl; answered = all_answered state server s (used_before ++ used) false (given_before ++ given) r.0 wants }
 
       -- a read failed
       pub ends_unread : {left_before left left_after before held after : Option (List ℕ)}
@@ -217,19 +244,19 @@ module _ {R A : Type 0} (state : R → RepoState) (s : Setting) where
   -- ---- the run ended in a step
 
   module _ (ended : Bool) (turns : ℕ) (over : Bool) (old new : Server R A) (bytes : List ℕ) {P : List ℕ → List ℕ → Type 0}
-      {left_before left left_after held_before held : Option (List ℕ)} (runs : (used given : List ℕ) → P used given → Running state s used over given old)
+      {left_before left left_after held_before held : Option (List ℕ)} (runs : (used given : List ℕ) → P used given → Stands over old used given)
       (so_far : Moved false P (flow left_before left) (flow held_before held)) (read : Consumes left left_after bytes) where
     -- a front of the bytes was used, whether or not the input had ended with them
     stops : (result : Result Outcome RunFault) {held_after : Option (List ℕ)}
         → (part : WritesPart (is_broken result) state old new bytes (flow held held_after))
         → (over ≡ true → (part.unused ≡ []) × (ended ≡ true))
-        → ((used given : List ℕ) → P used given → Running state s (used ++ part.used) over (given ++ part.writes.given) new
-        → EndsRun s result turns (used ++ part.used) part.unused over (given ++ part.writes.given))
+        → ((used given : List ℕ) → P used given → Stands over new (used ++ part.used) (given ++ part.writes.given)
+        → EndsRun s result turns used_before (used ++ part.used) part.unused over (given_before ++ (given ++ part.writes.given)))
         → RunEnds result ended turns new (flow left_before left_after) (flow held_before held_after)
     stops result part whole ends =
-        moves (λ used given served. served) (moved_on (is_broken result) (λ used given. Served state s result ended turns new (used ∷ []) (given ∷ []))
+        moves (λ used given served. served) (moved_on (is_broken result) (λ used given. Served state s used_before given_before result ended turns new (used ∷ []) (given ∷ []))
         bytes part.writes.given (λ used given at.
-        let stands = part.writes.goes s used over given (runs used given at) in
+        let stands = stands_on over old new part.used part.writes.given used given part.writes.goes (runs used given at) in
         record {
           used = used ++ part.used;
           unused = part.unused;
@@ -248,43 +275,53 @@ module _ {R A : Type 0} (state : R → RepoState) (s : Setting) where
         → RunEnds (Err WriteFault) ended turns new (flow left_before left_after) (flow held_before held_after)
     stops_broken part whole =
         stops (Err WriteFault) part whole (λ used given at stands.
-        every_moment state new s (used ++ part.used) over (given ++ part.writes.given) stands)
+        every_moment state new s (used_before ++ (used ++ part.used)) over (given_before ++ (given ++ part.writes.given)) stands)
 
     -- the session ended
     stops_whole : (outcome : Outcome) {held_after : Option (List ℕ)} (last : Option (List ℕ))
         → (end : WritesItsEnd state old new bytes (flow held held_after) outcome) → Keeps held_after last
         → (over ≡ true → (end.part.unused ≡ []) × (ended ≡ true))
-        → ((used given : List ℕ) → P used given → (fault : Fault) → outcome ≡ Refused fault → fault.kind ≡ StreamTooLong → end.part.unused ≢ [])
+        → ((used given : List ℕ) → P used given → (fault : Fault) → outcome ≡ Refused fault → fault.kind ≡ StreamTooLong
+        → (end.part.unused ≢ []) ⊎ (length used_before ≡ last_position))
         → RunEnds (Ok outcome) ended turns new (flow left_before left_after) (flow held_before last)
     unfolding part_flushed
     stops_whole outcome {held_after} last end kept whole in_time =
         stops (Ok outcome) (part_flushed false state old new bytes held held_after last end.part kept) whole (λ used given at stands. record {
-          session = end.session s (used ++ end.part.used) over (given ++ end.part.writes.given) stands;
+          session = end.session s (used_before ++ (used ++ end.part.used)) over (given_before ++ (given ++ end.part.writes.given)) stands;
           in_time = in_time used given at;
         })
 
   module _ (ended : Bool) (turns : ℕ) (old new : Server R A) where
     -- nothing was read yet, and a write failed
-    pub breaks_at_once : (left held held_after : Option (List ℕ)) → Running state s [] false [] old → WritesPart true state old new [] (flow held held_after)
+    pub breaks_at_once : (left held held_after : Option (List ℕ)) → Running state s used_before false given_before old → WritesPart true state old new [] (flow held held_after)
         → RunEnds (Err WriteFault) ended turns new (flow left left) (flow held held_after)
     breaks_at_once left held held_after r part =
-        stops_broken ended turns false old new [] (λ used given at. at) (moved_nothing left held r) (Consumes-nil left) part (λ e. absurd (cc))
+        stops_broken ended turns false old new [] (λ used given at. at) (moved_nothing left held (stands_at_once false old r)) (Consumes-nil left) part
+        (λ e. absurd (cc))
 
     -- the session ended before a byte was read
-    pub ends_at_once : (left held written held_after : Option (List ℕ)) (outcome : Outcome) → Running state s [] false [] old
+    pub ends_at_once : (left held written held_after : Option (List ℕ)) (outcome : Outcome) → Running state s used_before false given_before old
         → WritesItsEnd state old new [] (flow held written) outcome → Keeps written held_after
         → RunEnds (Ok outcome) ended turns new (flow left left) (flow held held_after)
     ends_at_once left held written held_after outcome r end last =
         let nothing : end.part.used ≡ [] = front_of_nothing end.part.used end.part.unused end.part.parts in
-        let so_far : Moved false (λ used given. (used ≡ []) × Running state s used false given old) (flow left left) (flow held held) =
-        moved_nothing left held (refl, r) in
+        let so_far : Moved false (λ used given. (used ≡ []) × Stands false old used given) (flow left left) (flow held held) =
+        moved_nothing left held (refl, stands_at_once false old r) in
         stops_whole ended turns false old new [] (λ used given at. at.1) so_far (Consumes-nil left) outcome held_after end last (λ e. absurd (cc))
         (λ used given at fault is too_long.
-        let session =
-        end.session s (used ++ end.part.used) false (given ++ end.part.writes.given) (end.part.writes.goes s used false given at.1) in
-        let all : length (used ++ end.part.used) ≡ 9223372036854775807 =
-        (ends_too_long s (used ++ end.part.used) false (given ++ end.part.writes.given) outcome fault session is too_long).1 in
-        absurd (omega (arith, all, length-append used end.part.used, ap length at.0, ap length nothing)))
+        let stands = stands_on false old new end.part.used end.part.writes.given used given end.part.writes.goes at.1 in
+        let all = used_before ++ (used ++ end.part.used) in
+        let session = end.session s all false (given_before ++ (given ++ end.part.writes.given)) stands in
+        let most : length all ≡ last_position =
+        (ends_too_long s all false (given_before ++ (given ++ end.part.writes.given)) outcome fault session is too_long).1 in
+        inr (omega (
+          arith,
+          most,
+          length-append used_before (used ++ end.part.used),
+          length-append used end.part.used,
+          ap length at.0,
+          ap length nothing,
+        )))
 
     module _ (count : ℕ) (bytes : List ℕ) {left_before left left_after held_before held flushed held_after : Option (List ℕ)}
         (so_far : Moved false (StandsAfter count old) (flow left_before left) (flow held_before held)) (kept : Keeps held flushed)
@@ -301,9 +338,9 @@ module _ {R A : Type 0} (state : R → RepoState) (s : Setting) where
       ends_with outcome last end flush wants =
           stops_whole ended turns false old new bytes (λ used given at. at.0) (moved_flushed false so_far kept) read outcome last end flush
           (λ e. absurd (cc))
-          (λ used given at fault is too_long none.
-          let less = end.in_time s used false given at.0 wants fault (ap Some is) too_long in
-          omega (arith, less, ap length end.part.parts, length-append end.part.used end.part.unused, ap length none))
+          (λ used given at fault is too_long. inl (λ none.
+          let less = end.in_time s (used_before ++ used) false (given_before ++ given) at.0 wants fault (ap Some is) too_long in
+          omega (arith, less, ap length end.part.parts, length-append end.part.used end.part.unused, ap length none)))
 
   module _ (ended : Bool) (turns count : ℕ) (old closed new : Server R A) {left_before left left_after held_before held flushed held_after : Option (List ℕ)}
       (so_far : Moved false (StandsAfter count old) (flow left_before left) (flow held_before held)) (kept : Keeps held flushed)
@@ -312,31 +349,32 @@ module _ {R A : Type 0} (state : R → RepoState) (s : Setting) where
     pub breaks_closed : WritesPart true state closed new [] (flow flushed held_after)
         → RunEnds (Err WriteFault) ended turns new (flow left_before left_after) (flow held_before held_after)
     breaks_closed part =
-        stops_broken ended turns true closed new [] (λ used given at. (closes s used false given at.0).0) (moved_flushed false so_far kept) read part
+        stops_broken ended turns true closed new [] (λ used given at. (closes s (used_before ++ used) false (given_before ++ given) at.0).0) (moved_flushed false so_far kept) read part
         (λ e. (back_of_nothing part.used part.unused part.parts, told))
 
     -- the session ended with the input
     pub ends_closed : (outcome : Outcome) → WritesItsEnd state closed new [] (flow flushed held_after) outcome
         → RunEnds (Ok outcome) ended turns new (flow left_before left_after) (flow held_before held_after)
     ends_closed outcome end =
-        stops_whole ended turns true closed new [] (λ used given at. (closes s used false given at.0).0) (moved_flushed false so_far kept) read outcome
+        stops_whole ended turns true closed new [] (λ used given at. (closes s (used_before ++ used) false (given_before ++ given) at.0).0) (moved_flushed false so_far kept) read outcome
         held_after end (keeps_same held_after) (λ e. (back_of_nothing end.part.used end.part.unused end.part.parts, told))
         (λ used given at fault is too_long.
-        let session =
-        end.session s (used ++ end.part.used) true (given ++ end.part.writes.given)
-        (end.part.writes.goes s used true given (closes s used false given at.0).0) in
+        let stands = stands_on true closed new end.part.used end.part.writes.given used given end.part.writes.goes
+        (closes s (used_before ++ used) false (given_before ++ given) at.0).0 in
+        let all = used_before ++ (used ++ end.part.used) in
+        let session = end.session s all true (given_before ++ (given ++ end.part.writes.given)) stands in
         let goes_on : true ≡ false =
-        (ends_too_long s (used ++ end.part.used) true (given ++ end.part.writes.given) outcome fault session is too_long).0 in
+        (ends_too_long s all true (given_before ++ (given ++ end.part.writes.given)) outcome fault session is too_long).0 in
         absurd (cc))
 
 -- what `?` answers is the fault that it met
 pub serves_at : {R A : Type 0} (state : R → RepoState) (first server : Server R A) (result : Result Outcome RunFault) (fault met : RunFault) (ended : Bool)
     (turns : ℕ) (reader writer : Flow) → fault ≡ met → IsErrAnd result (λ e. e ≡ fault)
-    → ((s : Setting) → Running state s [] false [] first → RunEnds state s (Err met) ended turns server reader writer)
-    → (s : Setting) → Running state s [] false [] first → RunEnds state s result ended turns server reader writer
+    → ((s : Setting) (used given : List ℕ) → Running state s used false given first → RunEnds state s used given (Err met) ended turns server reader writer)
+    → (s : Setting) (used given : List ℕ) → Running state s used false given first → RunEnds state s used given result ended turns server reader writer
 serves_at state first server result fault met ended turns reader writer named answered serves =
-    at_fault result fault met (λ (r : Result Outcome RunFault). (s : Setting) → Running state s [] false [] first
-    → RunEnds state s r ended turns server reader writer) named answered serves
+    at_fault result fault met (λ (r : Result Outcome RunFault). (s : Setting) (used given : List ℕ) → Running state s used false given first
+    → RunEnds state s used given r ended turns server reader writer) named answered serves
 
 -- what holds where a write failed
 pub on_err_at : {T : Type 0} (r : Result T RunFault) (fault : RunFault) (P : Type 0) → IsErrAnd r (λ e. e ≡ fault) → P → OnErr r P

@@ -2,7 +2,7 @@
 use Rattle.std.specs.Prelude.{◌≡◌, ◌<◌, ℕ, Option, Some, None, List, [], ◌∷◌, ◌++◌, drop, length, map}
 use Rattle.git_pkt.specs.Packets.{Pkt, flush}
 use Rattle.git_pkt.specs.declared.reader.PacketReader.{PacketReader}
-use Rattle.git_msg.specs.Asked.{Asked, FetchAsked, LsRefsAsked, ObjectInfoAsked, ls_refs, fetch, object_info}
+use Rattle.git_msg.specs.Asked.{FetchAsked, LsRefsAsked, ObjectInfoAsked}
 use Rattle.git_msg.specs.declared.requests.Request.{Request}
 use Rattle.git_msg.specs.declared.requests.Request.TheVariants.{LsRefs as OfLsRefs, Fetch as OfFetch, ObjectInfo as OfObjectInfo}
 use Rattle.git_server.specs.Repository.{Entry, Repository, RepoState}

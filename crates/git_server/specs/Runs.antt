@@ -1,5 +1,6 @@
 -- What a run of a server over a reader and a writer comes to: what it used, and what it gave for that.
-use Rattle.std.specs.Prelude.{◌≡◌, ◌≢◌, ℕ, ◌≤◌, Bool, true, false, List, [], ◌∷◌, ◌++◌, length, Option, Some, None, Result, Ok, Err}
+use Rattle.std.specs.Prelude.{◌≡◌, ◌≢◌, ◌⊎◌, ℕ, ◌≤◌, Bool, true, false, List, [], ◌∷◌, ◌++◌, length, Option, Some, None, Result, Ok, Err}
+use Rattle.git_pkt.specs.Faults.{last_position}
 use Rattle.git_pkt.specs.Streams.{Flow, WrittenAs}
 use Rattle.git_pkt.specs.declared.fault.Fault.{Fault}
 use Rattle.git_pkt.specs.declared.fault.Kind.TheVariants.{StreamTooLong}
@@ -49,10 +50,11 @@ module _ {R A : Type 0} (state : R → RepoState) (old new : Server R A) (bytes 
 
 -- ---- its ends
 
--- the session ended so with the bytes used. Where the stream is too long, one more byte was read.
-pub record IsWholeRun (s : Setting) (outcome : Outcome) (used unused : List ℕ) (over : Bool) (given : List ℕ) : Type 0 where
-  pub session : IsSession s used over given outcome
-  pub in_time : (fault : Fault) → outcome ≡ Refused fault → fault.kind ≡ StreamTooLong → unused ≢ []
+-- the session ended so with the bytes used, before the run and by it. Where the stream is too long, one more byte was read, or all that
+-- can be were used before.
+pub record IsWholeRun (s : Setting) (outcome : Outcome) (before used unused : List ℕ) (over : Bool) (given : List ℕ) : Type 0 where
+  pub session : IsSession s (before ++ used) over given outcome
+  pub in_time : (fault : Fault) → outcome ≡ Refused fault → fault.kind ≡ StreamTooLong → (unused ≢ []) ⊎ (length before ≡ last_position)
 
 -- all that was read was used, the session goes on, and the advertisement and each answer were given whole
 pub record Waits (s : Setting) (used unused : List ℕ) (over : Bool) (given : List ℕ) : Type 0 where
@@ -61,23 +63,23 @@ pub record Waits (s : Setting) (used unused : List ℕ) (over : Bool) (given : L
   pub answered : IsAnswered s used given
 
 -- how a run ended. Where its reads were spent there were at least as many bytes as reads.
-abbrev pub EndsRun : Setting → Result Outcome RunFault → ℕ → List ℕ → List ℕ → Bool → List ℕ → Type 0
-EndsRun s (Ok outcome) turns used unused over given = IsWholeRun s outcome used unused over given
-EndsRun s (Err ReadFault) turns used unused over given = Waits s used unused over given
-EndsRun s (Err ReadLimit) turns used unused over given = Waits s used unused over given × (turns ≤ length used)
-EndsRun s (Err WriteFault) turns used unused over given = IsRunning s used over given
-EndsRun s (Err (RefusedRun fault)) turns used unused over given = ⊥
+abbrev pub EndsRun : Setting → Result Outcome RunFault → ℕ → List ℕ → List ℕ → List ℕ → Bool → List ℕ → Type 0
+EndsRun s (Ok outcome) turns before used unused over given = IsWholeRun s outcome before used unused over given
+EndsRun s (Err ReadFault) turns before used unused over given = Waits s (before ++ used) unused over given
+EndsRun s (Err ReadLimit) turns before used unused over given = Waits s (before ++ used) unused over given × (turns ≤ length used)
+EndsRun s (Err WriteFault) turns before used unused over given = IsRunning s (before ++ used) over given
+EndsRun s (Err (RefusedRun fault)) turns before used unused over given = ⊥
 
--- what a server has to do with the bytes of its run: of those read it used a front, and it gave just what its session gives for
--- that. Where the session ended with the input, all was used, and the reader told its end.
-pub record Served {R A : Type 0} (state : R → RepoState) (s : Setting) (result : Result Outcome RunFault) (ended : Bool) (turns : ℕ) (server : Server R A)
-    (read given : List (List ℕ)) : Type 0 where
+-- what a server that had used and given these bytes has to do with those of its run: of those read it used a front, and it gave just
+-- what its session gives for that. Where the session ended with the input, all was used, and the reader told its end.
+pub record Served {R A : Type 0} (state : R → RepoState) (s : Setting) (used_before given_before : List ℕ) (result : Result Outcome RunFault)
+    (ended : Bool) (turns : ℕ) (server : Server R A) (read given : List (List ℕ)) : Type 0 where
   pub used : List ℕ
   pub unused : List ℕ
   pub over : Bool
   pub said : List ℕ
   pub heard : read ≡ (used ++ unused) ∷ []
   pub told : given ≡ said ∷ []
-  pub stands : Running state s used over said server
+  pub stands : Running state s (used_before ++ used) over (given_before ++ said) server
   pub whole : over ≡ true → (unused ≡ []) × (ended ≡ true)
-  pub ends : EndsRun s result turns used unused over said
+  pub ends : EndsRun s result turns used_before used unused over (given_before ++ said)

@@ -1,6 +1,6 @@
 //! A server run over a reader and a writer.
 
-ghost use Rattle.std.specs.Prelude.{◌≡◌, ◌≢◌, ◌<◌, ◌≤◌, ◌||◌, [], ◌∷◌, false, true, length, Some, IsTrue, IsSome, IfOk, IfErr, OnErr, OnOk, is_err};
+ghost use Rattle.std.specs.Prelude.{◌≡◌, ◌≢◌, ◌<◌, ◌≤◌, ◌||◌, ℕ, List, [], ◌∷◌, false, true, length, Some, IsTrue, IsSome, IfOk, IfErr, OnErr, OnOk, is_err};
 ghost use Rattle.git_pkt.specs.Told.{inner_of, reads_of, has_failed, has_ended, has_wasted, IsNew};
 ghost use Rattle.git_pkt.specs.Engine.{FailsAs, IsShownBy, IsSpent};
 ghost use Rattle.git_pkt.specs.Streams.{flow, is_broken, Moves};
@@ -63,12 +63,13 @@ fn serve_piece<W: Write, R: Repo, A: Allocator + Copy>(
     Ok(None)
 }
 
-/// Runs a server that is new over a reader of requests and a writer of answers, to the session's end. The piece is where the
-/// bytes that are read go; it may not be empty. The writer is flushed before each read and at the end.
+/// Runs a server, from where it stands, over a reader of requests and a writer of answers, to the session's end. The piece is where
+/// the bytes that are read go; it may not be empty. The writer is flushed before each read and at the end.
 ///
 /// `ReadFault` where a read fails, `WriteFault` where a write or a flush does, and `ReadLimit` where a further read
-/// than the `turns` that are allowed would be needed. After `ReadFault` and `ReadLimit` the session goes on, and the
-/// server waits for input. A session that a fault of the input ended is no such fault: it is the outcome `Refused`.
+/// than the `turns` that are allowed would be needed. After `ReadFault` and `ReadLimit` the session goes on: the server waits for
+/// input, and may be run again over another reader. A session that a fault of the input ended is no such fault: it is the outcome
+/// `Refused`.
 pub fn serve<In: Read, W: Write, R: Repo, A: Allocator + Copy>(
     reader: &mut Told<In>,
     writer: &mut Told<W>,
@@ -82,8 +83,8 @@ pub fn serve<In: Read, W: Write, R: Repo, A: Allocator + Copy>(
 
     ensures reads { reads_of reader.new ≤ turns }
     ensures useful { has_wasted reader.new ≡ false }
-    ensures served { (s : Setting) → Running R.state s [] false [] server.old
-        → Moves (is_broken result) (Served R.state s result (has_ended reader.new) turns server.new)
+    ensures served { (s : Setting) (used given : List ℕ) → Running R.state s used false given server.old
+        → Moves (is_broken result) (Served R.state s used given result (has_ended reader.new) turns server.new)
         (flow (In.remaining (inner_of reader.old)) (In.remaining (inner_of reader.new)) ∷ [])
         (flow (W.contents (inner_of writer.old)) (W.contents (inner_of writer.new)) ∷ []) }
     ensures fault { IfErr result (IsShownBy (IsTrue (has_failed reader.new)) (IsTrue (has_failed writer.new)) (IsSpent reader.new turns)) }
