@@ -222,12 +222,14 @@ module _ {R A : Type 0} (state : R → RepoState) (s : Setting) (used_before giv
     pub breaks_unflushed : {reader : Flow} {before held after : Option (List ℕ)} → Moved false (StandsAfter count server) reader (flow before held)
         → Keeps held after → RunEnds (Err WriteFault) ended turns server reader (flow before after)
     breaks_unflushed so_far kept =
-        rests (Err WriteFault) (moved_flushed true so_far kept) (λ used given r. every_moment state server s (used_before ++ used) false (given_before ++ given) r.0)
+        rests (Err WriteFault) (moved_flushed true so_far kept)
+        (λ used given r. every_moment state server s (used_before ++ used) false (given_before ++ given) r.0)
 
     module _ (wants : wants_input server ≡ true) where
       -- all answers were given
       waits : (used given : List ℕ) → StandsAfter count server used given → Waits s (used_before ++ used) [] false (given_before ++ given)
-      waits used given r = record { all = refl; goes_on = refl; answered = all_answered state server s (used_before ++ used) false (given_before ++ given) r.0 wants }
+      waits used given r =
+          record { all = refl; goes_on = refl; answered = all_answered state server s (used_before ++ used) false (given_before ++ given) r.0 wants }
 
       -- a read failed
       pub ends_unread : {left_before left left_after before held after : Option (List ℕ)}
@@ -254,7 +256,8 @@ module _ {R A : Type 0} (state : R → RepoState) (s : Setting) (used_before giv
         → EndsRun s result turns used_before (used ++ part.used) part.unused over (given_before ++ (given ++ part.writes.given)))
         → RunEnds result ended turns new (flow left_before left_after) (flow held_before held_after)
     stops result part whole ends =
-        moves (λ used given served. served) (moved_on (is_broken result) (λ used given. Served state s used_before given_before result ended turns new (used ∷ []) (given ∷ []))
+        moves (λ used given served. served) (moved_on (is_broken result)
+        (λ used given. Served state s used_before given_before result ended turns new (used ∷ []) (given ∷ []))
         bytes part.writes.given (λ used given at.
         let stands = stands_on over old new part.used part.writes.given used given part.writes.goes (runs used given at) in
         record {
@@ -293,7 +296,8 @@ module _ {R A : Type 0} (state : R → RepoState) (s : Setting) (used_before giv
 
   module _ (ended : Bool) (turns : ℕ) (old new : Server R A) where
     -- nothing was read yet, and a write failed
-    pub breaks_at_once : (left held held_after : Option (List ℕ)) → Running state s used_before false given_before old → WritesPart true state old new [] (flow held held_after)
+    pub breaks_at_once : (left held held_after : Option (List ℕ)) → Running state s used_before false given_before old
+        → WritesPart true state old new [] (flow held held_after)
         → RunEnds (Err WriteFault) ended turns new (flow left left) (flow held held_after)
     breaks_at_once left held held_after r part =
         stops_broken ended turns false old new [] (λ used given at. at) (moved_nothing left held (stands_at_once false old r)) (Consumes-nil left) part
@@ -349,14 +353,16 @@ module _ {R A : Type 0} (state : R → RepoState) (s : Setting) (used_before giv
     pub breaks_closed : WritesPart true state closed new [] (flow flushed held_after)
         → RunEnds (Err WriteFault) ended turns new (flow left_before left_after) (flow held_before held_after)
     breaks_closed part =
-        stops_broken ended turns true closed new [] (λ used given at. (closes s (used_before ++ used) false (given_before ++ given) at.0).0) (moved_flushed false so_far kept) read part
+        stops_broken ended turns true closed new []
+        (λ used given at. (closes s (used_before ++ used) false (given_before ++ given) at.0).0) (moved_flushed false so_far kept) read part
         (λ e. (back_of_nothing part.used part.unused part.parts, told))
 
     -- the session ended with the input
     pub ends_closed : (outcome : Outcome) → WritesItsEnd state closed new [] (flow flushed held_after) outcome
         → RunEnds (Ok outcome) ended turns new (flow left_before left_after) (flow held_before held_after)
     ends_closed outcome end =
-        stops_whole ended turns true closed new [] (λ used given at. (closes s (used_before ++ used) false (given_before ++ given) at.0).0) (moved_flushed false so_far kept) read outcome
+        stops_whole ended turns true closed new []
+        (λ used given at. (closes s (used_before ++ used) false (given_before ++ given) at.0).0) (moved_flushed false so_far kept) read outcome
         held_after end (keeps_same held_after) (λ e. (back_of_nothing end.part.used end.part.unused end.part.parts, told))
         (λ used given at fault is too_long.
         let stands = stands_on true closed new end.part.used end.part.writes.given used given end.part.writes.goes

@@ -64,7 +64,8 @@ returns-in_err-outcome-2-clause-served g c =
     subst (λ (n : ℕ). Consumes left left_after (take n c.receive.new.piece)) c.if-count-eq0.true c.in_ok-count.ensures.bytes.0 in
     serves_at g.R.Repo.state _ _ c.from_residual-in_err-outcome-2.result _ _ _ _ _ _ c.in_err-outcome-2.ensures.fault
     c.from_residual-in_err-outcome-2.ensures.1
-    (λ s b h r. breaks_closed g.R.Repo.state s b h _ _ _ c.loop.server c.close.new.self c.finish.new.server (c.loop.invariant.run s b h r) c.in_ok-flush-2.ensures.bytes
+    (λ s b h r. breaks_closed g.R.Repo.state s b h _ _ _ c.loop.server c.close.new.self c.finish.new.server
+    (c.loop.invariant.run s b h r) c.in_ok-flush-2.ensures.bytes
     nothing c.close.ensures.closes (search rules) c.in_err-outcome-2.ensures.front)
 
 pub returns-then-count-eq0-clause-served : goal.returns-then-count-eq0-clause-served
@@ -73,7 +74,8 @@ returns-then-count-eq0-clause-served g c =
     let left_after = g.In.Read.remaining (inner_of c.receive.new.reader) in
     let nothing : Consumes left left_after [] =
     subst (λ (n : ℕ). Consumes left left_after (take n c.receive.new.piece)) c.if-count-eq0.true c.in_ok-count.ensures.bytes.0 in
-    λ s b h r. ends_closed g.R.Repo.state s b h _ _ _ c.loop.server c.close.new.self c.finish.new.server (c.loop.invariant.run s b h r) c.in_ok-flush-2.ensures.bytes
+    λ s b h r. ends_closed g.R.Repo.state s b h _ _ _ c.loop.server c.close.new.self c.finish.new.server
+    (c.loop.invariant.run s b h r) c.in_ok-flush-2.ensures.bytes
     nothing c.close.ensures.closes (search rules) _ c.in_ok-outcome-2.ensures.ok
 
 pub returns-in_err-outcome-3-clause-served : goal.returns-in_err-outcome-3-clause-served
