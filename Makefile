@@ -18,9 +18,9 @@ run:
 library:
 	@cd crates/gitwire && $(RT) lib
 
-# Installs the program with its manual page, and the library with its header, the page on the protocol that the header names, and
-# what pkg-config tells of it: a C program is then built with `pkg-config --cflags --libs gitwire` and nothing of this folder. What
-# was built is taken as it is.
+# Installs the program with its manual page, and the library with its header, what the header names (the page on the protocol, the
+# script that writes a repository text, the examples), and what pkg-config tells of it: a C program is then built with
+# `pkg-config --cflags --libs gitwire` and nothing of this folder. What was built is taken as it is.
 install: prefix = $(abspath $(PREFIX))
 install: to = $(DESTDIR)$(prefix)
 install: $(PROGRAM) $(LIBRARY)
@@ -28,6 +28,8 @@ install: $(PROGRAM) $(LIBRARY)
 	@install -D -m 644 docs/git2show.1 "$(to)/share/man/man1/git2show.1"
 	@install -D -m 644 include/gitwire.h "$(to)/include/gitwire.h"
 	@install -D -m 644 docs/PROTOCOL.md "$(to)/share/doc/gitwire/PROTOCOL.md"
+	@install -D -m 755 sample/repository-text.sh "$(to)/share/doc/gitwire/repository-text.sh"
+	@install -D -m 644 -t "$(to)/share/doc/gitwire/examples" $(wildcard examples/*)
 	@install -D -m 644 gitwire.pc.in "$(to)/lib/pkgconfig/gitwire.pc"
 	@sed -i 's|@PREFIX@|$(prefix)|' "$(to)/lib/pkgconfig/gitwire.pc"
 	@install -D -m 644 "$(LIBRARY)" "$(to)/lib/libgitwire.a"

@@ -4,11 +4,12 @@
  *     daemon ADDRESS PORT SECONDS NAME TEXT PACK
  *
  * ADDRESS is one of the loopback network. PORT 0 is any that is free; the line on standard output says which. TEXT is a
- * repository text, and PACK the pack that whoever fetches gets. A client that neither reads nor writes for so many SECONDS is
- * closed. SIGINT ends it.
+ * repository text, and PACK the pack that whoever fetches gets. A client that has not said within so many SECONDS what it wants is
+ * closed, and so is one that then neither reads nor writes for as long. SIGINT ends it.
  *
  * Whatever its client does, a connection takes a `struct client`, a buffer of one packet in the library, what MOST_KEPT bytes of a
- * request's arguments take there, and nothing else. The repository is one for all.
+ * request's arguments take there, and nothing else. The repository is one for all. A client that goes on, however slowly, keeps its
+ * place: a host that strangers reach gives each address few places, and each session a time for all of it.
  */
 #define _GNU_SOURCE
 #define PROGRAM "daemon"
@@ -33,6 +34,9 @@ enum { MOST_CLIENTS = 128, TICK = 500 /* milliseconds */ };
  */
 enum { MOST_KEPT = 1048576 };
 
+/* How many packets are made for a client before the others have their turn: a small request can be answered by a flush alone. */
+enum { MOST_PULLS = 64 };
+
 struct client {
 	enum { NOBODY, GREETING, SERVING, ENDING, LEAVING } phase;
 	int connection;
@@ -46,6 +50,7 @@ struct client {
 
 static struct client clients[MOST_CLIENTS];   /* of zeros, as each handle begins */
 static gitwire_repository repository = GITWIRE_NONE;
+static gitwire_writer writer = GITWIRE_NONE; /* of error packets */
 static char asked_for[4096];                  /* what the first packet of a client has to begin with */
 static time_t patience;
 static volatile sig_atomic_t is_over;
@@ -75,27 +80,46 @@ static const char *text_of(gitwire_told told)
 	return text;
 }
 
+/* Tells on standard error what became of a client, unless that would wait for somebody who does not read it. */
+static void tell(const char *what, const char *why)
+{
+	struct pollfd errors = { .fd = STDERR_FILENO, .events = POLLOUT };
+
+	if (poll(&errors, 1, 0) == 1 && errors.revents & POLLOUT)
+		fprintf(stderr, "daemon: %s%s\n", what, why);
+}
+
 /* Makes an error packet the last that is sent. */
 static void refuse(struct client *c, const char *why)
 {
-	fprintf(stderr, "daemon: refused: %s\n", why);
-	c->out_end = gitwire_put_error((const uint8_t *)why, strlen(why), c->out, sizeof c->out).length;
+	tell("refused: ", why);
+	c->out_end = gitwire_put_error(&writer, (const uint8_t *)why, strlen(why), c->out, sizeof c->out).length;
 	c->phase = ENDING;
+}
+
+/* Whether what stands after the name, up to a NUL at its end, is `host=..` with a NUL or not, a NUL, and parameters with `version=2`. */
+static bool asks_for_version_2(const char *at, const char *end)
+{
+	if (at < end && strncmp(at, "host=", 5) == 0)
+		at += strlen(at) + 1;
+	if (at == end || *at++ != 0)
+		return false;
+	while (at < end && *at != 0 && strcmp(at, "version=2") != 0)
+		at += strlen(at) + 1;
+	return at < end && *at != 0;
 }
 
 /*
  * Why the first packet is not served, or NULL. It is `git-upload-pack /NAME`, a NUL, `host=..` with a NUL or not, and after
  * one NUL more each further parameter with a NUL: gitprotocol-pack(5).
  */
-static const char *why_not(const uint8_t *text, size_t length)
+static const char *why_not(const char *text, size_t length)
 {
-	static const char version[] = "\0version=2";
-	size_t first = strnlen((const char *)text, length);
-	const uint8_t *further = memmem(text, length, "\0", 2);
+	size_t first = strnlen(text, length);
 
 	if (first != strlen(asked_for) || memcmp(text, asked_for, first) != 0)
 		return "nothing but the fetch side of one repository is served here";
-	if (further == NULL || memmem(further, (size_t)(text + length - further), version, sizeof version) == NULL)
+	if (text[length - 1] != 0 || !asks_for_version_2(text + first + 1, text + length))
 		return "nothing but version 2 of the protocol is served here";
 	return NULL;
 }
@@ -116,7 +140,7 @@ static void greet(struct client *c)
 		c->phase = ENDING;
 	} else if (told.kind == GITWIRE_FAILED) {
 		refuse(c, text_of(told));
-	} else if ((why = why_not(c->out, told.length)) != NULL) {
+	} else if ((why = why_not((const char *)c->out, told.length)) != NULL) {
 		refuse(c, why);
 	} else if (gitwire_server_new(&c->server, &repository, MOST_KEPT, true) != GITWIRE_DONE) {
 		refuse(c, "no memory");
@@ -125,11 +149,11 @@ static void greet(struct client *c)
 	}
 }
 
-/* Gives what the server owes, as long as there is room for a whole packet, and feeds it what has come. */
+/* Gives what the server owes, as long as there is room for a whole packet and the turn lasts, and feeds it what has come. */
 static void serve(struct client *c)
 {
 	c->wants_input = false;
-	while (sizeof c->out - c->out_end >= GITWIRE_PACKET_ROOM && !c->wants_input) {
+	for (int i = 0; i < MOST_PULLS && sizeof c->out - c->out_end >= GITWIRE_PACKET_ROOM && !c->wants_input; i++) {
 		gitwire_told told = gitwire_server_pull(&c->server, c->out + c->out_end, sizeof c->out - c->out_end);
 
 		if (told.kind == GITWIRE_PACKET) {
@@ -137,7 +161,7 @@ static void serve(struct client *c)
 		} else if (told.kind != GITWIRE_NEED_INPUT) {
 			c->phase = ENDING;
 			if (told.kind == GITWIRE_FAILED)
-				fprintf(stderr, "daemon: a session ended with %s\n", text_of(told));
+				tell("a session ended with ", text_of(told));
 			return;
 		} else if (c->in_at < c->in_end) {
 			c->in_at += gitwire_server_feed(&c->server, c->in + c->in_at, c->in_end - c->in_at).used;
@@ -155,17 +179,17 @@ static short awaited(const struct client *c)
 	return c->wants_input && c->out_end == 0 ? POLLIN : POLLOUT;
 }
 
-/* Whether so many bytes went over, by which a client has its time again. One whose connection is broken is forgotten. */
+/* Whether so many bytes went over, by which a client in its session has its time again. One whose connection is broken is forgotten. */
 static bool has_moved(struct client *c, ssize_t count)
 {
 	if (count < 0 && errno != EAGAIN && errno != EINTR)
 		forget(c);
-	if (count >= 0 && c->phase != LEAVING)
+	if (count >= 0 && c->phase != GREETING && c->phase != LEAVING)
 		c->deadline = seconds() + patience;
 	return count >= 0;
 }
 
-/* One turn of a client: one read and one write at the most, so that what one sends or takes holds up no other. */
+/* One turn of a client: one read, MOST_PULLS packets and one write at the most, so that what one sends or takes holds up no other. */
 static void turn(struct client *c)
 {
 	ssize_t count;
@@ -248,7 +272,7 @@ static void run(int listener)
 			if (polled[i].revents)
 				turn(c);
 			if (c->phase != NOBODY && c->deadline < now) { /* judged after its turn, which counts */
-				fprintf(stderr, "daemon: a client was too slow\n");
+				tell("a client was too slow", "");
 				forget(c);
 			}
 		}
@@ -313,8 +337,10 @@ int main(int count, char **words)
 	if (snprintf(asked_for, sizeof asked_for, "git-upload-pack /%s", words[4]) >= (int)sizeof asked_for)
 		stop("the name is too long");
 	signal(SIGINT, end);
-	signal(SIGPIPE, SIG_IGN); /* who is gone is told by a write that fails, and nobody has to read what is told here */
+	signal(SIGPIPE, SIG_IGN); /* who is gone is told by a write that fails; whoever read what is told here may be gone too */
 	open_repository(words[5], words[6]);
+	if (gitwire_writer_new(&writer) != GITWIRE_DONE)
+		stop("no memory");
 	int listener = listen_at(words[1], (uint16_t)number_of(words[2], 0, 65535), words[4]);
 	run(listener);
 	for (struct client *c = clients; c < clients + MOST_CLIENTS; c++)
@@ -322,5 +348,6 @@ int main(int count, char **words)
 			forget(c);
 	close(listener);
 	gitwire_repository_free(&repository);
+	gitwire_writer_free(&writer);
 	return 0;
 }

@@ -19,6 +19,7 @@
 #include <unistd.h>
 
 static const gitwire_offer offer = { .format = GITWIRE_SHA1, .server_option = true };
+static gitwire_writer writer = GITWIRE_NONE;
 static uint8_t room[GITWIRE_PACKET_ROOM];
 
 struct text {
@@ -49,12 +50,12 @@ static bool give(gitwire_told told)
 
 static void give_line(const char *text)
 {
-	give(gitwire_put_line((const uint8_t *)text, strlen(text), room, sizeof room));
+	give(gitwire_put_line(&writer, (const uint8_t *)text, strlen(text), room, sizeof room));
 }
 
 static void give_flush(void)
 {
-	give(gitwire_put_packet(GITWIRE_FLUSH, NULL, 0, room, sizeof room));
+	give(gitwire_put_packet(&writer, GITWIRE_FLUSH, NULL, 0, room, sizeof room));
 }
 
 /* The next line of a text, without its LF; false at the end. */
@@ -101,8 +102,8 @@ static void answer_references(gitwire_request *request)
 		name.length = line.length - (size_t)(name.at - line.at);
 		if (!is_asked(request, name))
 			continue;
-		gitwire_told told = gitwire_put_reference(offer.format, line.at, (size_t)(space - line.at), name.at, name.length,
-			NULL, 0, NULL, 0, room, sizeof room);
+		gitwire_told told = gitwire_put_reference(&writer, offer.format, line.at, (size_t)(space - line.at), name.at,
+			name.length, NULL, 0, NULL, 0, room, sizeof room);
 		if (!give(told))
 			tell("a reference is left out", told);
 	}
@@ -125,7 +126,7 @@ static void answer_fetch(gitwire_request *request)
 	for (size_t at = 0; at < pack.length; at += most) {
 		size_t part = pack.length - at < most ? pack.length - at : most;
 
-		give(gitwire_put_band(GITWIRE_BAND_PACK, pack.at + at, part, room, sizeof room));
+		give(gitwire_put_band(&writer, GITWIRE_BAND_PACK, pack.at + at, part, room, sizeof room));
 	}
 	give_flush();
 }
@@ -137,7 +138,7 @@ static int refuse(gitwire_told told)
 	size_t length = gitwire_fault_text(told.fault, told.offset, text, sizeof text);
 
 	if (told.fault != GITWIRE_FAULT_REMOTE_ERROR)
-		give(gitwire_put_error(text, length, room, sizeof room));
+		give(gitwire_put_error(&writer, text, length, room, sizeof room));
 	fflush(stdout);
 	tell("refused", told);
 	return 1;
@@ -192,14 +193,16 @@ int main(int count, char **words)
 	}
 	references.at = read_file(words[1], &references.length);
 	pack.at = read_file(words[2], &pack.length);
-	if (gitwire_request_reader_new(&reader, offer, GITWIRE_USUAL_LIMIT) != GITWIRE_DONE)
+	if (gitwire_request_reader_new(&reader, offer, GITWIRE_USUAL_LIMIT) != GITWIRE_DONE
+		|| gitwire_writer_new(&writer) != GITWIRE_DONE)
 		stop("no memory");
-	give(gitwire_put_advertisement(offer, room, sizeof room));
+	give(gitwire_put_advertisement(&writer, offer, room, sizeof room));
 	if (fflush(stdout) != 0)
 		stop("the answer cannot be written");
 	int status = serve(&reader, &request);
 	gitwire_request_free(&request);
 	gitwire_request_reader_free(&reader);
+	gitwire_writer_free(&writer);
 	free(references.at);
 	free(pack.at);
 	return status;

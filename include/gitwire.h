@@ -2,9 +2,10 @@
  * Git's wire protocol, version 2 (fetch side), for programs in C: packets, requests, a server, a client, and the lines
  * that a host of its own writes. Each call is a method of a library that is proved to meet its contract; docs/PROMISES.md
  * has the promises whole, docs/PROTOCOL.md the rules and the faults. Files are named as in the project's repository;
- * docs/PROTOCOL.md is installed too, in share/doc/gitwire. The library reads and writes no stream, starts no thread and
- * keeps nothing but what its handles have: a program feeds it what it has read, in pieces of any size, and writes what it
- * gives. Each end is a loop over what its pull tells, as in examples/daemon.c and examples/list.c:
+ * docs/PROTOCOL.md, examples/ and sample/repository-text.sh are installed too, in share/doc/gitwire. The library reads and
+ * writes no stream, starts no thread and keeps nothing but what its handles have: a program feeds it what it has read, in
+ * pieces of any size, and writes what it gives. Each end is a loop over what its pull tells, as in examples/daemon.c and
+ * examples/list.c:
  *
  *     a server   PACKET       write it to the client
  *                NEED_INPUT   read from the client and feed what came; at the input's end close
@@ -38,7 +39,8 @@
  *     overlaps a text, another room or a handle, and no two handles of a call are one. Nobody else writes to a text or
  *     touches a room while the call runs.
  *   - Each field of a gitwire_offer is set.
- *   - The stack has room for a call. As measured, a call gitwire_put_.. takes up to 65 KiB of it, and each other call up to 6.
+ *   - Numbers of several kinds begin at 0: a format where a command or an ending is due is taken for one.
+ *   - The stack has room for a call: as measured, less than 8 KiB.
  *   - malloc, realloc and free are those of one allocator, which aligns as the C standard says. No call is made from a
  *     signal handler, nor in the child of a fork of a process with more than one thread.
  *
@@ -196,6 +198,7 @@ typedef struct { void *at_; bool is_made_; } gitwire_request;
 typedef struct { void *at_; bool is_made_; } gitwire_repository;
 typedef struct { void *at_; bool is_made_; } gitwire_server;
 typedef struct { void *at_; bool is_made_; } gitwire_client;
+typedef struct { void *at_; bool is_made_; } gitwire_writer;
 
 /*
  * Making and freeing, of each kind of handle.
@@ -208,7 +211,7 @@ typedef struct { void *at_; bool is_made_; } gitwire_client;
 /*
  * Packets: the packets and offsets given are those of the one split of the bytes fed, however these were cut. The first
  * malformed packet is refused at its offset, as soon as its bytes show it, and a reader that has refused stays refused:
- * each later call uses nothing and tells that fault again.
+ * each later feed and close uses nothing and tells that fault again.
  */
 
 /* A reader of a stream of which nothing has come. */
@@ -491,50 +494,59 @@ uint8_t gitwire_client_caps(gitwire_client *client, gitwire_caps *caps);
 void gitwire_client_free(gitwire_client *client);
 
 /*
- * Writers, for a host that keeps its references and packs in its own way: each puts one whole packet at the front of the
- * room, and has no handle. DONE with `length`; what is written says its value, and no other. BAD_VALUE where a number
- * stands for nothing. FAILED, at offset 0, where a name or a text may not stand there, the first from left to right:
- * BadObjectName, BadRefName, and what is said below. ROOM_TOO_SMALL; GITWIRE_PACKET_ROOM bytes always suffice. An object name is
- * given as its digits, of either case, and written in lower case.
+ * Packets for a host that keeps its references and packs in its own way: each call puts one whole packet at the front of the
+ * room, or the packets of an advertisement. DONE with `length`; what is written says its value, and no other. BAD_VALUE where a
+ * number stands for nothing. FAILED, at offset 0, where a name or a text may not stand there, the first from left to right:
+ * BadObjectName, BadRefName, and what is said below. ROOM_TOO_SMALL; GITWIRE_PACKET_ROOM bytes always suffice. NO_HANDLE. An
+ * object name is given as its digits, of either case, and written in lower case.
  */
+
+/* A writer: a buffer of GITWIRE_PACKET_ROOM bytes, in which each packet is made. What a call writes depends on no call before. */
+uint8_t gitwire_writer_new(gitwire_writer *writer);
+
+void gitwire_writer_free(gitwire_writer *writer);
 
 /* The packet of a kind PAYLOAD, FLUSH, DELIM or RESPONSE_END: a payload of more than 65,516 bytes is TooLong, and bytes of
  * another kind BAD_VALUE. A payload without bytes is written as `0004`, which Git's documents say should not be sent. */
-gitwire_told gitwire_put_packet(uint8_t kind, const uint8_t *payload, size_t payload_length,
+gitwire_told gitwire_put_packet(gitwire_writer *writer, uint8_t kind, const uint8_t *payload, size_t payload_length,
 	uint8_t *room, size_t room_length);
 
 /* All packets of an advertisement, below GITWIRE_ADVERTISEMENT_ROOM bytes. */
-gitwire_told gitwire_put_advertisement(gitwire_offer offer, uint8_t *room, size_t room_length);
+gitwire_told gitwire_put_advertisement(gitwire_writer *writer, gitwire_offer offer, uint8_t *room, size_t room_length);
 
 /* A reference, with the target of a symbolic one and what an annotated tag stands for; a length of 0 is none. */
-gitwire_told gitwire_put_reference(uint8_t format, const uint8_t *id, size_t id_length, const uint8_t *name, size_t name_length,
-	const uint8_t *target, size_t target_length, const uint8_t *peeled, size_t peeled_length,
-	uint8_t *room, size_t room_length);
+gitwire_told gitwire_put_reference(gitwire_writer *writer, uint8_t format, const uint8_t *id, size_t id_length,
+	const uint8_t *name, size_t name_length, const uint8_t *target, size_t target_length, const uint8_t *peeled,
+	size_t peeled_length, uint8_t *room, size_t room_length);
 
 /* `ACK` and an object that both ends have. */
-gitwire_told gitwire_put_ack(uint8_t format, const uint8_t *id, size_t id_length, uint8_t *room, size_t room_length);
+gitwire_told gitwire_put_ack(gitwire_writer *writer, uint8_t format, const uint8_t *id, size_t id_length, uint8_t *room,
+	size_t room_length);
 
 /* A commit at the boundary: `shallow`, or else `unshallow`. */
-gitwire_told gitwire_put_boundary(uint8_t format, bool shallow, const uint8_t *id, size_t id_length,
+gitwire_told gitwire_put_boundary(gitwire_writer *writer, uint8_t format, bool shallow, const uint8_t *id, size_t id_length,
 	uint8_t *room, size_t room_length);
 
 /* A reference that was wanted by its name. */
-gitwire_told gitwire_put_wanted(uint8_t format, const uint8_t *id, size_t id_length, const uint8_t *name, size_t name_length,
-	uint8_t *room, size_t room_length);
+gitwire_told gitwire_put_wanted(gitwire_writer *writer, uint8_t format, const uint8_t *id, size_t id_length,
+	const uint8_t *name, size_t name_length, uint8_t *room, size_t room_length);
 
 /* An object, and its size where the host has it (`has_size`). */
-gitwire_told gitwire_put_info(uint8_t format, const uint8_t *id, size_t id_length, bool has_size, uint64_t size,
-	uint8_t *room, size_t room_length);
+gitwire_told gitwire_put_info(gitwire_writer *writer, uint8_t format, const uint8_t *id, size_t id_length, bool has_size,
+	uint64_t size, uint8_t *room, size_t room_length);
 
 /* Bytes on a side band: of the pack, of progress, or of a fatal error, after which nothing comes. More than 65,515 are TooLong. */
 enum { GITWIRE_BAND_PACK = 1, GITWIRE_BAND_PROGRESS = 2, GITWIRE_BAND_FATAL = 3 };
-gitwire_told gitwire_put_band(uint8_t band, const uint8_t *bytes, size_t bytes_length, uint8_t *room, size_t room_length);
+gitwire_told gitwire_put_band(gitwire_writer *writer, uint8_t band, const uint8_t *bytes, size_t bytes_length,
+	uint8_t *room, size_t room_length);
 
 /* The error packet: `ERR `, the text and LF. A text of more than 65,511 bytes is BadLine. */
-gitwire_told gitwire_put_error(const uint8_t *text, size_t text_length, uint8_t *room, size_t room_length);
+gitwire_told gitwire_put_error(gitwire_writer *writer, const uint8_t *text, size_t text_length, uint8_t *room,
+	size_t room_length);
 
 /* A text and LF, as `NAK`, `ready` and `packfile` are written. A text of more than 65,515 bytes is BadLine. */
-gitwire_told gitwire_put_line(const uint8_t *text, size_t text_length, uint8_t *room, size_t room_length);
+gitwire_told gitwire_put_line(gitwire_writer *writer, const uint8_t *text, size_t text_length, uint8_t *room,
+	size_t room_length);
 
 /*
  * A fault's name, as `Truncated`, and what users see of it, as `Truncated at 994`: how many bytes are in the room; 0 where there
@@ -552,6 +564,7 @@ GITWIRE_IS_HANDLE(gitwire_request);
 GITWIRE_IS_HANDLE(gitwire_repository);
 GITWIRE_IS_HANDLE(gitwire_server);
 GITWIRE_IS_HANDLE(gitwire_client);
+GITWIRE_IS_HANDLE(gitwire_writer);
 #undef GITWIRE_IS_HANDLE
 GITWIRE_STATIC_ASSERT(sizeof(size_t) == 8 && sizeof(void *) == 8 && sizeof(bool) == 1, "the library is of 64 bits");
 GITWIRE_STATIC_ASSERT(sizeof(gitwire_offer) == 5 && offsetof(gitwire_offer, server_option) == 4, "gitwire_offer");

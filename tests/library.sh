@@ -52,7 +52,7 @@ under_valgrind() {
 case_library_is_installed_whole() {
     local file line
     for file in bin/git2show lib/libgitwire.a include/gitwire.h lib/pkgconfig/gitwire.pc share/man/man1/git2show.1 \
-        share/doc/gitwire/PROTOCOL.md; do
+        share/doc/gitwire/PROTOCOL.md share/doc/gitwire/repository-text.sh share/doc/gitwire/examples/{common.h,daemon.c,host.c,list.c,packets.c}; do
         [ -s "$installed/$file" ] || differs "no $file"
     done
     run "$installed/bin/git2show" --version
@@ -123,8 +123,6 @@ case_library_calls_tell_what_the_header_says() {
     expect 0 /dev/null /dev/null
     under_valgrind bin/library_calls
     expect 0 /dev/null /dev/null
-    run env -i bash -c 'ulimit -s 128 && exec bin/library_calls' # KiB of stack, of which the header says what a call takes
-    expect 0 /dev/null /dev/null
 }
 
 # The program prints how often each kind of handle asks for memory: once at the least.
@@ -132,7 +130,7 @@ case_library_frees_all_where_memory_is_refused() {
     run refused_memory-watched
     expect_status 0
     expect_same 'standard error' /dev/null err
-    grep -q -x -E '[1-9][0-9]*( [1-9][0-9]*){4}' out || differs 'what was printed' out
+    grep -q -x -E '[1-9][0-9]*( [1-9][0-9]*){6}' out || differs 'what was printed' out
     under_valgrind bin/refused_memory
     expect_status 0
 }
@@ -375,10 +373,14 @@ hears_to_the_end() {
     exec 5>&-
 }
 
+# first_packet FORMAT: the packet with what this format gives, as a format.
+first_packet() {
+    printf '%04x%s' $((4 + $(printf "$1" | wc -c))) "$1"
+}
+
 # greeting NAME PARAMETER: the first packet of a client, as a format.
 greeting() {
-    local text="git-upload-pack /$1" host='host=127.0.0.1'
-    printf '%04x%s\\0%s\\0\\0%s\\0' $((4 + ${#text} + 1 + ${#host} + 2 + ${#2} + 1)) "$text" "$host" "$2"
+    first_packet "git-upload-pack /$1\\0host=127.0.0.1\\0\\0$2\\0"
 }
 
 case_a_daemon_in_c_serves_git() {
@@ -542,12 +544,23 @@ refuses() {
 }
 
 case_a_daemon_in_c_refuses_what_it_does_not_serve() {
+    local payload
     start_daemon history-sha1
     refuses 'nothing but the fetch side of one repository is served here' "$(greeting there version=2)"
     refuses 'nothing but the fetch side of one repository is served here' 0000
     refuses 'nothing but the fetch side of one repository is served here' '001bgit-receive-pack /here\0'
     refuses 'nothing but version 2 of the protocol is served here' "$(greeting here version=1)"
     refuses 'nothing but version 2 of the protocol is served here' '0019git-upload-pack /here'
+    for payload in '/here\0' '/here\0\0' '/here\0host=a\0' '/here\0host=a\0\0' '/here\0\0version=2' '/here\0\0version=2\0rest' \
+        '/here\0junk\0\0version=2\0' '/here\0a\0b\0\0version=2\0' '/here\0host=a\0b\0\0version=2\0' '/here\0\0a\0\0version=2\0' \
+        '/here\0version=2\0' '/here\0\0version=20\0'; do
+        refuses 'nothing but version 2 of the protocol is served here' "$(first_packet "git-upload-pack $payload")"
+    done
+    for payload in '/here\0\0version=2\0' '/here\0\0a\0version=2\0b=c\0' '/here\0host=\0\0version=2\0'; do
+        says "$(first_packet "git-upload-pack $payload")" 0000
+        hears_to_the_end answer
+        expect_same "the answer to '$payload'" <(advertisement sha1) answer
+    done
     refuses 'TooLong at 0' fff1
     run git -c protocol.version=0 ls-remote "$address"
     expect 128 /dev/null <(echo 'fatal: remote error: nothing but version 2 of the protocol is served here')
@@ -606,6 +619,22 @@ case_a_daemon_in_c_closes_who_is_too_slow() {
     end_daemon
 }
 
+# One that says what it wants byte by byte has no longer for it than one that says nothing.
+case_a_daemon_in_c_closes_who_takes_long_to_begin() {
+    local i
+    patience=2
+    start_daemon history-sha1
+    says 0400git-upload-pack
+    for i in {1..300}; do
+        printf x
+        sleep 0.2
+    done >&5 2> /dev/null &
+    daemon_told 'daemon: a client was too slow'
+    kill $! 2> /dev/null || true
+    exec 5>&-
+    end_daemon
+}
+
 # One that was refused and goes on talking is read no longer than its time.
 case_a_daemon_in_c_closes_who_talks_on() {
     local begin i
@@ -654,6 +683,42 @@ case_a_daemon_in_c_outlives_who_read_its_errors() {
     expect_same 'the answer' <(packet 'ERR BadDigit at 0') answer
     ls_remote "$address"
     expect_same 'the list' <(git ls-remote ./history-sha1) out
+    end_daemon
+}
+
+# A pipe that nobody reads, and that is full, does not hold it up.
+case_a_daemon_in_c_serves_where_nobody_reads_its_errors() {
+    start_daemon history-sha1 bash -c '
+        exec 2> >(exec sleep 60)
+        timeout 2 head -c 1000000 /dev/zero >&2 || true
+        exec daemon-watched "$@"' daemon
+    says zzzz
+    hears_to_the_end answer
+    expect_same 'the answer' <(packet 'ERR BadDigit at 0') answer
+    ls_remote "$address"
+    expect_same 'the list' <(git ls-remote ./history-sha1) out
+    end_daemon
+}
+
+# Many small requests of one client, which are answered by a flush each, and another's that is answered beside them.
+case_a_daemon_in_c_answers_many_small_requests() {
+    local i
+    start_daemon history-sha1
+    {
+        packet command=ls-refs
+        printf 0001
+        packet 'ref-prefix no'
+        printf 0000
+    } > request
+    says "$(greeting here version=2)"
+    for i in {1..500}; do
+        cat request
+    done >&5
+    printf 0000 >&5
+    ls_remote "$address"
+    expect_same 'the list' <(git ls-remote ./history-sha1) out
+    hears_to_the_end answer
+    expect_same 'the answers' <(advertisement sha1 && printf '0000%.0s' {1..500}) answer
     end_daemon
 }
 

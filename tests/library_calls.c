@@ -3,10 +3,13 @@
  * not be called so. It prints each expectation that does not hold; the status is 1 where one did not.
  *
  * What the calls do is proved. What is seen here is that C and the library agree about it: how arguments and answers are handed
- * over, in which order fields and numbers stand, and that memory is freed once (built with a sanitizer, and under valgrind).
+ * over, in which order fields and numbers stand, that memory is freed once (built with a sanitizer, and under valgrind), and that
+ * a small stack suffices.
  */
 #include <gitwire.h>
 
+#include <limits.h>
+#include <pthread.h>
 #include <stdio.h>
 #include <stdlib.h>
 #include <string.h>
@@ -25,6 +28,7 @@ static int failures;
 #define LONG_ONE "1111111111111111111111111111111111111111111111111111111111111111"
 
 static uint8_t room[GITWIRE_PACKET_ROOM];
+static gitwire_writer writer = GITWIRE_NONE;
 
 /* Whether just these fields are told, and the others are 0. */
 static bool tells(gitwire_told told, uint8_t kind, size_t used, uint64_t offset, size_t length)
@@ -163,6 +167,31 @@ static void try_a_request_for_a_pack(void)
 	gitwire_request_free(&request);
 }
 
+/* Each flag is that of its line, and of no other. */
+static void try_flags(void)
+{
+	static const struct {
+		uint8_t command, flag;
+		const char *line;
+	} cases[] = {
+		{ GITWIRE_LS_REFS, GITWIRE_FLAG_SYMREFS, "symrefs" }, { GITWIRE_LS_REFS, GITWIRE_FLAG_PEEL, "peel" },
+		{ GITWIRE_FETCH, GITWIRE_FLAG_DONE, "done" }, { GITWIRE_FETCH, GITWIRE_FLAG_THIN_PACK, "thin-pack" },
+		{ GITWIRE_FETCH, GITWIRE_FLAG_NO_PROGRESS, "no-progress" }, { GITWIRE_FETCH, GITWIRE_FLAG_INCLUDE_TAG, "include-tag" },
+		{ GITWIRE_FETCH, GITWIRE_FLAG_OFS_DELTA, "ofs-delta" }, { GITWIRE_FETCH, GITWIRE_FLAG_DEEPEN_RELATIVE, "deepen-relative" },
+		{ GITWIRE_OBJECT_INFO, GITWIRE_FLAG_SIZE, "size" },
+	};
+
+	for (size_t i = 0; i < sizeof cases / sizeof *cases; i++) {
+		gitwire_request request = GITWIRE_NONE;
+
+		EXPECT(gitwire_request_new(&request, cases[i].command, GITWIRE_SHA1, 100) == GITWIRE_DONE);
+		EXPECT(gitwire_request_add(&request, TEXT(cases[i].line)).kind == GITWIRE_DONE);
+		for (uint8_t flag = 0; flag < 12; flag++)
+			EXPECT(gitwire_request_flag(&request, flag) == (flag == cases[i].flag));
+		gitwire_request_free(&request);
+	}
+}
+
 #define LS_REFS "0014command=ls-refs\n" "0001" "0009peel\n" "0000"
 #define OBJECT_INFO "0018command=object-info\n" "0001" "0009size\n" "0000"
 
@@ -299,13 +328,15 @@ struct talk {
 
 static void hear(struct talk *t, gitwire_event e)
 {
-	static const char *const names[] = { "capability", "offered", "reference", "ack", "nak", "ready", "shallow", "unshallow",
-		"wanted", "info", "pack", "progress", "ended" };
+	static const char *const names[] = { [GITWIRE_CAPABILITY] = "capability", [GITWIRE_OFFERED] = "offered",
+		[GITWIRE_REFERENCE] = "reference", [GITWIRE_ACK] = "ack", [GITWIRE_NAK] = "nak", [GITWIRE_READY] = "ready",
+		[GITWIRE_SHALLOW] = "shallow", [GITWIRE_UNSHALLOW] = "unshallow", [GITWIRE_WANTED_REF] = "wanted", [GITWIRE_INFO] = "info",
+		[GITWIRE_PACK] = "pack", [GITWIRE_PROGRESS] = "progress", [GITWIRE_ENDED] = "ended" };
 	const char *part = (const char *)room;
 	const size_t lengths[] = { e.id_length, e.name_length, e.text_length, e.peeled_length };
 
-	EXPECT(e.kind >= GITWIRE_CAPABILITY && e.kind <= GITWIRE_ENDED && e.fault == 0 && e.offset == 0);
-	t->length += (size_t)sprintf(t->heard + t->length, "%s", names[(e.kind - GITWIRE_CAPABILITY) % 13]);
+	EXPECT(e.kind < sizeof names / sizeof *names && names[e.kind] != NULL && e.fault == 0 && e.offset == 0);
+	t->length += (size_t)sprintf(t->heard + t->length, "%s", names[e.kind]);
 	for (int i = 0; i < 4; i++) {
 		if (lengths[i] > 0)
 			t->length += (size_t)sprintf(t->heard + t->length, " %.*s", (int)lengths[i], part);
@@ -424,6 +455,32 @@ static void try_a_conversation(void)
 	memset(room, '#', sizeof room);
 }
 
+/* What comes beside a pack, and a fatal error in its middle, after which a message is there. */
+static void try_bands(void)
+{
+	static const char *const wants[] = { "want " ONE, "done", NULL };
+	struct talk t;
+	gitwire_event event;
+
+	begin_talk(&t);
+	EXPECT(go_on(&t) == GITWIRE_CAN_ASK);
+	EXPECT(tells(ask(&t, GITWIRE_FETCH, wants), GITWIRE_DONE, 0, 0, 0));
+	while (gitwire_client_pull(&t.client, ROOM).kind == GITWIRE_PACKET)
+		;
+	t.length = 0;
+	EXPECT(gitwire_client_feed(&t.client, TEXT("000dpackfile\n"), ROOM).kind == GITWIRE_MORE);
+	hear(&t, gitwire_client_feed(&t.client, TEXT("0008\00250%"), ROOM));
+	hear(&t, gitwire_client_feed(&t.client, TEXT("0009\001PACK"), ROOM));
+	t.heard[t.length] = 0;
+	EXPECT(strcmp(t.heard, "progress 50% has-text\n" "pack PACK has-text\n") == 0);
+	event = gitwire_client_feed(&t.client, TEXT("0009\003gone"), ROOM);
+	EXPECT(event.kind == GITWIRE_FAILED && event.fault == GITWIRE_FAULT_REMOTE_FATAL && event.used == 9);
+	memset(room, '#', sizeof room);
+	EXPECT(wrote(gitwire_client_message(&t.client, ROOM), "gone"));
+	gitwire_client_free(&t.client);
+	gitwire_server_free(&t.server);
+}
+
 static void try_refusals_of_a_client(void)
 {
 	gitwire_client client = GITWIRE_NONE;
@@ -494,7 +551,7 @@ static void try_what_is_noted(void)
 	for (size_t i = 0; i < sizeof cases / sizeof *cases; i++) {
 		gitwire_client client = GITWIRE_NONE;
 		gitwire_caps caps = { .agent = false };
-		gitwire_told line = gitwire_put_line(TEXT(cases[i].line), packet, sizeof packet);
+		gitwire_told line = gitwire_put_line(&writer, TEXT(cases[i].line), packet, sizeof packet);
 
 		EXPECT(gitwire_client_new(&client, GITWIRE_SHA1, GITWIRE_ENDS_BY_FLUSH) == GITWIRE_DONE);
 		EXPECT(gitwire_client_feed(&client, TEXT("000eversion 2\n"), ROOM).kind == GITWIRE_MORE);
@@ -505,47 +562,69 @@ static void try_what_is_noted(void)
 	memset(room, '#', sizeof room);
 }
 
+/* Without a writer nothing is written. */
+static void try_no_writer(void)
+{
+	gitwire_offer offer = { .format = GITWIRE_SHA1 };
+
+	gitwire_writer_free(&writer);
+	EXPECT(tells(gitwire_put_packet(&writer, GITWIRE_FLUSH, NULL, 0, ROOM), GITWIRE_NO_HANDLE, 0, 0, 0));
+	EXPECT(tells(gitwire_put_advertisement(&writer, offer, ROOM), GITWIRE_NO_HANDLE, 0, 0, 0));
+	EXPECT(tells(gitwire_put_reference(&writer, GITWIRE_SHA1, TEXT(ONE), TEXT("HEAD"), NULL, 0, NULL, 0, ROOM), GITWIRE_NO_HANDLE, 0, 0, 0));
+	EXPECT(tells(gitwire_put_ack(&writer, GITWIRE_SHA1, TEXT(ONE), ROOM), GITWIRE_NO_HANDLE, 0, 0, 0));
+	EXPECT(tells(gitwire_put_boundary(&writer, GITWIRE_SHA1, true, TEXT(ONE), ROOM), GITWIRE_NO_HANDLE, 0, 0, 0));
+	EXPECT(tells(gitwire_put_wanted(&writer, GITWIRE_SHA1, TEXT(ONE), TEXT("HEAD"), ROOM), GITWIRE_NO_HANDLE, 0, 0, 0));
+	EXPECT(tells(gitwire_put_info(&writer, GITWIRE_SHA1, TEXT(ONE), true, 7, ROOM), GITWIRE_NO_HANDLE, 0, 0, 0));
+	EXPECT(tells(gitwire_put_band(&writer, GITWIRE_BAND_PACK, TEXT("PACK"), ROOM), GITWIRE_NO_HANDLE, 0, 0, 0));
+	EXPECT(tells(gitwire_put_error(&writer, TEXT("not here"), ROOM), GITWIRE_NO_HANDLE, 0, 0, 0));
+	EXPECT(tells(gitwire_put_line(&writer, TEXT("NAK"), ROOM), GITWIRE_NO_HANDLE, 0, 0, 0));
+	for (size_t i = 0; i < sizeof room; i++)
+		EXPECT(room[i] == '#');
+	EXPECT(gitwire_writer_new(&writer) == GITWIRE_DONE);
+	EXPECT(gitwire_writer_new(&writer) == GITWIRE_DONE); /* what it had is freed */
+}
+
 static void try_writers_of_packets(void)
 {
 	static uint8_t longest[GITWIRE_PAYLOAD_ROOM + 1];
 
-	EXPECT(wrote(gitwire_put_packet(GITWIRE_PAYLOAD, TEXT("word"), ROOM), "0008word"));
-	EXPECT(wrote(gitwire_put_packet(GITWIRE_FLUSH, NULL, 0, ROOM), "0000"));
-	EXPECT(wrote(gitwire_put_packet(GITWIRE_DELIM, NULL, 0, ROOM), "0001"));
-	EXPECT(wrote(gitwire_put_packet(GITWIRE_RESPONSE_END, NULL, 0, ROOM), "0002"));
-	EXPECT(gitwire_put_packet(GITWIRE_FLUSH, TEXT("word"), ROOM).kind == GITWIRE_BAD_VALUE);
-	EXPECT(gitwire_put_packet(GITWIRE_DONE, NULL, 0, ROOM).kind == GITWIRE_BAD_VALUE);
-	EXPECT(gitwire_put_packet(GITWIRE_PAYLOAD, TEXT("word"), room, 7).kind == GITWIRE_ROOM_TOO_SMALL);
-	EXPECT(tells_fault(gitwire_put_packet(GITWIRE_PAYLOAD, longest, sizeof longest, ROOM), GITWIRE_FAULT_TOO_LONG, 0, 0));
-	EXPECT(tells(gitwire_put_packet(GITWIRE_PAYLOAD, longest, sizeof longest - 1, ROOM), GITWIRE_DONE, 0, 0, GITWIRE_PACKET_ROOM));
+	EXPECT(wrote(gitwire_put_packet(&writer, GITWIRE_PAYLOAD, TEXT("word"), ROOM), "0008word"));
+	EXPECT(wrote(gitwire_put_packet(&writer, GITWIRE_FLUSH, NULL, 0, ROOM), "0000"));
+	EXPECT(wrote(gitwire_put_packet(&writer, GITWIRE_DELIM, NULL, 0, ROOM), "0001"));
+	EXPECT(wrote(gitwire_put_packet(&writer, GITWIRE_RESPONSE_END, NULL, 0, ROOM), "0002"));
+	EXPECT(gitwire_put_packet(&writer, GITWIRE_FLUSH, TEXT("word"), ROOM).kind == GITWIRE_BAD_VALUE);
+	EXPECT(gitwire_put_packet(&writer, GITWIRE_DONE, NULL, 0, ROOM).kind == GITWIRE_BAD_VALUE);
+	EXPECT(gitwire_put_packet(&writer, GITWIRE_PAYLOAD, TEXT("word"), room, 7).kind == GITWIRE_ROOM_TOO_SMALL);
+	EXPECT(tells_fault(gitwire_put_packet(&writer, GITWIRE_PAYLOAD, longest, sizeof longest, ROOM), GITWIRE_FAULT_TOO_LONG, 0, 0));
+	EXPECT(tells(gitwire_put_packet(&writer, GITWIRE_PAYLOAD, longest, sizeof longest - 1, ROOM), GITWIRE_DONE, 0, 0, GITWIRE_PACKET_ROOM));
 	memset(room, '#', sizeof room);
-	EXPECT(wrote(gitwire_put_band(GITWIRE_BAND_PACK, TEXT("PACK"), ROOM), "0009\001PACK"));
-	EXPECT(wrote(gitwire_put_band(GITWIRE_BAND_PROGRESS, TEXT("50%"), ROOM), "0008\00250%"));
-	EXPECT(wrote(gitwire_put_band(GITWIRE_BAND_FATAL, TEXT("gone"), ROOM), "0009\003gone"));
-	EXPECT(gitwire_put_band(0, TEXT("gone"), ROOM).kind == GITWIRE_BAD_VALUE);
-	EXPECT(tells_fault(gitwire_put_band(1, longest, sizeof longest - 1, ROOM), GITWIRE_FAULT_TOO_LONG, 0, 0));
-	EXPECT(wrote(gitwire_put_line(TEXT("NAK"), ROOM), "0008NAK\n"));
-	EXPECT(wrote(gitwire_put_line(NULL, 0, ROOM), "0005\n"));
-	EXPECT(tells_fault(gitwire_put_line(longest, sizeof longest - 1, ROOM), GITWIRE_FAULT_BAD_LINE, 0, 0));
-	EXPECT(wrote(gitwire_put_error(TEXT("not here"), ROOM), "0011ERR not here\n"));
-	EXPECT(tells_fault(gitwire_put_error(longest, sizeof longest - 5, ROOM), GITWIRE_FAULT_BAD_LINE, 0, 0));
+	EXPECT(wrote(gitwire_put_band(&writer, GITWIRE_BAND_PACK, TEXT("PACK"), ROOM), "0009\001PACK"));
+	EXPECT(wrote(gitwire_put_band(&writer, GITWIRE_BAND_PROGRESS, TEXT("50%"), ROOM), "0008\00250%"));
+	EXPECT(wrote(gitwire_put_band(&writer, GITWIRE_BAND_FATAL, TEXT("gone"), ROOM), "0009\003gone"));
+	EXPECT(gitwire_put_band(&writer, 0, TEXT("gone"), ROOM).kind == GITWIRE_BAD_VALUE);
+	EXPECT(tells_fault(gitwire_put_band(&writer, 1, longest, sizeof longest - 1, ROOM), GITWIRE_FAULT_TOO_LONG, 0, 0));
+	EXPECT(wrote(gitwire_put_line(&writer, TEXT("NAK"), ROOM), "0008NAK\n"));
+	EXPECT(wrote(gitwire_put_line(&writer, NULL, 0, ROOM), "0005\n"));
+	EXPECT(tells_fault(gitwire_put_line(&writer, longest, sizeof longest - 1, ROOM), GITWIRE_FAULT_BAD_LINE, 0, 0));
+	EXPECT(wrote(gitwire_put_error(&writer, TEXT("not here"), ROOM), "0011ERR not here\n"));
+	EXPECT(tells_fault(gitwire_put_error(&writer, longest, sizeof longest - 5, ROOM), GITWIRE_FAULT_BAD_LINE, 0, 0));
 }
 
 static void try_writers_of_advertisements(void)
 {
 	gitwire_offer offer = { .format = GITWIRE_SHA256, .shallow = true, .object_info = true };
 
-	EXPECT(wrote(gitwire_put_advertisement(offer, ROOM), "000eversion 2\n" "0011agent=git2/1\n" "000cls-refs\n"
+	EXPECT(wrote(gitwire_put_advertisement(&writer, offer, ROOM), "000eversion 2\n" "0011agent=git2/1\n" "000cls-refs\n"
 		"0012fetch=shallow\n" "0019object-format=sha256\n" "0010object-info\n" "0000"));
 	offer = (gitwire_offer){ .ref_in_want = true, .server_option = true };
-	EXPECT(wrote(gitwire_put_advertisement(offer, ROOM), "000eversion 2\n" "0011agent=git2/1\n" "000cls-refs\n"
+	EXPECT(wrote(gitwire_put_advertisement(&writer, offer, ROOM), "000eversion 2\n" "0011agent=git2/1\n" "000cls-refs\n"
 		"0016fetch=ref-in-want\n" "0012server-option\n" "0017object-format=sha1\n" "0000"));
-	EXPECT(gitwire_put_advertisement(offer, room, 20).kind == GITWIRE_ROOM_TOO_SMALL);
+	EXPECT(gitwire_put_advertisement(&writer, offer, room, 20).kind == GITWIRE_ROOM_TOO_SMALL);
 	offer = (gitwire_offer){ GITWIRE_SHA256, true, true, true, true };
-	EXPECT(gitwire_put_advertisement(offer, room, GITWIRE_ADVERTISEMENT_ROOM).kind == GITWIRE_DONE);
+	EXPECT(gitwire_put_advertisement(&writer, offer, room, GITWIRE_ADVERTISEMENT_ROOM).kind == GITWIRE_DONE);
 	memset(room, '#', sizeof room);
 	offer.format = 2;
-	EXPECT(gitwire_put_advertisement(offer, ROOM).kind == GITWIRE_BAD_VALUE);
+	EXPECT(gitwire_put_advertisement(&writer, offer, ROOM).kind == GITWIRE_BAD_VALUE);
 }
 
 /* Each field of the offer is where the library looks for it. */
@@ -565,31 +644,127 @@ static void try_offers_of_one_thing(void)
 
 	for (size_t i = 0; i < sizeof cases / sizeof *cases; i++) {
 		snprintf(wanted, sizeof wanted, "000eversion 2\n" "0011agent=git2/1\n" "000cls-refs\n" "%s" "0000", cases[i].lines);
-		EXPECT(wrote(gitwire_put_advertisement(cases[i].offer, ROOM), wanted));
+		EXPECT(wrote(gitwire_put_advertisement(&writer, cases[i].offer, ROOM), wanted));
 	}
 }
 
 static void try_writers_of_lines(void)
 {
-	EXPECT(wrote(gitwire_put_reference(GITWIRE_SHA1, TEXT(ONE), TEXT("HEAD"), TEXT("refs/heads/main"), NULL, 0, ROOM),
+	EXPECT(wrote(gitwire_put_reference(&writer, GITWIRE_SHA1, TEXT(ONE), TEXT("HEAD"), TEXT("refs/heads/main"), NULL, 0, ROOM),
 		"0050" ONE " HEAD symref-target:refs/heads/main\n"));
-	EXPECT(wrote(gitwire_put_reference(GITWIRE_SHA1, TEXT(ONE), TEXT("refs/tags/v1"), NULL, 0, TEXT(TWO), ROOM),
+	EXPECT(wrote(gitwire_put_reference(&writer, GITWIRE_SHA1, TEXT(ONE), TEXT("refs/tags/v1"), NULL, 0, TEXT(TWO), ROOM),
 		"006a" ONE " refs/tags/v1 peeled:" TWO "\n"));
-	EXPECT(wrote(gitwire_put_reference(GITWIRE_SHA256, TEXT(LONG_ONE), TEXT("HEAD"), NULL, 0, NULL, 0, ROOM), "004a" LONG_ONE " HEAD\n"));
-	EXPECT(tells_fault(gitwire_put_reference(GITWIRE_SHA256, TEXT(ONE), TEXT("HEAD"), NULL, 0, NULL, 0, ROOM),
+	EXPECT(wrote(gitwire_put_reference(&writer, GITWIRE_SHA256, TEXT(LONG_ONE), TEXT("HEAD"), NULL, 0, NULL, 0, ROOM),
+		"004a" LONG_ONE " HEAD\n"));
+	EXPECT(tells_fault(gitwire_put_reference(&writer, GITWIRE_SHA256, TEXT(ONE), TEXT("HEAD"), NULL, 0, NULL, 0, ROOM),
 		GITWIRE_FAULT_BAD_OBJECT_NAME, 0, 0));
-	EXPECT(tells_fault(gitwire_put_reference(GITWIRE_SHA1, TEXT(ONE), TEXT("HEAD"), TEXT("main"), NULL, 0, ROOM),
+	EXPECT(tells_fault(gitwire_put_reference(&writer, GITWIRE_SHA1, TEXT(ONE), TEXT("HEAD"), TEXT("main"), NULL, 0, ROOM),
 		GITWIRE_FAULT_BAD_REF_NAME, 0, 0));
-	EXPECT(gitwire_put_reference(2, TEXT(ONE), TEXT("HEAD"), NULL, 0, NULL, 0, ROOM).kind == GITWIRE_BAD_VALUE);
-	EXPECT(wrote(gitwire_put_ack(GITWIRE_SHA1, TEXT(ONE), ROOM), "0031ACK " ONE "\n"));
-	EXPECT(gitwire_put_ack(GITWIRE_SHA1, TEXT(ONE), room, 48).kind == GITWIRE_ROOM_TOO_SMALL);
-	EXPECT(wrote(gitwire_put_boundary(GITWIRE_SHA1, true, TEXT(ONE), ROOM), "0035shallow " ONE "\n"));
-	EXPECT(wrote(gitwire_put_boundary(GITWIRE_SHA1, false, TEXT(ONE), ROOM), "0037unshallow " ONE "\n"));
-	EXPECT(wrote(gitwire_put_wanted(GITWIRE_SHA1, TEXT(ONE), TEXT("refs/heads/a"), ROOM), "003a" ONE " refs/heads/a\n"));
-	EXPECT(tells_fault(gitwire_put_wanted(GITWIRE_SHA1, TEXT(ONE), TEXT("refs/heads/a b"), ROOM), GITWIRE_FAULT_BAD_REF_NAME, 0, 0));
-	EXPECT(wrote(gitwire_put_info(GITWIRE_SHA1, TEXT(ONE), true, UINT64_MAX, ROOM), "0042" ONE " 18446744073709551615\n"));
-	EXPECT(wrote(gitwire_put_info(GITWIRE_SHA1, TEXT(ONE), false, 7, ROOM), "002e" ONE " \n"));
-	EXPECT(tells_fault(gitwire_put_info(GITWIRE_SHA1, NULL, 0, false, 7, ROOM), GITWIRE_FAULT_BAD_OBJECT_NAME, 0, 0));
+	EXPECT(gitwire_put_reference(&writer, 2, TEXT(ONE), TEXT("HEAD"), NULL, 0, NULL, 0, ROOM).kind == GITWIRE_BAD_VALUE);
+	EXPECT(wrote(gitwire_put_ack(&writer, GITWIRE_SHA1, TEXT(ONE), ROOM), "0031ACK " ONE "\n"));
+	EXPECT(gitwire_put_ack(&writer, GITWIRE_SHA1, TEXT(ONE), room, 48).kind == GITWIRE_ROOM_TOO_SMALL);
+	EXPECT(wrote(gitwire_put_boundary(&writer, GITWIRE_SHA1, true, TEXT(ONE), ROOM), "0035shallow " ONE "\n"));
+	EXPECT(wrote(gitwire_put_boundary(&writer, GITWIRE_SHA1, false, TEXT(ONE), ROOM), "0037unshallow " ONE "\n"));
+	EXPECT(wrote(gitwire_put_wanted(&writer, GITWIRE_SHA1, TEXT(ONE), TEXT("refs/heads/a"), ROOM), "003a" ONE " refs/heads/a\n"));
+	EXPECT(tells_fault(gitwire_put_wanted(&writer, GITWIRE_SHA1, TEXT(ONE), TEXT("refs/heads/a b"), ROOM), GITWIRE_FAULT_BAD_REF_NAME, 0, 0));
+	EXPECT(wrote(gitwire_put_info(&writer, GITWIRE_SHA1, TEXT(ONE), true, UINT64_MAX, ROOM), "0042" ONE " 18446744073709551615\n"));
+	EXPECT(wrote(gitwire_put_info(&writer, GITWIRE_SHA1, TEXT(ONE), false, 7, ROOM), "002e" ONE " \n"));
+	EXPECT(tells_fault(gitwire_put_info(&writer, GITWIRE_SHA1, NULL, 0, false, 7, ROOM), GITWIRE_FAULT_BAD_OBJECT_NAME, 0, 0));
+}
+
+/* Each handle is made of each value that it may have, the limits at their ends among them. */
+static void try_each_value(void)
+{
+	static const uint8_t formats[] = { GITWIRE_SHA1, GITWIRE_SHA256 };
+	static const uint8_t commands[] = { GITWIRE_LS_REFS, GITWIRE_FETCH, GITWIRE_OBJECT_INFO };
+	static const uint8_t endings[] = { GITWIRE_ENDS_BY_FLUSH, GITWIRE_ENDS_BY_RESPONSE_END };
+	static const uint32_t limits[] = { 0, 1, GITWIRE_USUAL_LIMIT, GITWIRE_MOST_LIMIT };
+	gitwire_request_reader reader = GITWIRE_NONE;
+	gitwire_request request = GITWIRE_NONE;
+	gitwire_repository repository = GITWIRE_NONE;
+	gitwire_server server = GITWIRE_NONE;
+	gitwire_client client = GITWIRE_NONE;
+
+	for (int i = 0; i < 2; i++) {
+		const char *text = formats[i] == GITWIRE_SHA1 ? "format sha1\n" : "format sha256\n";
+
+		EXPECT(gitwire_repository_new(&repository, TEXT(text), NULL, 0).kind == GITWIRE_DONE);
+		for (int j = 0; j < 2; j++)
+			EXPECT(gitwire_client_new(&client, formats[i], endings[j]) == GITWIRE_DONE);
+		for (int k = 0; k < 4; k++) {
+			for (int j = 0; j < 3; j++)
+				EXPECT(gitwire_request_new(&request, commands[j], formats[i], limits[k]) == GITWIRE_DONE);
+			for (int j = 0; j < 2; j++)
+				EXPECT(gitwire_server_new(&server, &repository, limits[k], j == 1) == GITWIRE_DONE);
+			for (int offered = 0; offered < 16; offered++) {
+				gitwire_offer offer = { formats[i], offered & 1, offered & 2, offered & 4, offered & 8 };
+
+				EXPECT(gitwire_request_reader_new(&reader, offer, limits[k]) == GITWIRE_DONE);
+			}
+		}
+	}
+	gitwire_request_reader_free(&reader);
+	gitwire_request_free(&request);
+	gitwire_repository_free(&repository);
+	gitwire_server_free(&server);
+	gitwire_client_free(&client);
+}
+
+/* A text of many lines is read whole, and each of its references is told. */
+static void try_many_references(void)
+{
+	enum { COUNT = 20000, LINE = 80 };
+	char *text = malloc((COUNT + 1) * LINE);
+	size_t length = 0, told = 0;
+	gitwire_repository repository = GITWIRE_NONE;
+	gitwire_server server = GITWIRE_NONE;
+
+	if (text == NULL)
+		exit(1);
+	length += (size_t)sprintf(text + length, "format sha1\n");
+	for (int i = 0; i < COUNT; i++)
+		length += (size_t)sprintf(text + length, "ref " ONE " refs/heads/%05d\n", i);
+	EXPECT(gitwire_repository_new(&repository, (const uint8_t *)text, length, NULL, 0).kind == GITWIRE_DONE);
+	free(text);
+	EXPECT(gitwire_server_new(&server, &repository, 0, false) == GITWIRE_DONE);
+	gitwire_repository_free(&repository);
+	EXPECT(gitwire_server_feed(&server, TEXT("0014command=ls-refs\n" "0000")).used == 24);
+	for (char line[LINE]; gitwire_server_pull(&server, ROOM).kind == GITWIRE_PACKET; told++) {
+		sprintf(line, told < COUNT ? "003e" ONE " refs/heads/%05d\n" : "0000", (int)told);
+		EXPECT(memcmp(room, line, strlen(line)) == 0);
+	}
+	EXPECT(told == COUNT + 1);
+	gitwire_server_free(&server);
+	memset(room, '#', sizeof room);
+}
+
+/* Each fault has the name that its constant has. */
+static void try_names_of_faults(void)
+{
+	static const char *const names[] = { [GITWIRE_FAULT_BAD_DIGIT] = "BadDigit", [GITWIRE_FAULT_BAD_LENGTH] = "BadLength",
+		[GITWIRE_FAULT_TOO_LONG] = "TooLong", [GITWIRE_FAULT_TRUNCATED] = "Truncated",
+		[GITWIRE_FAULT_STREAM_TOO_LONG] = "StreamTooLong", [GITWIRE_FAULT_NO_BAND] = "NoBand",
+		[GITWIRE_FAULT_BAD_BAND] = "BadBand", [GITWIRE_FAULT_BAD_CAPABILITY] = "BadCapability",
+		[GITWIRE_FAULT_UNKNOWN_COMMAND] = "UnknownCommand", [GITWIRE_FAULT_TWO_COMMANDS] = "TwoCommands",
+		[GITWIRE_FAULT_NO_COMMAND] = "NoCommand", [GITWIRE_FAULT_NOT_ADVERTISED] = "NotAdvertised",
+		[GITWIRE_FAULT_BAD_OBJECT_NAME] = "BadObjectName", [GITWIRE_FAULT_BAD_REF_NAME] = "BadRefName",
+		[GITWIRE_FAULT_BAD_NUMBER] = "BadNumber", [GITWIRE_FAULT_DEEPEN_CONFLICT] = "DeepenConflict",
+		[GITWIRE_FAULT_NO_WANTS] = "NoWants", [GITWIRE_FAULT_NO_SIZE] = "NoSize", [GITWIRE_FAULT_WRONG_FORMAT] = "WrongFormat",
+		[GITWIRE_FAULT_UNKNOWN_ARGUMENT] = "UnknownArgument", [GITWIRE_FAULT_TOO_MUCH_KEPT] = "TooMuchKept",
+		[GITWIRE_FAULT_UNEXPECTED_PACKET] = "UnexpectedPacket", [GITWIRE_FAULT_REMOTE_ERROR] = "RemoteError",
+		[GITWIRE_FAULT_UNKNOWN_REF] = "UnknownRef", [GITWIRE_FAULT_NOT_OURS] = "NotOurs",
+		[GITWIRE_FAULT_PACK_SOURCE] = "PackSource", [GITWIRE_FAULT_NOT_VERSION_2] = "NotVersion2",
+		[GITWIRE_FAULT_UNEXPECTED_SECTION] = "UnexpectedSection", [GITWIRE_FAULT_BAD_LINE] = "BadLine",
+		[GITWIRE_FAULT_OUT_OF_MEMORY] = "OutOfMemory", [GITWIRE_FAULT_REMOTE_FATAL] = "RemoteFatal",
+		[GITWIRE_FAULT_READ_FAULT] = "ReadFault", [GITWIRE_FAULT_WRITE_FAULT] = "WriteFault",
+		[GITWIRE_FAULT_READ_LIMIT] = "ReadLimit" };
+
+	for (uint8_t fault = 1; fault < sizeof names / sizeof *names; fault++) {
+		size_t length = gitwire_fault_name(fault, ROOM);
+
+		EXPECT(length == strlen(names[fault]) && memcmp(room, names[fault], length) == 0);
+	}
+	memset(room, '#', sizeof room);
 }
 
 static void try_texts_of_faults(void)
@@ -604,33 +779,53 @@ static void try_texts_of_faults(void)
 		longest = length > longest ? length : longest;
 	}
 	EXPECT(longest <= GITWIRE_FAULT_NAME_ROOM && longest + 24 <= GITWIRE_FAULT_TEXT_ROOM);
-	EXPECT(gitwire_fault_name(GITWIRE_FAULT_TRUNCATED, ROOM) == 9 && memcmp(room, "Truncated", 9) == 0);
-	EXPECT(gitwire_fault_name(GITWIRE_FAULT_REMOTE_FATAL, ROOM) == 11 && memcmp(room, "RemoteFatal", 11) == 0);
-	EXPECT(gitwire_fault_name(GITWIRE_FAULT_READ_FAULT, ROOM) == 9 && memcmp(room, "ReadFault", 9) == 0);
-	EXPECT(gitwire_fault_name(GITWIRE_FAULT_WRITE_FAULT, ROOM) == 10 && memcmp(room, "WriteFault", 10) == 0);
-	EXPECT(gitwire_fault_name(GITWIRE_FAULT_READ_LIMIT, ROOM) == 9 && memcmp(room, "ReadLimit", 9) == 0);
 	EXPECT(gitwire_fault_name(GITWIRE_FAULT_TRUNCATED, room, 8) == 0);
 	EXPECT(gitwire_fault_text(GITWIRE_FAULT_TRUNCATED, 994, ROOM) == 16 && memcmp(room, "Truncated at 994", 16) == 0);
 	EXPECT(gitwire_fault_text(GITWIRE_FAULT_TRUNCATED, 994, room, 15) == 0);
 	memset(room, '#', sizeof room);
 }
 
-int main(void)
+static void *try_all(void *nothing)
 {
 	memset(room, '#', sizeof room);
+	try_no_writer();
 	try_packets();
 	try_a_request_for_references();
 	try_a_request_for_a_pack();
+	try_flags();
 	try_a_reader_of_requests();
 	try_a_server();
 	try_a_refused_session();
 	try_a_conversation();
+	try_bands();
 	try_refusals_of_a_client();
 	try_what_is_noted();
 	try_writers_of_packets();
 	try_writers_of_advertisements();
 	try_offers_of_one_thing();
 	try_writers_of_lines();
+	try_each_value();
+	try_many_references();
+	try_names_of_faults();
 	try_texts_of_faults();
+	gitwire_writer_free(&writer);
+	gitwire_writer_free(&writer);
+	return nothing;
+}
+
+/* All runs on a small stack, of which the header says what a call takes. A sanitizer takes more, and valgrind is content with less. */
+int main(void)
+{
+#ifdef __SANITIZE_ADDRESS__
+	const size_t stack = 1048576;
+#else
+	const size_t stack = PTHREAD_STACK_MIN;
+#endif
+	pthread_attr_t attributes;
+	pthread_t thread;
+
+	if (pthread_attr_init(&attributes) != 0 || pthread_attr_setstacksize(&attributes, stack) != 0
+		|| pthread_create(&thread, &attributes, try_all, NULL) != 0 || pthread_join(thread, NULL) != 0)
+		return 1;
 	return failures > 0;
 }

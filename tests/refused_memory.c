@@ -23,6 +23,7 @@ static long refused_at = -1;  /* which of them is refused */
 static bool refused_after;    /* and whether all after it are */
 static long refused;          /* how many were */
 static long live;             /* how many blocks are had */
+static long live_then;        /* and were where memory was asked for next after this was -1 */
 static int failures;
 
 static bool is_refused(void)
@@ -31,6 +32,8 @@ static bool is_refused(void)
 
 	asked++;
 	refused += is_it;
+	if (live_then < 0)
+		live_then = live;
 	return is_it;
 }
 
@@ -88,6 +91,18 @@ static void run_packet_reader(void)
 	made = is_made(gitwire_packet_reader_new(&reader), "a further packet reader");
 	expect(reader.is_made_ == made, "what a handle has");
 	gitwire_packet_reader_free(&reader);
+}
+
+static void run_writer(void)
+{
+	gitwire_writer writer = GITWIRE_NONE;
+	bool made = is_made(gitwire_writer_new(&writer), "a writer");
+	gitwire_told told = gitwire_put_line(&writer, TEXT("NAK"), room, sizeof room);
+
+	expect(told.kind == (made ? GITWIRE_DONE : GITWIRE_NO_HANDLE), "a line");
+	made = is_made(gitwire_writer_new(&writer), "a further writer");
+	expect(writer.is_made_ == made, "what a writer's handle has");
+	gitwire_writer_free(&writer);
 }
 
 /* Whether a request is heard, or it is refused as OutOfMemory, and stays refused. */
@@ -160,6 +175,20 @@ static bool make_repository(gitwire_repository *repository)
 	return is_made(gitwire_repository_new(repository, TEXT(small), TEXT("PACK")).kind, "a repository");
 }
 
+/* What a handle had is freed before it is made anew: two repositories are never there at once. */
+static void run_repository(void)
+{
+	gitwire_repository repository = GITWIRE_NONE;
+	bool made;
+
+	make_repository(&repository);
+	live_then = -1;
+	made = make_repository(&repository);
+	expect(live_then == 0, "the repository before");
+	expect(repository.is_made_ == made, "what a repository's handle has");
+	gitwire_repository_free(&repository);
+}
+
 /* A session ends with the client's flush, or is refused as OutOfMemory. */
 static void run_server(void)
 {
@@ -228,7 +257,8 @@ static bool run(void (*scenario)(void), long at, bool after)
 
 int main(void)
 {
-	static void (*const scenarios[])(void) = { run_packet_reader, run_request_reader, run_request, run_server, run_client };
+	static void (*const scenarios[])(void) = { run_packet_reader, run_writer, run_request_reader, run_request, run_repository,
+		run_server, run_client };
 
 	for (size_t i = 0; i < sizeof scenarios / sizeof *scenarios; i++) {
 		long at = 0;

@@ -1,5 +1,5 @@
 -- What the handles have.
-use Rattle.std.specs.Prelude.{Option}
+use Rattle.std.specs.Prelude.{ℕ, List, Option}
 use Rattle.std.specs.Global.{Global}
 use Rattle.git_pkt.specs.declared.reader.PacketReader.{PacketReader}
 use Rattle.git_msg.specs.declared.requests.Request.{Request}
@@ -7,13 +7,14 @@ use Rattle.git_msg.specs.declared.streams.RequestStream.{RequestStream}
 use Rattle.git_server.specs.declared.server.Server.{Server}
 use Rattle.git_server.specs.declared.shared_repo.SharedRepo.{SharedRepo}
 use Rattle.git_client.specs.declared.client.Client.{Client}
-use Rattle.gitwire.specs.Machines.{machine_as, packet_reader_of, request_reader_of, request_of, repository_of, server_of, client_of}
+use Rattle.gitwire.specs.Machines.{machine_as, packet_reader_of, request_reader_of, request_of, repository_of, server_of, client_of, writer_of}
 use Rattle.gitwire.specs.declared.handles.GitwirePacketReader.{GitwirePacketReader}
 use Rattle.gitwire.specs.declared.handles.GitwireRequestReader.{GitwireRequestReader}
 use Rattle.gitwire.specs.declared.handles.GitwireRequest.{GitwireRequest}
 use Rattle.gitwire.specs.declared.handles.GitwireRepository.{GitwireRepository}
 use Rattle.gitwire.specs.declared.handles.GitwireServer.{GitwireServer}
 use Rattle.gitwire.specs.declared.handles.GitwireClient.{GitwireClient}
+use Rattle.gitwire.specs.declared.handles.GitwireWriter.{GitwireWriter}
 
 -- the packet reader of a handle
 abbrev pub packet_reader_in : GitwirePacketReader → Option PacketReader
@@ -38,3 +39,7 @@ server_in handle = machine_as server_of handle.handle.held.machine
 -- the client of a handle
 abbrev pub client_in : GitwireClient → Option (Client Global)
 client_in handle = machine_as client_of handle.handle.held.machine
+
+-- what the buffer has of a handle's writer
+abbrev pub writer_in : GitwireWriter → Option (List ℕ)
+writer_in handle = machine_as writer_of handle.handle.held.machine

@@ -1,5 +1,5 @@
 -- What a machine is.
-use Rattle.std.specs.Prelude.{Option, Some, None, Bool, true, is_some}
+use Rattle.std.specs.Prelude.{ℕ, List, Option, Some, None, Bool, true, is_some}
 use Rattle.std.specs.Global.{Global}
 use Rattle.git_pkt.specs.declared.reader.PacketReader.{PacketReader}
 use Rattle.git_msg.specs.declared.requests.Request.{Request}
@@ -38,6 +38,11 @@ server_of other = None
 abbrev pub client_of : Machine → Option (Client Global)
 client_of (Machine.Client client) = Some client.value
 client_of other = None
+
+-- what the buffer has of the writer that a machine is
+abbrev pub writer_of : Machine → Option (List ℕ)
+writer_of (Machine.Writer hold) = Some hold.value.items
+writer_of other = None
 
 module _ {X : Type 0} where
   -- what a handle has, read as one kind of machine

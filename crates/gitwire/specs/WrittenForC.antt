@@ -1,6 +1,6 @@
 -- The packets that are written for C, each to the front of a room: what the values mean that C gives, and what C is told.
 use Rattle.std.specs.Prelude.{◌≡◌, ◌≢◌, ℕ, ◌<◌, ◌≤◌, Bool, true, false, List, [], ◌∷◌, ◌++◌, length, codes, slice_get}
-use Rattle.std.specs.Prelude.{Option, Some, None, Result, Ok, Err}
+use Rattle.std.specs.Prelude.{Option, Some, None, IsSome, Result, Ok, Err}
 use Rattle.std.specs.Bool.{then_some}
 use Rattle.git_names.specs.ObjectName.{ObjectName, IsObjectName, IsNoObjectName}
 use Rattle.git_names.specs.RefName.{IsRefName}
@@ -24,7 +24,7 @@ use Rattle.gitwire.specs.Numbers.{formats}
 use Rattle.gitwire.specs.Rooms.{Fills}
 use Rattle.gitwire.specs.Told.{telling, telling_fault, what_number}
 use Rattle.gitwire.specs.declared.told.GitwireTold.{GitwireTold}
-use Rattle.gitwire.specs.declared.told.What.TheVariants.{Payload, Flush, Delim, ResponseEnd, BadValue as a_bad_value}
+use Rattle.gitwire.specs.declared.told.What.TheVariants.{Done, NoHandle, OutOfMemory, Payload, Flush, Delim, ResponseEnd, BadValue as a_bad_value}
 use Rattle.gitwire.specs.declared.written.Unwritten.{Unwritten}
 use Rattle.gitwire.specs.declared.written.Unwritten.TheVariants.{BadValue, Refused}
 
@@ -67,6 +67,16 @@ abbrev pub Advertises : Option Offer → List ℕ → GitwireTold → List ℕ �
 Advertises None room told filled = (told ≡ telling a_bad_value) × (filled ≡ room)
 Advertises (Some offer) room told filled =
     (length (spelled (advertisement_of offer)) < 200) × Fills (spelled (advertisement_of offer)) room told filled
+
+-- a handle has a writer, or none where memory ran out
+abbrev pub BeginsToWrite : ℕ → Option (List ℕ) → Type 0
+BeginsToWrite told None = told ≡ what_number OutOfMemory
+BeginsToWrite told (Some held) = told ≡ what_number Done
+
+-- a handle with a writer does this to the room, and keeps it; one with none tells so, and nothing is written
+abbrev pub WritesIn : Option (List ℕ) → (List ℕ → GitwireTold → List ℕ → Type 0) → List ℕ → GitwireTold → List ℕ → Option (List ℕ) → Type 0
+WritesIn None Does room told filled new = (told ≡ telling NoHandle) × (filled ≡ room) × (new ≡ None)
+WritesIn (Some held) Does room told filled new = Does room told filled × IsSome new
 
 -- the packet of this kind: only a payload has bytes
 abbrev pub IsOfKind : ℕ → List ℕ → Pkt → Type 0

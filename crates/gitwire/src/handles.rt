@@ -1,11 +1,12 @@
 //! What C holds: for each of the library's values a handle that has one, or none.
 
 ghost use Rattle.std.specs.Prelude.{◌≡◌, None, MatchOption, IsSome, true};
-ghost use Rattle.gitwire.specs.Machines.{is_none_or, packet_reader_of, request_reader_of, request_of, repository_of, server_of, client_of};
+ghost use Rattle.gitwire.specs.Machines.{is_none_or, packet_reader_of, request_reader_of, request_of, repository_of, server_of, client_of, writer_of};
 
 use crate::held::Handle;
 use crate::machine::Machine;
 use std::alloc::Global;
+use std::mem::replace;
 
 /// A packet reader, or none.
 #[repr(C)]
@@ -220,5 +221,45 @@ impl GitwireClient {
             (λ machine. (client_in self ≡ client_of machine.value) × IsSome (client_of machine.value)) }
     {
         self.handle.into_machine()
+    }
+}
+
+/// A writer of packets, or none.
+#[repr(C)]
+#[derive(Drop)]
+pub struct GitwireWriter {
+    handle: Handle,
+    ghost kind: { is_none_or writer_of handle.held.machine ≡ true },
+}
+
+impl GitwireWriter {
+    ghost use Rattle.gitwire.specs.Handles.{writer_in};
+
+    pub(crate) fn none(alloc: Global) -> GitwireWriter
+        ensures { writer_in result ≡ None }
+    {
+        GitwireWriter {
+            handle: Handle::none(alloc),
+        }
+    }
+
+    pub(crate) fn of(machine: Box<Machine, Global>) -> GitwireWriter
+        requires { IsSome (writer_of machine.value) }
+        ensures { writer_in result ≡ writer_of machine.value }
+    {
+        GitwireWriter {
+            handle: Handle::of(machine),
+        }
+    }
+
+    /// Takes out what the handle has, which is to be put back before the call ends.
+    pub(crate) fn take(&mut self, alloc: Global) -> Option<Box<Machine, Global>>
+        ensures taken { MatchOption result (writer_in self.old ≡ None)
+            (λ machine. (writer_in self.old ≡ writer_of machine.value) × IsSome (writer_of machine.value)) }
+        ensures empty { writer_in self.new ≡ None }
+    {
+        replace(self, GitwireWriter::none(alloc))
+            .handle
+            .into_machine()
     }
 }

@@ -1,4 +1,5 @@
-//! Git's wire protocol, for programs in C: each export calls a library's method, and adds nothing to it.
+//! Git's wire protocol, for programs in C: each export does to what its handle has what a library's method does,
+//! and checks the handle, the rooms and the numbers that it is given.
 #![tactic(auto)]
 
 mod client;
@@ -21,6 +22,7 @@ mod rooms;
 mod server;
 mod threads;
 mod told;
+mod writer;
 mod writers;
 mod written;
 
@@ -28,7 +30,7 @@ pub use client::GitwireCaps;
 pub use event::GitwireEvent;
 pub use handles::{
     GitwireClient, GitwirePacketReader, GitwireRepository, GitwireRequest, GitwireRequestReader,
-    GitwireServer,
+    GitwireServer, GitwireWriter,
 };
 pub use offer::GitwireOffer;
 pub use threads::handles_are_send;

@@ -5,10 +5,13 @@ ghost use Rattle.std.specs.Option.{option_copied};
 ghost use Rattle.git_names.specs.ObjectName.{IsNoObjectName};
 ghost use Rattle.git_names.specs.RefName.{IsRefName};
 ghost use Rattle.git_msg.specs.References.{IsMaybeObjectName};
-ghost use Rattle.gitwire.specs.WrittenForC.{Makes, MeansAck, MeansBoundary, MeansInfo, MeansReference, MeansWanted, Names, Writes, boundary_of, given};
+ghost use Rattle.gitwire.specs.Handles.{writer_in};
+ghost use Rattle.gitwire.specs.WrittenForC.{Makes, MeansAck, MeansBoundary, MeansInfo, MeansReference, MeansWanted, Names, Writes, WritesIn, boundary_of, given};
 
+use crate::handles::GitwireWriter;
+use crate::machine::Machine;
 use crate::numbers::format_numbered;
-use crate::told::GitwireTold;
+use crate::told::{GitwireTold, What};
 use crate::written::{Unwritten, hand_out};
 use git_msg::{
     Boundary, Info, Reference, WantedRef, put_ack, put_boundary, put_info, put_reference,
@@ -16,12 +19,15 @@ use git_msg::{
 };
 use git_names::{Format, NameFault, Oid, RefName};
 use git_pkt::Hold;
+use std::alloc::Global;
 
 /// Writes a reference's line, of an answer to `ls-refs`, to the front of the room. A target of no bytes is none, and so is a
 /// peeled object of no digits. The parts are checked from left to right: BadObjectName or BadRefName.
 #[tactic(auto, using(crate::proofs::Handing::writes))]
 #[unsafe(no_mangle)]
 pub extern "C" fn gitwire_put_reference(
+    alloc: Global,
+    writer: &mut GitwireWriter,
     format: u8,
     id: &[u8],
     name: &[u8],
@@ -29,38 +35,67 @@ pub extern "C" fn gitwire_put_reference(
     peeled: &[u8],
     room: &mut [u8],
 ) -> GitwireTold
-    ensures { Writes (MeansReference format id.now name.now target.now peeled.now) room.old result room.new }
+    ensures { WritesIn (writer_in writer.old) (Writes (MeansReference format id.now name.now target.now peeled.now)) room.old result room.new (writer_in writer.new) }
 {
-    let mut hold = Hold::new();
-    let made = make_reference(&mut hold, format, id, name, target, peeled);
-    hand_out(made, &hold, room)
+    let Some(mut machine) = writer.take(alloc) else {
+        return GitwireTold::of(What::NoHandle);
+    };
+    let Machine::Writer(hold) = &mut *machine else {
+        unreachable!()
+    };
+    let made = make_reference(hold, format, id, name, target, peeled);
+    let told = hand_out(made, hold, room);
+    *writer = GitwireWriter::of(machine);
+    told
 }
 
 /// Writes the line that acknowledges an object, of the section `acknowledgments`, to the front of the room.
 #[tactic(auto, using(crate::proofs::Handing::writes))]
 #[unsafe(no_mangle)]
-pub extern "C" fn gitwire_put_ack(format: u8, id: &[u8], room: &mut [u8]) -> GitwireTold
-    ensures { Writes (MeansAck format id.now) room.old result room.new }
+pub extern "C" fn gitwire_put_ack(
+    alloc: Global,
+    writer: &mut GitwireWriter,
+    format: u8,
+    id: &[u8],
+    room: &mut [u8],
+) -> GitwireTold
+    ensures { WritesIn (writer_in writer.old) (Writes (MeansAck format id.now)) room.old result room.new (writer_in writer.new) }
 {
-    let mut hold = Hold::new();
-    let made = make_ack(&mut hold, format, id);
-    hand_out(made, &hold, room)
+    let Some(mut machine) = writer.take(alloc) else {
+        return GitwireTold::of(What::NoHandle);
+    };
+    let Machine::Writer(hold) = &mut *machine else {
+        unreachable!()
+    };
+    let made = make_ack(hold, format, id);
+    let told = hand_out(made, hold, room);
+    *writer = GitwireWriter::of(machine);
+    told
 }
 
 /// Writes a line of the section `shallow-info`, `shallow` or else `unshallow`, to the front of the room.
 #[tactic(auto, using(crate::proofs::Handing::writes))]
 #[unsafe(no_mangle)]
 pub extern "C" fn gitwire_put_boundary(
+    alloc: Global,
+    writer: &mut GitwireWriter,
     format: u8,
     shallow: bool,
     id: &[u8],
     room: &mut [u8],
 ) -> GitwireTold
-    ensures { Writes (MeansBoundary format shallow id.now) room.old result room.new }
+    ensures { WritesIn (writer_in writer.old) (Writes (MeansBoundary format shallow id.now)) room.old result room.new (writer_in writer.new) }
 {
-    let mut hold = Hold::new();
-    let made = make_boundary(&mut hold, format, shallow, id);
-    hand_out(made, &hold, room)
+    let Some(mut machine) = writer.take(alloc) else {
+        return GitwireTold::of(What::NoHandle);
+    };
+    let Machine::Writer(hold) = &mut *machine else {
+        unreachable!()
+    };
+    let made = make_boundary(hold, format, shallow, id);
+    let told = hand_out(made, hold, room);
+    *writer = GitwireWriter::of(machine);
+    told
 }
 
 /// Writes a line of the section `wanted-refs` to the front of the room. Its parts are checked from left to right:
@@ -68,16 +103,25 @@ pub extern "C" fn gitwire_put_boundary(
 #[tactic(auto, using(crate::proofs::Handing::writes))]
 #[unsafe(no_mangle)]
 pub extern "C" fn gitwire_put_wanted(
+    alloc: Global,
+    writer: &mut GitwireWriter,
     format: u8,
     id: &[u8],
     name: &[u8],
     room: &mut [u8],
 ) -> GitwireTold
-    ensures { Writes (MeansWanted format id.now name.now) room.old result room.new }
+    ensures { WritesIn (writer_in writer.old) (Writes (MeansWanted format id.now name.now)) room.old result room.new (writer_in writer.new) }
 {
-    let mut hold = Hold::new();
-    let made = make_wanted(&mut hold, format, id, name);
-    hand_out(made, &hold, room)
+    let Some(mut machine) = writer.take(alloc) else {
+        return GitwireTold::of(What::NoHandle);
+    };
+    let Machine::Writer(hold) = &mut *machine else {
+        unreachable!()
+    };
+    let made = make_wanted(hold, format, id, name);
+    let told = hand_out(made, hold, room);
+    *writer = GitwireWriter::of(machine);
+    told
 }
 
 /// Writes a line of the response to `object-info` to the front of the room: the object and its size, or the object alone,
@@ -85,17 +129,26 @@ pub extern "C" fn gitwire_put_wanted(
 #[tactic(auto, using(crate::proofs::Handing::writes))]
 #[unsafe(no_mangle)]
 pub extern "C" fn gitwire_put_info(
+    alloc: Global,
+    writer: &mut GitwireWriter,
     format: u8,
     id: &[u8],
     has_size: bool,
     size: u64,
     room: &mut [u8],
 ) -> GitwireTold
-    ensures { Writes (MeansInfo format id.now has_size size) room.old result room.new }
+    ensures { WritesIn (writer_in writer.old) (Writes (MeansInfo format id.now has_size size)) room.old result room.new (writer_in writer.new) }
 {
-    let mut hold = Hold::new();
-    let made = make_info(&mut hold, format, id, has_size, size);
-    hand_out(made, &hold, room)
+    let Some(mut machine) = writer.take(alloc) else {
+        return GitwireTold::of(What::NoHandle);
+    };
+    let Machine::Writer(hold) = &mut *machine else {
+        unreachable!()
+    };
+    let made = make_info(hold, format, id, has_size, size);
+    let told = hand_out(made, hold, room);
+    *writer = GitwireWriter::of(machine);
+    told
 }
 
 fn make_reference(

@@ -2,7 +2,7 @@
 
 use git_client::Client;
 use git_msg::{Request, RequestStream};
-use git_pkt::PacketReader;
+use git_pkt::{Hold, PacketReader};
 use git_server::{Server, SharedRepo};
 use std::alloc::Global;
 
@@ -15,4 +15,5 @@ pub(crate) enum Machine {
     Repository(SharedRepo),
     Server(Box<Server<SharedRepo, Global>, Global>),
     Client(Box<Client<Global>, Global>),
+    Writer(Box<Hold, Global>),
 }

@@ -55,7 +55,7 @@ fn reader_meant(alloc: Global, offer: GitwireOffer, limit: u32) -> Option<Reques
 }
 
 /// Reads on, to the end of the next request. `Request`, and the handle for requests has it, in the place of what that had before;
-/// `More` with the whole piece used; `Stop` at a flush in the place of a request, after which nothing is read; `Failed` at the
+/// `More` with the whole piece used, or with nothing after a `Stop`; `Stop` at a flush in the place of a request; `Failed` at the
 /// first fault, and again from then on; or `NoHandle`. A handle for requests that has none is given an empty one first;
 /// `OutOfMemory` where there is no memory for that, and then nothing was read.
 #[unsafe(no_mangle)]

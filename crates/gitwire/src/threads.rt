@@ -2,7 +2,7 @@
 
 use crate::handles::{
     GitwireClient, GitwirePacketReader, GitwireRepository, GitwireRequest, GitwireRequestReader,
-    GitwireServer,
+    GitwireServer, GitwireWriter,
 };
 use crate::machine::Machine;
 
@@ -17,4 +17,5 @@ pub fn handles_are_send() {
     is_sent::<GitwireRepository>();
     is_sent::<GitwireServer>();
     is_sent::<GitwireClient>();
+    is_sent::<GitwireWriter>();
 }

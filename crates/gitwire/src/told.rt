@@ -25,7 +25,7 @@ pub struct GitwireTold {
 pub enum What {
     /// All went well.
     Done,
-    /// Nothing is whole yet: the call wants more bytes.
+    /// So many bytes of the piece were used, and nothing else is to be told.
     More,
     /// The library refuses: `fault` says why, and `offset` where.
     Failed,

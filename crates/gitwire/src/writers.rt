@@ -3,9 +3,12 @@
 ghost use Rattle.std.specs.Prelude.{◌≡◌, ◌≢◌, ◌≤◌, ◌++◌, MatchOption, length};
 ghost use Rattle.git_pkt.specs.Bands.{byte_of};
 ghost use Rattle.git_pkt.specs.declared.band.Band.{Band as SideBand};
+ghost use Rattle.gitwire.specs.Handles.{writer_in};
 ghost use Rattle.gitwire.specs.Offers.{offer_meant};
-ghost use Rattle.gitwire.specs.WrittenForC.{Advertises, Makes, MeansBand, MeansError, MeansLine, MeansPacket, Writes};
+ghost use Rattle.gitwire.specs.WrittenForC.{Advertises, Makes, MeansBand, MeansError, MeansLine, MeansPacket, Writes, WritesIn};
 
+use crate::handles::GitwireWriter;
+use crate::machine::Machine;
 use crate::offer::GitwireOffer;
 use crate::packets::LONGEST_PAYLOAD;
 use crate::rooms::fill;
@@ -14,65 +17,134 @@ use crate::written::{Unwritten, hand_out};
 use git_msg::put_line;
 use git_pkt::{Band, Hold, Kind, Packet, put, put_band};
 use git_server::put_advertisement;
+use std::alloc::Global;
 
 /// Writes a packet to the front of the room. Its kind is the number of PAYLOAD, FLUSH, DELIM or RESPONSE_END, of which only
 /// a PAYLOAD has bytes: another number, or bytes where there are none, are BadValue. More than 65,516 bytes are TooLong.
 #[tactic(auto, using(crate::proofs::Handing::writes))]
 #[unsafe(no_mangle)]
-pub extern "C" fn gitwire_put_packet(kind: u8, payload: &[u8], room: &mut [u8]) -> GitwireTold
-    ensures { Writes (MeansPacket kind payload.now) room.old result room.new }
+pub extern "C" fn gitwire_put_packet(
+    alloc: Global,
+    writer: &mut GitwireWriter,
+    kind: u8,
+    payload: &[u8],
+    room: &mut [u8],
+) -> GitwireTold
+    ensures { WritesIn (writer_in writer.old) (Writes (MeansPacket kind payload.now)) room.old result room.new (writer_in writer.new) }
 {
-    let mut hold = Hold::new();
-    let made = make_packet(&mut hold, kind, payload);
-    hand_out(made, &hold, room)
+    let Some(mut machine) = writer.take(alloc) else {
+        return GitwireTold::of(What::NoHandle);
+    };
+    let Machine::Writer(hold) = &mut *machine else {
+        unreachable!()
+    };
+    let made = make_packet(hold, kind, payload);
+    let told = hand_out(made, hold, room);
+    *writer = GitwireWriter::of(machine);
+    told
 }
 
 /// Writes a packet with these bytes on a band, 1, 2 or 3, to the front of the room. Another number is BadValue, and then
 /// more than 65,515 bytes are TooLong.
 #[tactic(auto, using(crate::proofs::Handing::writes))]
 #[unsafe(no_mangle)]
-pub extern "C" fn gitwire_put_band(band: u8, bytes: &[u8], room: &mut [u8]) -> GitwireTold
-    ensures { Writes (MeansBand band bytes.now) room.old result room.new }
+pub extern "C" fn gitwire_put_band(
+    alloc: Global,
+    writer: &mut GitwireWriter,
+    band: u8,
+    bytes: &[u8],
+    room: &mut [u8],
+) -> GitwireTold
+    ensures { WritesIn (writer_in writer.old) (Writes (MeansBand band bytes.now)) room.old result room.new (writer_in writer.new) }
 {
-    let mut hold = Hold::new();
-    let made = make_band(&mut hold, band, bytes);
-    hand_out(made, &hold, room)
+    let Some(mut machine) = writer.take(alloc) else {
+        return GitwireTold::of(What::NoHandle);
+    };
+    let Machine::Writer(hold) = &mut *machine else {
+        unreachable!()
+    };
+    let made = make_band(hold, band, bytes);
+    let told = hand_out(made, hold, room);
+    *writer = GitwireWriter::of(machine);
+    told
 }
 
 /// Writes the packet of a line to the front of the room: the text and LF. More than 65,515 bytes are BadLine.
 #[tactic(auto, using(crate::proofs::Handing::writes))]
 #[unsafe(no_mangle)]
-pub extern "C" fn gitwire_put_line(text: &[u8], room: &mut [u8]) -> GitwireTold
-    ensures { Writes (MeansLine text.now) room.old result room.new }
+pub extern "C" fn gitwire_put_line(
+    alloc: Global,
+    writer: &mut GitwireWriter,
+    text: &[u8],
+    room: &mut [u8],
+) -> GitwireTold
+    ensures { WritesIn (writer_in writer.old) (Writes (MeansLine text.now)) room.old result room.new (writer_in writer.new) }
 {
-    let mut hold = Hold::new();
-    let made = make_line(&mut hold, b"", text);
-    hand_out(made, &hold, room)
+    let Some(mut machine) = writer.take(alloc) else {
+        return GitwireTold::of(What::NoHandle);
+    };
+    let Machine::Writer(hold) = &mut *machine else {
+        unreachable!()
+    };
+    let made = make_line(hold, b"", text);
+    let told = hand_out(made, hold, room);
+    *writer = GitwireWriter::of(machine);
+    told
 }
 
 /// Writes an error packet, gitprotocol-pack(5), to the front of the room: `ERR `, the text and LF. More than 65,511 bytes
 /// are BadLine.
 #[tactic(auto, using(crate::proofs::Handing::writes))]
 #[unsafe(no_mangle)]
-pub extern "C" fn gitwire_put_error(text: &[u8], room: &mut [u8]) -> GitwireTold
-    ensures { Writes (MeansError text.now) room.old result room.new }
+pub extern "C" fn gitwire_put_error(
+    alloc: Global,
+    writer: &mut GitwireWriter,
+    text: &[u8],
+    room: &mut [u8],
+) -> GitwireTold
+    ensures { WritesIn (writer_in writer.old) (Writes (MeansError text.now)) room.old result room.new (writer_in writer.new) }
 {
-    let mut hold = Hold::new();
-    let made = make_line(&mut hold, b"ERR ", text);
-    hand_out(made, &hold, room)
+    let Some(mut machine) = writer.take(alloc) else {
+        return GitwireTold::of(What::NoHandle);
+    };
+    let Machine::Writer(hold) = &mut *machine else {
+        unreachable!()
+    };
+    let made = make_line(hold, b"ERR ", text);
+    let told = hand_out(made, hold, room);
+    *writer = GitwireWriter::of(machine);
+    told
 }
 
 /// Writes the whole advertisement of an offer, packet after packet to its flush, to the front of the room: fewer than 200
 /// bytes. An object format that is none is BadValue.
 #[unsafe(no_mangle)]
-pub extern "C" fn gitwire_put_advertisement(offer: GitwireOffer, room: &mut [u8]) -> GitwireTold
+pub extern "C" fn gitwire_put_advertisement(
+    alloc: Global,
+    writer: &mut GitwireWriter,
+    offer: GitwireOffer,
+    room: &mut [u8],
+) -> GitwireTold
+    ensures { WritesIn (writer_in writer.old) (Advertises (offer_meant offer)) room.old result room.new (writer_in writer.new) }
+{
+    let Some(mut machine) = writer.take(alloc) else {
+        return GitwireTold::of(What::NoHandle);
+    };
+    let Machine::Writer(hold) = &mut *machine else {
+        unreachable!()
+    };
+    let told = advertise(hold, offer, room);
+    *writer = GitwireWriter::of(machine);
+    told
+}
+
+fn advertise(hold: &mut Hold, offer: GitwireOffer, room: &mut [u8]) -> GitwireTold
     ensures { Advertises (offer_meant offer) room.old result room.new }
 {
     let Some(offer) = offer.meant() else {
         return GitwireTold::of(What::BadValue);
     };
-    let mut hold = Hold::new();
-    put_advertisement(&mut hold, &offer);
+    put_advertisement(hold, &offer);
     fill(hold.as_slice(), room)
 }
 

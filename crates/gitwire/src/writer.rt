@@ -1,0 +1,36 @@
+//! A writer of packets that C holds: a buffer for one packet.
+
+ghost use Rattle.std.specs.Prelude.{◌≡◌, None};
+ghost use Rattle.gitwire.specs.Handles.{writer_in};
+ghost use Rattle.gitwire.specs.WrittenForC.{BeginsToWrite};
+
+use crate::handles::GitwireWriter;
+use crate::machine::Machine;
+use crate::told::What;
+use git_pkt::Hold;
+use std::alloc::Global;
+use std::mem::replace;
+
+/// Makes the handle's writer a new one. What it had before is freed. `Done`; or `OutOfMemory`, and the handle has none.
+#[unsafe(no_mangle)]
+pub extern "C" fn gitwire_writer_new(alloc: Global, writer: &mut GitwireWriter) -> u8
+    ensures { BeginsToWrite result (writer_in writer.new) }
+{
+    *writer = GitwireWriter::none(alloc);
+    let Ok(made) = Box::new(alloc, Hold::new()) else {
+        return What::OutOfMemory.number();
+    };
+    let Ok(made) = Box::new(alloc, Machine::Writer(made)) else {
+        return What::OutOfMemory.number();
+    };
+    *writer = GitwireWriter::of(made);
+    What::Done.number()
+}
+
+/// Frees the writer. The handle has none from then on.
+#[unsafe(no_mangle)]
+pub extern "C" fn gitwire_writer_free(alloc: Global, writer: &mut GitwireWriter)
+    ensures { writer_in writer.new ≡ None }
+{
+    drop(replace(writer, GitwireWriter::none(alloc)));
+}
