@@ -34,7 +34,7 @@ const BAD_COMMAND_LINE: u8 = 2;
 /// What stands below the list of commands: what a status says, and the one fault line whose word needs it.
 const STATUSES: &str =
     "Status: 0 where all went well; 1 with one line on standard error where a stream or a file is at fault; 2 where the command line is.
-A fault is told by name and offset. `File` alone is a file that cannot be opened or read.";
+A fault is told by name and offset. `File` alone is a file that cannot be opened, or a text, pack or script that cannot be read.";
 
 /// The object formats, as the command line names them.
 static FORMATS: [&str; 2] = ["sha1", "sha256"];
@@ -122,7 +122,7 @@ fn play_command<'a>(alloc: Global) -> Result<Command<'a>, AllocError> {
 fn with_repository<'a>(alloc: Global, command: Command<'a>) -> Result<Command<'a>, AllocError> {
     command
         .arg(file_argument(alloc, "repo").help(
-            "Text that lists the references and the objects, one to a line",
+            "Text that lists the references, the objects and where the history is cut off, one to a line",
         ))?
         .arg(file_argument(alloc, "pack").help("Pack for answers to fetch"))
 }

@@ -34,7 +34,7 @@ pub enum ProgramFault {
     /// A script is bad from this line on, counted from 1.
     #[error("BadScript at {0}")]
     Script(u64),
-    /// A file cannot be opened, or cannot be read whole where it is read whole.
+    /// A file cannot be opened, or a repository text, a pack or a script cannot be read.
     #[error("File")]
     File,
     /// Memory ran out, also for the reading of the command line.

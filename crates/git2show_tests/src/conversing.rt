@@ -160,17 +160,22 @@ fn failing_streams_are_told_with_a_front_of_what_was_given(rt: HostRuntime) -> R
     Ok(())
 }
 
-/// The answer to the second request is an error packet: what was heard before it has been passed on by then.
+/// A fatal error ends the pack of the second request: what was heard before it has been passed on by then.
 #[test]
 fn what_came_before_a_fault_is_flushed(rt: HostRuntime) -> Result<(), Fail> {
     let [advertisement, references, _] = ANSWERS;
-    let answers = joined(&rt, &[advertisement, references, b"000dERR nope\n"])?;
+    let answer = b"000dpackfile\n0007\x01AB0008\x03bad";
+    let answers = joined(&rt, &[advertisement, references, answer])?;
     let fault = Fault {
-        kind: Kind::RemoteError,
-        offset: 125,
+        kind: Kind::RemoteFatal,
+        offset: 145,
     };
     let mut said = Vec::new(rt.alloc());
     let mut out = Held {
+        waiting: Vec::new(rt.alloc()),
+        passed: Vec::new(rt.alloc()),
+    };
+    let mut pack = Held {
         waiting: Vec::new(rt.alloc()),
         passed: Vec::new(rt.alloc()),
     };
@@ -182,13 +187,15 @@ fn what_came_before_a_fault_is_flushed(rt: HostRuntime) -> Result<(), Fail> {
         &mut client,
         requests(&rt, SCRIPT)?,
         &mut Told::new(&mut out),
-        &mut Told::new(Vec::new(rt.alloc())),
+        &mut Told::new(&mut pack),
         TURNS,
     );
     assert_eq!(rt; got, Err(RunFault::Refused(fault)));
     assert_eq!(rt; said.as_slice(), joined(&rt, &SAID[..2])?.as_slice());
     assert!(rt; out.waiting.is_empty());
     assert!(rt; out.passed.ends_with(b"end 0 0\nrequest fetch\n"));
+    assert!(rt; pack.waiting.is_empty());
+    assert_eq!(rt; pack.passed.as_slice(), b"AB".as_slice());
     Ok(())
 }
 

@@ -73,6 +73,7 @@ fn lines_are_flushed_before_the_next_read(rt: HostRuntime) -> Result<(), Fail> {
     let got = show(&mut reader, &mut Told::new(&mut sink), &mut piece, TURNS);
     assert_eq!(rt; got, Ok(()));
     assert_eq!(rt; sink.flushes, 3);
+    assert_eq!(rt; sink.flushed, sink.taken.len());
     Ok(())
 }
 

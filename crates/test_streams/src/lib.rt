@@ -14,6 +14,7 @@ pub struct Stream<'a> {
 }
 
 impl<'a> Stream<'a> {
+    /// A reader of these bytes, of which no read was made yet.
     pub fn new(rest: &'a [u8], step: usize, failing: u32) -> Stream<'a> {
         Stream {
             rest,
@@ -53,6 +54,7 @@ pub struct Sink {
 }
 
 impl Sink {
+    /// A writer after these bytes, which fails as a broken pipe does, and whose flushes do not fail.
     pub fn new(taken: Vec<u8>, step: usize, failing: u32) -> Sink {
         Sink {
             taken,
@@ -100,6 +102,7 @@ pub struct Pieces<'a> {
 }
 
 impl<'a> Pieces<'a> {
+    /// A reader of these pieces, from the first on.
     pub fn new(pieces: &'a [&'a [u8]]) -> Pieces<'a> {
         Pieces {
             pieces,
