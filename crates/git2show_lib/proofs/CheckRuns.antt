@@ -439,8 +439,8 @@ module _ (A : Type 0) (t : Terms) (limit : ℕ) {Q R : Type 0} (of_requests : To
     hearing_stopped ReadFault piece turns written F W step told shown =
         heard_up_to (Err CheckReadFault) [] step.hears
         (λ h stands all_asked. inl (record { all_asked = all_asked; interrupted = interrupted t h new stands step.due }, told.0))
-    hearing_stopped WriteFault piece turns written F W (unused, step) told shown =
-        heard_up_to (Err CheckWriteFault) unused step (λ h stands all_asked. all_asked)
+    hearing_stopped WriteFault piece turns written F W step told shown =
+        heard_up_to (Err CheckWriteFault) step.unused step.hears (λ h stands all_asked. all_asked)
     hearing_stopped ReadLimit piece turns written F W step told shown =
         heard_up_to (Err CheckReadLimit) [] step.hears
         (λ h stands all_asked. inl (record { all_asked = all_asked; interrupted = interrupted t h new stands step.due }, shown.open_ended))

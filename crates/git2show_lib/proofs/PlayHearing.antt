@@ -3,6 +3,8 @@ use Rattle.std.proofs.Common.{arith, ℕ, ◌+◌, ◌≤◌, Bool, true, false,
 use Rattle.std.proofs.Common.{Err, sym, ap, subst, length-drop}
 use Rattle.std.proofs.lemmas.List.{length-take, take_min}
 use Rattle.git_pkt.specs.Streams.{Flow, flow}
+use Rattle.git_pkt.specs.PacketReader.{ShownByFeed}
+use Rattle.git_pkt.specs.declared.fault.Fault.{Fault}
 use Rattle.git_pkt.specs.declared.fault.RunFault.{RunFault}
 use Rattle.git_pkt.specs.declared.fault.RunFault.TheVariants.{ReadFault, WriteFault, ReadLimit, Refused}
 use Rattle.git_pkt.proofs.Pieces.{left_of}
@@ -42,28 +44,34 @@ module _ {A : Type 0} where
           so_far.goes step.goes);
     }
 
+    -- a fault that a piece shows is one that the packet shows
+    shown_on : (fault : Fault) (u : ℕ) → ShownByFeed fault u (next_piece packet done k)
+        → ShownByFeed fault (done + min u (length (next_piece packet done k))) packet
+    shown_on fault u shown = record {
+      not_the_end = shown.not_the_end;
+      one_more = λ late. omega (
+        arith,
+        shown.one_more late,
+        length-take k (left_after packet done),
+        ap length (left_of packet done within),
+        length-drop done packet,
+      );
+    }
+
     -- the hearing of a piece stopped
     pub hearing_stopped : (out_after pack_after : Option (List ℕ)) (fault : RunFault)
         → HearsPieceTo (Err fault) b c now after (next_piece packet done k) (flow out out_after) (flow pack pack_after)
         → HearsPieceTo (Err fault) old c counts after packet (flow out_before out_after) (flow pack_before pack_after)
     hearing_stopped out_after pack_after ReadFault step = absurd step
     hearing_stopped out_after pack_after ReadLimit step = absurd step
-    hearing_stopped out_after pack_after WriteFault (u, step) = (
-      done + min u (length (next_piece packet done k)),
-      heard_on true (min u (length (next_piece packet done k))) (omega arith) (within_piece true b c now after _ u _ _ step),
-    )
+    hearing_stopped out_after pack_after WriteFault step = record {
+      used = done + min step.used (length (next_piece packet done k));
+      hears = heard_on true (min step.used (length (next_piece packet done k))) (omega arith) (within_piece true b c now after _ step.used _ _ step.hears);
+      shown = λ fault failed. shown_on fault step.used (step.shown fault failed);
+    }
     hearing_stopped out_after pack_after (Refused fault) step = record {
       used = done + min step.used (length (next_piece packet done k));
       hears = heard_on false (min step.used (length (next_piece packet done k))) (omega arith) (within_piece false b c now after _ step.used _ _ step.hears);
       told = step.told;
-      shown = record {
-        not_the_end = step.shown.not_the_end;
-        one_more = λ late. omega (
-          arith,
-          step.shown.one_more late,
-          length-take k (left_after packet done),
-          ap length (left_of packet done within),
-          length-drop done packet,
-        );
-      };
+      shown = shown_on fault step.used step.shown;
     }

@@ -122,7 +122,7 @@ module _ {R A : Type 0} (state : R → RepoState) where
         → HearsServerTo state (Err fault) old c counts after server new (flow told_before told_after) (flow sent_before sent_after)
     meeting_stopped ReadFault step = absurd step
     meeting_stopped ReadLimit step = absurd step
-    meeting_stopped WriteFault (u, step) = (drop u bytes.now, hears_packet true u step)
+    meeting_stopped WriteFault step = (drop step.used bytes.now, hears_packet true step.used step.hears)
     meeting_stopped (RefusedRun fault) step = (
       drop step.used bytes.now,
       record {

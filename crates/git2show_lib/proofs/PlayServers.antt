@@ -116,7 +116,8 @@ module _ {R A : Type 0} (state : R → RepoState) where
         → HearsMessageTo state (Err fault) alone old new server after (flow told_before told_after) (flow sent_before sent_after)
     end_stopped new now told_after sent_after ReadFault step = absurd step
     end_stopped new now told_after sent_after ReadLimit step = absurd step
-    end_stopped new now told_after sent_after WriteFault (n, step) = (now, drop n end_bytes, end_heard true new now told_after sent_after n step)
+    end_stopped new now told_after sent_after WriteFault step =
+        (now, drop step.used end_bytes, end_heard true new now told_after sent_after step.used step.hears)
     end_stopped new now told_after sent_after (RefusedRun fault) step = (
       false,
       now,

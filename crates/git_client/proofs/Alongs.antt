@@ -1,15 +1,16 @@
 -- The steps of a run, one after another: what was written, and how the history goes on.
-use Rattle.std.proofs.Common.{arith, ◌≡◌, ℕ, Bool, true, false, List, [], ◌++◌, Option}
+use Rattle.std.proofs.Common.{arith, ◌≡◌, ℕ, Bool, true, false, List, [], ◌++◌, Option, Some, None}
 use Rattle.std.proofs.Common.{Result, Err, IsErrAnd, sym, ap, ◌∙◌, subst, append_assoc, append-nil}
 use Rattle.std.proofs.lemmas.Result.{err_from_is_err_and}
 use Rattle.std.proofs.KnownBytes.{Appends-nil, Appends-trans}
+use Rattle.git_pkt.specs.declared.fault.Fault.{Fault}
 use Rattle.git_pkt.specs.declared.fault.RunFault.{RunFault}
 use Rattle.git_pkt.proofs.EngineLemmas.{AppendsFront-after}
 use Rattle.git_client.specs.Events.{EventValue}
 use Rattle.git_client.specs.Parts.{Terms}
-use Rattle.git_pkt.specs.Streams.{Flow, flow, WrittenAs}
-use Rattle.git_client.specs.Client.{History}
-use Rattle.git_client.specs.RunSteps.{counted, Along, GoesAlong}
+use Rattle.git_pkt.specs.Streams.{Flow, flow, WrittenAs, IsTimely}
+use Rattle.git_client.specs.Client.{History, fault_of}
+use Rattle.git_client.specs.RunSteps.{counted, Along, GoesAlong, FaultsInTime}
 use Rattle.git_client.specs.declared.client.Client.{Client}
 use Rattle.git_client.specs.declared.hearing.Counts.{Counts}
 use Rattle.git_client.proofs.Counting.{counted_nothing, counted_then}
@@ -74,3 +75,13 @@ module _ {A : Type 0} where
             (append_assoc packed p1 p2) at))),
         risen_on ∙ ap (λ (n : Counts). counted n later) risen ∙ counted_then k now later,
       )
+
+  -- ---- the fault of the client
+
+  pub in_time_where_sound : (client : Client A) (ended : Bool) (unused : List ℕ) → fault_of client ≡ None → FaultsInTime client ended unused
+  in_time_where_sound client ended unused sound fault failed = absurd (cc)
+
+  pub in_time_where_told : (client : Client A) (fault : Fault) (ended : Bool) (unused : List ℕ) → fault_of client ≡ Some fault
+      → IsTimely fault.kind ended unused → FaultsInTime client ended unused
+  in_time_where_told client fault ended unused told timely met failed =
+      let same : fault ≡ met = cc in subst (λ (f : Fault). IsTimely f.kind ended unused) same timely

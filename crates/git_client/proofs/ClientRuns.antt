@@ -1,5 +1,5 @@
 -- A run of a client over its streams so far, and what it comes to at each of its ends.
-use Rattle.std.proofs.Common.{arith, ◌≡◌, inl, inr, ℕ, Bool, true, false, List, [], ◌∷◌, ◌++◌, Option, Some}
+use Rattle.std.proofs.Common.{arith, ◌≡◌, inl, inr, ℕ, Bool, true, false, List, [], ◌∷◌, ◌++◌, Option, Some, None}
 use Rattle.std.proofs.Common.{◌||◌, IsTrue, Result, Ok, Err, is_err, IfErr, IsErrAnd, refl, sym, ap, ◌∙◌, subst, append_assoc, append-nil}
 use Rattle.std.proofs.Math.Bool.{or-false}
 use Rattle.std.proofs.lemmas.Bool.{or_from, or_left}
@@ -20,10 +20,10 @@ use Rattle.git_client.specs.Parts.{Terms}
 use Rattle.git_client.specs.Events.{EventValue, pack_bytes}
 use Rattle.git_client.specs.Transcript.{transcript_of}
 use Rattle.git_client.specs.Turns.{takes_packets, fault_in, is_ready}
-use Rattle.git_client.specs.Client.{History, Converses, Leaves, nothing_yet, ask_checks, caps_of, ending_of, can_ask, wants_input}
+use Rattle.git_client.specs.Client.{History, Converses, Leaves, nothing_yet, ask_checks, caps_of, ending_of, can_ask, fault_of, wants_input}
 use Rattle.git_client.specs.Client.{left_to_say, phase_of, request_of}
 use Rattle.git_pkt.specs.Streams.{Flow, flow, WrittenAs, Moves, is_broken}
-use Rattle.git_client.specs.RunSteps.{IsTold, Along, HearsBytes, HearsTo, Says, AsksNext, AsksTo, no_counts}
+use Rattle.git_client.specs.RunSteps.{IsTold, Along, HearsBytes, HearsTo, Says, AsksNext, AsksTo, FaultsInTime, no_counts}
 use Rattle.git_client.specs.Runs.{leaves_last, HasSaid, IsInterrupted, IsWholeRun, EndsAs, Conversed}
 use Rattle.git_client.specs.declared.phase.Phase.{Phase}
 use Rattle.git_client.specs.declared.phase.Phase.TheVariants.{Hearing, Ready, Failed}
@@ -31,9 +31,9 @@ use Rattle.git_client.specs.declared.client.Client.{Client}
 use Rattle.git_client.specs.declared.events.Ending.{Ending}
 use Rattle.git_client.specs.declared.events.Ending.TheVariants.{FlushOnly, ResponseEnd}
 use Rattle.git_client.specs.declared.hearing.Counts.{Counts}
-use Rattle.git_client.proofs.Alongs.{written_nothing, written_then, written_whole, in_part}
+use Rattle.git_client.proofs.Alongs.{written_nothing, written_then, written_whole, in_part, in_time_where_sound, in_time_where_told}
 use Rattle.git_client.proofs.Carries.{is_quiet, not_left, owes_nothing}
-use Rattle.git_client.proofs.Phases.{not_ready_where_due}
+use Rattle.git_client.proofs.Phases.{not_ready_where_due, sound_where_due, sound_where_ready}
 use Rattle.git_client.proofs.EventsHeard.{has_noted, awaits_more, is_whole, position_is, all_is_said}
 use Rattle.git_client.proofs.Faults.{first_fault}
 use Rattle.git_client.proofs.AskedInTurn.{AskedInTurn, asked_in_turn, has_asked, heard_in_turn, none_in_turn}
@@ -312,6 +312,10 @@ module _ {A : Type 0} (t : Terms) where
         said = quietly_said h client stands quiet;
       }
 
+  -- a client that waits for bytes has no fault
+  due_in_time : (ended : Bool) (client : Client A) → wants_input client ≡ true → FaultsInTime client ended []
+  due_in_time ended client due = in_time_where_sound client ended [] (sound_where_due (phase_of client) due)
+
   module _ (requests : List (Request A)) where
     -- how a run with this answer moved its streams
     abbrev pub RunEnds : Result (Unit {0}) RunFault → Bool → Client A → Flow → Flow → Flow → Flow → Type 0
@@ -336,8 +340,8 @@ module _ {A : Type 0} (t : Terms) where
     module _ (front rest : List (Request A)) (split : requests ≡ front ++ rest) where
       moves : (result : Result (Unit {0}) RunFault) (ended : Bool) (h : History) (client : Client A) (unused : List ℕ) {reader writer out pack : Flow}
           → Ran (is_broken result) t h front client unused reader writer out pack → EndsAs t result ended unused rest h
-          → RunEnds result ended client reader writer out pack
-      moves result ended h client unused r ends = record {
+          → FaultsInTime client ended unused → RunEnds result ended client reader writer out pack
+      moves result ended h client unused r ends timely = record {
         used = (h.used ++ unused) ∷ [];
         given = h.given ∷ transcript_of h.asked h.events ∷ pack_bytes h.events ∷ [];
         read = (r.read, tt);
@@ -351,18 +355,22 @@ module _ {A : Type 0} (t : Terms) where
           stands = r.stands;
           asked = has_asked t requests front rest h split r.in_turn;
           ends = ends;
+          timely = timely;
         };
       }
 
       -- a write failed
       pub breaks_off : (ended : Bool) (client : Client A) (counts : Counts) (unused : List ℕ) {reader writer out pack : Flow}
-          → Running true t front client counts unused reader writer out pack → RunEnds (Err WriteFault) ended client reader writer out pack
-      breaks_off ended client counts unused r = moves (Err WriteFault) ended r.h client unused (ran r) tt
+          → FaultsInTime client ended unused → Running true t front client counts unused reader writer out pack
+          → RunEnds (Err WriteFault) ended client reader writer out pack
+      breaks_off ended client counts unused timely r = moves (Err WriteFault) ended r.h client unused (ran r) tt timely
 
       -- a flush failed
       pub breaks_unflushed : (ended : Bool) (client : Client A) (counts : Counts) (unused : List ℕ) {reader writer out pack : Flow}
-          → Running false t front client counts unused reader writer out pack → RunEnds (Err WriteFault) ended client reader writer out pack
-      breaks_unflushed ended client counts unused r = moves (Err WriteFault) ended r.h client unused (ran_in_part t (ran r)) tt
+          → fault_of client ≡ None → Running false t front client counts unused reader writer out pack
+          → RunEnds (Err WriteFault) ended client reader writer out pack
+      breaks_unflushed ended client counts unused sound r =
+          moves (Err WriteFault) ended r.h client unused (ran_in_part t (ran r)) tt (in_time_where_sound client ended unused sound)
 
       -- a response was not heard to its end
       pub hearing_stopped : (fault : RunFault) (ended : Bool) (old new : Client A) (waiting piece : List ℕ) {writer : Flow}
@@ -372,12 +380,12 @@ module _ {A : Type 0} (t : Terms) where
           → RunEnds (Err fault) ended new (flow left_before left_after) writer (flow out_before out_after) (flow pack_before pack_after)
       hearing_stopped ReadFault ended old new waiting piece r step =
           let on = hears_on t false front old new waiting [] r step.hears in
-          moves (Err ReadFault) ended on.h new [] (ran on) (interrupted on.h new on.along.stands step.due)
-      hearing_stopped WriteFault ended old new waiting piece r (unused, step) =
-          breaks_off ended new step.counts unused (hears_on t true front old new waiting unused r step)
+          moves (Err ReadFault) ended on.h new [] (ran on) (interrupted on.h new on.along.stands step.due) (due_in_time ended new step.due)
+      hearing_stopped WriteFault ended old new waiting piece r step =
+          breaks_off ended new step.hears.counts step.unused step.timely (hears_on t true front old new waiting step.unused r step.hears)
       hearing_stopped ReadLimit ended old new waiting piece r step =
           let on = hears_on t false front old new waiting [] r step.hears in
-          moves (Err ReadLimit) ended on.h new [] (ran on) (interrupted on.h new on.along.stands step.due)
+          moves (Err ReadLimit) ended on.h new [] (ran on) (interrupted on.h new on.along.stands step.due) (due_in_time ended new step.due)
       hearing_stopped (Refused fault) ended old new waiting piece r step =
           let on = hears_on t false front old new waiting step.unused r step.hears in
           let quiet = quiet_where_failed (phase_of new) fault step.told in
@@ -385,7 +393,7 @@ module _ {A : Type 0} (t : Terms) where
             inl (record { first = first_fault t on.h new fault on.along.stands step.told; timely = step.timely }),
             stayed on.h new on.along.stands quiet,
             quietly_said on.h new on.along.stands quiet,
-          )
+          ) (in_time_where_told new fault ended step.unused step.told step.timely)
 
     -- a request was not asked, or a write failed while it was
     pub asking_stopped : (fault : RunFault) (ended : Bool) (front later : List (Request A)) (request : Request A) (old new : Client A)
@@ -397,7 +405,7 @@ module _ {A : Type 0} (t : Terms) where
     asking_stopped ReadFault ended front later request old new counts unused split ready r step = absurd step
     asking_stopped WriteFault ended front later request old new counts unused split ready r step =
         breaks_off (front ++ request ∷ []) later (split ∙ sym (append_assoc front (request ∷ []) later)) ended new no_counts unused
-        (asks_on t true front old new request counts unused r ready step)
+        (in_time_where_sound new ended unused step.sound) (asks_on t true front old new request counts unused r ready step)
     asking_stopped ReadLimit ended front later request old new counts unused split ready r step = absurd step
     asking_stopped (Refused fault) ended front later request old new counts unused {reader} {pack} {writer_before = w0} {writer_held = w1} {writer_after = w2}
         {out_before = o0} {out_held = o1} {out_after = o2} split ready r step =
@@ -426,7 +434,7 @@ module _ {A : Type 0} (t : Terms) where
           }),
           stayed r.h old stands (quiet_where_ready (phase_of old) ready),
           quietly_said r.h old stands (quiet_where_ready (phase_of old) ready),
-        ))
+        ) (in_time_where_sound old ended unused (sound_where_ready (phase_of old) ready)))
 
     -- ---- all requests were asked, and each response is whole
 
@@ -435,11 +443,13 @@ module _ {A : Type 0} (t : Terms) where
       finishes : (result : Result (Unit {0}) RunFault) (ended : Bool) (h : History) (client : Client A) (unused : List ℕ) {reader out pack : Flow}
           {before held after : Option (List ℕ)} → IfErr result (λ fault. fault ≡ WriteFault)
           → Ran false t h front client unused reader (flow before held) out pack → Keeps held after → IsWholeRun {A = A} t [] h
-          → RunEnds result ended client reader (flow before after) out pack
-      finishes (Ok done) ended h client unused named r kept whole = moves front [] split (Ok done) ended h client unused (ran_flushed t r kept) whole
-      finishes (Err fault) ended h client unused {reader} {out} {pack} {before} {held} {after} named r kept whole =
+          → fault_of client ≡ None → RunEnds result ended client reader (flow before after) out pack
+      finishes (Ok done) ended h client unused named r kept whole sound =
+          moves front [] split (Ok done) ended h client unused (ran_flushed t r kept) whole (in_time_where_sound client ended unused sound)
+      finishes (Err fault) ended h client unused {reader} {out} {pack} {before} {held} {after} named r kept whole sound =
           subst (λ (f : RunFault). RunEnds (Err f) ended client reader (flow before after) out pack) (sym named)
-          (moves front [] split (Err WriteFault) ended h client unused (ran_in_part t (ran_flushed t r kept)) tt)
+          (moves front [] split (Err WriteFault) ended h client unused (ran_in_part t (ran_flushed t r kept)) tt
+          (in_time_where_sound client ended unused sound))
 
       -- each request has a connection of its own, and the client does not leave
       pub stays_to_the_end : (result : Result (Unit {0}) RunFault) (ended : Bool) (client : Client A) (counts : Counts) (unused : List ℕ)
@@ -454,7 +464,7 @@ module _ {A : Type 0} (t : Terms) where
             whole = is_whole t r.h client stands ready;
             leaves = stands.left ∙ not_left (phase_of client) quiet ∙ sym (stays_last t.ending (λ last. other (stands.ending_is ∙ last)));
             said = quietly_said r.h client stands quiet;
-          })
+          }) (sound_where_ready (phase_of client) ready)
 
       module _ (old mid new : Client A) (counts : Counts) (unused : List ℕ) (ready : can_ask old ≡ true) (leaving : Leaves old mid) where
         -- the client left, but a write failed
@@ -463,6 +473,7 @@ module _ {A : Type 0} (t : Terms) where
             → RunEnds (Err WriteFault) ended new reader (flow before after) out pack
         leaving_stopped ended r step =
             moves front [] split (Err WriteFault) ended _ new unused (leaves_on t true front old mid new counts unused r leaving step) tt
+            (in_time_where_sound new ended unused step.sound)
 
         -- the client left, and said so
         pub leaves_at_the_end : (result : Result (Unit {0}) RunFault) (ended : Bool) {reader out pack : Flow} {before held flushed after : Option (List ℕ)}
@@ -477,4 +488,4 @@ module _ {A : Type 0} (t : Terms) where
               whole = is_whole t r.h old stands ready;
               leaves = ap leaves_last (sym last ∙ stands.ending_is);
               said = has_said _ new at.stands (step.all refl);
-            })
+            }) step.sound

@@ -1,10 +1,11 @@
 -- The bytes of a response, heard a piece at a time: what all pieces so far come to, and what each end of a hearing says of them.
-use Rattle.std.proofs.Common.{arith, ◌≡◌, ℕ, ◌+◌, ◌-◌, ◌≤◌, Bool, true, false, List, [], ◌++◌, length, take, drop, Option, Some}
+use Rattle.std.proofs.Common.{arith, ◌≡◌, ℕ, ◌+◌, ◌-◌, ◌≤◌, Bool, true, false, List, [], ◌++◌, length, take, drop, Option, Some, None}
 use Rattle.std.proofs.Common.{Result, Err, IsErrAnd, refl, sym, ap, ◌∙◌, subst, append_assoc, append-nil, length-drop, take-append-drop}
 use Rattle.std.proofs.lemmas.Grind.{common_steps}
 use Rattle.std.proofs.lemmas.List.{drop-take, drop-drop, length-take}
 use Rattle.std.specs.Io.KnownBytes.{Consumes, Keeps}
 use Rattle.std.proofs.KnownBytes.{Consumes-nil, Consumes-trans, Consumes-kept}
+use Rattle.git_pkt.specs.PacketReader.{ShownByFeed}
 use Rattle.git_pkt.specs.declared.fault.Fault.{Fault}
 use Rattle.git_pkt.specs.declared.fault.Kind.{Kind}
 use Rattle.git_pkt.specs.declared.fault.Kind.TheVariants.{Truncated}
@@ -13,12 +14,12 @@ use Rattle.git_pkt.specs.declared.fault.RunFault.TheVariants.{ReadFault, WriteFa
 use Rattle.git_pkt.specs.Streams.{Flow, flow, WrittenAs, IsTimely}
 use Rattle.git_pkt.proofs.EngineLemmas.{timely}
 use Rattle.git_client.specs.Client.{HearsOn, fault_of, phase_of, wants_input}
-use Rattle.git_client.specs.RunSteps.{no_counts, window_of, GoesAlong, HearsPiece, HearsPieceTo, HearsBytes, HearsFault, HearsTo}
+use Rattle.git_client.specs.RunSteps.{no_counts, window_of, GoesAlong, HearsPiece, HearsPieceTo, HearsBytes, HearsBroken, HearsFault, HearsTo}
 use Rattle.git_client.specs.declared.client.Client.{Client}
 use Rattle.git_client.specs.declared.hearing.Counts.{Counts}
 use Rattle.git_client.specs.declared.hearing.Window.{Window}
 use Rattle.git_client.proofs.Phases.{not_ready_where_failed}
-use Rattle.git_client.proofs.Alongs.{written_nothing, written_then, in_part, at_fault, along_nothing, along_then}
+use Rattle.git_client.proofs.Alongs.{written_nothing, written_then, in_part, at_fault, along_nothing, along_then, in_time_where_sound}
 use Rattle.git_client.proofs.HearingSteps.{goes_quietly}
 
 -- ---- the bytes of a window
@@ -45,6 +46,11 @@ rest_of_window start end used piece within =
     let same : end - start - used ≡ end - (start + used) = omega arith in
     rest_of_front (end - start) used (drop start piece) within ∙ ap (λ (n : ℕ). take n (drop used (drop start piece))) same
     ∙ ap (take (end - (start + used))) (drop-drop used start piece)
+
+-- a fault that a piece shows came in time
+shown_in_time : (fault : Fault) (ended : Bool) (used : ℕ) (piece : List ℕ) → ShownByFeed fault used piece → IsTimely fault.kind ended (drop used piece)
+shown_in_time fault ended used piece shown =
+    timely fault.kind ended (drop used piece) shown.not_the_end (λ long. omega (arith, shown.one_more long, length-drop used piece))
 
 -- ---- all pieces so far
 
@@ -76,6 +82,12 @@ module _ {A : Type 0} where
     sent = so_far.sent;
     goes = so_far.goes;
   }
+
+  -- a flush failed where the client has no fault
+  pub hears_unflushed : {old new : Client A} {counts : Counts} {waiting unused : List ℕ} {reader out packs : Flow} (ended : Bool)
+      → fault_of new ≡ None → HeardSoFar true old new counts waiting unused reader out packs → HearsBroken ended old new waiting reader out packs
+  hears_unflushed {new = new} {unused = unused} ended sound so_far =
+      record { unused = unused; hears = hears_bytes so_far; timely = in_time_where_sound new ended unused sound }
 
   -- what a `?` answers is the fault that it met
   pub hears_at : (result : Result Window RunFault) (fault met : RunFault) (ended : Bool) (old new : Client A) (waiting buffer : List ℕ)
@@ -165,15 +177,17 @@ module _ {A : Type 0} where
         → HearsPieceTo (Err fault) middle new counts counts_after piece (flow told told_after) (flow sent sent_after)
         → HearsTo (Err fault) ended old new waiting buffer (flow left_before left_after) (flow told_before told_after) (flow sent_before sent_after)
     heard_until ReadFault ended new counts_after came piece buffer left_after told_after sent_after read is step = absurd step
-    heard_until WriteFault ended new counts_after came piece buffer left_after told_after sent_after read is (used, hears) =
-        (drop used piece, hears_bytes (heard_on came read is refl hears))
+    heard_until WriteFault ended new counts_after came piece buffer left_after told_after sent_after read is step = record {
+      unused = drop step.used piece;
+      hears = hears_bytes (heard_on came read is refl step.hears);
+      timely = λ fault failed. shown_in_time fault ended step.used piece (step.shown fault failed);
+    }
     heard_until ReadLimit ended new counts_after came piece buffer left_after told_after sent_after read is step = absurd step
     heard_until (Refused fault) ended new counts_after came piece buffer left_after told_after sent_after read is step = record {
       unused = drop step.used piece;
       hears = hears_bytes (heard_on came read is refl step.hears);
       told = step.told;
-      timely = timely fault.kind ended (drop step.used piece) step.shown.not_the_end
-          (λ long. omega (arith, step.shown.one_more long, length-drop step.used piece));
+      timely = shown_in_time fault ended step.used piece step.shown;
     }
 
     -- the input ended where more was due

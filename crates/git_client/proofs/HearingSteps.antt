@@ -1,6 +1,7 @@
 -- What a call of `feed` adds to the transcript and to the pack, and what it comes to over a piece.
 use Rattle.std.proofs.Common.{arith, ◌≡◌, ℕ, suc, ◌+◌, ◌-◌, ◌≤◌, ◌<◌, Bool, true, false, List, [], ◌∷◌, ◌++◌, length, map, take, drop}
-use Rattle.std.proofs.Common.{Option, None, Result, Err, refl, sym, ap, ◌∙◌, subst, append_assoc, append-nil, length-append, length-drop}
+use Rattle.std.proofs.Common.{Option, Some, None, Result, Err, refl, sym, ap, ◌∙◌, subst, append_assoc, append-nil, length-append, length-drop}
+use Rattle.git_pkt.specs.PacketReader.{ShownByFeed}
 use Rattle.git_pkt.specs.declared.fault.Fault.{Fault}
 use Rattle.git_pkt.specs.declared.fault.RunFault.{RunFault}
 use Rattle.git_pkt.specs.declared.fault.RunFault.TheVariants.{WriteFault}
@@ -12,7 +13,7 @@ use Rattle.git_client.specs.Transcript.{line_of, lines_of, next_asked, transcrip
 use Rattle.git_client.specs.Turns.{values_of}
 use Rattle.git_pkt.specs.Streams.{flow, is_broken, WrittenAs}
 use Rattle.git_client.specs.RunSteps.{progress_bytes, counted, IsTold, Along, GoesAlong}
-use Rattle.git_client.specs.RunSteps.{HearsPiece, HearsInPiece, HearsToFault}
+use Rattle.git_client.specs.RunSteps.{HearsPiece, HearsInPiece, HearsToFault, HearsPieceBroken}
 use Rattle.git_client.specs.Client.{History, HearsOn, Feeds, Tells, LeavesAfter, fault_of, can_ask, wants_input, phase_of, events_of}
 use Rattle.git_client.specs.declared.client.Client.{Client}
 use Rattle.git_client.specs.declared.events.Event.{Event}
@@ -229,8 +230,14 @@ module _ {A : Type 0} where
           moves = λ some. some;
         }
 
-    -- a fault was met, and the streams were flushed, of which one may have failed
-    pub heard_failed_then : (broken : Bool) (fault : Fault) (told_after sent_after : Option (List ℕ)) → heard.got ≡ Failed fault
+    -- a fault was met, which the piece shows
+    shown_where_failed : (fault : Fault) → heard.got ≡ Failed fault → ShownByFeed fault (done + heard.used) piece
+    shown_where_failed fault is =
+        let shown = feeds.news fault (sound_where_due (phase_of b) waits) is in
+        record { not_the_end = shown.not_the_end; one_more = λ e. omega (arith, shown.one_more e, rest_length) }
+
+    -- and the streams were flushed, of which one may have failed
+    heard_failed_then : (broken : Bool) (fault : Fault) (told_after sent_after : Option (List ℕ)) → heard.got ≡ Failed fault
         → WrittenAs false (flow told told_after) [] → WrittenAs false (flow sent sent_after) []
         → HearsPiece broken old c counts now piece (done + heard.used) (flow told_before told_after) (flow sent_before sent_after)
     heard_failed_then broken fault told_after sent_after is line bytes =
@@ -242,17 +249,24 @@ module _ {A : Type 0} where
     pub heard_failed : (fault : Fault) (told_after sent_after : Option (List ℕ)) → heard.got ≡ Failed fault
         → WrittenAs false (flow told told_after) [] → WrittenAs false (flow sent sent_after) []
         → HearsToFault fault old c counts now piece (flow told_before told_after) (flow sent_before sent_after)
-    heard_failed fault told_after sent_after is line bytes =
-        let shown = feeds.news fault (sound_where_due (phase_of b) waits) is in
-        record {
-          used = done + heard.used;
-          hears = heard_failed_then false fault told_after sent_after is line bytes;
-          told = tells_by (Failed fault) is;
-          shown = record {
-            not_the_end = shown.not_the_end;
-            one_more = λ e. omega (arith, shown.one_more e, rest_length);
-          };
-        }
+    heard_failed fault told_after sent_after is line bytes = record {
+      used = done + heard.used;
+      hears = heard_failed_then false fault told_after sent_after is line bytes;
+      told = tells_by (Failed fault) is;
+      shown = shown_where_failed fault is;
+    }
+
+    pub heard_failed_unflushed : (fault : Fault) (told_after sent_after : Option (List ℕ)) → heard.got ≡ Failed fault
+        → WrittenAs false (flow told told_after) [] → WrittenAs false (flow sent sent_after) []
+        → HearsPieceBroken old c counts now piece (flow told_before told_after) (flow sent_before sent_after)
+    heard_failed_unflushed fault told_after sent_after is line bytes = record {
+      used = done + heard.used;
+      hears = heard_failed_then true fault told_after sent_after is line bytes;
+      shown = λ met failed.
+          let told : fault_of c ≡ Some fault = tells_by (Failed fault) is in
+          let same : fault ≡ met = cc in
+          subst (λ (f : Fault). ShownByFeed f (done + heard.used) piece) same (shown_where_failed fault is);
+    }
 
     -- an event was met, and what it says was written, or a front of it
     module _ (e : Event) (is : heard.got ≡ EventGot e) where
@@ -267,18 +281,21 @@ module _ {A : Type 0} where
           (goes_by b c (take heard.used (left piece done)) (values_of e) (hears_by (EventGot e) is) waits (event_adds e c (tells_by (EventGot e) is).3)
           now)) line bytes
 
+      pub heard_sound : fault_of c ≡ None
+      heard_sound = sound_after e c (tells_by (EventGot e) is).3
+
       pub heard_event_front : (result : Result (Unit {0}) RunFault) (fault : RunFault) (after : Counts) (told_after sent_after : Option (List ℕ))
           → result ≡ Err fault → fault ≡ WriteFault → after ≡ counted now (values_of e)
           → WrittenAs (is_broken result) (flow told told_after) (lines_of (values_of e) now.pack now.progress)
           → WrittenAs (is_broken result) (flow sent sent_after) (pack_bytes (values_of e))
-          → HearsPiece true old c counts after piece (done + heard.used) (flow told_before told_after) (flow sent_before sent_after)
-      heard_event_front result fault after told_after sent_after failed named count line bytes =
-          subst (λ (broken : Bool). HearsPiece broken old c counts after piece (done + heard.used) (flow told_before told_after)
-          (flow sent_before sent_after)) (ap is_broken (failed ∙ ap Err named))
-          (heard_event (is_broken result) after told_after sent_after count line bytes)
-
-      pub heard_sound : fault_of c ≡ None
-      heard_sound = sound_after e c (tells_by (EventGot e) is).3
+          → HearsPieceBroken old c counts after piece (flow told_before told_after) (flow sent_before sent_after)
+      heard_event_front result fault after told_after sent_after failed named count line bytes = record {
+        used = done + heard.used;
+        hears = subst (λ (broken : Bool). HearsPiece broken old c counts after piece (done + heard.used) (flow told_before told_after)
+            (flow sent_before sent_after)) (ap is_broken (failed ∙ ap Err named))
+            (heard_event (is_broken result) after told_after sent_after count line bytes);
+        shown = λ met told. let sound : fault_of c ≡ None = heard_sound in absurd (cc);
+      }
 
       pub heard_some : 0 < done + heard.used
       heard_some = omega (arith, (tells_by (EventGot e) is).0)

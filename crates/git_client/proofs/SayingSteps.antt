@@ -16,7 +16,7 @@ use Rattle.git_client.specs.Client.{History, Converses, Asks, SaysOn, Pulls, Tel
 use Rattle.git_client.specs.Client.{wants_input}
 use Rattle.git_client.specs.RunSteps.{IsTold, Says, AsksNext, AsksTo, no_counts}
 use Rattle.git_client.specs.declared.phase.Phase.{Phase}
-use Rattle.git_client.specs.declared.phase.Phase.TheVariants.{Hearing, Asking, Leaving, Left}
+use Rattle.git_client.specs.declared.phase.Phase.TheVariants.{Hearing, Asking, Leaving, Left, Failed}
 use Rattle.git_client.specs.declared.client.Client.{Client}
 use Rattle.git_client.specs.declared.events.Sent.{Sent}
 use Rattle.git_client.specs.declared.events.Sent.TheVariants.{Packet, NeedInput, CanAsk, Finished, Failed as FailedSent}
@@ -37,6 +37,12 @@ owes_before_leaving : {A : Type 0} (phase : Phase) (request : Option (Request A)
 owes_before_leaving Leaving request bytes others owes = absurd (cc)
 owes_before_leaving Left request bytes others owes = absurd (cc)
 owes_before_leaving phase request bytes others owes = refl
+
+-- a client that owes a packet has no fault
+sound_where_owed : {A : Type 0} (phase : Phase) (request : Option (Request A)) (packet : Pkt) (others : List Pkt)
+    → left_in phase request ≡ packet ∷ others → fault_in phase ≡ None
+sound_where_owed (Failed fault) request packet others owes = absurd (cc)
+sound_where_owed phase request packet others owes = refl
 
 -- a client that owes no packet, can't ask, and has not left or failed hears
 hears_after_all : {A : Type 0} (phase : Phase) (request : Option (Request A)) → is_ready phase ≡ false → fault_in phase ≡ None
@@ -149,12 +155,14 @@ module _ {A : Type 0} where
       (asks : Asks old request middle) where
     -- the question was asked, its line written as far as that went, and these bytes of it given, and written as far as that went
     asks_giving : (given : List ℕ) → WrittenAs broken writer given → WrittenAs broken out (asked_line (command_asked (asked_of request)))
-        → SaysOn middle given new → can_ask new ≡ false → AsksNext broken old new request writer out
-    asks_giving given said told says not_ready = record {
+        → SaysOn middle given new → fault_of new ≡ None → can_ask new ≡ false → AsksNext broken old new request writer out
+    asks_giving given said told says sound not_ready = record {
       passes = asks.passes;
       given = given;
       said = said;
       told = told;
+      sound = sound;
+      not_ready = not_ready;
       goes = λ t h lines packed counts along. record {
         stands = says t (record h { asked = h.asked ++ asked_of request ∷ [] }) (asks.asks t h along.stands);
         told = subst (λ (can : Bool). IsTold can (record h { asked = h.asked ++ asked_of request ∷ []; given = h.given ++ given })
@@ -170,7 +178,7 @@ module _ {A : Type 0} where
       → WrittenAs true out (asked_line (command_asked (asked_of request))) → AsksNext true old middle request (flow held held) out
   asks_unsaid old middle request held out ready asks told =
       asks_giving true old middle middle request (flow held held) out ready asks [] (in_part (flow held held) [] (written_nothing held)) told
-      (says_nothing middle) asks.no_more
+      (says_nothing middle) (sound_where_owed middle.phase middle.request _ _ asks.owes) asks.no_more
 
   -- all of the question was said, so its response is due
   pub hears_next : (old middle new : Client A) (request : Request A) (writer : Flow) → Asks old request middle → Says false middle new writer
@@ -184,11 +192,12 @@ module _ {A : Type 0} where
       → Asks old request middle → WrittenAs false out (asked_line (command_asked (asked_of request))) → Says (is_broken r) middle new writer
       → IfErr r (λ fault. fault ≡ WriteFault) → AsksTo r old new request writer out
   asks_said (Ok done) old middle new request writer out ready asks told says named = (
-    asks_giving false old middle new request writer out ready asks says.given says.written told says.says says.not_ready,
+    asks_giving false old middle new request writer out ready asks says.given says.written told says.says says.sound says.not_ready,
     hears_next old middle new request writer asks says,
   )
   asks_said (Err WriteFault) old middle new request writer out ready asks told says named =
-      asks_giving true old middle new request writer out ready asks says.given says.written (in_part out _ told) says.says says.not_ready
+      asks_giving true old middle new request writer out ready asks says.given says.written (in_part out _ told) says.says says.sound
+      says.not_ready
   asks_said (Err fault) old middle new request writer out ready asks told says named = absurd (cc)
 
   -- the same where all of it was said: just what was given was said
@@ -197,4 +206,4 @@ module _ {A : Type 0} where
       → (step : AsksNext false old new request writer out) × (step.given ≡ says.given)
   unfolding asks_giving
   asks_whole old middle new request writer out ready asks told says =
-      (asks_giving false old middle new request writer out ready asks says.given says.written told says.says says.not_ready, refl)
+      (asks_giving false old middle new request writer out ready asks says.given says.written told says.says says.sound says.not_ready, refl)

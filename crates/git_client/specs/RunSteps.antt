@@ -88,12 +88,22 @@ module _ {A : Type 0} where
     pub told : fault_of new ≡ Some fault
     pub shown : ShownByFeed fault used piece
 
+  -- a write or a flush failed; a fault that the client has is one that the piece shows
+  pub record HearsPieceBroken (old new : Client A) (counts counts_after : Counts) (piece : List ℕ) (out packs : Flow) : Type 0 where
+    pub used : ℕ
+    pub hears : HearsPiece true old new counts counts_after piece used out packs
+    pub shown : (fault : Fault) → fault_of new ≡ Some fault → ShownByFeed fault used piece
+
   -- how a piece was heard
   abbrev pub HearsPieceTo : Result ℕ RunFault → Client A → Client A → Counts → Counts → List ℕ → Flow → Flow → Type 0
   HearsPieceTo (Ok used) old new counts counts_after piece out packs = HearsInPiece old new counts counts_after piece used out packs
-  HearsPieceTo (Err WriteFault) old new counts counts_after piece out packs = (used : ℕ) × HearsPiece true old new counts counts_after piece used out packs
+  HearsPieceTo (Err WriteFault) old new counts counts_after piece out packs = HearsPieceBroken old new counts counts_after piece out packs
   HearsPieceTo (Err (Refused fault)) old new counts counts_after piece out packs = HearsToFault fault old new counts counts_after piece out packs
   HearsPieceTo (Err fault) old new counts counts_after piece out packs = ⊥
+
+  -- a fault that the client has is truncated only where the input has ended, and too long only where one more byte was read
+  abbrev pub FaultsInTime : Client A → Bool → List ℕ → Type 0
+  FaultsInTime client ended unused = (fault : Fault) → fault_of client ≡ Some fault → IsTimely fault.kind ended unused
 
   -- of the bytes that waited and those that came, all but the last were heard, and what they say was written
   pub record HearsBytes (broken : Bool) (old new : Client A) (waiting unused : List ℕ) (reader out packs : Flow) : Type 0 where
@@ -127,12 +137,18 @@ module _ {A : Type 0} where
     pub told : fault_of new ≡ Some fault
     pub timely : IsTimely fault.kind ended unused
 
+  -- a write or a flush failed; a fault that the client has came in time
+  pub record HearsBroken (ended : Bool) (old new : Client A) (waiting : List ℕ) (reader out packs : Flow) : Type 0 where
+    pub unused : List ℕ
+    pub hears : HearsBytes true old new waiting unused reader out packs
+    pub timely : FaultsInTime new ended unused
+
   -- how a response was heard
   abbrev pub HearsTo : Result Window RunFault → Bool → Client A → Client A → List ℕ → List ℕ → Flow → Flow → Flow → Type 0
   HearsTo (Ok window) ended old new waiting piece reader out packs = HearsWhole window old new waiting piece reader out packs
   HearsTo (Err ReadFault) ended old new waiting piece reader out packs = HearsAll old new waiting reader out packs
   HearsTo (Err ReadLimit) ended old new waiting piece reader out packs = HearsAll old new waiting reader out packs
-  HearsTo (Err WriteFault) ended old new waiting piece reader out packs = (unused : List ℕ) × HearsBytes true old new waiting unused reader out packs
+  HearsTo (Err WriteFault) ended old new waiting piece reader out packs = HearsBroken ended old new waiting reader out packs
   HearsTo (Err (Refused fault)) ended old new waiting piece reader out packs = HearsFault fault ended old new waiting reader out packs
 
   -- packets that were owed were given, and written; all of them, unless a write failed
@@ -145,12 +161,14 @@ module _ {A : Type 0} where
     pub sound : fault_of new ≡ None
     pub not_ready : can_ask new ≡ false
 
-  -- the request may be asked and was, with its line in the transcript
+  -- the request may be asked and was, with its line in the transcript; where a write failed, too, the client has no fault and can't ask
   pub record AsksNext (broken : Bool) (old new : Client A) (request : Request A) (writer out : Flow) : Type 0 where
     pub passes : Passes (ask_checks (format_of old) (caps_of old) request)
     pub given : List ℕ
     pub said : WrittenAs broken writer given
     pub told : WrittenAs broken out (asked_line (command_asked (asked_of request)))
+    pub sound : fault_of new ≡ None
+    pub not_ready : can_ask new ≡ false
     pub goes : (t : Terms) (h : History) (lines packed : List ℕ) (counts : Counts) → Along t h old lines packed counts
         → Along t (record h { asked = h.asked ++ asked_of request ∷ []; given = h.given ++ given }) new
         (lines ++ asked_line (command_asked (asked_of request))) packed no_counts

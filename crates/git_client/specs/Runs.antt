@@ -13,6 +13,7 @@ use Rattle.git_client.specs.Events.{pack_bytes, turns_of}
 use Rattle.git_client.specs.Conversation.{HasNoted, FirstMalformed, GoesOn, IsConversation}
 use Rattle.git_client.specs.Transcript.{transcript_of}
 use Rattle.git_client.specs.Client.{History, Converses, ask_checks, can_ask, fault_of, said_of, spelled, wants_input}
+use Rattle.git_client.specs.RunSteps.{FaultsInTime}
 use Rattle.git_client.specs.declared.client.Client.{Client}
 use Rattle.git_client.specs.declared.events.Ending.{Ending}
 use Rattle.git_client.specs.declared.events.Ending.TheVariants.{FlushOnly, ResponseEnd}
@@ -87,7 +88,7 @@ module _ {A : Type 0} where
   IsHandedBack (Err (Refused fault)) client = (fault_of client ≡ Some fault) ⊎ (can_ask client ≡ true)
 
   -- what a client that was asked these requests has to do with the bytes of its run: it used those read but the last of them, and
-  -- the bytes given are what it said, the transcript, and the pack
+  -- the bytes given are what it said, the transcript, and the pack; a fault that it has came in time
   pub record Conversed (t : Terms) (requests : List (Request A)) (result : Result (Unit {0}) RunFault) (ended : Bool) (client : Client A)
       (read given : List (List ℕ)) : Type 0 where
     pub h : History
@@ -98,3 +99,4 @@ module _ {A : Type 0} where
     pub stands : Converses t h client
     pub asked : HasAsked t requests rest h
     pub ends : EndsAs t result ended unused rest h
+    pub timely : FaultsInTime client ended unused

@@ -18,6 +18,7 @@ use Rattle.git_client.proofs.ClientRuns.{RunEnds, begins, counts_anew, asks_on, 
 use Rattle.git_client.proofs.ClientRuns.{hearing_stopped, asking_stopped, stays_to_the_end, leaving_stopped, leaves_at_the_end}
 use Rattle.git_client.proofs.ClientRuns.{fails_at, shown_at, flush_fails, flush_shows, sound_last, sound_first}
 use Rattle.git_client.proofs.HandedBack.{back_at, back_unwritten, back_written, back_from_hearing, back_from_asking}
+use Rattle.git_client.proofs.Phases.{sound_where_due}
 use Rattle.git_client.proofs.Writing.{no_failure}
 use Rattle.git_client.proofs.conversing.converse.Goals as goal
 use Rattle.git_client.proofs.conversing.converse.Goals.{then-eq+in_ok-say, else-eq}
@@ -40,7 +41,7 @@ pub returns-in_err-flush-clause-conversed : goal.returns-in_err-flush-clause-con
 returns-in_err-flush-clause-conversed g c =
     λ t begun.
     ends_at_write t c.args.requests.items c.from_residual.result _ _ _ _ _ _ _ c.from_residual.ensures.1 c.in_err-flush.ensures.fault
-    (breaks_unflushed t c.args.requests.items [] c.args.requests.items refl _ c.args.client.now no_counts []
+    (breaks_unflushed t c.args.requests.items [] c.args.requests.items refl _ c.args.client.now no_counts [] (sound_where_due _ c.requires.waits)
     (begins t c.args.client.now (g.R.Read.remaining (inner_of c.args.reader.now)) (g.W.Write.contents (inner_of c.args.writer.now))
     (g.W.Write.contents (inner_of c.flush.new.writer)) (g.O.Write.contents (inner_of c.args.out.now)) (g.P.Write.contents (inner_of c.args.pack.now))
     c.requires.waits begun c.flush.ensures.bytes))

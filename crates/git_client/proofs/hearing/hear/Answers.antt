@@ -3,10 +3,11 @@ use Rattle.std.specs.Io.KnownBytes.{Consumes}
 use Rattle.std.proofs.KnownBytes.{Consumes-nil}
 use Rattle.git_pkt.specs.Told.{inner_of, has_ended}
 use Rattle.git_pkt.specs.declared.fault.RunFault.TheVariants.{ReadFault, WriteFault}
-use Rattle.git_client.specs.Client.{wants_input}
+use Rattle.git_client.specs.Client.{can_ask, wants_input}
 use Rattle.git_client.specs.RunSteps.{window_of}
 use Rattle.git_client.proofs.HearingBytes.{heard_nothing, heard_before_read, heard_on, heard_flushed, heard_unread, heard_broken, window_length}
-use Rattle.git_client.proofs.HearingBytes.{heard_until, heard_end, hears_at, hears_bytes, rest_of_front, rest_of_window}
+use Rattle.git_client.proofs.HearingBytes.{heard_until, heard_end, hears_at, hears_bytes, hears_unflushed, rest_of_front, rest_of_window}
+use Rattle.git_client.proofs.Phases.{sound_where_due, sound_where_ready}
 use Rattle.git_client.proofs.hearing.hear.Goals as goal
 
 pub returns-in_err-left-clause-heard : goal.returns-in_err-left-clause-heard
@@ -40,9 +41,11 @@ loop-left-init g c =
 
 pub returns-in_err-flush_both-clause-heard : goal.returns-in_err-flush_both-clause-heard
 returns-in_err-flush_both-clause-heard g c =
+    let due : wants_input c.loop-left.client ≡ true = search rules in
     hears_at c.from_residual-in_err-flush_both.result c.in_err-flush_both.field-0.0 WriteFault _ _ _ _ _ _ _ _
     c.from_residual-in_err-flush_both.ensures.1 c.in_err-flush_both.ensures.fault
-    (_, hears_bytes (heard_broken (heard_flushed c.loop-left.invariant.heard c.in_err-flush_both.ensures.told c.in_err-flush_both.ensures.sent)))
+    (hears_unflushed _ (sound_where_due _ due)
+    (heard_broken (heard_flushed c.loop-left.invariant.heard c.in_err-flush_both.ensures.told c.in_err-flush_both.ensures.sent)))
 
 pub returns-then-reads-turns-clause-heard : goal.returns-then-reads-turns-clause-heard
 returns-then-reads-turns-clause-heard g c =
@@ -119,9 +122,11 @@ loop-left-preserved g c =
 
 pub returns-in_err-flush_both-2-clause-heard : goal.returns-in_err-flush_both-2-clause-heard
 returns-in_err-flush_both-2-clause-heard g c =
+    let ready : can_ask c.loop-left.client ≡ true = search rules in
     hears_at c.from_residual-in_err-flush_both-2.result c.in_err-flush_both-2.field-0.0 WriteFault _ _ _ _ _ _ _ _
     c.from_residual-in_err-flush_both-2.ensures.1 c.in_err-flush_both-2.ensures.fault
-    (_, hears_bytes (heard_broken (heard_flushed c.loop-left.invariant.heard c.in_err-flush_both-2.ensures.told c.in_err-flush_both-2.ensures.sent)))
+    (hears_unflushed _ (sound_where_ready _ ready)
+    (heard_broken (heard_flushed c.loop-left.invariant.heard c.in_err-flush_both-2.ensures.told c.in_err-flush_both-2.ensures.sent)))
 
 pub returns-clause-heard : goal.returns-clause-heard
 returns-clause-heard g c = record {

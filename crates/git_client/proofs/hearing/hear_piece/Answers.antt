@@ -6,7 +6,7 @@ use Rattle.git_pkt.specs.Streams.{flow}
 use Rattle.git_client.specs.RunSteps.{HearsPieceTo}
 use Rattle.git_client.proofs.Alongs.{at_fault}
 use Rattle.git_client.proofs.Phases.{sound_where_due}
-use Rattle.git_client.proofs.HearingSteps.{nothing_heard, heard_all, heard_failed, heard_failed_then}
+use Rattle.git_client.proofs.HearingSteps.{nothing_heard, heard_all, heard_failed, heard_failed_unflushed}
 use Rattle.git_client.proofs.HearingSteps.{heard_event, heard_event_front, heard_sound, heard_some, heard_to_question, used_within}
 use Rattle.git_client.proofs.hearing.hear_piece.Goals as goal
 
@@ -34,11 +34,9 @@ returns-in_err-flush_both-in-Failed-clause-heard g c =
     at_fault c.from_residual.result _ WriteFault (λ result. HearsPieceTo result c.args.client.now c.feed-heard.follows.lender-at-none c.args.counts.now
     c.loop-used.counts c.args.piece.now
     (flow (g.O.Write.contents (inner_of c.args.out.now)) (g.O.Write.contents (inner_of c.flush_both.new.out)))
-    (flow (g.P.Output.contents c.args.pack.now) (g.P.Output.contents c.flush_both.new.pack))) named c.from_residual.ensures.1 (
-      _,
-      heard_failed_then waits c.loop-used.invariant.within c.loop-used.invariant.hears c.feed-heard.follows.holds-at-none
-          true _ _ _ c.in-Failed.is c.flush_both.ensures.told c.flush_both.ensures.sent,
-    )
+    (flow (g.P.Output.contents c.args.pack.now) (g.P.Output.contents c.flush_both.new.pack))) named c.from_residual.ensures.1
+    (heard_failed_unflushed waits c.loop-used.invariant.within c.loop-used.invariant.hears c.feed-heard.follows.holds-at-none
+    _ _ _ c.in-Failed.is c.flush_both.ensures.told c.flush_both.ensures.sent)
 
 pub returns-in-Failed-clause-heard : goal.returns-in-Failed-clause-heard
 returns-in-Failed-clause-heard g c =
@@ -54,11 +52,9 @@ returns-in_err-tell-in-Event-clause-heard g c =
     c.feed-heard.follows.lender-at-none c.args.counts.now c.tell.new.counts c.args.piece.now
     (flow (g.O.Write.contents (inner_of c.args.out.now)) (g.O.Write.contents (inner_of c.tell.new.out)))
     (flow (g.P.Output.contents c.args.pack.now) (g.P.Output.contents c.tell.new.pack))) named
-    c.from_residual-in_err-tell-in-Event.ensures.1 (
-      _,
-      heard_event_front waits c.loop-used.invariant.within c.loop-used.invariant.hears c.feed-heard.follows.holds-at-none _ c.in-Event.is
-          c.tell.result _ _ _ _ c.in_err-tell-in-Event.was named c.tell.ensures.counts c.tell.ensures.told c.tell.ensures.sent,
-    )
+    c.from_residual-in_err-tell-in-Event.ensures.1
+    (heard_event_front waits c.loop-used.invariant.within c.loop-used.invariant.hears c.feed-heard.follows.holds-at-none _ c.in-Event.is
+    c.tell.result _ _ _ _ c.in_err-tell-in-Event.was named c.tell.ensures.counts c.tell.ensures.told c.tell.ensures.sent)
 
 pub loop-used-preserved : goal.loop-used-preserved
 loop-used-preserved g c =
