@@ -161,7 +161,8 @@ module _ {A : Type 0} where
     pub sound : fault_of new ≡ None
     pub not_ready : can_ask new ≡ false
 
-  -- the request may be asked and was, with its line in the transcript; where a write failed, too, the client has no fault and can't ask
+  -- the request may be asked and was, with its line in the transcript; also where a write failed the client has no fault, and can ask
+  -- no other
   pub record AsksNext (broken : Bool) (old new : Client A) (request : Request A) (writer out : Flow) : Type 0 where
     pub passes : Passes (ask_checks (format_of old) (caps_of old) request)
     pub given : List ℕ
