@@ -40,7 +40,7 @@
  *     touches a room while the call runs.
  *   - Each field of a gitwire_offer is set.
  *   - Numbers of several kinds begin at 0: a format where a command or an ending is due is taken for one.
- *   - The stack has room for a call: as measured, less than 8 KiB.
+ *   - The stack has room for a call. A thread with the 16 KiB of PTHREAD_STACK_MIN makes each of them, as tested.
  *   - malloc, realloc and free are those of one allocator, which aligns as the C standard says. No call is made from a
  *     signal handler, nor in the child of a fork of a process with more than one thread.
  *
