@@ -143,7 +143,7 @@ pub fn written_wanted_reads_back()
         → IsWantedLine format (wanted_text wanted) wanted }
 {}
 
-/// The line that is written of an object and its size is that of the object and the size, where that has 64 bits.
+/// The line that is written of an object and its size is that of the object and the size, where that fits 64 bits.
 pub fn written_info_reads_back()
     ensures { (format : Format) (info : Info) → IsNameIn format info.id → ((size : ℕ) → info.size ≡ Some size → IsSize size)
         → IsInfoLine format (info_text info) info }

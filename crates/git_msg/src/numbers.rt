@@ -6,7 +6,7 @@ ghost use Rattle.git_msg.specs.Numbers.{IsNumber};
 use itoa::Buffer;
 
 /// The number that the text is: one or more decimal digits, leading zeros taken. None for another text, and for a
-/// number that has no 64 bits.
+/// number that does not fit 64 bits.
 pub fn read_number(text: &[u8]) -> Option<u64>
     ensures { MatchOption result ((number : ℕ) → number < 2 ^ 64 → ¬ IsNumber text.now number) (IsNumber text.now) }
 {

@@ -5,7 +5,7 @@ use thiserror::Error;
 /// Why a text could not be read.
 #[derive(Clone, Copy, Debug, PartialEq, Eq, Error)]
 pub enum TextFault {
-    /// A line says nothing that may stand there.
+    /// A line may not stand where it does.
     #[error("bad line {line}")]
     Bad {
         /// Which line, counted from 1.

@@ -1,4 +1,4 @@
-//! Which references are shown, and how.
+//! Which references a request asks for.
 
 ghost use Rattle.std.specs.Prelude.{◌≡◌, ◌+◌, ◌<◌, []};
 ghost use Rattle.git_server.specs.Answers.{is_shown as shows};
