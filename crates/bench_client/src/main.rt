@@ -8,7 +8,7 @@ ghost use Rattle.git_client.specs.Client.{can_ask};
 
 use git_client::{Client, Ending, Event, HeardGot, Sent};
 use git_msg::{Argument, Command, Limits, Request};
-use git_names::{Format, Oid};
+use git_names::{Format, Oid, Steps};
 use git_pkt::{Fault, Kind, RunFault};
 use std::alloc::Global;
 use std::io::{self, BufRead, BufReader};
@@ -57,7 +57,7 @@ impl Counts {
 
 /// A request for the pack of one object.
 fn request(alloc: Global) -> Result<Request<Global>, Kind> {
-    let wanted = Oid::read(Format::Sha1, WANTED)?;
+    let wanted = Oid::read(Format::Sha1, WANTED, &mut Steps::new())?;
     let limits = Limits {
         args: Limits::USUAL,
     };
@@ -92,7 +92,7 @@ fn hear_piece(
 {
     let mut used = 0;
     while used < piece.len() && client.wants_input() {
-        let heard = client.feed(&piece[used..]);
+        let heard = client.feed(&piece[used..], &mut Steps::new());
         match heard.got {
             HeardGot::More => return Ok(piece.len()),
             HeardGot::Failed(fault) => return Err(RunFault::Refused(fault)),

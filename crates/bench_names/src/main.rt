@@ -2,7 +2,7 @@
 //! `bench/run.sh` to measure beside `bench/names.c`.
 #![tactic(auto)]
 
-use git_names::{Format, Oid, RefName};
+use git_names::{Format, Oid, RefName, Steps};
 use std::alloc::{AllocError, Global};
 use std::io;
 
@@ -79,7 +79,7 @@ fn run_object_names(texts: &[Vec<u8>], start: u64) -> u64 {
         return sum;
     }
     for turn in 0..TURNS {
-        if let Ok(id) = Oid::read(Format::Sha1, texts[turn % texts.len()].as_slice()) {
+        if let Ok(id) = Oid::read(Format::Sha1, texts[turn % texts.len()].as_slice(), &mut Steps::new()) {
             let mut out = [0; 64];
             let count = id.write(&mut out);
             sum = sum
@@ -97,7 +97,7 @@ fn run_ref_names(texts: &[Vec<u8>], start: u64) -> u64 {
         return sum;
     }
     for turn in 0..TURNS {
-        if let Ok(name) = RefName::read(texts[turn % texts.len()].as_slice()) {
+        if let Ok(name) = RefName::read(texts[turn % texts.len()].as_slice(), &mut Steps::new()) {
             sum = sum
                 .wrapping_mul(31)
                 .wrapping_add(name.as_bytes().len() as u64);

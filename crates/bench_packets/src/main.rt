@@ -7,6 +7,7 @@
 ghost use Rattle.std.specs.Prelude.{◌≡◌, ◌+◌, ◌%◌, ◌^◌, length};
 ghost use Rattle.git_pkt.specs.Packets.{body_of, seen};
 
+use git_names::Steps;
 use git_pkt::{Fault, Got, Packet, PacketReader};
 use std::env;
 use std::io::{self, Read};
@@ -82,7 +83,7 @@ fn count_piece(
 ) -> Result<(), Fault> {
     let mut rest = piece;
     while !rest.is_empty() {
-        let fed = reader.feed(rest);
+        let fed = reader.feed(rest, &mut Steps::new());
         match fed.got {
             Got::More => return Ok(()),
             Got::Packet(packet, _) => counts.add(copied(packet, room)),

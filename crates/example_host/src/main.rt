@@ -2,6 +2,7 @@
 #![tactic(auto)]
 
 use git_msg::{Limits, Offer};
+use git_names::Steps;
 use git_repository::read_repo;
 use git_server::{ListRepo, Outcome, Pulled, Repo, Server};
 use std::alloc::Global;
@@ -30,7 +31,7 @@ fn host<R: BufRead, W: Write>(
                 if piece.is_empty() {
                     server.close();
                 }
-                let used = server.feed(piece);
+                let used = server.feed(piece, &mut Steps::new());
                 input.consume(used);
             }
         }

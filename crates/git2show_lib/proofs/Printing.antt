@@ -35,6 +35,14 @@ lines-append gs hs = flat_map-append line_of gs hs
 lines-one : (gs : List Given) (g : Given) → lines_of (gs ++ g ∷ []) ≡ lines_of gs ++ line_of g
 lines-one gs g = lines-append gs (g ∷ []) ∙ ap (λ (l : List ℕ). lines_of gs ++ l) (append-nil (line_of g))
 
+-- where no bytes were used, a reader has gone on over none
+pub none_read : (r : PacketReader) → ReadsOn r [] [] r
+none_read r start bytes given rest h = (
+  rest,
+  subst (λ (l : List ℕ). Reads r start l (given ++ []) rest) (sym (append-nil bytes))
+  (subst (λ (l : List Given). Reads r start bytes l rest) (sym (append-nil given)) h),
+)
+
 pub reads_on_then : (a b c : PacketReader) (u v : List ℕ) (gs hs : List Given) → ReadsOn a u gs b → ReadsOn b v hs c → ReadsOn a (u ++ v) (gs ++ hs) c
 reads_on_then a b c u v gs hs one two start bytes given rest reads =
     let (middle, first) = one start bytes given rest reads in

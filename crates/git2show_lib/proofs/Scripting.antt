@@ -15,7 +15,7 @@ use Rattle.git_msg.specs.declared.arguments.Command.{Command}
 use Rattle.git_msg.specs.declared.arguments.Command.TheVariants.{LsRefs, Fetch, ObjectInfo}
 use Rattle.git_msg.specs.declared.requests.Request.{Request}
 use Rattle.git_msg.specs.Arguments.{Arg, ref_prefix, want, have, shallow, deepen, deepen_since, deepen_not, want_ref, object_id}
-use Rattle.git_msg.specs.Arguments.{IsArgumentFault, IsInRange, ReadsAs, SaysArgument, name_of, written_text}
+use Rattle.git_msg.specs.Arguments.{IsArgumentFault, IsInRange, ReadsAs, SaysArgument, name_of, stored_in, written_text}
 use Rattle.git_msg.specs.Asked.{Asked, asked_by, nothing_asked, with_argument}
 use Rattle.git_msg.specs.Checks.{Passes, Refuses}
 use Rattle.git_msg.specs.HeldRequest.{IsEmpty, Keeps, add_checks, command_of, format_of, holding_of, limit_of}
@@ -80,16 +80,17 @@ nothing_yet Fetch = refl
 nothing_yet ObjectInfo = refl
 
 -- what is kept is equal where its parts are
-same_kept : (k l : Kept Asked) → k.format ≡ l.format → k.asked ≡ l.asked → k.kept ≡ l.kept → k.limit ≡ l.limit → k ≡ l
-same_kept k l formats asks counts limits =
-    ap (λ (f : Format). record { format = f; asked = k.asked; kept = k.kept; limit = k.limit }) formats
-    ∙ ap (λ (q : Asked). record { format = l.format; asked = q; kept = k.kept; limit = k.limit }) asks
-    ∙ ap (λ (n : ℕ). record { format = l.format; asked = l.asked; kept = n; limit = k.limit }) counts
-    ∙ ap (λ (n : ℕ). record { format = l.format; asked = l.asked; kept = l.kept; limit = n }) limits
+same_kept : (k l : Kept Asked) → k.format ≡ l.format → k.asked ≡ l.asked → k.kept ≡ l.kept → k.limit ≡ l.limit → k.stored ≡ l.stored → k ≡ l
+same_kept k l formats asks counts limits sizes =
+    ap (λ (f : Format). record { format = f; asked = k.asked; kept = k.kept; limit = k.limit; stored = k.stored }) formats
+    ∙ ap (λ (q : Asked). record { format = l.format; asked = q; kept = k.kept; limit = k.limit; stored = k.stored }) asks
+    ∙ ap (λ (n : ℕ). record { format = l.format; asked = l.asked; kept = n; limit = k.limit; stored = k.stored }) counts
+    ∙ ap (λ (n : ℕ). record { format = l.format; asked = l.asked; kept = l.kept; limit = n; stored = k.stored }) limits
+    ∙ ap (λ (n : ℕ). record { format = l.format; asked = l.asked; kept = l.kept; limit = l.limit; stored = n }) sizes
 
 -- a new request has no arguments
 new_request : (c : Command) (format : Format) (limit : ℕ) (k : Kept Asked) → IsNew c format limit k → k ≡ request_of format limit c []
-new_request c format limit k new = same_kept k (request_of format limit c []) new.format_is (new.asked ∙ nothing_yet c) new.kept new.limit_is
+new_request c format limit k new = same_kept k (request_of format limit c []) new.format_is (new.asked ∙ nothing_yet c) new.kept new.limit_is new.stored
 
 -- and one that keeps an argument more has it after the others
 request_more : (c : Command) (format : Format) (limit : ℕ) (args : List Arg) (arg : Arg) (old new : Kept Asked) → old ≡ request_of format limit c args
@@ -100,6 +101,7 @@ request_more c format limit args arg old new is keeps =
     (keeps.asked ∙ ap (λ (k : Kept Asked). with_argument k.asked arg) is ∙ sym (asked_snoc c args arg))
     (omega (arith, keeps.kept, ap (λ (k : Kept Asked). k.kept) is, sum_by-append (λ a. length (written_text a)) args (arg ∷ [])))
     (keeps.limit ∙ ap (λ (k : Kept Asked). k.limit) is)
+    (omega (arith, keeps.stored, ap (λ (k : Kept Asked). k.stored) is, sum_by-append stored_in args (arg ∷ [])))
 
 module _ {A : Type 0} where
   -- an argument that fits passes the checks

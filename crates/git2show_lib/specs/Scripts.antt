@@ -1,9 +1,9 @@
 -- What the text of a script says, requests one after another, and which of its lines is refused.
-use Rattle.std.specs.Prelude.{◌≡◌, ℕ, ◌+◌, ◌≤◌, List, [], ◌∷◌, ◌++◌, Option, Some, None, length}
+use Rattle.std.specs.Prelude.{◌≡◌, ℕ, ◌+◌, ◌≤◌, List, [], ◌∷◌, ◌++◌, Option, Some, None, length, sum_by}
 use Rattle.git_names.specs.declared.object_format.Format.{Format}
 use Rattle.git_msg.specs.declared.offers.Offer.{Offer}
 use Rattle.git_msg.specs.declared.arguments.Command.{Command}
-use Rattle.git_msg.specs.Arguments.{Arg, ReadsAs, TakesMemory as TakesMemoryFor, name_of, written_text}
+use Rattle.git_msg.specs.Arguments.{Arg, ReadsAs, TakesMemory as TakesMemoryFor, name_of, stored_in, written_text}
 use Rattle.git_msg.specs.Asked.{Asked, asked_by, bytes_of}
 use Rattle.git_msg.specs.Kept.{Kept}
 use Rattle.git_repository.specs.RepositoryLines.{lines_of}
@@ -62,7 +62,7 @@ arguments_upto (argument arg ∷ lines) = arg ∷ arguments_upto lines
 
 -- a request of this command with these arguments, as it is kept: the texts of all their lines count
 abbrev pub request_of : Format → ℕ → Command → List Arg → Kept Asked
-request_of format limit c args = record { format = format; asked = asked_by c args; kept = bytes_of args; limit = limit }
+request_of format limit c args = record { format = format; asked = asked_by c args; kept = bytes_of args; limit = limit; stored = sum_by stored_in args }
 
 -- the requests that the lines say, in their order
 abbrev pub requests_in : Format → ℕ → List ScriptLine → List (Kept Asked)

@@ -13,6 +13,7 @@ ghost use Rattle.git2show_lib.specs.PlaySteps.{AsksServerTo, HearsMessageTo, Hea
 
 use git_client::{Client, Counts, Ending, Sent, hear_piece, write_asked};
 use git_msg::{Limits, Offer, Request};
+use git_names::Steps;
 use git_pkt::{Output, RunFault, Told, flush};
 use git_server::{Pulled, Repo, Server};
 use std::alloc::Allocator;
@@ -125,7 +126,7 @@ fn tell_packet<R: Repo, A: Allocator + Copy>(server: &mut Server<R, A>, packet: 
     while used < packet.len() && server.wants_input() {
         let left = &packet[used..];
         let piece = &left[..cut.min(left.len())];
-        used += server.feed(piece);
+        used += server.feed(piece, &mut Steps::new());
     }
 }
 

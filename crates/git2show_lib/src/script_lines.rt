@@ -7,7 +7,7 @@ ghost use Rattle.git_msg.specs.declared.arguments.Command.{Command};
 ghost use Rattle.git2show_lib.specs.HeldScripts.{AddsArgument, Begins, IsBeginFault, IsLineFault, TakesLine, nothing_held};
 
 use git_msg::{Command, Limits, Offer, Request, read_argument};
-use git_names::Format;
+use git_names::{Format, Steps};
 use git_pkt::Kind;
 use git_repository::LineFault;
 use std::alloc::Global;
@@ -75,7 +75,7 @@ impl Script {
         let Some(request) = self.requests.last_mut() else {
             return Err(LineFault::Refused);
         };
-        let Ok(argument) = read_argument(request.command(), &self.offer, text) else {
+        let Ok(argument) = read_argument(request.command(), &self.offer, text, &mut Steps::new()) else {
             return Err(LineFault::Refused);
         };
         match request.add(argument) {

@@ -9,6 +9,7 @@ ghost use Rattle.git_pkt.specs.PacketReader.{fault_of};
 ghost use Rattle.git2show_lib.specs.ShownStream.{Shows, ShowsPiece, PrintsPiece, WritesFront};
 
 use crate::lines::Lines;
+use git_names::Steps;
 use git_pkt::{Fault, Got, PacketReader, RunFault, Told, receive};
 use std::io::{Read, Write};
 
@@ -92,7 +93,7 @@ fn print_piece<W: Write>(
 {
     let mut done = 0;
     while done < piece.len() {
-        let fed = packets.feed(&piece[done..]);
+        let fed = packets.feed(&piece[done..], &mut Steps::new());
         match fed.got {
             Got::More => return Ok(None),
             Got::Failed(fault) => return Ok(Some(fault)),

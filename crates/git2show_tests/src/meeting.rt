@@ -2,7 +2,7 @@
 use crate::conversing::requests;
 use crate::servers::{advertising, new_server};
 use git_client::{Client, Ending, HeardGot, Sent};
-use git_names::Format;
+use git_names::{Format, Steps};
 use git_pkt::{Fault, Kind};
 use git_server::{ListRepo, Pulled, Server};
 use std::alloc::Global;
@@ -18,7 +18,7 @@ fn hear(server: &mut Server<ListRepo, Global>, client: &mut Client<Global>) -> O
         let Pulled::Packet(bytes) = server.pull() else {
             return None;
         };
-        if let HeardGot::Failed(fault) = client.feed(bytes).got {
+        if let HeardGot::Failed(fault) = client.feed(bytes, &mut Steps::new()).got {
             return Some(fault);
         }
     }
@@ -31,7 +31,7 @@ fn say(client: &mut Client<Global>, server: &mut Server<ListRepo, Global>) {
         let Sent::Packet(bytes) = client.pull() else {
             return;
         };
-        server.feed(bytes);
+        server.feed(bytes, &mut Steps::new());
     }
 }
 

@@ -55,7 +55,7 @@ fn reads_back(id: &Oid) -> bool
 {
     let mut out = [0; 64];
     let count = id.write(&mut out);
-    match Oid::read(id.format(), &out[..count]) {
+    match Oid::read(id.format(), &out[..count], &mut Steps::new()) {
         Ok(again) => is_same(&again, id),
         Err(_) => false,
     }
@@ -71,11 +71,12 @@ fn tick_twice(steps: &mut Steps)
 
 #[test]
 fn object_names_in_order(rt: HostRuntime) -> Result<(), Fail> {
-    let low = Oid::read(Format::Sha1, b"0ffffffffffffffffffffffffffffffffffffff0")?;
-    let high = Oid::read(Format::Sha1, b"1000000000000000000000000000000000000000")?;
+    let low = Oid::read(Format::Sha1, b"0ffffffffffffffffffffffffffffffffffffff0", &mut Steps::new())?;
+    let high = Oid::read(Format::Sha1, b"1000000000000000000000000000000000000000", &mut Steps::new())?;
     let long = Oid::read(
         Format::Sha256,
         b"0ffffffffffffffffffffffffffffffffffffff0000000000000000000000000",
+        &mut Steps::new(),
     )?;
     assert!(rt; low < high);
     assert!(rt; low.cmp(&low) == Ordering::Equal);

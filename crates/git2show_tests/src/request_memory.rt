@@ -3,7 +3,7 @@ ghost use Rattle.std.specs.Prelude.{◌≡◌, false};
 ghost use Rattle.git_msg.specs.RequestReader.{is_waiting};
 
 use git_msg::{Argument, Command, Limits, Offer, Request, RequestReader, Taken};
-use git_names::{Format, Oid};
+use git_names::{Format, Oid, Steps};
 use git_pkt::{Fault, Kind, Packet};
 use linked_list_allocator::LocalHeap;
 use std::alloc::{AllocError, Allocator, Global};
@@ -45,13 +45,13 @@ fn kept_within(rt: &impl Abort, alloc: Global, size: usize) -> Result<u32, Alloc
 fn each_growth_of_a_request_is_refused_in_turn(rt: HostRuntime) -> Result<(), AllocError> {
     let mut most = 0;
     let mut kept_one = false;
-    for size in 64..1024 {
+    for size in 16..1024 {
         let kept = kept_within(&rt, rt.alloc(), size)?;
         assert!(&rt; most <= kept);
         most = kept;
         kept_one = kept_one | (kept == 1);
     }
-    assert_eq!(&rt; kept_within(&rt, rt.alloc(), 64)?, 0);
+    assert_eq!(&rt; kept_within(&rt, rt.alloc(), 16)?, 0);
     assert!(&rt; kept_one, "the second growth is never refused alone");
     assert_eq!(&rt; most, 2);
     Ok(())
@@ -64,7 +64,7 @@ const MANY: usize = 20;
 fn wants_within(rt: &impl Abort, alloc: Global, size: usize) -> Result<usize, AllocError> {
     let heap = LocalHeap::new(alloc, size)?;
     let mut request = Request::new(&heap, Command::Fetch, Format::Sha1, Limits { args: 1000 });
-    let id = Oid::read(Format::Sha1, &[b'a'; 40]).expect(rt, "an object name");
+    let id = Oid::read(Format::Sha1, &[b'a'; 40], &mut Steps::new()).expect(rt, "an object name");
     assert_eq!(rt; request.add(Argument::IsDone), Ok(()));
     for kept in 0..MANY {
         let before = request.kept();
@@ -105,12 +105,12 @@ fn hear<A: Allocator + Copy>(
     requires { is_waiting reader.old ≡ false }
     ensures { is_waiting reader.new ≡ false }
 {
-    let taken = match reader.take(packet, offset) {
+    let taken = match reader.take(packet, offset, &mut Steps::new()) {
         Ok(taken) => taken,
         Err(fault) => return Err(fault),
     };
     if let Taken::Argument(argument) = taken {
-        return reader.keep(argument);
+        return reader.keep(argument, &mut Steps::new());
     }
     Ok(())
 }

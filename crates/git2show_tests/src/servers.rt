@@ -1,6 +1,6 @@
 //! A repository of three references, and a server of it over a list of pieces.
 use git_msg::{Limits, Offer};
-use git_names::{Format, Oid};
+use git_names::{Format, Oid, Steps};
 use git_pkt::{Fault, Kind};
 use git_server::{ListRepo, Outcome, Pulled, RefEntry, Repo, Server};
 use std::alloc::{AllocError, Allocator, Global};
@@ -40,7 +40,7 @@ pub fn advertising(format: Format) -> Setup {
 
 // The object name that has this digit throughout.
 fn object(rt: &impl Abort, format: Format, digit: u8) -> Oid {
-    Oid::read(format, &[digit; 64][..format.digits()]).expect(rt, "an object name")
+    Oid::read(format, &[digit; 64][..format.digits()], &mut Steps::new()).expect(rt, "an object name")
 }
 
 fn entry(
@@ -114,7 +114,7 @@ fn feed_piece<A: Allocator + Copy>(
 ) -> Result<Option<Outcome>, AllocError> {
     let mut rest = piece;
     for _ in 0..100_000 {
-        let used = server.feed(rest);
+        let used = server.feed(rest, &mut Steps::new());
         rest = &rest[used..];
         let outcome = drain(server, output)?;
         if rest.is_empty() || outcome.is_some() {

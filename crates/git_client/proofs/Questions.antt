@@ -1,5 +1,5 @@
 -- What a question, and each packet of it that is said, does to all that came and went.
-use Rattle.std.proofs.Common.{arith, ◌≡◌, ◌≢◌, ℕ, Bool, true, false, List, [], ◌∷◌, ◌++◌, length, Option, Some, None}
+use Rattle.std.proofs.Common.{arith, ◌≡◌, ◌≢◌, ◌≤◌, ◌*◌, ℕ, Bool, true, false, List, [], ◌∷◌, ◌++◌, length, Option, Some, None}
 use Rattle.std.proofs.Common.{refl, sym, ap, ◌∙◌, subst, append_assoc, length-append, cond, slice_get}
 use Rattle.std.specs.Bool.{OnTrue, OnFalse}
 use Rattle.std.proofs.lemmas.Grind.{flat_map-append}
@@ -7,10 +7,11 @@ use Rattle.std.proofs.lemmas.List.{append-nil, flat_map_more}
 use Rattle.git_names.specs.declared.object_format.Format.{Format}
 use Rattle.git_pkt.specs.Packets.{Pkt, spelling_of, flushes}
 use Rattle.git_pkt.specs.Splits.{Given}
-use Rattle.git_pkt.specs.PacketReader.{Reads, StandsAt, is_open, held_of, fault_of as reader_fault_of}
+use Rattle.git_pkt.specs.PacketReader.{bytes_held, Reads, StandsAt, is_open, held_of, fault_of as reader_fault_of}
 use Rattle.git_pkt.specs.LentHold.{with_hold, with_hold_by}
 use Rattle.git_pkt.specs.declared.fault.Fault.{Fault}
 use Rattle.git_pkt.specs.declared.reader.PacketReader.{PacketReader}
+use Rattle.git_pkt.proofs.OpenLengths.{shut_counts_none}
 use Rattle.git_pkt.proofs.ReaderMoves.{rest_of_shut}
 use Rattle.git_msg.specs.Asked.{Asked, ls_refs, fetch, object_info}
 use Rattle.git_msg.specs.HeldRequest.{asked_of, format_of as request_format}
@@ -98,24 +99,27 @@ stands_lent : (fault : Option Fault) (p end : ℕ) (rest : List ℕ) (old new : 
 stands_lent None p end rest old new shut still h = (record { all = rest_of_shut new still ∙ sym (rest_of_shut old shut) ∙ h.0.all }, h.1)
 stands_lent (Some fault) p end rest old new shut still h = (still, h.1)
 
-lent_by : (r : PacketReader) (hold : _) (begun : Bool) (e : r.begun ≡ begun) → begun ≡ false
-    → IsLent r (with_hold_by r hold begun e) × (held_of (with_hold_by r hold begun e) ≡ hold.items)
-lent_by r hold true e shut = absurd (cc)
-lent_by r hold false e shut = (
+lent_by : (r : PacketReader) (hold : _) (begun : Bool) (e : r.begun ≡ begun) → bytes_held (with_hold_by r hold begun e) ≤ 65520 → begun ≡ false
+    → IsLent r (with_hold_by r hold begun e) × (held_of (with_hold_by r hold begun e) ≡ hold.items) × (is_open (with_hold_by r hold begun e) ≡ false)
+lent_by r hold true e fits shut = absurd (cc)
+lent_by r hold false e fits shut = (
   record {
     fault = refl;
     reads = λ start bytes given rest h. record {
       position = h.position;
       within = h.within;
+      fits = fits;
       splits = h.splits;
       state = stands_lent (reader_fault_of r) _ _ rest r (with_hold_by r hold false e) e e h.state;
     };
   },
   refl,
+  e,
 )
 
-pub lent : (r : PacketReader) (hold : _) → is_open r ≡ false → IsLent r (with_hold r hold) × (held_of (with_hold r hold) ≡ hold.items)
-lent r hold shut = lent_by r hold r.begun refl shut
+pub lent : (r : PacketReader) (hold : _) → bytes_held (with_hold r hold) ≤ 65520 → is_open r ≡ false
+    → IsLent r (with_hold r hold) × (held_of (with_hold r hold) ≡ hold.items) × (is_open (with_hold r hold) ≡ false)
+lent r hold fits shut = lent_by r hold r.begun refl fits shut
 
 -- a phase without a fault
 stands_in : (phase : Phase) (t : Terms) (asked : List Asked) (clean given : List Given) (rest : List ℕ) (end : ℕ) (question : Option Asked)
@@ -207,6 +211,7 @@ module _ {A : Type 0} where
     pub kept : request_of old ≡ Some request
     pub reader : IsLent (reader_of old) (reader_of new)
     pub held : held_of (reader_of new) ≡ bytes
+    pub shut : is_open (reader_of new) ≡ false
     pub puts : PutsFirst (left_to_write writer request) (left_to_write next request) bytes
 
   -- what is left to say of the question
@@ -273,6 +278,7 @@ module _ {A : Type 0} where
             subst (Behind t asked before (question_in (request_of new))) (sym now)
             (subst (λ (kept : Option (Request A)). IsAsked t asked before (question_in kept)) (sym keeps) h));
         gives = gives_next old new request writer next bytes b sound stays (ap is_ready now) left;
+        credit = ap (λ (n : ℕ). 56 * n) (shut_counts_none (reader_of new) b.shut);
       }
 
   -- all of it was said
@@ -288,6 +294,7 @@ module _ {A : Type 0} where
             subst (Behind t asked before (question_in (request_of new))) (sym now)
             (subst (IsDue t asked before) (sym first) (due_said t asked before (asked_of request) h)));
         gives = gives_next old new request writer next bytes b sound stays (ap is_ready now) left;
+        credit = ap (λ (n : ℕ). 56 * n) (shut_counts_none (reader_of new) b.shut);
       }
 
   -- a writer that had something left has put the first of it

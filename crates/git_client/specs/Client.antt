@@ -5,8 +5,9 @@ use Rattle.std.specs.Prelude.{Some, None, Result, Ok, Err}
 use Rattle.git_names.specs.declared.object_format.Format.{Format}
 use Rattle.git_pkt.specs.Packets.{Pkt, flush, payload, Spells, spelling_of, text_of, flushes, longest_payload}
 use Rattle.git_pkt.specs.Splits.{Given, Splits}
+use Rattle.git_pkt.specs.Credit.{credit_of}
 use Rattle.git_pkt.specs.Faults.{StopsBy}
-use Rattle.git_pkt.specs.PacketReader.{Reads, position_of, ShownByFeed, is_open, held_of, fault_of as reader_fault_of}
+use Rattle.git_pkt.specs.PacketReader.{Reads, bytes_held as held_in_packet, position_of, ShownByFeed, is_open, held_of, fault_of as reader_fault_of}
 use Rattle.git_pkt.specs.declared.fault.Fault.{Fault}
 use Rattle.git_pkt.specs.declared.fault.Kind.{Kind}
 use Rattle.git_pkt.specs.declared.fault.Kind.TheVariants.{RemoteError, RemoteFatal, NotAdvertised, WrongFormat, Truncated}
@@ -14,7 +15,7 @@ use Rattle.git_pkt.specs.declared.reader.PacketReader.{PacketReader}
 use Rattle.git_msg.specs.Advertisement.{noted_of, noted_offer, offers_command}
 use Rattle.git_msg.specs.Asked.{Asked, command_asked, AreOffered}
 use Rattle.git_msg.specs.Checks.{Check, check, Refuses as RefusesBy, Passes}
-use Rattle.git_msg.specs.HeldRequest.{asked_of, format_of as request_format}
+use Rattle.git_msg.specs.HeldRequest.{asked_of, format_of as request_format, limit_of as request_limit, stored_of}
 use Rattle.git_msg.specs.Lines.{end_checks}
 use Rattle.git_msg.specs.Texts.{IsErrorOf}
 use Rattle.git_msg.specs.WrittenRequest.{lines_written, written_of}
@@ -128,6 +129,16 @@ pub record IsAsked (t : Terms) (asked : List Asked) (before : List Pkt) (questio
   pub whole : AreWhole t earlier before
 
 module _ {A : Type 0} where
+  -- how many bytes are stored of a request that is asked
+  abbrev pub stored_in : Option (Request A) → ℕ
+  stored_in None = 0
+  stored_in (Some request) = stored_of request
+
+  -- how many bytes its argument lines may have
+  abbrev pub limit_in : Option (Request A) → ℕ
+  limit_in None = 0
+  limit_in (Some request) = request_limit request
+
   -- the fault that ended the conversation
   abbrev pub fault_of : Client A → Option Fault
   fault_of client = fault_in client.phase
@@ -178,6 +189,31 @@ module _ {A : Type 0} where
   -- the packets that are still to be pulled
   abbrev pub left_to_say : Client A → List Pkt
   left_to_say client = left_in client.phase client.request
+
+  -- how many bytes the client has: those of the hold of its packet reader, and those stored of the request that it asks. Each field is
+  -- named, so that none can be added without being counted.
+  abbrev pub bytes_held : Client A → ℕ
+  bytes_held client =
+      let record {
+        reader = reader;
+        format = format;
+        ending = ending;
+        phase = phase;
+        caps = caps;
+        request = request;
+        said = said;
+        sound = sound;
+        shut = shut;
+        owes = owes;
+        freed = freed;
+        formats = formats;
+        covered = covered;
+      } = client in
+      held_in_packet reader + stored_in request
+
+  -- the limit of that request, or 0 where none is asked
+  abbrev pub limit_of : Client A → ℕ
+  limit_of client = limit_in client.request
 
 -- what packets, the nearest first, stand before this phase
 abbrev pub Behind : Terms → List Asked → List Pkt → Option Asked → Phase → Type 0
@@ -310,6 +346,7 @@ module _ {A : Type 0} where
     pub asks : AsksOn old (asked_of request) new
     pub owes : left_to_say new ≡ written_of request (caps_of old)
     pub no_more : can_ask new ≡ false
+    pub credit : credit_of (reader_of new) ≤ credit_of (reader_of old)
 
   -- a question that was refused: it is handed back, and the client stays as it was
   pub record RefusesToAsk (old : Client A) (request handed_back : Request A) (fault : Fault) (new : Client A) : Type 0 where
@@ -323,6 +360,7 @@ module _ {A : Type 0} where
     pub leaves : LeavesOn old new
     pub owes : left_to_say new ≡ flush ∷ []
     pub no_more : has_left new ≡ true
+    pub credit : credit_of (reader_of new) ≤ credit_of (reader_of old)
 
   -- the state that an event leaves the client in
   abbrev pub LeavesAfter : Event → Client A → Type 0
@@ -379,11 +417,13 @@ module _ {A : Type 0} where
   pub record Pulls (old : Client A) (sent : Sent) (new : Client A) : Type 0 where
     pub says : SaysOn old (given_by sent) new
     pub tells : TellsSent sent old new
+    pub credit : credit_of (reader_of new) ≤ credit_of (reader_of old)
 
   -- a client that owes a packet has put it into its hold
   pub record Puts (old new : Client A) : Type 0 where
     pub says : SaysOn old (held_of (reader_of new)) new
     pub gives : GivesOne old new (held_of (reader_of new))
+    pub credit : credit_of (reader_of new) ≡ 0
 
 -- what the server says in a payload that is refused by this name
 abbrev pub IsMessage : Kind → List ℕ → List ℕ → Type 0

@@ -31,6 +31,7 @@ impl<A: Allocator + Copy> Client<A> {
     {
         match self.check(&request) {
             Ok(()) => {
+                let _ = request.kept();
                 self.phase = Phase::Asking(RequestWriter::new(&request, &self.caps));
                 self.request = Some(request);
                 Ok(())
@@ -99,6 +100,7 @@ impl<A: Allocator + Copy> Client<A> {
             unreachable!()
         };
         writer.pull(request, self.reader.lend());
+        let _ = self.reader.hold();
         if !writer.is_done() {
             self.phase = Phase::Asking(writer);
             return;
@@ -113,6 +115,7 @@ impl<A: Allocator + Copy> Client<A> {
         ensures { Puts self.old self.new }
     {
         put(self.reader.lend(), Packet::Flush);
+        let _ = self.reader.hold();
         self.phase = Phase::Left;
     }
 

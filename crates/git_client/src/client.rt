@@ -1,11 +1,12 @@
 //! The client: it asks, reads what a server says in pieces of any size, and hands out events.
 
-ghost use Rattle.std.specs.Prelude.{◌≡◌, ◌≢◌, ◌+◌, ◌-◌, ◌≤◌, ◌<◌, ◌↔◌, IsTrue, ℕ, suc, List, [], ◌∷◌, None, Err, true, false, length, take, drop, MatchOption};
+ghost use Rattle.std.specs.Prelude.{◌≡◌, ◌≢◌, ◌+◌, ◌-◌, ◌≤◌, ◌<◌, ◌↔◌, IsTrue, ℕ, suc, List, [], ◌∷◌, None, Err, true, false, length, take, drop, MatchOption, ◌*◌};
 ghost use Rattle.std.specs.Option.{ForSome};
 ghost use Rattle.std.specs.Borrow.{sem};
-ghost use Rattle.git_msg.specs.HeldRequest.{format_of as request_format};
+ghost use Rattle.git_msg.specs.HeldRequest.{format_of as request_format, limit_of, stored_of};
 ghost use Rattle.std.specs.Io.BufRead.{Rests};
 ghost use Rattle.git_names.specs.declared.object_format.Format.{Format};
+ghost use Rattle.git_pkt.specs.Credit.{Pays, credit_of};
 ghost use Rattle.git_pkt.specs.Packets.{longest_payload};
 ghost use Rattle.git_pkt.specs.Splits.{Given, Splits};
 ghost use Rattle.git_pkt.specs.PacketReader.{fault_of as reader_fault_of, held_of, is_open};
@@ -22,7 +23,7 @@ use crate::events::{Ending, Event, Heard, HeardGot};
 use crate::judge::{judge, judge_band};
 use crate::phase::{BandSaid, CapabilityPlaces, Due, Phase, Said, Turn};
 use git_msg::{Capability, Caps, ReferencePlaces, Request, error_message};
-use git_names::{Format, Oid};
+use git_names::{Format, Oid, Steps};
 use git_pkt::{Fault, Got, Kind, Packet, PacketReader, text};
 use std::alloc::Allocator;
 
@@ -64,6 +65,7 @@ pub struct Client<A: Allocator + Copy> {
     ghost owes: { is_asking phase ≡ true → left_in phase request ≢ [] },
     ghost freed: { is_asking phase ≡ false → request ≡ None },
     ghost formats: { ForSome request (λ q. request_format q ≡ format) },
+    ghost covered: { ForSome request (λ q. stored_of q ≤ limit_of q) },
 }
 
 impl<A: Allocator + Copy> Client<A> {
@@ -76,6 +78,7 @@ impl<A: Allocator + Copy> Client<A> {
     pub fn new(format: Format, ending: Ending) -> Self
         ensures converses { Converses (terms_of format ending) nothing_yet result }
         ensures waits { wants_input result ≡ true }
+        ensures credit { credit_of (reader_of result) ≡ 0 }
     {
         Client {
             reader: PacketReader::new(),
@@ -146,8 +149,9 @@ impl<A: Allocator + Copy> Client<A> {
 
     /// Reads on. It returns after one event, or with the whole piece used, or at the first fault. A client that does not
     /// wait for input uses nothing. Call it again with the bytes that it did not use.
-    pub fn feed<'a>(&'a mut self, piece: &'a [u8]) -> Heard<'a>
-        ensures* after { sem 𝓛 (Rests (the_row A.row A.Allocator) self.entry (λ new. Feeds self.old piece.now result new)) }
+    pub fn feed<'a>(&'a mut self, piece: &'a [u8], steps: &mut Steps) -> Heard<'a>
+        ensures* after { sem 𝓛 (Rests (the_row A.row A.Allocator) self.entry (λ new. Feeds self.old piece.now result new
+            × Pays result.used steps.old steps.new (credit_of (reader_of self.old)) (credit_of (reader_of new)))) }
         ensures used { result.used ≤ length piece.now }
         ensures fits { all_parts_length (events_of result.got) ≤ longest_payload }
     {
@@ -163,7 +167,7 @@ impl<A: Allocator + Copy> Client<A> {
                 got: HeardGot::More,
             };
         }
-        let step = self.advance(piece);
+        let step = self.advance(piece, steps);
         match step.outcome {
             Outcome::More => Heard {
                 used: step.used,
@@ -189,6 +193,7 @@ impl<A: Allocator + Copy> Client<A> {
         ensures kind { result.kind ≡ Kind.Truncated }
         ensures offset { (t : Terms) (h : History) (given : List Given) (rest : List ℕ)
             → Converses t h self.old → Splits 0 h.used given rest → result.offset + length rest ≡ length h.used }
+        ensures credit { credit_of (reader_of self.new) ≤ credit_of (reader_of self.old) }
     {
         let fault = match self.reader.close() {
             Ok(()) => Fault {
@@ -202,15 +207,16 @@ impl<A: Allocator + Copy> Client<A> {
     }
 
     /// Uses bytes up to the first event or fault, or all of them.
-    fn advance(&mut self, piece: &[u8]) -> Advance
+    fn advance(&mut self, piece: &[u8], steps: &mut Steps) -> Advance
         requires { wants_input self.old ≡ true }
+        ensures cost { Pays result.used steps.old steps.new (credit_of (reader_of self.old)) (credit_of (reader_of self.new)) }
         ensures used { result.used ≤ length piece.now }
         ensures all { result.outcome ≡ Outcome.More → result.used ≡ length piece.now }
         ensures takes { Takes self.old piece.now result self.new }
     {
         let mut used = 0;
         while used < piece.len() {
-            let step = self.take(&piece[used..]);
+            let step = self.take(&piece[used..], steps);
             used += step.used;
             match step.outcome {
                 Outcome::More => {}
@@ -224,15 +230,21 @@ impl<A: Allocator + Copy> Client<A> {
     }
 
     /// Uses bytes up to the end of a packet, or all of them.
-    fn take(&mut self, piece: &[u8]) -> Advance
+    ///
+    /// A packet that is whole has been paid for by its own bytes.
+    fn take(&mut self, piece: &[u8], steps: &mut Steps) -> Advance
         requires { wants_input self.old ≡ true }
+        ensures cost { Pays result.used steps.old steps.new (credit_of (reader_of self.old)) (credit_of (reader_of self.new)) }
+        ensures paid { result.outcome ≡ Outcome.More → result.used < length piece.now
+            → steps.new + credit_of (reader_of self.new) ≤ steps.old + credit_of (reader_of self.old) + 64 * result.used }
         ensures used { result.used ≤ length piece.now }
         ensures takes { Takes self.old piece.now result self.new }
     {
         let Phase::Hearing(due) = self.phase else {
             unreachable!()
         };
-        let fed = self.reader.feed(piece);
+        steps.tick(1);
+        let fed = self.reader.feed(piece, steps);
         let used = fed.used;
         match fed.got {
             Got::More => Advance {
@@ -253,7 +265,7 @@ impl<A: Allocator + Copy> Client<A> {
                     Advance { used, outcome }
                 }
                 _ => {
-                    let judged = judge(self.format, self.ending, due, self.caps, packet);
+                    let judged = judge(self.format, self.ending, due, self.caps, packet, steps);
                     let outcome = self.settle(judged, offset);
                     Advance { used, outcome }
                 }

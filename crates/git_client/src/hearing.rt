@@ -13,6 +13,7 @@ ghost use Rattle.git_client.specs.Turns.{values_of};
 use crate::client::Client;
 use crate::events::{Event, HeardGot};
 use crate::transcript::write_event;
+use git_names::Steps;
 use git_pkt::{Output, RunFault, Told, flush, receive};
 use std::alloc::Allocator;
 use std::io::{Read, Write};
@@ -114,8 +115,9 @@ pub fn hear_piece<O: Write, P: Output, A: Allocator + Copy>(
     ensures told { FailsAs result false (has_failed out.new || P.failed pack.new) }
 {
     let mut used = 0;
+    let mut steps = Steps::new();
     while used < piece.len() && client.wants_input() {
-        let heard = client.feed(&piece[used..]);
+        let heard = client.feed(&piece[used..], &mut steps);
         match heard.got {
             HeardGot::More => return Ok(piece.len()),
             HeardGot::Failed(fault) => {

@@ -1,8 +1,9 @@
 //! What a packet says where something is due, and what refuses it.
 
-ghost use Rattle.std.specs.Prelude.{◌≡◌, Err, MatchResult};
+ghost use Rattle.std.specs.Prelude.{◌≡◌, Err, MatchResult, ◌+◌, ◌*◌, length};
 ghost use Rattle.git_names.specs.declared.object_format.Format.{Format};
-ghost use Rattle.git_pkt.specs.Packets.{flush, delim, resp_end, payload as payload_of, seen};
+ghost use Rattle.git_names.specs.Steps.{TakesAtMost};
+ghost use Rattle.git_pkt.specs.Packets.{body_of, flush, delim, resp_end, payload as payload_of, seen};
 ghost use Rattle.git_client.specs.Events.{IsLineFault, Refuses, band_says};
 ghost use Rattle.git_client.specs.Turns.{IsLineTurn, IsOnBand, IsTurn, TakesLines, place_due, turn_after_flush};
 ghost use Rattle.git_client.specs.declared.events.Ending.{Ending};
@@ -15,8 +16,11 @@ use crate::judge_lines::{
 use crate::phase::{BandSaid, Due, Phase, Said, Turn};
 use crate::sections::Allowed;
 use git_msg::{Caps, is_error};
-use git_names::Format;
+use git_names::{Format, Steps};
 use git_pkt::{Band, Kind, Packet, split_band, text};
+
+// The most bytes that a word has which is a line.
+const LONGEST_WORD: usize = 15;
 
 /// What the packet says where this is due, and `caps` was noted before it, or why it is refused.
 pub(crate) fn judge(
@@ -25,21 +29,30 @@ pub(crate) fn judge(
     due: Due,
     caps: Caps,
     packet: Packet<'_>,
+    steps: &mut Steps,
 ) -> Result<Turn, Kind>
     ensures turn { MatchResult result (IsTurn format ending due caps (seen packet.entry))
         (Refuses format ending (place_due caps format due) (seen packet.entry)) }
+    ensures cost { TakesAtMost (48 * (length (body_of (seen packet.entry)) + 1)) steps.old steps.new }
 {
     match packet {
-        Packet::Payload(payload) => judge_payload(format, due, caps, payload),
+        Packet::Payload(payload) => judge_payload(format, due, caps, payload, steps),
         Packet::Flush => judge_flush(format, ending, due, caps),
         Packet::Delim => judge_delimiter(due, caps),
         Packet::RespEnd => judge_response_end(due, caps),
     }
 }
 
-fn judge_payload(format: Format, due: Due, caps: Caps, payload: &[u8]) -> Result<Turn, Kind>
+fn judge_payload(
+    format: Format,
+    due: Due,
+    caps: Caps,
+    payload: &[u8],
+    steps: &mut Steps,
+) -> Result<Turn, Kind>
     ensures turn { (ending : Ending) → MatchResult result (IsTurn format ending due caps (payload_of payload.now))
         (Refuses format ending (place_due caps format due) (payload_of payload.now)) }
+    ensures cost { TakesAtMost (48 * (length payload.now + 1)) steps.old steps.new }
 {
     match due {
         Due::Packfile => {
@@ -49,18 +62,27 @@ fn judge_payload(format: Format, due: Due, caps: Caps, payload: &[u8]) -> Result
         Due::ResponseEnd => Err(Kind::UnexpectedPacket),
         _ => {
             let line = text(payload);
+            // `ERR `, and four words that a line may be.
+            steps.tick(5 * (line.len().min(LONGEST_WORD) + 1));
             if is_error(line) {
                 return Err(Kind::RemoteError);
             }
-            judge_line(format, due, caps, line)
+            judge_line(format, due, caps, line, steps)
         }
     }
 }
 
 /// A text line that is no error packet.
-fn judge_line(format: Format, due: Due, caps: Caps, line: &[u8]) -> Result<Turn, Kind>
+fn judge_line(
+    format: Format,
+    due: Due,
+    caps: Caps,
+    line: &[u8],
+    steps: &mut Steps,
+) -> Result<Turn, Kind>
     requires { TakesLines due }
     ensures turn { MatchResult result (IsLineTurn format due caps line.now) (IsLineFault (place_due caps format due) format line.now) }
+    ensures cost { TakesAtMost (40 * (length line.now + 1)) steps.old steps.new }
 {
     match due {
         Due::Version => {
@@ -68,11 +90,11 @@ fn judge_line(format: Format, due: Due, caps: Caps, line: &[u8]) -> Result<Turn,
             Ok(heard(Said::Nothing, caps, Due::Capabilities))
         }
         Due::Capabilities => {
-            let (places, after) = judge_capability(caps, line)?;
+            let (places, after) = judge_capability(caps, line, steps)?;
             Ok(heard(Said::Capability(places), after, due))
         }
         Due::References => {
-            let said = judge_reference(format, line)?;
+            let said = judge_reference(format, line, steps)?;
             Ok(heard(said, caps, due))
         }
         Due::Header(allowed) => {
@@ -80,15 +102,15 @@ fn judge_line(format: Format, due: Due, caps: Caps, line: &[u8]) -> Result<Turn,
             Ok(heard(Said::Nothing, caps, next))
         }
         Due::Acknowledgments(told) => {
-            let (said, after) = judge_acknowledgment(format, told, line)?;
+            let (said, after) = judge_acknowledgment(format, told, line, steps)?;
             Ok(heard(said, caps, Due::Acknowledgments(after)))
         }
         Due::ShallowInfo(_) => {
-            let said = judge_boundary(format, line)?;
+            let said = judge_boundary(format, line, steps)?;
             Ok(heard(said, caps, due))
         }
         Due::WantedRefs(_) => {
-            let said = judge_wanted(format, line)?;
+            let said = judge_wanted(format, line, steps)?;
             Ok(heard(said, caps, due))
         }
         Due::SizeLine => {
@@ -96,7 +118,7 @@ fn judge_line(format: Format, due: Due, caps: Caps, line: &[u8]) -> Result<Turn,
             Ok(heard(Said::Nothing, caps, Due::Sizes))
         }
         Due::Sizes => {
-            let said = judge_info(format, line)?;
+            let said = judge_info(format, line, steps)?;
             Ok(heard(said, caps, due))
         }
         Due::Packfile => Err(Kind::UnexpectedPacket),

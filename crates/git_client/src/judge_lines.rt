@@ -1,8 +1,9 @@
 //! What the text lines of a conversation say, each where it is due, and what refuses them. Error packets are judged
 //! before.
 
-ghost use Rattle.std.specs.Prelude.{◌≡◌, ◌≢◌, Some, true, codes, MatchResult};
+ghost use Rattle.std.specs.Prelude.{◌≡◌, ◌≢◌, Some, true, codes, MatchResult, ◌+◌, ◌*◌, length};
 ghost use Rattle.git_names.specs.declared.object_format.Format.{Format};
+ghost use Rattle.git_names.specs.Steps.{TakesAtMost};
 ghost use Rattle.git_msg.specs.Capability.{IsNoCapability};
 ghost use Rattle.git_client.specs.Events.{IsLineFault};
 ghost use Rattle.git_client.specs.Places.{references, acknowledgments, header, shallow_info, sizes, wanted_refs};
@@ -15,7 +16,7 @@ use git_msg::{
     Boundary, Caps, locate_reference, read_ack, read_boundary, read_capability, read_info,
     read_wanted,
 };
-use git_names::Format;
+use git_names::{Format, Steps};
 use git_pkt::Kind;
 
 /// The line that begins an advertisement.
@@ -29,23 +30,29 @@ pub(crate) fn judge_version(line: &[u8]) -> Result<(), Kind>
 }
 
 /// A capability line, with what is noted after it.
-pub(crate) fn judge_capability(caps: Caps, line: &[u8]) -> Result<(CapabilityPlaces, Caps), Kind>
-    ensures { MatchResult result (λ found. FindsCapability caps line.now found.0 found.1)
+pub(crate) fn judge_capability(
+    caps: Caps,
+    line: &[u8],
+    steps: &mut Steps,
+) -> Result<(CapabilityPlaces, Caps), Kind>
+    ensures line { MatchResult result (λ found. FindsCapability caps line.now found.0 found.1)
         (λ kind. IsNoCapability line.now × (kind ≡ Kind.BadCapability)) }
+    ensures cost { TakesAtMost (40 * (length line.now + 1)) steps.old steps.new }
 {
-    let capability = read_capability(line)?;
+    let capability = read_capability(line, steps)?;
     let places = CapabilityPlaces {
         key_length: capability.key.len(),
         has_value: capability.value.is_some(),
     };
-    Ok((places, caps.with(&capability)))
+    Ok((places, caps.with(&capability, steps)))
 }
 
 /// A line of the response to `ls-refs`.
-pub(crate) fn judge_reference(format: Format, line: &[u8]) -> Result<Said, Kind>
-    ensures { MatchResult result (Says references format line.now) (IsLineFault references format line.now) }
+pub(crate) fn judge_reference(format: Format, line: &[u8], steps: &mut Steps) -> Result<Said, Kind>
+    ensures line { MatchResult result (Says references format line.now) (IsLineFault references format line.now) }
+    ensures cost { TakesAtMost (40 * (length line.now + 1)) steps.old steps.new }
 {
-    let places = locate_reference(format, line)?;
+    let places = locate_reference(format, line, steps)?;
     Ok(Said::Reference(places))
 }
 
@@ -75,9 +82,11 @@ pub(crate) fn judge_acknowledgment(
     format: Format,
     told: Told,
     line: &[u8],
+    steps: &mut Steps,
 ) -> Result<(Said, Told), Kind>
-    ensures { MatchResult result (λ turn. Says (acknowledgments told) format line.now turn.0 × (turn.1 ≡ told_with told line.now))
+    ensures line { MatchResult result (λ turn. Says (acknowledgments told) format line.now turn.0 × (turn.1 ≡ told_with told line.now))
         (IsLineFault (acknowledgments told) format line.now) }
+    ensures cost { TakesAtMost (40 * (length line.now + 1)) steps.old steps.new }
 {
     let after = Told { any: true, ..told };
     if line == b"NAK".as_slice() {
@@ -101,7 +110,7 @@ pub(crate) fn judge_acknowledgment(
     if told.nak || told.ready {
         return Err(Kind::BadLine);
     }
-    let id = read_ack(format, line)?;
+    let id = read_ack(format, line, steps)?;
     Ok((Said::Ack(id), after))
 }
 
@@ -116,28 +125,31 @@ pub(crate) fn judge_size_line(line: &[u8]) -> Result<(), Kind>
 }
 
 /// A line that tells the size of an object.
-pub(crate) fn judge_info(format: Format, line: &[u8]) -> Result<Said, Kind>
-    ensures { MatchResult result (Says sizes format line.now) (IsLineFault sizes format line.now) }
+pub(crate) fn judge_info(format: Format, line: &[u8], steps: &mut Steps) -> Result<Said, Kind>
+    ensures cost { TakesAtMost (40 * (length line.now + 1)) steps.old steps.new }
+    ensures line { MatchResult result (Says sizes format line.now) (IsLineFault sizes format line.now) }
 {
-    let info = read_info(format, line)?;
+    let info = read_info(format, line, steps)?;
     Ok(Said::Info(info))
 }
 
 /// A line of the section `shallow-info`.
-pub(crate) fn judge_boundary(format: Format, line: &[u8]) -> Result<Said, Kind>
-    ensures { MatchResult result (Says shallow_info format line.now) (IsLineFault shallow_info format line.now) }
+pub(crate) fn judge_boundary(format: Format, line: &[u8], steps: &mut Steps) -> Result<Said, Kind>
+    ensures cost { TakesAtMost (40 * (length line.now + 1)) steps.old steps.new }
+    ensures line { MatchResult result (Says shallow_info format line.now) (IsLineFault shallow_info format line.now) }
 {
-    match read_boundary(format, line)? {
+    match read_boundary(format, line, steps)? {
         Boundary::Shallow(id) => Ok(Said::Shallow(id)),
         Boundary::Unshallow(id) => Ok(Said::Unshallow(id)),
     }
 }
 
 /// A line of the section `wanted-refs`.
-pub(crate) fn judge_wanted(format: Format, line: &[u8]) -> Result<Said, Kind>
-    ensures { MatchResult result (Says wanted_refs format line.now) (IsLineFault wanted_refs format line.now) }
+pub(crate) fn judge_wanted(format: Format, line: &[u8], steps: &mut Steps) -> Result<Said, Kind>
+    ensures cost { TakesAtMost (40 * (length line.now + 1)) steps.old steps.new }
+    ensures line { MatchResult result (Says wanted_refs format line.now) (IsLineFault wanted_refs format line.now) }
 {
-    match read_wanted(format, line) {
+    match read_wanted(format, line, steps) {
         Ok(wanted) => Ok(Said::WantedRef(wanted.id)),
         Err(kind) => Err(kind),
     }

@@ -1,6 +1,7 @@
 //! What follows from the definitions alone: each law is the contract of a function without parameters.
 
-ghost use Rattle.std.specs.Prelude.{◌≡◌, ◌≢◌, ℕ, List, [], ◌++◌, Some, None, true};
+ghost use Rattle.std.specs.Prelude.{◌≡◌, ◌≢◌, ◌+◌, ◌*◌, ◌≤◌, ℕ, List, [], ◌++◌, Some, None, true};
+ghost use Rattle.git_pkt.specs.Credit.{Call, ArePaid, bytes_of, feeds_of};
 ghost use Rattle.git_pkt.specs.Packets.{Pkt};
 ghost use Rattle.git_pkt.specs.Splits.{Given};
 ghost use Rattle.git_pkt.specs.declared.fault.Fault.{Fault};
@@ -12,7 +13,7 @@ ghost use Rattle.git_client.specs.Parts.{Terms};
 ghost use Rattle.git_client.specs.Events.{EventValue, pack_bytes};
 ghost use Rattle.git_client.specs.Packs.{HasPack};
 ghost use Rattle.git_client.specs.Conversation.{GivesAt, RefusesAt, FirstFault, HasEvents, HasNoted, FirstMalformed, GoesWell, IsConversation};
-ghost use Rattle.git_client.specs.Client.{Converses, History, fault_of, can_ask, left_to_say, said_of, spelled, caps_of};
+ghost use Rattle.git_client.specs.Client.{Converses, History, bytes_held, limit_of, fault_of, can_ask, left_to_say, said_of, spelled, caps_of};
 ghost use Rattle.git_client.specs.declared.client.Client.{Client};
 
 use std::alloc::Allocator;
@@ -110,4 +111,15 @@ pub fn heard_pack()
         → HasEvents t asked bytes events → HasPack t asked bytes pack → (more : List ℕ) × (pack ≡ pack_bytes events ++ more) }
     ensures whole { (t : Terms) (asked : List Asked) (bytes : List ℕ) (events : List EventValue) (pack : List ℕ)
         → IsConversation t asked bytes events → HasPack t asked bytes pack → pack ≡ pack_bytes events }
+{}
+
+/// A client has at no time more bytes than the longest packet and the limit of the request that it asks together.
+pub fn client_holds_within_its_limit<A: Allocator + Copy>()
+    ensures { (t : Terms) (h : History) (client : Client A) → Converses t h client → bytes_held client ≤ 65520 + limit_of client }
+{}
+
+/// All calls of a client together take at most 64 steps for each byte that was used and for each call of `feed`.
+pub fn client_steps_are_bounded()
+    ensures { (calls : List Call) (before after left : ℕ) → ArePaid calls before after 0 left
+        → after ≤ before + 64 * (bytes_of calls + feeds_of calls) }
 {}

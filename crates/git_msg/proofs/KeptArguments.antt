@@ -1,7 +1,8 @@
 -- A reader of requests that keeps an argument, or does not.
 use Rattle.std.proofs.Common.{arith, ◌≡◌, ℕ, ◌+◌, ◌^◌, ◌<◌, ◌≤◌, Bool, true, Ok, Err, List, [], ◌∷◌, ◌++◌}
 use Rattle.std.proofs.Common.{refl, ap, sym, ◌∙◌, subst, length, max, inl, inr, codes, decimal, length-append}
-use Rattle.std.proofs.lemmas.List.{append-nil}
+use Rattle.std.proofs.Common.{◌-◌, false, cond, take}
+use Rattle.std.proofs.lemmas.List.{append-nil, length-take}
 use Rattle.git_pkt.specs.Packets.{Pkt, payload, text_of}
 use Rattle.git_pkt.specs.Splits.{Given}
 use Rattle.git_pkt.specs.declared.fault.Kind.{Kind}
@@ -16,10 +17,12 @@ use Rattle.git_msg.specs.declared.reader.RequestReader.{RequestReader}
 use Rattle.git_msg.specs.Arguments.{Arg, symrefs, peel, ref_prefix, want, have, done, thin_pack, no_progress, include_tag, ofs_delta}
 use Rattle.git_msg.specs.Arguments.{shallow, deepen, deepen_relative, deepen_since, deepen_not, want_ref, size, object_id}
 use Rattle.git_msg.specs.Arguments.{SaysArgument, IsDepth, IsTime, IsNumberIn, IsArgument, IsOutOfRange, IsValueFault, written_text, TakesMemory}
+use Rattle.git_msg.specs.Arguments.{IsInRange}
 use Rattle.git_msg.specs.Texts.{Follows}
+use Rattle.git_msg.proofs.KeptBytes.{stored_fits}
 use Rattle.git_msg.specs.Asked.{asked_by, with_argument}
 use Rattle.git_msg.specs.Checks.{Passes}
-use Rattle.git_msg.specs.HeldRequest.{command_of, format_of, kept_of, limit_of, Keeps, keep_checks, IsRefused}
+use Rattle.git_msg.specs.HeldRequest.{command_of, format_of, kept_of, limit_of, stored_of, Keeps, keep_checks, IsRefused}
 use Rattle.git_msg.specs.Lines.{Line, argument, commands_of, arguments_of, IsLine, IsArgumentLine, HasFault, HasFaultIn}
 use Rattle.git_msg.specs.Requests.{AreLines, FirstFault, WantsMemory, IsTold}
 use Rattle.git_msg.specs.RequestReader.{WaitsIn, WaitsBehind, InArguments, KeepsOn, limit_in, waiting_at, waiting_bytes}
@@ -43,9 +46,10 @@ waited_line packets offset long arg r w fits =
     (argument_is_line r.offer (limit_in r) w.lines w.bytes arg long w.in_part.behind line)
 
 -- the argument part with one argument more
-one_more : {A : Type 0} (lines : List Line) (arg : Arg) (long : ℕ) (r : RequestReader A) (q : Request A)
-    → InArguments lines r → Keeps r.request arg long q → InArguments (lines ++ argument arg long ∷ []) (record r { part = Arguments; request = q })
-one_more lines arg long r q h k = record {
+one_more : {A : Type 0} (lines : List Line) (arg : Arg) (long : ℕ) (r : RequestReader A) (q : Request A) (covered : stored_of q ≤ kept_of q)
+    → InArguments lines r → Keeps r.request arg long q
+    → InArguments (lines ++ argument arg long ∷ []) (record r { part = Arguments; request = q; covered = covered })
+one_more lines arg long r q covered h k = record {
   behind = delimiter_snoc lines (argument arg long) ∙ h.behind;
   command = commands_snoc lines (argument arg long) ∙ append-nil (commands_of lines) ∙ h.command ∙ ap (λ c. c ∷ []) (sym k.command);
   asked = k.asked ∙ ap (λ a. with_argument a arg) h.asked ∙ sym (asked_snoc (command_of r.request) (arguments_of lines) arg)
@@ -82,7 +86,7 @@ number_line word InRange text number small h =
     )
 
 -- an argument's text is not shorter than the argument's written form
-as_written : (format : Format) (text : List ℕ) (arg : Arg) → SaysArgument format text arg → length (written_text arg) ≤ length text
+pub as_written : (format : Format) (text : List ℕ) (arg : Arg) → SaysArgument format text arg → length (written_text arg) ≤ length text
 as_written format text symrefs h = let e = ap length h in omega arith
 as_written format text peel h = let e = ap length h in omega arith
 as_written format text (ref_prefix p) h = let e = ap length h.0 in omega arith
@@ -104,6 +108,14 @@ as_written format text (want_ref name) h = let e = ap length h.0 in omega arith
 as_written format text size h = let e = ap length h in omega arith
 as_written format text (object_id id) h = name_line (codes "oid ") format text id h
 
+-- the text of a packet is no longer than its payload
+chosen_fits : (b : Bool) (n : ℕ) (bytes : List ℕ) → length (cond b (take n bytes) bytes) ≤ length bytes
+chosen_fits true n bytes = omega (arith, length-take n bytes)
+chosen_fits false n bytes = omega arith
+
+pub text_fits : (bytes : List ℕ) → length (text_of bytes) ≤ length bytes
+text_fits bytes = chosen_fits _ (length bytes - 1) bytes
+
 counted : {A : Type 0} (packets : List Given) (offset long : ℕ) (arg : Arg) (r : RequestReader A)
     → WaitsBehind packets offset long arg r → max long (length (written_text arg)) ≡ long
 counted packets offset long arg r w =
@@ -111,10 +123,10 @@ counted packets offset long arg r w =
     let same = w.long_is in
     omega arith
 
-pub keeps_ok : {A : Type 0} (r : RequestReader A) (offset long : ℕ) (arg : Arg) (q : Request A)
+pub keeps_ok : {A : Type 0} (r : RequestReader A) (offset long : ℕ) (arg : Arg) (q : Request A) (covered : stored_of q ≤ kept_of q)
     → r.part ≡ Waiting offset long → Keeps r.request arg (max long (length (written_text arg))) q
-    → Passes (keep_checks r.request arg (max long (length (written_text arg)))) → KeepsOn r arg (Ok tt) (record r { part = Arguments; request = q })
-keeps_ok {A} r offset long arg q part k passes = record {
+    → Passes (keep_checks r.request arg (max long (length (written_text arg)))) → KeepsOn r arg (Ok tt) (record r { part = Arguments; request = q; covered = covered })
+keeps_ok {A} r offset long arg q covered part k passes = record {
   settles = λ packets w.
       let waits : WaitsBehind packets offset long arg r = subst (λ (p : Part). WaitsIn p packets arg r) part w.waits in
       let same = counted packets offset long arg r waits in
@@ -128,7 +140,7 @@ keeps_ok {A} r offset long arg q part k passes = record {
         stands = record {
           lines = waits.lines ++ argument arg long ∷ [];
           taken = subst (λ (n : ℕ). AreLines r.offer n [] packets (waits.lines ++ argument arg long ∷ [])) (sym k.limit) all;
-          in_part = one_more waits.lines arg long r q waits.in_part kept;
+          in_part = one_more waits.lines arg long r q covered waits.in_part kept;
         };
       };
   keeps = subst (λ (p : Part). Keeps r.request arg (max (waiting_bytes p) (length (written_text arg))) q) (sym part) k;
@@ -218,12 +230,12 @@ told packets offset long arg r kind w (inr h) =
     inr (subst (λ (k : Kind). WantsMemory r.offer (limit_in r) packets k offset) (sym h.name)
     (no_memory packets offset long arg r w h.passes.1.0 h.takes_memory))
 
-pub keeps_err : {A : Type 0} (r : RequestReader A) (offset long : ℕ) (arg : Arg) (q : Request A) (kind : Kind)
+pub keeps_err : {A : Type 0} (r : RequestReader A) (offset long : ℕ) (arg : Arg) (q : Request A) (kind : Kind) (covered : stored_of q ≤ kept_of q)
     → r.part ≡ Waiting offset long → q ≡ r.request → IsRefused (keep_checks r.request arg (max long (length (written_text arg)))) arg kind
-    → KeepsOn r arg (Err (record { kind = kind; offset = offset })) (record r { part = Failed (record { kind = kind; offset = offset }); request = q })
-keeps_err {A} r offset long arg q kind part same refused =
-    subst (λ (x : Request A). KeepsOn r arg (Err (record { kind = kind; offset = offset }))
-    (record r { part = Failed (record { kind = kind; offset = offset }); request = x })) (sym same) (record {
+    → KeepsOn r arg (Err (record { kind = kind; offset = offset })) (record r { part = Failed (record { kind = kind; offset = offset }); request = q; covered = covered })
+keeps_err {A} r offset long arg q kind covered part same refused =
+    subst (λ (x : Request A). (h : stored_of x ≤ kept_of x) → KeepsOn r arg (Err (record { kind = kind; offset = offset }))
+    (record r { part = Failed (record { kind = kind; offset = offset }); request = x; covered = h })) (sym same) (λ still. record {
       settles = λ packets w.
           let waits : WaitsBehind packets offset long arg r = subst (λ (p : Part). WaitsIn p packets arg r) part w.waits in
           let it : IsTold r.offer (limit_in r) packets (record { kind = kind; offset = offset }) =
@@ -239,4 +251,9 @@ keeps_err {A} r offset long arg q kind part same refused =
       offer = refl;
       limit = refl;
       within = λ h. h;
-    })
+    }) covered
+
+-- what is stored stays covered with an argument that is counted by no less than is written of it
+pub still_covered : {A : Type 0} (old new : Request A) (arg : Arg) (long : ℕ) → stored_of old ≤ kept_of old
+    → IsInRange (format_of old) arg → Keeps old arg (max long (length (written_text arg))) new → stored_of new ≤ kept_of new
+still_covered old new arg long h value k = omega (arith, h, k.stored, k.kept, stored_fits (format_of old) arg value)

@@ -18,13 +18,13 @@ use Rattle.git_msg.specs.declared.arguments.Command.{Command}
 use Rattle.git_msg.specs.declared.arguments.Command.TheVariants.{LsRefs, Fetch, ObjectInfo}
 use Rattle.git_msg.specs.Arguments.{Arg, symrefs, peel, ref_prefix, want, have, done, thin_pack, no_progress, include_tag, ofs_delta, shown, command_with}
 use Rattle.git_msg.specs.Arguments.{shallow, deepen, deepen_relative, deepen_since, deepen_not, want_ref, size, object_id}
-use Rattle.git_msg.specs.Arguments.{most_text, IsInRange, IsValue, written_text}
+use Rattle.git_msg.specs.Arguments.{most_text, IsInRange, IsValue, stored_in, written_text}
 use Rattle.git_msg.specs.Asked.{Asked, LsRefsAsked, FetchAsked, ObjectInfoAsked, ls_refs, fetch, object_info, command_asked, with_ls_refs}
 use Rattle.git_msg.specs.Asked.{with_fetch, with_object_info, with_argument, where_asked, where_given, pack_arguments, shallow_arguments, object_arguments}
 use Rattle.git_msg.specs.Asked.{arguments_in, bytes_of}
 use Rattle.git_msg.specs.Kept.{Kept, IsCounted, IsWithin}
 use Rattle.git_msg.proofs.ArgumentsInOrder.{same_command}
-use Rattle.git_msg.proofs.WrittenNames.{hex_of-at_most}
+use Rattle.git_msg.proofs.WrittenNames.{hex_of-at_least, hex_of-at_most}
 
 -- a list with an argument more, which may stand in the place of others
 record Adds (old : List Arg) (arg : Arg) (new : List Arg) : Type 0 where
@@ -161,10 +161,10 @@ added_bytes old arg new h =
       sum_by-cons (λ a. length (written_text a)) arg h.back,
     )
 
-all_front : {X : Type 0} (P : X → Type 0) (xs ys : List X) → All P (xs ++ ys) → All P xs
+pub all_front : {X : Type 0} (P : X → Type 0) (xs ys : List X) → All P (xs ++ ys) → All P xs
 all_front P xs ys h = subst (All P) (take-append_seam xs ys) (All-take P (length xs) (xs ++ ys) h)
 
-all_back : {X : Type 0} (P : X → Type 0) (xs ys : List X) → All P (xs ++ ys) → All P ys
+pub all_back : {X : Type 0} (P : X → Type 0) (xs ys : List X) → All P (xs ++ ys) → All P ys
 all_back P xs ys h = subst (All P) (drop-append_seam xs ys) (All-drop P (length xs) (xs ++ ys) h)
 
 added_values : (P : Arg → Type 0) (old : List Arg) (arg : Arg) (new : List Arg) → Adds old arg new → P arg → All P old → All P new
@@ -183,6 +183,27 @@ counted_more format asked arg kept long h value counted =
           (added_values (IsValue (command_asked asked) format) (arguments_in asked) arg (arguments_in (with_argument asked arg)) more value h.values);
       written = omega (arith, h.written, counted, added_bytes (arguments_in asked) arg (arguments_in (with_argument asked arg)) more);
     }
+
+-- no more is stored of an argument than its text has
+pub stored_fits : (format : Format) (arg : Arg) → IsInRange format arg → stored_in arg ≤ length (written_text arg)
+stored_fits format symrefs value = omega arith
+stored_fits format peel value = omega arith
+stored_fits format (ref_prefix prefix) value = omega (arith, length-append (codes "ref-prefix ") prefix)
+stored_fits format (want id) value = omega (arith, hex_of-at_least format id value, length-append (codes "want ") (hex_of id))
+stored_fits format (have id) value = omega (arith, hex_of-at_least format id value, length-append (codes "have ") (hex_of id))
+stored_fits format done value = omega arith
+stored_fits format thin_pack value = omega arith
+stored_fits format no_progress value = omega arith
+stored_fits format include_tag value = omega arith
+stored_fits format ofs_delta value = omega arith
+stored_fits format (shallow id) value = omega (arith, hex_of-at_least format id value, length-append (codes "shallow ") (hex_of id))
+stored_fits format (deepen depth) value = omega arith
+stored_fits format deepen_relative value = omega arith
+stored_fits format (deepen_since time) value = omega arith
+stored_fits format (deepen_not revision) value = omega (arith, length-append (codes "deepen-not ") revision)
+stored_fits format (want_ref name) value = omega (arith, length-append (codes "want-ref ") name)
+stored_fits format size value = omega arith
+stored_fits format (object_id id) value = omega (arith, hex_of-at_least format id value, length-append (codes "oid ") (hex_of id))
 
 -- there are no more arguments than bytes, since each has a text
 has_text : (arg : Arg) → 1 ≤ length (written_text arg)

@@ -31,3 +31,7 @@ pub mod OfferedArguments
 pub mod StreamSteps
 pub mod StreamEnds
 pub mod StreamReadings
+pub mod PooledTexts
+pub mod TextOrder
+pub mod PrefixOrder
+mod PrunedRequests

@@ -18,10 +18,15 @@ use Rattle.git_msg.specs.Arguments.{Arg, symrefs, peel, ref_prefix, want, have, 
 use Rattle.git_msg.specs.Arguments.{deepen_relative, deepen_since, deepen_not, want_ref, size, object_id}
 use Rattle.git_msg.specs.Arguments.{Row, of_ref_prefix, of_want, of_have, of_shallow, of_deepen, of_deepen_since, of_deepen_not, of_want_ref, of_object_id}
 use Rattle.git_msg.specs.Arguments.{row_of, row_in, command_with, most_text, IsDepth, IsTime, IsNumberIn, IsNoNumberIn, IsRevision, IsNoRevision}
-use Rattle.git_msg.specs.Arguments.{SaysArgument, IsArgument, is_offered, ReadsAs, IsNoArgument, IsUnoffered, IsArgumentFault, IsRowFault}
+use Rattle.git_msg.specs.Arguments.{SaysArgument, IsArgument, HasName, is_offered, ReadsAs, IsNoArgument, IsUnoffered, IsArgumentFault, IsRowFault}
 use Rattle.git_msg.specs.Texts.{Follows}
 use Rattle.git_msg.specs.Lines.{IsWordOf, key_by}
 use Rattle.git_msg.proofs.DigitValues.{one_number}
+
+-- what a text says has the name that it is to have
+pub argument_has_name : (format : Format) (text : List ℕ) (arg : Arg) → SaysArgument format text arg → HasName arg
+argument_has_name format text (want_ref name) h = h.1
+argument_has_name format text arg h = tt
 
 -- a text that is not the word
 other_word : (text word : List ℕ) → text ≢ word → bytes_eq text word ≡ false

@@ -1,7 +1,8 @@
 -- What single packets do, from what the parts of the reader promise.
-use Rattle.std.proofs.Common.{arith, ◌≡◌, ℕ, Bool, true, false, not, Option, Some, None, Ok, Err, option_to_list, List, [], ◌∷◌, ◌++◌, refl, ap, sym}
+use Rattle.std.proofs.Common.{arith, ◌≡◌, ℕ, ◌≤◌, Bool, true, false, not, Option, Some, None, Ok, Err, option_to_list, List, [], ◌∷◌, ◌++◌, refl, ap, sym}
 use Rattle.std.proofs.Common.{◌∙◌, subst, inl, inr}
 use Rattle.std.specs.Prelude.{is_some}
+use Rattle.std.specs.Coded.{le_prop}
 use Rattle.std.proofs.lemmas.List.{append-nil}
 use Rattle.git_pkt.specs.Packets.{flush, delim, payload, text_of}
 use Rattle.git_pkt.specs.declared.fault.Kind.{Kind}
@@ -18,14 +19,27 @@ use Rattle.git_msg.specs.declared.reader.Taken.TheVariants.{More, Request as Tak
 use Rattle.git_msg.specs.Arguments.{Arg}
 use Rattle.git_msg.specs.Asked.{Asked, nothing_asked, asked_by}
 use Rattle.git_msg.specs.Checks.{Refuses, Passes}
-use Rattle.git_msg.specs.HeldRequest.{IsEmpty, asked_of, command_of, limit_of}
+use Rattle.git_msg.specs.HeldRequest.{IsEmpty, asked_of, command_of, kept_of, limit_of, stored_of}
 use Rattle.git_msg.specs.Lines.{Line, command, agent, server_option, object_format, delimiter, argument, is_none, commands_of, arguments_of, kept_in}
 use Rattle.git_msg.specs.Lines.{has_format, is_object_format, command_in, argument_in, long_of, is_delimiter, IsLineOf, key_checks, IsCapabilityLine}
 use Rattle.git_msg.specs.Lines.{argument_checks, text_checks, capability_checks, part_checks, end_checks, flush_checks_in, IsLineIn, HasFaultIn}
 use Rattle.git_msg.specs.RequestReader.{InCapabilities, InArguments, is_nil, fault_in, waits_in, limit_in, kept_so_far}
-use Rattle.git_msg.specs.RequestReaderSteps.{InLines, Advances, StepsOn, Notes, IsDue, is_first, with_line, restarted}
+use Rattle.git_msg.specs.RequestReaderSteps.{InLines, IsSame, Advances, StepsOn, Notes, IsDue, is_first, with_line, restarted}
 use Rattle.git_msg.proofs.PacketFaults.{not_for_limit_by_capability, not_for_limit_by_end, not_for_limit_by_text}
 use Rattle.git_msg.proofs.LineLists.{commands_snoc, arguments_snoc, format_snoc, delimiter_snoc, kept_snoc, capability_is_line}
+
+-- readers are equal that are the same field by field
+pub same_reader : {A : Type 0} (r other : RequestReader A) → IsSame r other → r ≡ other
+same_reader {A} r other h =
+    ap (λ (x : A). record r { alloc = x }) h.alloc
+    ∙ ap (λ (x : Offer). record r { alloc = other.alloc; offer = x }) h.offer
+    ∙ ap (λ (x : Part). record r { alloc = other.alloc; offer = other.offer; part = x }) h.part
+    ∙ ap (λ (x : Bool). record r { alloc = other.alloc; offer = other.offer; part = other.part; begun = x }) h.begun
+    ∙ ap (λ (x : Option Command). record r { alloc = other.alloc; offer = other.offer; part = other.part; begun = other.begun; command = x }) h.command
+    ∙ ap (λ (x : Bool). record other { has_format = x; request = r.request; covered = r.covered }) h.has_format
+    ∙ subst (λ (q : Request A). (p : stored_of q ≤ kept_of q)
+      → record other { request = r.request; covered = r.covered } ≡ record other { request = q; covered = p }) h.request
+      (λ p. ap (λ (x : stored_of r.request ≤ kept_of r.request). record other { request = r.request; covered = x }) (le_prop r.covered p)) other.covered
 
 -- no command came, by both words
 pub first_by : (o : Option Command) (b : Bool) → is_some o ≡ not b → b ≡ is_none (option_to_list o)
@@ -196,7 +210,7 @@ module _ {A : Type 0} where
   pub noted : (r new : RequestReader A) (bytes : List ℕ) (offset : ℕ)
       → r.part ≡ Capabilities → Notes r (text_of bytes) new → StepsOn r (payload bytes) offset (Ok More) new
   noted r new bytes offset part h =
-      subst (λ (n : RequestReader A). StepsOn r (payload bytes) offset (Ok More) n) (sym h.new_is) (noted_plain r bytes offset h.line part h.is_line)
+      subst (λ (n : RequestReader A). StepsOn r (payload bytes) offset (Ok More) n) (sym (same_reader _ _ h.new_is)) (noted_plain r bytes offset h.line part h.is_line)
 
   refused_plain : (r : RequestReader A) (bytes : List ℕ) (offset : ℕ) (kind : Kind)
       → r.part ≡ Capabilities → Refuses (capability_checks r.offer (is_first r) (text_of bytes)) kind → StepsOn r (payload bytes) offset (Err kind) r
@@ -233,9 +247,9 @@ module _ {A : Type 0} where
 
   -- the delimiter
   pub delimited : (r : RequestReader A) (offset : ℕ) (c : Command) (q : Request A)
-      → r.part ≡ Capabilities → IsDue r c → IsEmpty c r.offer.format (limit_in r) q
-      → StepsOn r delim offset (Ok More) (record r { part = Arguments; request = q })
-  delimited r offset c q part due empty = record {
+      → (covered : stored_of q ≤ kept_of q) → r.part ≡ Capabilities → IsDue r c → IsEmpty c r.offer.format (limit_in r) q
+      → StepsOn r delim offset (Ok More) (record r { part = Arguments; request = q; covered = covered })
+  delimited r offset c q covered part due empty = record {
     goes = λ lines there.
         let h = in_capabilities lines r part there in
         let line : IsLineIn false r.offer (limit_in r) lines delim delimiter = judged lines r c h due in
@@ -258,8 +272,8 @@ module _ {A : Type 0} where
     within = λ h. omega (arith, empty.kept);
   }
 
-  empty_lines : (q : Request A) (r : RequestReader A) → InCapabilities [] (restarted q r)
-  empty_lines q r = record { before = refl; begun = refl; command = refl; format = refl; no_argument = refl; nothing_kept = refl }
+  empty_lines : (next r : RequestReader A) → InCapabilities [] (restarted next r)
+  empty_lines next r = record { before = refl; begun = refl; command = refl; format = refl; no_argument = refl; nothing_kept = refl }
 
   -- a request without delimiter asks for nothing
   nothing_but : (lines : List Line) (r : RequestReader A) (c : Command) (q : Request A) → InCapabilities lines r → IsEmpty c r.offer.format (limit_in r) q
@@ -291,7 +305,7 @@ module _ {A : Type 0} where
   -- the flush of a request without delimiter
   pub flushed : (r new : RequestReader A) (offset : ℕ) (c : Command) (q : Request A) → r.part ≡ Capabilities → IsDue r c
       → IsEmpty c r.offer.format (limit_in r) q → Passes (end_checks (asked_of q)) → IsEmpty LsRefs r.offer.format (limit_of q) new.request
-      → new ≡ restarted new.request r → StepsOn r flush offset (Ok (TakenRequest q)) new
+      → new ≡ restarted new r → StepsOn r flush offset (Ok (TakenRequest q)) new
   flushed r new offset c q part due empty passes next same = record {
     goes = λ lines there.
         let h = in_capabilities lines r part there in
@@ -307,7 +321,7 @@ module _ {A : Type 0} where
           asked = asked ∙ ap (λ x. asked_by x (arguments_of lines)) (sym empty.command_is);
           kept = empty.kept ∙ sym h.nothing_kept;
           format = empty.format_is ∙ ap (λ (x : RequestReader A). x.offer.format) (sym same);
-          fresh = subst (λ (n : RequestReader A). InCapabilities [] n) (sym same) (empty_lines new.request r);
+          fresh = subst (λ (n : RequestReader A). InCapabilities [] n) (sym same) (empty_lines new r);
           part = ap (λ (x : RequestReader A). x.part) same;
         };
     leaves = (ap (λ (x : RequestReader A). fault_in x.part) same, ap (λ (x : RequestReader A). waits_in x.part) same);
@@ -318,7 +332,7 @@ module _ {A : Type 0} where
 
   -- the flush after the arguments
   pub completed : (r new : RequestReader A) (offset : ℕ) → r.part ≡ Arguments → Passes (end_checks (asked_of r.request))
-      → IsEmpty LsRefs r.offer.format (limit_in r) new.request → new ≡ restarted new.request r → StepsOn r flush offset (Ok (TakenRequest r.request)) new
+      → IsEmpty LsRefs r.offer.format (limit_in r) new.request → new ≡ restarted new r → StepsOn r flush offset (Ok (TakenRequest r.request)) new
   completed r new offset part passes next same = record {
     goes = λ lines there.
         let h = in_arguments lines r part there in
@@ -331,7 +345,7 @@ module _ {A : Type 0} where
           asked = h.asked;
           kept = h.kept;
           format = h.format ∙ ap (λ (x : RequestReader A). x.offer.format) (sym same);
-          fresh = subst (λ (n : RequestReader A). InCapabilities [] n) (sym same) (empty_lines new.request r);
+          fresh = subst (λ (n : RequestReader A). InCapabilities [] n) (sym same) (empty_lines new r);
           part = ap (λ (x : RequestReader A). x.part) same;
         };
     leaves = (ap (λ (x : RequestReader A). fault_in x.part) same, ap (λ (x : RequestReader A). waits_in x.part) same);

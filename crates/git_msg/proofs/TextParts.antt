@@ -14,11 +14,7 @@ use Rattle.std.proofs.lemmas.List.Splits.{slice_split_at, slice_split_none}
 use Rattle.git_pkt.proofs.Pieces.{left_of}
 use Rattle.git_names.specs.RefName.{Lacks}
 use Rattle.git_msg.specs.Texts.{parts_of, IsPartedAt}
-
--- how many bytes are left, and one more, if something is left
-abbrev pub bytes_left : Option (List ℕ) → ℕ
-bytes_left None = 0
-bytes_left (Some text) = length text + 1
+pub use Rattle.git_msg.specs.Texts.{bytes_left}
 
 front_byte : (text : List ℕ) (at k : ℕ) → k < length (take at text) → get_or (take at text) k 0 ≡ get_or text k 0
 front_byte text at k h = grind (arith, common_steps)

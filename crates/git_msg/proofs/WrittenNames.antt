@@ -24,3 +24,10 @@ length-hex_of format id h = (hex_of-reads_back format id h).count
 
 pub hex_of-at_most : (format : Format) (id : ObjectName) → IsNameIn format id → length (hex_of id) ≤ 64
 hex_of-at_most format id h = omega (arith, length-hex_of format id h, digits_at_most format)
+
+digits_at_least : (format : Format) → 40 ≤ digits_of format
+digits_at_least Sha1 = omega arith
+digits_at_least Sha256 = omega arith
+
+pub hex_of-at_least : (format : Format) (id : ObjectName) → IsNameIn format id → 40 ≤ length (hex_of id)
+hex_of-at_least format id h = omega (arith, length-hex_of format id h, digits_at_least format)

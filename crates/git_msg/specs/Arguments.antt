@@ -1,5 +1,5 @@
 -- The argument lines of requests, by gitprotocol-v2(5).
-use Rattle.std.specs.Prelude.{◌≡◌, ◌≢◌, ◌⊎◌, ℕ, ◌<◌, ◌≤◌, ◌==◌, Bool, true, false, List, [], ◌∷◌, ◌++◌, length, codes, decimal, if◌then◌else◌}
+use Rattle.std.specs.Prelude.{◌≡◌, ◌≢◌, ◌⊎◌, ℕ, ◌+◌, ◌<◌, ◌≤◌, ◌==◌, Bool, true, false, List, [], ◌∷◌, ◌++◌, length, codes, decimal, if◌then◌else◌}
 use Rattle.std.specs.List.{before_first}
 use Rattle.std.specs.Str.{bytes_eq}
 use Rattle.git_names.specs.ObjectName.{ObjectName, IsObjectName, IsNoObjectName, IsOid, hex_of}
@@ -174,6 +174,11 @@ IsOutOfRange format (want_ref name) kind = (¬ IsRefName name) × (kind ≡ BadR
 IsOutOfRange format (object_id id) kind = (id.format ≢ format) × (kind ≡ BadObjectName)
 IsOutOfRange format _ kind = ⊥
 
+-- a reference that is asked for by name has a name that it may have
+abbrev pub HasName : Arg → Type 0
+HasName (want_ref name) = IsRefName name
+HasName _ = Unit {0}
+
 -- the argument may stand in a request of the command and the format
 abbrev pub IsValue : Command → Format → Arg → Type 0
 IsValue command format arg = (command_with arg ≡ command) × IsInRange format arg
@@ -331,6 +336,17 @@ written_text (deepen_not revision) = codes "deepen-not " ++ revision
 written_text (want_ref name) = codes "want-ref " ++ name
 written_text size = codes "size"
 written_text (object_id id) = codes "oid " ++ hex_of id
+
+-- how many bytes are stored of the argument's value: 33 of an object name, and of a text its own, two for its length and four for the place where it ends
+abbrev pub stored_in : Arg → ℕ
+stored_in (ref_prefix prefix) = length prefix + 6
+stored_in (want id) = 33
+stored_in (have id) = 33
+stored_in (shallow id) = 33
+stored_in (deepen_not revision) = length revision + 6
+stored_in (want_ref name) = length name + 6
+stored_in (object_id id) = 33
+stored_in _ = 0
 
 -- the argument has a value for which memory is taken
 abbrev pub TakesMemory : Arg → Type 0

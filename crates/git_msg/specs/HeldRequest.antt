@@ -34,6 +34,10 @@ module _ {A : Type 0} where
   abbrev pub kept_of : Request A → ℕ
   kept_of q = (holding_of q).kept
 
+  -- how many bytes are stored of their values
+  abbrev pub stored_of : Request A → ℕ
+  stored_of q = (holding_of q).stored
+
   -- how many they may have
   abbrev pub limit_of : Request A → ℕ
   limit_of q = (holding_of q).limit

@@ -1,12 +1,15 @@
--- What the structs that keep a request hold of what it asks for.
+-- What the structs that keep a request hold of what it asks for, and how many bytes they store for it: 33 of an object name, and those of
+-- the pools of texts. Beside each count is the same with each field named, so that none can be added without being counted.
 use Rattle.git_msg.specs.declared.fetch.Fetch.TheInside.{Inside as FetchInside}
 use Rattle.git_msg.specs.declared.ls_refs.LsRefs.TheInside.{Inside as LsRefsInside}
 use Rattle.git_msg.specs.declared.object_info.ObjectInfo.TheInside.{Inside as ObjectInfoInside}
+use Rattle.std.specs.Prelude.{ℕ, ◌+◌, ◌*◌, length}
+use Rattle.git_msg.specs.HeldTexts.{texts_of, texts_stored}
 use Rattle.git_msg.specs.Asked.{LsRefsAsked, FetchAsked, ObjectInfoAsked}
 
 module _ {A : Type 0} where
   abbrev pub ls_refs_inside : LsRefsInside A → LsRefsAsked
-  ls_refs_inside q = record { symrefs = q.symrefs; peel = q.peel; ref_prefixes = q.ref_prefixes }
+  ls_refs_inside q = record { symrefs = q.symrefs; peel = q.peel; ref_prefixes = texts_of q.ref_prefixes }
 
   abbrev pub fetch_inside : FetchInside A → FetchAsked
   fetch_inside q = record {
@@ -21,9 +24,50 @@ module _ {A : Type 0} where
     deepen = q.deepen;
     deepen_relative = q.deepen_relative;
     deepen_since = q.deepen_since;
-    deepen_nots = q.deepen_nots;
-    want_refs = q.want_refs;
+    deepen_nots = texts_of q.deepen_nots;
+    want_refs = texts_of q.want_refs;
   }
 
   abbrev pub object_info_inside : ObjectInfoInside A → ObjectInfoAsked
   object_info_inside q = record { size = q.size; oids = q.oids.items }
+
+  abbrev pub ls_refs_stored : LsRefsInside A → ℕ
+  ls_refs_stored q = texts_stored q.ref_prefixes
+
+  abbrev pub ls_refs_stored_by_fields : LsRefsInside A → ℕ
+  ls_refs_stored_by_fields q =
+      let record { format = format; budget = budget; symrefs = symrefs; peel = peel; ref_prefixes = ref_prefixes } = q in
+      texts_stored ref_prefixes
+
+  abbrev pub fetch_stored : FetchInside A → ℕ
+  fetch_stored q =
+      33 * (length q.wants.items + length q.haves.items + length q.shallows.items) + (texts_stored q.deepen_nots + texts_stored q.want_refs)
+
+  abbrev pub fetch_stored_by_fields : FetchInside A → ℕ
+  fetch_stored_by_fields q =
+      let record {
+        format = format;
+        budget = budget;
+        wants = wants;
+        haves = haves;
+        done = done;
+        thin_pack = thin_pack;
+        no_progress = no_progress;
+        include_tag = include_tag;
+        ofs_delta = ofs_delta;
+        shallows = shallows;
+        deepen = deepen;
+        deepen_relative = deepen_relative;
+        deepen_since = deepen_since;
+        deepen_nots = deepen_nots;
+        want_refs = want_refs;
+      } = q in
+      33 * (length wants.items + length haves.items + length shallows.items) + (texts_stored deepen_nots + texts_stored want_refs)
+
+  abbrev pub object_info_stored : ObjectInfoInside A → ℕ
+  object_info_stored q = 33 * length q.oids.items
+
+  abbrev pub object_info_stored_by_fields : ObjectInfoInside A → ℕ
+  object_info_stored_by_fields q =
+      let record { format = format; budget = budget; size = size; oids = oids } = q in
+      33 * length oids.items

@@ -4,28 +4,35 @@ use Rattle.git_names.specs.declared.object_format.Format.{Format}
 use Rattle.git_pkt.specs.declared.fault.Kind.{Kind}
 use Rattle.git_pkt.specs.declared.fault.Kind.TheVariants.{TooMuchKept, OutOfMemory}
 use Rattle.git_msg.specs.declared.arguments.Command.{Command}
-use Rattle.git_msg.specs.Arguments.{Arg, most_limit, TakesMemory}
+use Rattle.git_msg.specs.Arguments.{Arg, most_limit, stored_in, TakesMemory}
 use Rattle.git_msg.specs.Asked.{Asked, command_asked, nothing_asked, with_argument, written_bytes, HasValues}
 
--- the format, what is asked for, and how many bytes the texts of the lines had and may have
+-- the format, what is asked for, how many bytes the texts of the lines had and may have, and how many are stored of their values
 pub record Kept (Q : Type 0) : Type 0 where
   pub format : Format
   pub asked : Q
   pub kept : ℕ
   pub limit : ℕ
+  pub stored : ℕ
 
 -- what is kept of a request of one command, as what is kept of a request
 abbrev pub kept_as : {Q : Type 0} → (Q → Asked) → Kept Q → Kept Asked
-kept_as make q = record { format = q.format; asked = make q.asked; kept = q.kept; limit = q.limit }
+kept_as make q = record { format = q.format; asked = make q.asked; kept = q.kept; limit = q.limit; stored = q.stored }
 
 -- each argument may stand in such a request, and the texts of their lines as they are written have no more bytes than are counted
 pub record IsCounted (format : Format) (asked : Asked) (kept : ℕ) : Type 0 where
   pub values : HasValues format asked
   pub written : written_bytes asked ≤ kept
 
+-- and no more bytes are stored of their values than are counted
+pub record IsCovered (format : Format) (asked : Asked) (kept stored : ℕ) : Type 0 where
+  pub counted : IsCounted format asked kept
+  pub covered : stored ≤ kept
+
 -- and no more bytes are counted than the limit has
 pub record IsWithin (q : Kept Asked) : Type 0 where
   pub counted : IsCounted q.format q.asked q.kept
+  pub covered : q.stored ≤ q.kept
   pub room : q.kept ≤ q.limit
   pub in_range : q.limit ≤ most_limit
 
@@ -33,6 +40,7 @@ pub record IsWithin (q : Kept Asked) : Type 0 where
 pub record IsNew (command : Command) (format : Format) (limit : ℕ) (q : Kept Asked) : Type 0 where
   pub asked : q.asked ≡ nothing_asked command
   pub kept : q.kept ≡ 0
+  pub stored : q.stored ≡ 0
   pub command_is : command_asked q.asked ≡ command
   pub format_is : q.format ≡ format
   pub limit_is : q.limit ≡ limit
@@ -41,6 +49,7 @@ pub record IsNew (command : Command) (format : Format) (limit : ℕ) (q : Kept A
 pub record KeepsArgument (old : Kept Asked) (arg : Arg) (long : ℕ) (new : Kept Asked) : Type 0 where
   pub asked : new.asked ≡ with_argument old.asked arg
   pub kept : new.kept ≡ old.kept + long
+  pub stored : new.stored ≡ old.stored + stored_in arg
   pub command : command_asked new.asked ≡ command_asked old.asked
   pub format : new.format ≡ old.format
   pub limit : new.limit ≡ old.limit

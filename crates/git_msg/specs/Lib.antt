@@ -4,6 +4,7 @@ pub mod Asked
 pub mod Capability
 pub mod Checks
 pub mod HeldRequest
+pub mod HeldTexts
 pub mod Insides
 pub mod JudgedLine
 pub mod Kept
@@ -15,9 +16,11 @@ pub mod Requests
 pub mod RequestReader
 pub mod RequestReaderSteps
 pub mod ResponseLines
+pub mod TextPools
 pub mod Texts
 pub mod WholeRequests
 pub mod WrittenRequest
 pub mod StreamStages
 pub mod RequestStreams
 pub mod RequestStreamSteps
+pub mod Prefixes

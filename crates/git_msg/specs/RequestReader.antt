@@ -10,9 +10,9 @@ use Rattle.git_msg.specs.declared.reader.Part.TheVariants.{Capabilities, Argumen
 use Rattle.git_msg.specs.declared.reader.RequestReader.{RequestReader}
 use Rattle.git_msg.specs.declared.reader.Taken.{Taken}
 use Rattle.git_msg.specs.declared.reader.Taken.TheVariants.{More, Argument as TakenArgument, Request as TakenRequest, Stop}
-use Rattle.git_msg.specs.Arguments.{Arg, shown, written_text}
+use Rattle.git_msg.specs.Arguments.{Arg, HasName, shown, written_text}
 use Rattle.git_msg.specs.Asked.{asked_by}
-use Rattle.git_msg.specs.HeldRequest.{asked_of, command_of, format_of, keep_checks, kept_of, limit_of, IsRefused, Keeps}
+use Rattle.git_msg.specs.HeldRequest.{asked_of, command_of, format_of, keep_checks, kept_of, limit_of, stored_of, IsRefused, Keeps}
 use Rattle.git_msg.specs.Lines.{Line, commands_of, arguments_of, kept_in, has_format, has_delimiter, IsArgumentText}
 use Rattle.git_msg.specs.Requests.{AreLines, IsPlainLine, Asks, FirstFault, IsTold, IsStop}
 
@@ -51,6 +51,25 @@ module _ {A : Type 0} where
   -- how many those have that are kept so far
   abbrev pub kept_so_far : RequestReader A → ℕ
   kept_so_far r = kept_of r.request
+
+  -- how many bytes it stores, all of them of its one request
+  abbrev pub stored_so_far : RequestReader A → ℕ
+  stored_so_far r = stored_of r.request
+
+  -- the same with each field named, so that none can be added without being counted
+  abbrev pub stored_by_fields : RequestReader A → ℕ
+  stored_by_fields r =
+      let record {
+        alloc = alloc;
+        offer = offer;
+        part = part;
+        begun = begun;
+        command = command;
+        has_format = has_format;
+        request = request;
+        covered = covered;
+      } = r in
+      stored_of request
 
   -- the fault that ended the reading
   abbrev pub fault_of : RequestReader A → Option Fault
@@ -165,6 +184,15 @@ module _ {A : Type 0} where
   -- how many bytes an argument counts that is kept now: those of the text that waits, and no fewer than are written of it
   abbrev pub counted_as : Arg → RequestReader A → ℕ
   counted_as arg r = max (waiting_bytes r.part) (length (written_text arg))
+
+  -- an argument that was taken can be kept: it has the name that it is to have, and its text came in a packet of so many bytes
+  abbrev pub IsKeepable : ℕ → Taken A → RequestReader A → Type 0
+  IsKeepable most (TakenArgument argument) r = HasName (shown argument) × (counted_as (shown argument) r ≤ most)
+  IsKeepable most _ r = Unit {0}
+
+  abbrev pub GivesKeepable : {E : Type 0} → ℕ → Result (Taken A) E → RequestReader A → Type 0
+  GivesKeepable most (Ok taken) r = IsKeepable most taken r
+  GivesKeepable most (Err e) r = Unit {0}
 
   -- whether or not the argument is the one that waits, it is what is kept, or what is refused where that one stands
   abbrev pub KeepsGiven : RequestReader A → Arg → Result (Unit {0}) Fault → RequestReader A → Type 0

@@ -29,15 +29,25 @@ module _ {A : Type 0} where
   with_line object_format r = record r { begun = true; has_format = true }
   with_line _ r = record r { begun = true }
 
-  -- the reader at the beginning of a request, which is kept in `q`
-  abbrev pub restarted : Request A → RequestReader A → RequestReader A
-  restarted q r = record r { part = Capabilities; begun = false; command = None; has_format = false; request = q }
+  -- the reader at the beginning of a request, which is kept where the other keeps it
+  abbrev pub restarted : RequestReader A → RequestReader A → RequestReader A
+  restarted next r = record r { part = Capabilities; begun = false; command = None; has_format = false; request = next.request; covered = next.covered }
+
+  -- the readers are the same, field by field
+  pub record IsSame (r other : RequestReader A) : Type 0 where
+    pub alloc : r.alloc ≡ other.alloc
+    pub offer : r.offer ≡ other.offer
+    pub part : r.part ≡ other.part
+    pub begun : r.begun ≡ other.begun
+    pub command : r.command ≡ other.command
+    pub has_format : r.has_format ≡ other.has_format
+    pub request : r.request ≡ other.request
 
   -- the text was noted as a line
   pub record Notes (old : RequestReader A) (text : List ℕ) (new : RequestReader A) : Type 0 where
     pub line : Line
     pub is_line : IsCapabilityLine old.offer (is_first old) text line
-    pub new_is : new ≡ with_line line old
+    pub new_is : IsSame new (with_line line old)
 
   -- the command is there, and the format is right
   pub record IsDue (r : RequestReader A) (c : Command) : Type 0 where

@@ -2,7 +2,7 @@
 use Rattle.std.specs.Prelude.{◌≡◌, ◌≢◌, ◌⊎◌, ℕ, ◌+◌, ◌-◌, ◌<◌, ◌≤◌, Bool, true, false, List, [], ◌∷◌, ◌++◌, length, take, Option, Some, None, Result, Ok, Err}
 use Rattle.git_pkt.specs.Splits.{Given, Splits}
 use Rattle.git_pkt.specs.Faults.{IsOpen, StopsBy}
-use Rattle.git_pkt.specs.PacketReader.{Reads, ShownByFeed, is_open, position_of, fault_of as packet_fault}
+use Rattle.git_pkt.specs.PacketReader.{Reads, bytes_held as held_in_packet, ShownByFeed, is_open, position_of, fault_of as packet_fault}
 use Rattle.git_pkt.specs.declared.fault.Fault.{Fault}
 use Rattle.git_pkt.specs.declared.fault.Kind.TheVariants.{Truncated}
 use Rattle.git_msg.specs.declared.offers.Offer.{Offer}
@@ -12,7 +12,7 @@ use Rattle.git_msg.specs.HeldRequest.{asked_of, format_of, kept_of, limit_of as 
 use Rattle.git_msg.specs.Requests.{Asks, IsTold, IsStop}
 use Rattle.git_msg.specs.WholeRequests.{AreRequests}
 use Rattle.git_msg.specs.StreamStages.{AreBegun, fault_in, takes_bytes, stage_is_between}
-use Rattle.git_msg.specs.RequestReader.{Takes, offer_of as offer_in, limit_in, kept_so_far, fault_of as reader_fault, is_waiting}
+use Rattle.git_msg.specs.RequestReader.{Takes, offer_of as offer_in, limit_in, kept_so_far, stored_so_far, fault_of as reader_fault, is_waiting}
 use Rattle.git_msg.specs.declared.streams.Stage.{Stage}
 use Rattle.git_msg.specs.declared.streams.Stage.TheVariants.{Between, Within, Stopped, Failed}
 use Rattle.git_msg.specs.declared.streams.RequestStream.{RequestStream}
@@ -73,6 +73,22 @@ module _ {A : Type 0} where
   -- how many bytes a request's argument texts may have
   abbrev pub limit_of : RequestStream A → ℕ
   limit_of s = limit_in s.requests
+
+  -- how many bytes the reader has: those of the hold of its packet reader, and those stored of its one request. Each field is named, so
+  -- that none can be added without being counted.
+  abbrev pub bytes_held : RequestStream A → ℕ
+  bytes_held s =
+      let record {
+        packets = packets;
+        requests = requests;
+        stage = stage;
+        sound = sound;
+        open_ended = open_ended;
+        ready = ready;
+        taken = taken;
+        within = within;
+      } = s in
+      held_in_packet packets + stored_so_far requests
 
   -- the fault that ended the reading
   abbrev pub fault_of : RequestStream A → Option Fault

@@ -1,5 +1,5 @@
 -- Words of a text, and at its beginning.
-use Rattle.std.specs.Prelude.{◌≡◌, ◌≢◌, ℕ, ◌==◌, List, [], ◌∷◌, ◌++◌, Option, Some, None, codes}
+use Rattle.std.specs.Prelude.{◌≡◌, ◌≢◌, ℕ, ◌+◌, ◌==◌, List, [], ◌∷◌, ◌++◌, Option, Some, None, codes, length}
 use Rattle.std.specs.List.{slice_split}
 use Rattle.git_names.specs.RefName.{Lacks}
 
@@ -11,6 +11,11 @@ parts_of byte text = slice_split (λ c. c == byte) text
 abbrev pub parts_left : ℕ → Option (List ℕ) → List (List ℕ)
 parts_left byte None = []
 parts_left byte (Some text) = parts_of byte text
+
+-- how many bytes are left, and one more, if something is left
+abbrev pub bytes_left : Option (List ℕ) → ℕ
+bytes_left None = 0
+bytes_left (Some text) = length text + 1
 
 -- the first such byte of the text stands between these two
 pub record IsPartedAt (byte : ℕ) (text before after : List ℕ) : Type 0 where

@@ -1,7 +1,8 @@
 //! The argument lines of requests, gitprotocol-v2(5).
-ghost use Rattle.std.specs.Prelude.{◌≡◌, ◌⊎◌, MatchBool, MatchOption, MatchResult};
+ghost use Rattle.std.specs.Prelude.{◌≡◌, ◌+◌, ◌*◌, ◌⊎◌, MatchBool, MatchOption, MatchResult, length};
 ghost use Rattle.git_names.specs.ObjectName.{IsNoObjectName, IsObjectName};
 ghost use Rattle.git_names.specs.RefName.{IsRefName};
+ghost use Rattle.git_names.specs.Steps.{TakesAtMost};
 ghost use Rattle.git_names.specs.declared.object_format.Format.{Format};
 ghost use Rattle.git_msg.specs.Arguments.{IsArgument, IsArgumentFault, IsDepth, IsNoArgument, IsNoNumberIn, IsNoRevision, IsNumberIn, IsRevision};
 ghost use Rattle.git_msg.specs.Arguments.{IsRowFault, IsTime, ReadsAs, Row};
@@ -11,7 +12,7 @@ ghost use Rattle.git_msg.specs.Texts.{BeginsWithNone, IsNoneOf};
 use crate::numbers::read_number;
 use crate::offers::Offer;
 use crate::texts::{after, is_word};
-use git_names::{Format, Oid, RefName};
+use git_names::{Format, Oid, RefName, Steps};
 use git_pkt::Kind;
 
 /// A command of a request, gitprotocol-v2(5).
@@ -99,6 +100,9 @@ pub(crate) use put_together;
 /// The most bytes that a text which is kept may have.
 pub(crate) const MOST_TEXT: usize = 32_000;
 
+// The most bytes that a word at the head of an argument has.
+const LONGEST_WORD: usize = 15;
+
 // The largest depth, and the latest time.
 const MOST_DEPTH: u64 = 2_147_483_647;
 
@@ -125,21 +129,26 @@ pub fn read_argument<'a>(
     command: Command,
     offer: &Offer,
     text: &'a [u8],
+    steps: &mut Steps,
 ) -> Result<Argument<'a>, Kind>
     ensures argument { MatchResult result (λ argument. ReadsAs command offer.now text.now (shown argument))
         (IsArgumentFault command offer.now text.now) }
+    ensures cost { TakesAtMost (40 * (length text.now + 1)) steps.old steps.new }
 {
     match command {
-        Command::LsRefs => read_ls_refs(offer, text),
-        Command::Fetch => read_fetch(offer, text),
-        Command::ObjectInfo => read_object_info(offer, text),
+        Command::LsRefs => read_ls_refs(offer, text, steps),
+        Command::Fetch => read_fetch(offer, text, steps),
+        Command::ObjectInfo => read_object_info(offer, text, steps),
     }
 }
 
-fn read_ls_refs<'a>(offer: &Offer, text: &'a [u8]) -> Result<Argument<'a>, Kind>
+fn read_ls_refs<'a>(offer: &Offer, text: &'a [u8], steps: &mut Steps) -> Result<Argument<'a>, Kind>
     ensures argument { MatchResult result (λ argument. ReadsAs Command.LsRefs offer.now text.now (shown argument))
         (IsArgumentFault Command.LsRefs offer.now text.now) }
+    ensures cost { TakesAtMost (40 * (length text.now + 1)) steps.old steps.new }
 {
+    // Three words.
+    steps.tick(3 * (text.len().min(LONGEST_WORD) + 1));
     if is_word(text, b"symrefs") {
         return Ok(Argument::Symrefs);
     }
@@ -155,11 +164,12 @@ fn read_ls_refs<'a>(offer: &Offer, text: &'a [u8]) -> Result<Argument<'a>, Kind>
     Ok(Argument::RefPrefix(prefix))
 }
 
-fn read_fetch<'a>(offer: &Offer, text: &'a [u8]) -> Result<Argument<'a>, Kind>
+fn read_fetch<'a>(offer: &Offer, text: &'a [u8], steps: &mut Steps) -> Result<Argument<'a>, Kind>
     ensures argument { MatchResult result (λ argument. ReadsAs Command.Fetch offer.now text.now (shown argument))
         (IsArgumentFault Command.Fetch offer.now text.now) }
+    ensures cost { TakesAtMost (40 * (length text.now + 1)) steps.old steps.new }
 {
-    match read_fetch_text(offer.format, text) {
+    match read_fetch_text(offer.format, text, steps) {
         Ok(argument) => {
             if !is_offered(offer, &argument) {
                 return Err(Kind::NotAdvertised);
@@ -171,14 +181,21 @@ fn read_fetch<'a>(offer: &Offer, text: &'a [u8]) -> Result<Argument<'a>, Kind>
 }
 
 // The argument of `fetch` that the text is, whether or not it was offered.
-fn read_fetch_text<'a>(format: Format, text: &'a [u8]) -> Result<Argument<'a>, Kind>
+fn read_fetch_text<'a>(
+    format: Format,
+    text: &'a [u8],
+    steps: &mut Steps,
+) -> Result<Argument<'a>, Kind>
     ensures argument { MatchResult result (λ argument. IsArgument Command.Fetch format text.now (shown argument))
         (λ kind. (IsNoArgument Command.Fetch text.now × (kind ≡ Kind.UnknownArgument))
         ⊎ ((row : Row) × IsRowFault Command.Fetch format row text.now kind)) }
+    ensures cost { TakesAtMost (40 * (length text.now + 1)) steps.old steps.new }
 {
+    // Six flags, and seven words with a value.
+    steps.tick(13 * (text.len().min(LONGEST_WORD) + 1));
     match fetch_flag(text) {
         Some(flag) => Ok(flag),
-        None => read_fetch_value(format, text),
+        None => read_fetch_value(format, text, steps),
     }
 }
 
@@ -209,29 +226,34 @@ fn fetch_flag(text: &[u8]) -> Option<Argument<'_>>
 }
 
 // The argument of `fetch` that is a word and a value.
-fn read_fetch_value<'a>(format: Format, text: &'a [u8]) -> Result<Argument<'a>, Kind>
+fn read_fetch_value<'a>(
+    format: Format,
+    text: &'a [u8],
+    steps: &mut Steps,
+) -> Result<Argument<'a>, Kind>
     ensures argument { MatchResult result (λ argument. IsArgument Command.Fetch format text.now (shown argument))
         (λ kind. (BeginsWithNone (keywords_of Command.Fetch) text.now × (kind ≡ Kind.UnknownArgument))
         ⊎ ((row : Row) × IsRowFault Command.Fetch format row text.now kind)) }
+    ensures cost { TakesAtMost (16 * (length text.now + 1)) steps.old steps.new }
 {
     if let Some(name) = after(text, b"want ") {
-        let id = read_id(format, name)?;
+        let id = read_id(format, name, steps)?;
         return Ok(Argument::Want(id));
     }
     if let Some(name) = after(text, b"have ") {
-        let id = read_id(format, name)?;
+        let id = read_id(format, name, steps)?;
         return Ok(Argument::Have(id));
     }
     if let Some(name) = after(text, b"shallow ") {
-        let id = read_id(format, name)?;
+        let id = read_id(format, name, steps)?;
         return Ok(Argument::Shallow(id));
     }
     if let Some(digits) = after(text, b"deepen ") {
-        let depth = read_depth(digits)?;
+        let depth = read_depth(digits, steps)?;
         return Ok(Argument::Deepen(depth));
     }
     if let Some(digits) = after(text, b"deepen-since ") {
-        let time = read_time(digits)?;
+        let time = read_time(digits, steps)?;
         return Ok(Argument::DeepenSince(time));
     }
     if let Some(revision) = after(text, b"deepen-not ") {
@@ -241,7 +263,7 @@ fn read_fetch_value<'a>(format: Format, text: &'a [u8]) -> Result<Argument<'a>, 
         return Ok(Argument::DeepenNot(revision));
     }
     if let Some(name) = after(text, b"want-ref ") {
-        if !is_ref_name(name) {
+        if !is_ref_name(name, steps) {
             return Err(Kind::BadRefName);
         }
         return Ok(Argument::WantRef(name));
@@ -249,17 +271,24 @@ fn read_fetch_value<'a>(format: Format, text: &'a [u8]) -> Result<Argument<'a>, 
     Err(Kind::UnknownArgument)
 }
 
-fn read_object_info<'a>(offer: &Offer, text: &'a [u8]) -> Result<Argument<'a>, Kind>
+fn read_object_info<'a>(
+    offer: &Offer,
+    text: &'a [u8],
+    steps: &mut Steps,
+) -> Result<Argument<'a>, Kind>
     ensures argument { MatchResult result (λ argument. ReadsAs Command.ObjectInfo offer.now text.now (shown argument))
         (IsArgumentFault Command.ObjectInfo offer.now text.now) }
+    ensures cost { TakesAtMost (40 * (length text.now + 1)) steps.old steps.new }
 {
+    // Two words.
+    steps.tick(2 * (text.len().min(LONGEST_WORD) + 1));
     if is_word(text, b"size") {
         return Ok(Argument::Size);
     }
     let Some(name) = after(text, b"oid ") else {
         return Err(Kind::UnknownArgument);
     };
-    let id = read_id(offer.format, name)?;
+    let id = read_id(offer.format, name, steps)?;
     Ok(Argument::ObjectId(id))
 }
 
@@ -278,29 +307,34 @@ pub(crate) fn is_offered(offer: &Offer, argument: &Argument<'_>) -> bool
     }
 }
 
-fn read_id(format: Format, name: &[u8]) -> Result<Oid, Kind>
+fn read_id(format: Format, name: &[u8], steps: &mut Steps) -> Result<Oid, Kind>
     ensures name { MatchResult result (IsObjectName format name.now) (λ kind. IsNoObjectName format name.now × (kind ≡ Kind.BadObjectName)) }
+    ensures cost { TakesAtMost (16 * (length name.now + 1)) steps.old steps.new }
 {
-    match Oid::read(format, name) {
+    match Oid::read(format, name, steps) {
         Ok(id) => Ok(id),
         Err(_) => Err(Kind::BadObjectName),
     }
 }
 
-fn read_depth(digits: &[u8]) -> Result<u64, Kind>
+fn read_depth(digits: &[u8], steps: &mut Steps) -> Result<u64, Kind>
     ensures depth { MatchResult result (IsNumberIn IsDepth digits.now)
         (λ kind. IsNoNumberIn IsDepth digits.now × (kind ≡ Kind.BadNumber)) }
+    ensures cost { TakesAtMost (length digits.now) steps.old steps.new }
 {
+    steps.tick(digits.len());
     match read_number(digits) {
         Some(depth) if is_depth(depth) => Ok(depth),
         _ => Err(Kind::BadNumber),
     }
 }
 
-fn read_time(digits: &[u8]) -> Result<u64, Kind>
+fn read_time(digits: &[u8], steps: &mut Steps) -> Result<u64, Kind>
     ensures time { MatchResult result (IsNumberIn IsTime digits.now)
         (λ kind. IsNoNumberIn IsTime digits.now × (kind ≡ Kind.BadNumber)) }
+    ensures cost { TakesAtMost (length digits.now) steps.old steps.new }
 {
+    steps.tick(digits.len());
     match read_number(digits) {
         Some(time) if is_time(time) => Ok(time),
         _ => Err(Kind::BadNumber),
@@ -322,10 +356,11 @@ pub(crate) fn is_time(time: u64) -> bool
 }
 
 /// Whether the text is a reference name.
-pub(crate) fn is_ref_name(text: &[u8]) -> bool
-    ensures { MatchBool result (IsRefName text.now) (¬ IsRefName text.now) }
+pub(crate) fn is_ref_name(text: &[u8], steps: &mut Steps) -> bool
+    ensures name { MatchBool result (IsRefName text.now) (¬ IsRefName text.now) }
+    ensures cost { TakesAtMost (16 * (length text.now + 1)) steps.old steps.new }
 {
-    RefName::read(text).is_ok()
+    RefName::read(text, steps).is_ok()
 }
 
 /// Whether the text may name a revision: it has 1 to 32,000 bytes.

@@ -1,11 +1,13 @@
 //! Capability lines, as gitprotocol-v2(5) has them.
 
-ghost use Rattle.std.specs.Prelude.{◌≡◌, ◌==◌, ◌≤◌, length, IfErr, MatchResult};
+ghost use Rattle.std.specs.Prelude.{◌≡◌, ◌+◌, ◌*◌, ◌==◌, ◌≤◌, [], length, unwrap_or, IfErr, IfOk, MatchResult};
 ghost use Rattle.std.specs.List.{position_or_len};
 ghost use Rattle.std.specs.Option.{option_copied};
+ghost use Rattle.git_names.specs.Steps.{TakesAtMost};
 ghost use Rattle.git_msg.specs.Capability.{IsCapability, IsNoCapability, is_key as is_key_text, is_value as is_value_text, is_key_byte as is_key_code};
 
 use crate::texts::find_byte;
+use git_names::Steps;
 use git_pkt::Kind;
 
 /// A capability, as a line of an advertisement or of a request has it.
@@ -21,10 +23,15 @@ pub struct Capability<'a> {
 pub const AGENT_LINE: &[u8] = b"agent=git2/1\n";
 
 /// Reads the text of a capability line, `key` or `key=value`. Any other text is `BadCapability`.
-pub fn read_capability(text: &[u8]) -> Result<Capability<'_>, Kind>
+pub fn read_capability<'a>(text: &'a [u8], steps: &mut Steps) -> Result<Capability<'a>, Kind>
     ensures line { MatchResult result (λ c. IsCapability text.now c.key.now (option_copied c.value)) (λ kind. IsNoCapability text.now) }
     ensures kind { IfErr result (λ kind. kind ≡ Kind.BadCapability) }
+    ensures within { IfOk result (λ c. length c.key.now + length (unwrap_or (option_copied c.value) []) ≤ length text.now) }
+    ensures cost { TakesAtMost (4 * (length text.now + 1)) steps.old steps.new }
 {
+    // A search, and a look at each byte of the key and of the value.
+    steps.tick(text.len() + 2);
+    steps.tick(text.len() + 1);
     let end = key_length(text);
     let key = &text[..end];
     if !is_key(key) {

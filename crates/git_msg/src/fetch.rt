@@ -2,9 +2,9 @@
 ghost use Rattle.std.specs.Prelude.{◌≡◌, ◌+◌, ◌≤◌, ◌++◌, ◌^◌, ◌<◌, length, map, MatchBool, OnOk, OnErr, IfErr, IfSome, slice_get, OnSome};
 ghost use Rattle.std.specs.Option.{option_copied, option_map};
 ghost use Rattle.git_names.specs.RefName.{IsRefName};
-ghost use Rattle.git_msg.specs.Arguments.{shown, written_text};
+ghost use Rattle.git_msg.specs.Arguments.{HasName, shown, written_text};
 
-use crate::arguments::{Argument, Command, is_depth, is_ref_name, is_revision, is_time};
+use crate::arguments::{Argument, Command, is_depth, is_revision, is_time};
 use crate::limits::{Budget, Limits};
 use crate::parts::{Texts, check_id, keep_id, number_at, past_flag};
 use git_names::{Format, Oid};
@@ -34,15 +34,15 @@ pub struct Fetch<A: Allocator + Copy> {
 
 impl<A: Allocator + Copy> Model for Fetch<A> {
     ghost use Rattle.git_msg.specs.Asked.{FetchAsked, fetch};
-    ghost use Rattle.git_msg.specs.Kept.{Kept, IsCounted};
+    ghost use Rattle.git_msg.specs.Kept.{Kept, IsCovered};
 
     ghost Value = { Kept FetchAsked };
 
-    ghost use Rattle.git_msg.specs.Insides.{fetch_inside};
+    ghost use Rattle.git_msg.specs.Insides.{fetch_inside, fetch_stored};
 
-    ghost view = { λ q. record { format = q.format; asked = fetch_inside q; kept = q.budget.kept; limit = q.budget.limit } };
+    ghost view = { λ q. record { format = q.format; asked = fetch_inside q; kept = q.budget.kept; limit = q.budget.limit; stored = fetch_stored q } };
 
-    ghost invariant = { λ q. IsCounted q.format (fetch (fetch_inside q)) q.budget.kept };
+    ghost invariant = { λ q. IsCovered q.format (fetch (fetch_inside q)) q.budget.kept (fetch_stored q) };
 }
 
 impl<A: Allocator + Copy> Fetch<A> {
@@ -281,6 +281,7 @@ impl<A: Allocator + Copy> Fetch<A> {
 
     /// Whether the argument may stand in a request of this command and format.
     pub(crate) fn check_value(&self, argument: &Argument<'_>) -> Result<(), Kind>
+        requires { HasName (shown argument.now) }
         ensures ok { OnOk result (IsValue Command.Fetch self.now.format (shown argument.now)) }
         ensures err { IfErr result (IsValueFault Command.Fetch self.now.format (shown argument.now)) }
     {
@@ -291,7 +292,6 @@ impl<A: Allocator + Copy> Fetch<A> {
             Argument::Deepen(depth) if !is_depth(*depth) => Err(Kind::BadNumber),
             Argument::DeepenSince(time) if !is_time(*time) => Err(Kind::BadNumber),
             Argument::DeepenNot(revision) if !is_revision(revision) => Err(Kind::BadLine),
-            Argument::WantRef(name) if !is_ref_name(name) => Err(Kind::BadRefName),
             Argument::Symrefs => Err(Kind::UnknownArgument),
             Argument::Peel => Err(Kind::UnknownArgument),
             Argument::RefPrefix(_) => Err(Kind::UnknownArgument),

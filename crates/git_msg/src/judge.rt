@@ -1,6 +1,7 @@
 //! What one line of a request is, or what refuses it.
-ghost use Rattle.std.specs.Prelude.{◌≡◌, ◌↔◌, Some, IsTrue, MatchResult, MatchOption};
+ghost use Rattle.std.specs.Prelude.{◌≡◌, ◌+◌, ◌*◌, ◌↔◌, length, Some, IsTrue, MatchResult, MatchOption};
 ghost use Rattle.std.specs.Option.{option_copied};
+ghost use Rattle.git_names.specs.Steps.{TakesAtMost};
 ghost use Rattle.git_msg.specs.Arguments.{name_of, shown};
 ghost use Rattle.git_msg.specs.Checks.{Passes, Refuses};
 ghost use Rattle.git_msg.specs.Lines.{IsLineOf, IsCapabilityLine, NamesCommand, capability_checks, key_checks, text_checks};
@@ -11,7 +12,11 @@ use crate::capabilities::read_capability;
 use crate::capability_key::{Key, read_key};
 use crate::offers::Offer;
 use crate::texts::{is_error, is_word};
+use git_names::Steps;
 use git_pkt::Kind;
+
+// The most bytes that a key has which is known, or a value.
+const LONGEST_KEY: usize = 13;
 
 /// What a line of the capability part says.
 #[derive(Clone, Copy, Debug)]
@@ -23,14 +28,22 @@ pub(crate) enum Noted {
 }
 
 /// Judges the text of a line of the capability part; `first` says that no command line came before.
-pub(crate) fn judge_capability(offer: &Offer, first: bool, text: &[u8]) -> Result<Noted, Kind>
+pub(crate) fn judge_capability(
+    offer: &Offer,
+    first: bool,
+    text: &[u8],
+    steps: &mut Steps,
+) -> Result<Noted, Kind>
     ensures line { MatchResult result (λ noted. IsCapabilityLine offer.now first text.now (line_of noted))
         (Refuses (capability_checks offer.now first text.now)) }
+    ensures cost { TakesAtMost (13 * (length text.now + 1)) steps.old steps.new }
 {
+    // `ERR `, four keys, and three values of one of them.
+    steps.tick(9 * (text.len().min(LONGEST_KEY) + 1));
     if is_error(text) {
         return Err(Kind::RemoteError);
     }
-    let capability = read_capability(text)?;
+    let capability = read_capability(text, steps)?;
     let key = read_key(capability.key);
     judge_key(offer, first, key, capability.value)
 }
@@ -102,12 +115,15 @@ pub(crate) fn read_text<'a>(
     command: Command,
     offer: &Offer,
     text: &'a [u8],
+    steps: &mut Steps,
 ) -> Result<Argument<'a>, Kind>
     ensures argument { MatchResult result (λ argument. IsText command offer.now text.now (shown argument))
         (Refuses (text_checks command offer.now text.now)) }
+    ensures cost { TakesAtMost (41 * (length text.now + 1)) steps.old steps.new }
 {
+    steps.tick(text.len().min(4) + 1);
     if is_error(text) {
         return Err(Kind::RemoteError);
     }
-    read_argument(command, offer, text)
+    read_argument(command, offer, text, steps)
 }

@@ -1,6 +1,6 @@
 //! What follows from the definitions alone: each law is the contract of a function without parameters.
 
-ghost use Rattle.std.specs.Prelude.{◌≡◌, ◌≤◌, ℕ, List, Option, Some, true, length, map, sum_by};
+ghost use Rattle.std.specs.Prelude.{◌≡◌, ◌≤◌, ◌+◌, ℕ, List, Option, Some, true, length, map, sum_by};
 ghost use Rattle.git_names.specs.ObjectName.{ObjectName, IsOid};
 ghost use Rattle.git_names.specs.RefName.{IsRefName};
 ghost use Rattle.git_names.specs.declared.object_format.Format.{Format};
@@ -14,14 +14,25 @@ ghost use Rattle.git_msg.specs.declared.requests.Request.{Request};
 ghost use Rattle.git_msg.specs.declared.response_lines.Boundary.{Boundary};
 ghost use Rattle.git_msg.specs.declared.response_lines.Info.{Info};
 ghost use Rattle.git_msg.specs.Advertisement.{takes_command};
-ghost use Rattle.git_msg.specs.Arguments.{Arg, IsArgumentFault, IsNameIn, ReadsAs, written_text};
+ghost use Rattle.git_msg.specs.Arguments.{Arg, IsArgumentFault, IsNameIn, ReadsAs, stored_in, written_text};
 ghost use Rattle.git_msg.specs.Asked.{Asked, AreOffered, HasValues, arguments_in, asked_by, command_asked, written_bytes};
 ghost use Rattle.git_msg.specs.Capability.{IsCapability, IsNoCapability};
 ghost use Rattle.git_msg.specs.Checks.{Passes, Refuses};
-ghost use Rattle.git_msg.specs.HeldRequest.{IsEmpty, AddsAll, add_checks, asked_of, kept_of};
+ghost use Rattle.git_msg.specs.HeldRequest.{IsEmpty, AddsAll, add_checks, asked_of, kept_of, stored_of};
 ghost use Rattle.git_msg.specs.Lines.{Line, IsFormatMeant, IsLine, HasFault, end_checks};
 ghost use Rattle.git_msg.specs.References.{Ref, IsReferenceFault, IsReferenceLine, IsWritable, reference_text};
 ghost use Rattle.git_msg.specs.Requests.{Asks, FirstFault};
+ghost use Rattle.git_msg.specs.HeldTexts.{texts_stored, texts_stored_by_fields};
+ghost use Rattle.git_msg.specs.Insides.{fetch_stored, fetch_stored_by_fields, ls_refs_stored, ls_refs_stored_by_fields};
+ghost use Rattle.git_msg.specs.Insides.{object_info_stored, object_info_stored_by_fields};
+ghost use Rattle.git_msg.specs.RequestReader.{kept_so_far, stored_by_fields, stored_so_far};
+ghost use Rattle.git_msg.specs.declared.fetch.Fetch.TheInside.{Inside as FetchInside};
+ghost use Rattle.git_msg.specs.declared.ls_refs.LsRefs.TheInside.{Inside as LsRefsInside};
+ghost use Rattle.git_msg.specs.declared.object_info.ObjectInfo.TheInside.{Inside as ObjectInfoInside};
+ghost use Rattle.git_msg.specs.declared.parts.Texts.{Texts};
+ghost use Rattle.git_msg.specs.RequestStreams.{HasRead, bytes_held, limit_of};
+ghost use Rattle.git_msg.specs.declared.reader.RequestReader.{RequestReader};
+ghost use Rattle.git_msg.specs.declared.streams.RequestStream.{RequestStream};
 ghost use Rattle.git_msg.specs.ResponseLines.{Wanted, IsAckFault, IsAckLine, IsBoundaryFault, IsBoundaryLine, IsWantedFault, IsWantedLine};
 ghost use Rattle.git_msg.specs.ResponseLines.{IsInfoFault, IsInfoLine, IsSize, ack_text, boundary_text, info_text, object_of, wanted_text};
 ghost use Rattle.git_msg.specs.WrittenRequest.{lines_written};
@@ -226,6 +237,28 @@ pub fn added_arguments_are_asked_for<A: Allocator + Copy>()
         → IsEmpty command format limit empty → AddsAll empty args request → asked_of request ≡ asked_by command args }
     ensures kept { (command : Command) (format : Format) (limit : ℕ) (args : List Arg) (empty request : Request A)
         → IsEmpty command format limit empty → AddsAll empty args request → kept_of request ≡ sum_by (λ arg. length (written_text arg)) args }
+    ensures stored { (command : Command) (format : Format) (limit : ℕ) (args : List Arg) (empty request : Request A)
+        → IsEmpty command format limit empty → AddsAll empty args request → stored_of request ≡ sum_by stored_in args }
+{}
+
+/// What is counted of each part that stores bytes is all that its fields have.
+pub fn all_fields_are_counted<A: Allocator + Copy>()
+    ensures texts { (texts : Texts A) → texts_stored_by_fields texts ≡ texts_stored texts }
+    ensures ls_refs { (request : LsRefsInside A) → ls_refs_stored_by_fields request ≡ ls_refs_stored request }
+    ensures fetch { (request : FetchInside A) → fetch_stored_by_fields request ≡ fetch_stored request }
+    ensures object_info { (request : ObjectInfoInside A) → object_info_stored_by_fields request ≡ object_info_stored request }
+    ensures reader { (reader : RequestReader A) → stored_by_fields reader ≡ stored_so_far reader }
+{}
+
+/// A reader of requests stores no more bytes than it counts.
+pub fn request_reader_stores_what_it_counts<A: Allocator + Copy>()
+    ensures { (reader : RequestReader A) → stored_so_far reader ≤ kept_so_far reader }
+{}
+
+/// A reader of requests has at no time more bytes than the longest packet and its limit together.
+pub fn request_stream_holds_within_its_limit<A: Allocator + Copy>()
+    ensures { (used : List ℕ) (asked : List Asked) (stream : RequestStream A)
+        → HasRead used asked stream → bytes_held stream ≤ 65520 + limit_of stream }
 {}
 
 /// The arguments of a request, in the order in which they are written, ask for just what the request asks.

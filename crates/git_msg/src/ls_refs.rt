@@ -23,21 +23,22 @@ pub struct LsRefs<A: Allocator + Copy> {
 
 impl<A: Allocator + Copy> Model for LsRefs<A> {
     ghost use Rattle.git_msg.specs.Asked.{LsRefsAsked, ls_refs};
-    ghost use Rattle.git_msg.specs.Kept.{Kept, IsCounted};
+    ghost use Rattle.git_msg.specs.Kept.{Kept, IsCovered};
 
     ghost Value = { Kept LsRefsAsked };
 
-    ghost use Rattle.git_msg.specs.Insides.{ls_refs_inside};
+    ghost use Rattle.git_msg.specs.Insides.{ls_refs_inside, ls_refs_stored};
 
-    ghost view = { λ q. record { format = q.format; asked = ls_refs_inside q; kept = q.budget.kept; limit = q.budget.limit } };
+    ghost view = { λ q. record { format = q.format; asked = ls_refs_inside q; kept = q.budget.kept; limit = q.budget.limit; stored = ls_refs_stored q } };
 
-    ghost invariant = { λ q. IsCounted q.format (ls_refs (ls_refs_inside q)) q.budget.kept };
+    ghost invariant = { λ q. IsCovered q.format (ls_refs (ls_refs_inside q)) q.budget.kept (ls_refs_stored q) };
 }
 
 impl<A: Allocator + Copy> LsRefs<A> {
     ghost use Rattle.git_msg.specs.Arguments.{IsValue, IsValueFault, most_text};
     ghost use Rattle.git_msg.specs.Asked.{arguments_in, ls_refs};
     ghost use Rattle.git_msg.specs.Kept.{IsNew, IsUnkept, IsWithin, KeepsArgument, kept_as};
+    ghost use Rattle.git_msg.specs.Prefixes.{IsOrdered, OrdersPrefixes, SplitsAt, is_shown};
 
     /// Whether symbolic references are to be shown with what they point to.
     pub fn symrefs(&self) -> bool
@@ -122,6 +123,31 @@ impl<A: Allocator + Copy> LsRefs<A> {
             Argument::RefPrefix(_) => Ok(()),
             _ => Err(Kind::UnknownArgument),
         }
+    }
+
+    /// Puts the prefixes in their order, and drops those that begin with another: the same names begin with one of them.
+    pub(crate) fn put_in_order(&mut self)
+        ensures ordered { IsOrdered self.new.asked.ref_prefixes }
+        ensures same { OrdersPrefixes self.old self.new }
+    {
+        self.ref_prefixes.put_in_order();
+    }
+
+    /// How many of the prefixes do not come after the name.
+    pub(crate) fn split(&self, name: &[u8]) -> usize
+        requires { IsOrdered self.now.asked.ref_prefixes }
+        ensures { SplitsAt self.now.asked.ref_prefixes name.now result }
+    {
+        self.ref_prefixes.split(name)
+    }
+
+    /// Whether a name is shown, after which no prefix comes before this place.
+    pub(crate) fn shows_at(&self, split: usize, name: &[u8]) -> bool
+        requires ordered { IsOrdered self.now.asked.ref_prefixes }
+        requires split { SplitsAt self.now.asked.ref_prefixes name.now split }
+        ensures { result ≡ is_shown self.now.asked.ref_prefixes name.now }
+    {
+        self.ref_prefixes.shows_at(split, name)
     }
 
     /// Keeps an argument whose line has a text of so many bytes.

@@ -22,15 +22,15 @@ pub struct ObjectInfo<A: Allocator + Copy> {
 
 impl<A: Allocator + Copy> Model for ObjectInfo<A> {
     ghost use Rattle.git_msg.specs.Asked.{ObjectInfoAsked, object_info};
-    ghost use Rattle.git_msg.specs.Kept.{Kept, IsCounted};
+    ghost use Rattle.git_msg.specs.Kept.{Kept, IsCovered};
 
     ghost Value = { Kept ObjectInfoAsked };
 
-    ghost use Rattle.git_msg.specs.Insides.{object_info_inside};
+    ghost use Rattle.git_msg.specs.Insides.{object_info_inside, object_info_stored};
 
-    ghost view = { λ q. record { format = q.format; asked = object_info_inside q; kept = q.budget.kept; limit = q.budget.limit } };
+    ghost view = { λ q. record { format = q.format; asked = object_info_inside q; kept = q.budget.kept; limit = q.budget.limit; stored = object_info_stored q } };
 
-    ghost invariant = { λ q. IsCounted q.format (object_info (object_info_inside q)) q.budget.kept };
+    ghost invariant = { λ q. IsCovered q.format (object_info (object_info_inside q)) q.budget.kept (object_info_stored q) };
 }
 
 impl<A: Allocator + Copy> ObjectInfo<A> {

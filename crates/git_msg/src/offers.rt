@@ -1,9 +1,10 @@
 //! What an advertisement offers, and what of it this project knows.
 
-ghost use Rattle.std.specs.Prelude.{◌≡◌, ℕ, List, [], ◌∷◌, unwrap_or};
+ghost use Rattle.std.specs.Prelude.{◌≡◌, ℕ, ◌+◌, ◌*◌, List, [], ◌∷◌, length, unwrap_or};
 ghost use Rattle.std.specs.Option.{option_copied};
 ghost use Rattle.std.specs.List.{list_any};
 ghost use Rattle.std.specs.Str.{bytes_eq};
+ghost use Rattle.git_names.specs.Steps.{TakesAtMost};
 ghost use Rattle.git_pkt.specs.Packets.{Pkt, payload, text_of};
 ghost use Rattle.git_msg.specs.Capability.{IsCapability};
 ghost use Rattle.git_msg.specs.Advertisement.{everything, noted_of, noted_offer, noted_with, is_spoken, offers_command, takes_command};
@@ -11,8 +12,11 @@ ghost use Rattle.git_msg.specs.Texts.{spaced_words};
 
 use crate::arguments::Command;
 use crate::capabilities::Capability;
-use crate::texts::is_word;
-use git_names::Format;
+use crate::texts::{is_word, split_at_first};
+use git_names::{Format, Steps};
+
+// The most bytes that a key has which is known.
+const LONGEST_KEY: usize = 13;
 
 /// What a server offers to a client, beside `agent` and the commands `ls-refs` and `fetch`, which are in every offer.
 #[derive(Clone, Copy, Debug, PartialEq, Eq)]
@@ -101,22 +105,29 @@ impl Caps {
     }
 
     /// What is noted when this line comes too.
-    pub fn with(self, capability: &Capability<'_>) -> Caps
+    pub fn with(self, capability: &Capability<'_>, steps: &mut Steps) -> Caps
         ensures exact { result ≡ noted_with self capability.now.key.now (unwrap_or (option_copied capability.now.value) []) }
         ensures notes { (packets : List Pkt) (line : List ℕ) → self ≡ noted_of packets
             → IsCapability (text_of line) capability.now.key.now (option_copied capability.now.value)
             → result ≡ noted_of (payload line ∷ packets) }
+        ensures cost { TakesAtMost (16 * (length capability.now.key.now + length (unwrap_or (option_copied capability.now.value) []) + 1))
+            steps.old steps.new }
     {
         let key = capability.key;
         let value = capability.value.unwrap_or(b"");
+        // Six keys, and two values of one of them.
+        steps.tick(6 * (key.len().min(LONGEST_KEY) + 1));
+        steps.tick(2 * (value.len().min(LONGEST_KEY) + 1));
+        let is_shallow = has_word(value, b"shallow", steps);
+        let is_ref_in_want = has_word(value, b"ref-in-want", steps);
         let is_fetch = is_word(key, b"fetch");
         let is_format = is_word(key, b"object-format");
         Caps {
             agent: is_word(key, b"agent") | self.agent,
             ls_refs: is_word(key, b"ls-refs") | self.ls_refs,
             fetch: is_fetch | self.fetch,
-            shallow: is_fetch & has_word(value, b"shallow") | self.shallow,
-            ref_in_want: is_fetch & has_word(value, b"ref-in-want") | self.ref_in_want,
+            shallow: is_fetch & is_shallow | self.shallow,
+            ref_in_want: is_fetch & is_ref_in_want | self.ref_in_want,
             server_option: is_word(key, b"server-option") | self.server_option,
             object_info: is_word(key, b"object-info") | self.object_info,
             object_format: is_format | self.object_format,
@@ -161,8 +172,19 @@ impl Caps {
 }
 
 /// Whether single spaces part the value so that one part is the word.
-fn has_word(value: &[u8], word: &[u8]) -> bool
-    ensures { result ≡ list_any (λ w. bytes_eq w word.now) (spaced_words value.now) }
+fn has_word(value: &[u8], word: &[u8], steps: &mut Steps) -> bool
+    ensures word { result ≡ list_any (λ w. bytes_eq w word.now) (spaced_words value.now) }
+    ensures cost { TakesAtMost (4 * (length value.now + 1)) steps.old steps.new }
 {
-    value.split(|byte| *byte == b' ').any(|part| part == word)
+    let mut left = Some(value);
+    'words: while let Some(rest) = left {
+        let (part, next) = split_at_first(rest, b' ');
+        steps.tick(part.len() + 3);
+        steps.tick(part.len().min(word.len()) + 1);
+        if is_word(part, word) {
+            return true;
+        }
+        left = next;
+    }
+    false
 }

@@ -1,58 +1,66 @@
 //! What kept requests are made of: texts, and the places of their arguments.
-ghost use Rattle.std.specs.Prelude.{◌≡◌, ◌≢◌, ◌+◌, ◌^◌, ◌<◌, [], ◌∷◌, ◌++◌, ℕ, List, Some, OnOk, OnSome, OnErr, IfErr, MatchOption, MatchResult};
-ghost use Rattle.std.specs.Prelude.{length, slice_get};
+ghost use Rattle.std.specs.Prelude.{◌≡◌, ◌≢◌, ◌+◌, ◌*◌, ◌^◌, ◌<◌, ◌≤◌, [], ◌∷◌, ◌++◌, ℕ, List, Some, None, OnOk, OnSome, OnErr, IfErr, MatchOption, MatchResult};
+ghost use Rattle.std.specs.Prelude.{true, false, length, map, slice_get, slice_index, All};
 ghost use Rattle.std.specs.Option.{option_copied};
 ghost use Rattle.git_msg.specs.Arguments.{Arg, IsNameIn};
 ghost use Rattle.git_msg.specs.Asked.{where_asked, where_given};
+ghost use Rattle.std.proofs.Props.{props};
+ghost use Rattle.std.specs.List.{dedup};
+ghost use Rattle.std.specs.Ordering.{is_lt};
+ghost use Rattle.std.specs.List.Sorted.{IsPartitionedBy, IsPartitionPoint, IsPermutation, IsSortedBy};
+ghost use Rattle.git_msg.specs.TextPools.{IsEnd, text_at};
+ghost use Rattle.git_msg.specs.Prefixes.{IsOrdered, Prunes, ShowAlike, SplitsAt, goes_before, begins, is_shown, text_cmp};
 
 use git_names::{Format, Oid};
 use git_pkt::Kind;
 use std::alloc::{AllocError, Allocator};
-use std::marker::Model;
+use std::cmp::Ordering;
 
-/// Byte strings, each in memory of its own.
+/// Byte strings in one vector, each followed by its length in two bytes, with the place where each ends: so that a text is found
+/// from its end alone, and the ends may stand in any order.
 #[derive(Drop)]
 pub(crate) struct Texts<A: Allocator + Copy> {
-    items: Vec<Vec<u8, A>, A>,
-}
-
-impl<A: Allocator + Copy> Model for Texts<A> {
-    ghost use Rattle.std.specs.Prelude.{List, ℕ, map};
-
-    ghost Value = { List (List ℕ) };
-
-    ghost view = { λ texts. map (λ text. text.items) texts.items.items };
+    bytes: Vec<u8, A>,
+    ends: Vec<u32, A>,
+    ghost sound: { All (IsEnd bytes.items) ends.items } by { Prim.hlevel props },
 }
 
 impl<A: Allocator + Copy> Texts<A> {
+    ghost use Rattle.git_msg.specs.HeldTexts.{texts_of, texts_stored};
+
     pub(crate) fn new(alloc: A) -> Texts<A>
-        ensures { result ≡ [] }
+        ensures texts { texts_of result ≡ [] }
+        ensures stored { texts_stored result ≡ 0 }
     {
         Texts {
-            items: Vec::new(alloc),
+            bytes: Vec::new(alloc),
+            ends: Vec::new(alloc),
         }
     }
 
     pub(crate) fn get(&self, i: usize) -> Option<&[u8]>
-        ensures value { option_copied result ≡ slice_get self.now i }
+        ensures value { option_copied result ≡ slice_get (texts_of self.now) i }
         ensures bound { OnSome result (i + 1 < 2 ^ 64) }
     {
-        match self.items.get(i) {
-            Some(text) => Some(text.as_slice()),
+        match self.ends.get(i) {
+            Some(end) => Some(text(&self.bytes, *end)),
             None => None,
         }
     }
 
     pub(crate) fn len(&self) -> usize
-        ensures { result ≡ length self.now }
+        ensures { result ≡ length (texts_of self.now) }
     {
-        self.items.len()
+        self.ends.len()
     }
 
     /// Keeps a copy of the text after the others; `OutOfMemory` where there is no memory for it.
     pub(crate) fn keep(&mut self, text: &[u8]) -> Result<(), Kind>
-        ensures ok { OnOk result (self.new ≡ self.old ++ text.now ∷ []) }
-        ensures err { OnErr result (self.new ≡ self.old) }
+        requires short { length text.now < 2 ^ 16 }
+        requires fits { texts_stored self.old + length text.now < 2 ^ 32 }
+        ensures ok { OnOk result (texts_of self.new ≡ texts_of self.old ++ text.now ∷ []) }
+        ensures stored { OnOk result (texts_stored self.new ≡ texts_stored self.old + (length text.now + 6)) }
+        ensures err { OnErr result ((texts_of self.new ≡ texts_of self.old) × (texts_stored self.new ≡ texts_stored self.old)) }
         ensures kind { IfErr result (λ kind. kind ≡ Kind.OutOfMemory) }
     {
         if self.push(text).is_err() {
@@ -62,13 +70,122 @@ impl<A: Allocator + Copy> Texts<A> {
     }
 
     fn push(&mut self, text: &[u8]) -> Result<(), AllocError>
-        ensures ok { OnOk result (self.new ≡ self.old ++ text.now ∷ []) }
-        ensures err { OnErr result (self.new ≡ self.old) }
+        requires short { length text.now < 2 ^ 16 }
+        requires fits { texts_stored self.old + length text.now < 2 ^ 32 }
+        ensures ok { OnOk result (texts_of self.new ≡ texts_of self.old ++ text.now ∷ []) }
+        ensures stored { OnOk result (texts_stored self.new ≡ texts_stored self.old + (length text.now + 6)) }
+        ensures err { OnErr result ((texts_of self.new ≡ texts_of self.old) × (texts_stored self.new ≡ texts_stored self.old)) }
     {
-        let copy = Vec::from_slice(*self.items.allocator(), text)?;
-        self.items.push(copy)?;
+        self.ends.reserve(1)?;
+        self.bytes.reserve(text.len() + 2)?;
+        self.bytes.extend_from_slice(text)?;
+        let end = self.bytes.len() as u32;
+        self.bytes.push_reserved((text.len() % 256) as u8);
+        self.bytes.push_reserved((text.len() / 256) as u8);
+        self.ends.push_reserved(end);
         Ok(())
     }
+
+    /// Puts the texts in their order, and drops those that begin with another: the same names are shown by them.
+    pub(crate) fn put_in_order(&mut self)
+        ensures ordered { IsOrdered (texts_of self.new) }
+        ensures alike { ShowAlike (texts_of self.old) (texts_of self.new) }
+        ensures prunes { Prunes (texts_of self.old) (texts_of self.new) }
+        ensures stored { texts_stored self.new ≤ texts_stored self.old }
+    {
+        order(&self.bytes, &mut self.ends);
+    }
+
+    /// How many of the texts do not come after the name.
+    pub(crate) fn split(&self, name: &[u8]) -> usize
+        requires { IsOrdered (texts_of self.now) }
+        ensures { SplitsAt (texts_of self.now) name.now result }
+    {
+        split_at(&self.bytes, &self.ends, name)
+    }
+
+    /// Whether a name is shown, after which no text comes before this place.
+    pub(crate) fn shows_at(&self, split: usize, name: &[u8]) -> bool
+        requires ordered { IsOrdered (texts_of self.now) }
+        requires split { SplitsAt (texts_of self.now) name.now split }
+        ensures { result ≡ is_shown (texts_of self.now) name.now }
+    {
+        if split == 0 {
+            return self.len() == 0;
+        }
+        name.starts_with(text(&self.bytes, self.ends[split - 1]))
+    }
+}
+
+// The text that ends at this place.
+fn text(bytes: &[u8], end: u32) -> &[u8]
+    ensures { result.now ≡ text_at bytes.now end }
+{
+    let end = end as usize;
+    let long = byte(bytes, end) + 256 * byte(bytes, end + 1);
+    let start = end.saturating_sub(long).min(bytes.len());
+    let stop = (start + long).min(bytes.len());
+    &bytes[start..stop]
+}
+
+fn byte(bytes: &[u8], i: usize) -> usize
+    ensures value { result ≡ slice_index bytes.now i }
+    ensures bound { result < 256 }
+{
+    match bytes.get(i) {
+        Some(byte) => *byte as usize,
+        None => 0,
+    }
+}
+
+// Puts the ends in the order of their texts, and drops those of texts that begin with another.
+fn order<A: Allocator + Copy>(bytes: &[u8], ends: &mut Vec<u32, A>)
+    ensures ordered { IsOrdered (map (text_at bytes.now) ends.new.items) }
+    ensures alike { ShowAlike (map (text_at bytes.now) ends.old.items) (map (text_at bytes.now) ends.new.items) }
+    ensures prunes { Prunes (map (text_at bytes.now) ends.old.items) (map (text_at bytes.now) ends.new.items) }
+    ensures fewer { length ends.new.items ≤ length ends.old.items }
+    ensures sound { All (IsEnd bytes.now) ends.old.items → All (IsEnd bytes.now) ends.new.items }
+{
+    sort(bytes, ends);
+    prune(bytes, ends);
+}
+
+fn sort<A: Allocator + Copy>(bytes: &[u8], ends: &mut Vec<u32, A>)
+    ensures permutation { IsPermutation ends.old.items ends.new.items }
+    ensures sorted { IsSortedBy (λ a b. is_lt (text_cmp (text_at bytes.now a) (text_at bytes.now b))) ends.new.items }
+{
+    ends.sort_unstable_by(
+        |a: &u32, b: &u32| -> Ordering
+            ensures { result ≡ text_cmp (text_at bytes.entry.now a.now) (text_at bytes.entry.now b.now) }
+        { text(bytes, *a).cmp(text(bytes, *b)) },
+    );
+}
+
+// How many of the ends are of texts that do not come after the name.
+fn split_at(bytes: &[u8], ends: &[u32], name: &[u8]) -> usize
+    requires { IsPartitionedBy (λ end. goes_before (text_at bytes.now end) name.now) ends.now }
+    ensures bound { result ≤ length ends.now }
+    ensures parts { IsPartitionPoint (λ end. goes_before (text_at bytes.now end) name.now ≡ true)
+        (λ end. goes_before (text_at bytes.now end) name.now ≡ false) ends.now result }
+{
+    ends.partition_point(
+        |end: &u32| -> bool
+            ensures { result ≡ goes_before (text_at bytes.entry.now end.now) name.entry.now }
+        { text(bytes, *end).cmp(name).is_le() },
+    )
+}
+
+// Drops the ends of the texts that begin with the last one kept.
+fn prune<A: Allocator + Copy>(bytes: &[u8], ends: &mut Vec<u32, A>)
+    ensures kept { ends.new.items ≡ dedup (λ a b. begins (text_at bytes.now a) (text_at bytes.now b)) ends.old.items }
+    ensures fewer { length ends.new.items ≤ length ends.old.items }
+{
+    ends.dedup_by(
+        |a: &mut u32, b: &mut u32| -> bool
+            ensures result { result ≡ begins (text_at bytes.entry.now a.old) (text_at bytes.entry.now b.old) }
+            ensures same { (a.new ≡ a.old) × (b.new ≡ b.old) }
+        { text(bytes, *a).starts_with(text(bytes, *b)) },
+    );
 }
 
 /// Keeps an object name after the others; `OutOfMemory` where there is no memory for it.

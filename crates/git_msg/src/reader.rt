@@ -1,10 +1,13 @@
 //! Requests, read packet by packet.
+ghost use Rattle.std.specs.Prelude.{◌≤◌};
+ghost use Rattle.git_msg.specs.HeldRequest.{kept_of, stored_of};
+
 use crate::arguments::{Argument, Command, put_together};
 use crate::judge::{Noted, judge_capability, read_text};
 use crate::limits::Limits;
 use crate::offers::Offer;
 use crate::requests::{Request, written_length};
-use git_names::Format;
+use git_names::{Format, Steps};
 use git_pkt::{Fault, Kind, Packet, text};
 use std::alloc::Allocator;
 use std::mem;
@@ -43,16 +46,18 @@ pub struct RequestReader<A: Allocator + Copy> {
     has_format: bool,
     // What is kept so far. It also has the limit.
     request: Request<A>,
+    ghost covered: { stored_of request ≤ kept_of request },
 }
 
 impl<A: Allocator + Copy> RequestReader<A> {
-    ghost use Rattle.std.specs.Prelude.{◌≡◌, [], true, false, OnOk, OnErr, IfErr, MatchResult};
-    ghost use Rattle.git_pkt.specs.Packets.{seen};
-    ghost use Rattle.git_msg.specs.Arguments.{shown};
+    ghost use Rattle.std.specs.Prelude.{◌≡◌, ◌+◌, ◌*◌, [], true, false, OnOk, OnErr, IfErr, MatchResult, length};
+    ghost use Rattle.git_names.specs.Steps.{TakesAtMost};
+    ghost use Rattle.git_pkt.specs.Packets.{body_of, seen};
+    ghost use Rattle.git_msg.specs.Arguments.{HasName, shown};
     ghost use Rattle.git_msg.specs.Checks.{Refuses};
     ghost use Rattle.git_msg.specs.HeldRequest.{IsEmpty};
     ghost use Rattle.git_msg.specs.Lines.{capability_checks};
-    ghost use Rattle.git_msg.specs.RequestReader.{Takes, TakesOn, KeepsOn, offer_of, limit_in, kept_so_far, fault_of, is_waiting};
+    ghost use Rattle.git_msg.specs.RequestReader.{Takes, TakesOn, KeepsOn, GivesKeepable, counted_as, offer_of, limit_in, kept_so_far, fault_of, is_waiting};
     ghost use Rattle.git_msg.specs.RequestReaderSteps.{Notes, IsDue, IsUndue, StepsOn, is_first, restarted};
 
     /// A reader at the beginning of a request. It takes memory from `alloc` when an argument with a text or an object
@@ -78,14 +83,21 @@ impl<A: Allocator + Copy> RequestReader<A> {
 
     /// Takes the next packet, which stands at `offset`. No argument may wait for [`RequestReader::keep`]. A packet that
     /// is refused ends the reading: from then on each call answers that fault.
-    pub fn take<'p>(&mut self, packet: Packet<'p>, offset: u64) -> Result<Taken<'p, A>, Fault>
+    pub fn take<'p>(
+        &mut self,
+        packet: Packet<'p>,
+        offset: u64,
+        steps: &mut Steps,
+    ) -> Result<Taken<'p, A>, Fault>
         requires { is_waiting self.old ≡ false }
         ensures takes { TakesOn self.old (record { packet = seen packet.entry; offset = offset }) result self.new }
+        ensures keepable { GivesKeepable (length (body_of (seen packet.entry))) result self.new }
+        ensures cost { TakesAtMost (48 * (length (body_of (seen packet.entry)) + 1)) steps.old steps.new }
     {
         let step = match self.part {
             Part::Failed(fault) => return Err(fault),
-            Part::Capabilities => self.take_capability(packet, offset),
-            Part::Arguments => self.take_argument(packet, offset),
+            Part::Capabilities => self.take_capability(packet, offset, steps),
+            Part::Arguments => self.take_argument(packet, offset, steps),
             Part::Waiting(_, _) => unreachable!(),
         };
         match step {
@@ -97,17 +109,21 @@ impl<A: Allocator + Copy> RequestReader<A> {
     /// Makes the argument that [`RequestReader::take`] gave last a part of the request, whose lines then count the bytes
     /// that its text had on the wire. The fault names its packet: `TooMuchKept` where the limit has no room for so many
     /// bytes, or else `OutOfMemory` where no memory is left for its value.
-    pub fn keep(&mut self, argument: Argument<'_>) -> Result<(), Fault>
-        requires { is_waiting self.old ≡ true }
+    pub fn keep(&mut self, argument: Argument<'_>, steps: &mut Steps) -> Result<(), Fault>
+        requires waits { is_waiting self.old ≡ true }
+        requires named { HasName (shown argument) }
         ensures keeps { KeepsOn self.old (shown argument.entry) result self.new }
+        ensures cost { TakesAtMost (4 * (counted_as (shown argument.entry) self.old + 1)) steps.old steps.new }
     {
         let argument = put_together!(argument);
-        self.settle(&argument)
+        self.settle(&argument, steps)
     }
 
-    fn settle(&mut self, argument: &Argument<'_>) -> Result<(), Fault>
-        requires { is_waiting self.old ≡ true }
+    fn settle(&mut self, argument: &Argument<'_>, steps: &mut Steps) -> Result<(), Fault>
+        requires waits { is_waiting self.old ≡ true }
+        requires named { HasName (shown argument.now) }
         ensures keeps { KeepsOn self.old (shown argument.now) result self.new }
+        ensures cost { TakesAtMost (4 * (counted_as (shown argument.now) self.old + 1)) steps.old steps.new }
     {
         let Part::Waiting(offset, length) = self.part else {
             unreachable!()
@@ -115,6 +131,8 @@ impl<A: Allocator + Copy> RequestReader<A> {
         // Nothing here says that the argument is the one that waits, and a request counts no text by less than it is
         // written. For the one that waits this is the length of its text as it came, which is never less.
         let length = length.max(written_length(argument));
+        // What is pushed has fewer bytes than the text, its end among them, and so has a number that is written.
+        steps.tick(length);
         match self.request.keep(argument, length) {
             Ok(()) => {
                 self.part = Part::Arguments;
@@ -133,13 +151,20 @@ impl<A: Allocator + Copy> RequestReader<A> {
         fault
     }
 
-    fn take_capability<'p>(&mut self, packet: Packet<'p>, offset: u64) -> Result<Taken<'p, A>, Kind>
+    fn take_capability<'p>(
+        &mut self,
+        packet: Packet<'p>,
+        offset: u64,
+        steps: &mut Steps,
+    ) -> Result<Taken<'p, A>, Kind>
         requires { self.old.part ≡ Part.Capabilities }
-        ensures steps { StepsOn self.old (seen packet.entry) offset result self.new }
+        ensures goes_on { StepsOn self.old (seen packet.entry) offset result self.new }
+        ensures keepable { GivesKeepable (length (body_of (seen packet.entry))) result self.new }
+        ensures cost { TakesAtMost (48 * (length (body_of (seen packet.entry)) + 1)) steps.old steps.new }
     {
         match packet {
             Packet::Payload(payload) => {
-                self.note(text(payload))?;
+                self.note(text(payload), steps)?;
                 Ok(Taken::More)
             }
             Packet::Delim => {
@@ -162,14 +187,21 @@ impl<A: Allocator + Copy> RequestReader<A> {
         }
     }
 
-    fn take_argument<'p>(&mut self, packet: Packet<'p>, offset: u64) -> Result<Taken<'p, A>, Kind>
+    fn take_argument<'p>(
+        &mut self,
+        packet: Packet<'p>,
+        offset: u64,
+        steps: &mut Steps,
+    ) -> Result<Taken<'p, A>, Kind>
         requires { self.old.part ≡ Part.Arguments }
-        ensures steps { StepsOn self.old (seen packet.entry) offset result self.new }
+        ensures goes_on { StepsOn self.old (seen packet.entry) offset result self.new }
+        ensures keepable { GivesKeepable (length (body_of (seen packet.entry))) result self.new }
+        ensures cost { TakesAtMost (48 * (length (body_of (seen packet.entry)) + 1)) steps.old steps.new }
     {
         match packet {
             Packet::Payload(payload) => {
                 let text = text(payload);
-                match read_text(self.request.command(), &self.offer, text) {
+                match read_text(self.request.command(), &self.offer, text, steps) {
                     Ok(argument) => {
                         self.part = Part::Waiting(offset, text.len());
                         Ok(Taken::Argument(argument))
@@ -187,12 +219,13 @@ impl<A: Allocator + Copy> RequestReader<A> {
     }
 
     // Takes a line of the capability part.
-    fn note(&mut self, text: &[u8]) -> Result<(), Kind>
+    fn note(&mut self, text: &[u8], steps: &mut Steps) -> Result<(), Kind>
+        ensures cost { TakesAtMost (13 * (length text.now + 1)) steps.old steps.new }
         ensures ok { OnOk result (Notes self.old text.now self.new) }
         ensures unchanged { OnErr result (self.new ≡ self.old) }
         ensures err { IfErr result (Refuses (capability_checks self.old.offer (is_first self.old) text.now)) }
     {
-        match judge_capability(&self.offer, self.command.is_none(), text)? {
+        match judge_capability(&self.offer, self.command.is_none(), text, steps)? {
             Noted::Command(command) => self.command = Some(command),
             Noted::ObjectFormat => self.has_format = true,
             Noted::Agent => {}
@@ -235,7 +268,7 @@ impl<A: Allocator + Copy> RequestReader<A> {
     fn restart(&mut self) -> Request<A>
         ensures given { result ≡ self.old.request }
         ensures next { IsEmpty Command.LsRefs self.old.offer.format (limit_in self.old) self.new.request }
-        ensures new { self.new ≡ restarted self.new.request self.old }
+        ensures new { self.new ≡ restarted self.new self.old }
     {
         self.part = Part::Capabilities;
         self.begun = false;

@@ -1,15 +1,16 @@
 //! Reference lines, read.
-ghost use Rattle.std.specs.Prelude.{◌≡◌, ◌≤◌, MatchResult, length};
+ghost use Rattle.std.specs.Prelude.{◌≡◌, ◌+◌, ◌*◌, ◌≤◌, IfOk, MatchResult, length};
 ghost use Rattle.std.specs.Option.{option_copied};
+ghost use Rattle.git_names.specs.Steps.{TakesAtMost};
 ghost use Rattle.git_msg.specs.Checks.{Refuses};
 ghost use Rattle.git_msg.specs.References.{FitsIn, IsAttributeFault, IsReferenceFault, IsReferenceLine, attribute_checks, reference_at, shown_reference};
-ghost use Rattle.git_msg.specs.Texts.{IsLeftOf, parts_left};
+ghost use Rattle.git_msg.specs.Texts.{IsLeftOf, bytes_left, parts_left};
 ghost use Rattle.git_msg.specs.ReferenceParts.{AreLocated, BeginsWithName, BeginsWithNoName, IsFound};
 
 use crate::reference_places::{Part, ReferencePlaces};
 use crate::references::Reference;
 use crate::texts::{after, split_at_first};
-use git_names::{Format, NameFault, Oid, RefName};
+use git_names::{Format, NameFault, Oid, RefName, Steps};
 use git_pkt::Kind;
 
 #[derive(Clone, Copy, Debug)]
@@ -21,26 +22,37 @@ struct Found {
 /// Reads the text of a reference line: an object name, a space and a reference name, then attributes, each after one
 /// space. Attributes that are not known are passed over. A text without a space is `BadLine`; then from left to right
 /// `BadObjectName` and `BadRefName`.
-pub fn read_reference(format: Format, text: &[u8]) -> Result<Reference<'_>, Kind>
+pub fn read_reference<'a>(
+    format: Format,
+    text: &'a [u8],
+    steps: &mut Steps,
+) -> Result<Reference<'a>, Kind>
     ensures line { MatchResult result (λ reference. IsReferenceLine format text.now (shown_reference reference))
         (IsReferenceFault format text.now) }
+    ensures cost { TakesAtMost (40 * (length text.now + 1)) steps.old steps.new }
 {
-    let places = locate_reference(format, text)?;
+    let places = locate_reference(format, text, steps)?;
     Ok(places.reference(text))
 }
 
 /// Reads the text of a reference line as [`read_reference`] does, and says where its parts lie.
-pub fn locate_reference(format: Format, text: &[u8]) -> Result<ReferencePlaces, Kind>
+pub fn locate_reference(
+    format: Format,
+    text: &[u8],
+    steps: &mut Steps,
+) -> Result<ReferencePlaces, Kind>
     ensures line { MatchResult result
         (λ places. IsReferenceLine format text.now (reference_at places text.now) × FitsIn places (length text.now))
         (IsReferenceFault format text.now) }
+    ensures cost { TakesAtMost (40 * (length text.now + 1)) steps.old steps.new }
 {
+    steps.tick(text.len() + 1);
     let (id, Some(rest)) = split_at_first(text, b' ') else {
         return Err(Kind::BadLine);
     };
-    let id = Oid::read(format, id)?;
-    let (name, words) = split_name(rest)?;
-    let found = read_attributes(format, text, words)?;
+    let id = Oid::read(format, id, steps)?;
+    let (name, words) = split_name(rest, steps)?;
+    let found = read_attributes(format, text, words, steps)?;
     Ok(ReferencePlaces {
         id,
         name_length: name.len(),
@@ -51,24 +63,37 @@ pub fn locate_reference(format: Format, text: &[u8]) -> Result<ReferencePlaces, 
 
 /// The reference name that the text begins with, and what stands after the space that ends it, where there is one. Most
 /// texts are the name alone: as a name has no space, they need no search for one.
-fn split_name(text: &[u8]) -> Result<(&[u8], Option<&[u8]>), NameFault>
+fn split_name<'a>(
+    text: &'a [u8],
+    steps: &mut Steps,
+) -> Result<(&'a [u8], Option<&'a [u8]>), NameFault>
     ensures parts { MatchResult result (λ parts. BeginsWithName text.now parts.0.now (option_copied parts.1))
         (λ fault. (fault ≡ NameFault.BadRefName) × BeginsWithNoName text.now) }
+    ensures whole { IfOk result (λ parts. length parts.0.now + bytes_left (option_copied parts.1) ≡ length text.now) }
+    ensures cost { MatchResult result (λ parts. TakesAtMost (17 * (length text.now + 1) + 16 * (length parts.0.now + 1)) steps.old steps.new)
+        (λ _. TakesAtMost (33 * (length text.now + 1)) steps.old steps.new) }
 {
-    if let Ok(_) = RefName::read(text) {
+    if let Ok(_) = RefName::read(text, steps) {
         return Ok((text, None));
     }
+    steps.tick(text.len() + 1);
     let (name, rest) = split_at_first(text, b' ');
-    RefName::read(name)?;
+    RefName::read(name, steps)?;
     Ok((name, rest))
 }
 
 /// The last values of the attributes of a line, which are the end of its text.
-fn read_attributes(format: Format, text: &[u8], words: Option<&[u8]>) -> Result<Found, Kind>
+fn read_attributes(
+    format: Format,
+    text: &[u8],
+    words: Option<&[u8]>,
+    steps: &mut Steps,
+) -> Result<Found, Kind>
     requires { IsLeftOf text.now (option_copied words) }
     ensures values { MatchResult result
         (λ found. AreLocated format text.now (parts_left 32 (option_copied words.entry)) found.target found.peeled)
         (Refuses (attribute_checks format (parts_left 32 (option_copied words.entry)))) }
+    ensures cost { TakesAtMost (21 * bytes_left (option_copied words.entry)) steps.old steps.new }
 {
     let mut found = Found {
         target: None,
@@ -77,8 +102,9 @@ fn read_attributes(format: Format, text: &[u8], words: Option<&[u8]>) -> Result<
     let mut left = words;
     'words: while let Some(rest) = left {
         let (word, next) = split_at_first(rest, b' ');
+        steps.tick(word.len() + 3);
         let end = text.len() - rest.len() + word.len();
-        match read_attribute(format, word, end, found) {
+        match read_attribute(format, word, end, found, steps) {
             Ok(more) => found = more,
             Err(kind) => return Err(kind),
         }
@@ -88,13 +114,22 @@ fn read_attributes(format: Format, text: &[u8], words: Option<&[u8]>) -> Result<
 }
 
 /// What was found, with what one more attribute says, which ends at this place of the line.
-fn read_attribute(format: Format, word: &[u8], end: usize, found: Found) -> Result<Found, Kind>
+fn read_attribute(
+    format: Format,
+    word: &[u8],
+    end: usize,
+    found: Found,
+    steps: &mut Steps,
+) -> Result<Found, Kind>
     requires { length word.now ≤ end }
     ensures attribute { MatchResult result (λ new. IsFound format word.now end found new) (IsAttributeFault format word.now) }
+    ensures cost { TakesAtMost (18 * (length word.now + 1)) steps.old steps.new }
 {
+    // Two words.
+    steps.tick(2 * (word.len().min(14) + 1));
     let Found { target, peeled } = found;
     if let Some(name) = after(word, b"symref-target:") {
-        RefName::read(name)?;
+        RefName::read(name, steps)?;
         let length = name.len();
         let start = end - length;
         return Ok(Found {
@@ -103,7 +138,7 @@ fn read_attribute(format: Format, word: &[u8], end: usize, found: Found) -> Resu
         });
     }
     if let Some(name) = after(word, b"peeled:") {
-        let id = Oid::read(format, name)?;
+        let id = Oid::read(format, name, steps)?;
         return Ok(Found {
             target,
             peeled: Some(id),

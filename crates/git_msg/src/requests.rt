@@ -4,16 +4,16 @@ ghost use Rattle.std.specs.Option.{option_copied, option_map};
 ghost use Rattle.git_names.specs.ObjectName.{hex_of};
 ghost use Rattle.git_names.specs.RefName.{IsRefName};
 ghost use Rattle.git_pkt.specs.Packets.{longest_payload};
-ghost use Rattle.git_msg.specs.Arguments.{most_text, shown, written_text};
+ghost use Rattle.git_msg.specs.Arguments.{HasName, most_text, shown, written_text};
 
-use crate::arguments::{Argument, Command, is_offered, put_together};
+use crate::arguments::{Argument, Command, is_offered, is_ref_name, put_together};
 use crate::fetch::Fetch;
 use crate::limits::Limits;
 use crate::ls_refs::LsRefs;
 use crate::numbers::decimal_length;
 use crate::object_info::ObjectInfo;
 use crate::offers::Offer;
-use git_names::{Format, Oid};
+use git_names::{Format, Oid, Steps};
 use git_pkt::Kind;
 use std::alloc::Allocator;
 
@@ -36,7 +36,7 @@ impl<A: Allocator + Copy> Request<A> {
     ghost use Rattle.git_msg.specs.Asked.{size_of, oids_of};
     ghost use Rattle.git_msg.specs.Checks.{Passes, Refuses};
     ghost use Rattle.git_msg.specs.Lines.{end_checks};
-    ghost use Rattle.git_msg.specs.HeldRequest.{IsEmpty, asked_of, command_of, format_of, kept_of, limit_of, Keeps, add_checks, keep_checks, IsRefused};
+    ghost use Rattle.git_msg.specs.HeldRequest.{IsEmpty, asked_of, command_of, format_of, kept_of, limit_of, stored_of, Keeps, add_checks, keep_checks, IsRefused};
 
     /// A request without arguments. Later calls take memory from `alloc`, and only where an argument with a text or an
     /// object name is kept.
@@ -62,8 +62,19 @@ impl<A: Allocator + Copy> Request<A> {
         ensures refused { IfErr result (IsRefused (add_checks self.old (shown argument.entry)) (shown argument.entry)) }
     {
         let argument = put_together!(argument);
-        let length = written_length(&argument);
-        self.keep(&argument, length)
+        self.add_lent(&argument)
+    }
+
+    // The same, of an argument that is lent.
+    fn add_lent(&mut self, argument: &Argument<'_>) -> Result<(), Kind>
+        ensures added { OnOk result (Keeps self.old (shown argument.now) (length (written_text (shown argument.now))) self.new) }
+        ensures passes { OnOk result (Passes (add_checks self.old (shown argument.now))) }
+        ensures unchanged { OnErr result (self.new ≡ self.old) }
+        ensures refused { IfErr result (IsRefused (add_checks self.old (shown argument.now)) (shown argument.now)) }
+    {
+        self.check_name(argument)?;
+        let length = written_length(argument);
+        self.keep(argument, length)
     }
 
     /// Judges what the request asks for, at its end: `DeepenConflict` for a fetch that cuts the history off by a depth and
@@ -134,6 +145,9 @@ impl<A: Allocator + Copy> Request<A> {
     pub fn kept(&self) -> u32
         ensures value { result ≡ kept_of self.now }
         ensures within { kept_of self.now ≤ limit_of self.now }
+
+        // No more is stored of their values: 33 bytes of an object name, and of a text its own and four.
+        ensures stored { stored_of self.now ≤ kept_of self.now }
 
         // The lines as they are written have no more, and each argument may stand there.
         ensures written { written_bytes (asked_of self.now) ≤ kept_of self.now }
@@ -356,7 +370,8 @@ impl<A: Allocator + Copy> Request<A> {
 
     /// Keeps an argument whose line has a text of so many bytes.
     pub(crate) fn keep(&mut self, argument: &Argument<'_>, text_length: usize) -> Result<(), Kind>
-        requires { length (written_text (shown argument.now)) ≤ text_length }
+        requires named { HasName (shown argument.now) }
+        requires counted { length (written_text (shown argument.now)) ≤ text_length }
         ensures kept { OnOk result (Keeps self.old (shown argument.now) text_length self.new) }
         ensures passes { OnOk result (Passes (keep_checks self.old (shown argument.now) text_length)) }
         ensures unchanged { OnErr result (self.new ≡ self.old) }
@@ -370,8 +385,29 @@ impl<A: Allocator + Copy> Request<A> {
         }
     }
 
+    // Whether a reference that is asked for by name has a name that it may have.
+    fn check_name(&self, argument: &Argument<'_>) -> Result<(), Kind>
+        ensures ok { OnOk result (HasName (shown argument.now)) }
+        ensures err { IfErr result (IsValueFault (command_of self.now) (format_of self.now) (shown argument.now)) }
+    {
+        match argument {
+            Argument::WantRef(name) => {
+                if is_ref_name(name, &mut Steps::new()) {
+                    return Ok(());
+                }
+                match self {
+                    Request::Fetch(_) => Err(Kind::BadRefName),
+                    Request::LsRefs(_) => Err(Kind::UnknownArgument),
+                    Request::ObjectInfo(_) => Err(Kind::UnknownArgument),
+                }
+            }
+            _ => Ok(()),
+        }
+    }
+
     // Whether the argument may stand in this request.
     fn check_value(&self, argument: &Argument<'_>) -> Result<(), Kind>
+        requires { HasName (shown argument.now) }
         ensures ok { OnOk result (IsValue (command_of self.now) (format_of self.now) (shown argument.now)) }
         ensures err { IfErr result (IsValueFault (command_of self.now) (format_of self.now) (shown argument.now)) }
     {

@@ -1,7 +1,8 @@
 //! The lines of fetch's response sections and of the response to object-info: gitprotocol-v2(5).
 
-ghost use Rattle.std.specs.Prelude.{◌≡◌, ◌<◌, MatchResult, length};
+ghost use Rattle.std.specs.Prelude.{◌≡◌, ◌<◌, MatchResult, length, ◌+◌, ◌*◌};
 ghost use Rattle.git_names.specs.RefName.{IsRefName};
+ghost use Rattle.git_names.specs.Steps.{TakesAtMost};
 ghost use Rattle.git_pkt.specs.Packets.{longest_payload, spelling_of};
 ghost use Rattle.git_msg.specs.ResponseLines.{IsAckFault, IsAckLine, IsBoundaryFault, IsBoundaryLine, IsNamed, IsNamedFault, IsWantedFault, IsWantedLine};
 ghost use Rattle.git_msg.specs.ResponseLines.{IsInfoFault, IsInfoLine, IsNoSizeText, IsSizeText};
@@ -12,7 +13,7 @@ use crate::numbers::read_number;
 use crate::references::{Reference, append_id, put_reference};
 use crate::texts::{after, split_at_first};
 use crate::writing::put_name_line;
-use git_names::{Format, Oid, RefName};
+use git_names::{Format, Oid, RefName, Steps};
 use git_pkt::{Hold, Kind, append, begin};
 use itoa::Buffer;
 
@@ -106,55 +107,72 @@ pub fn put_info(hold: &mut Hold, info: &Info)
 
 /// Reads the text of a line that says of an object that both ends have it. A text that does not begin with `ACK ` is
 /// `BadLine`, and else one without an object name after that is `BadObjectName`.
-pub fn read_ack(format: Format, text: &[u8]) -> Result<Oid, Kind>
-    ensures { MatchResult result (IsAckLine format text.now) (IsAckFault format text.now) }
+pub fn read_ack(format: Format, text: &[u8], steps: &mut Steps) -> Result<Oid, Kind>
+    ensures line { MatchResult result (IsAckLine format text.now) (IsAckFault format text.now) }
+    ensures cost { TakesAtMost (40 * (length text.now + 1)) steps.old steps.new }
 {
-    read_named(format, b"ACK ", text)
+    read_named(format, b"ACK ", text, steps)
 }
 
 /// Reads the text of a line of the shallow boundary. A text that begins neither with `shallow ` nor with `unshallow ` is
 /// `BadLine`, and else one without an object name after that is `BadObjectName`.
-pub fn read_boundary(format: Format, text: &[u8]) -> Result<Boundary, Kind>
-    ensures { MatchResult result (IsBoundaryLine format text.now) (IsBoundaryFault format text.now) }
+pub fn read_boundary(format: Format, text: &[u8], steps: &mut Steps) -> Result<Boundary, Kind>
+    ensures line { MatchResult result (IsBoundaryLine format text.now) (IsBoundaryFault format text.now) }
+    ensures cost { TakesAtMost (40 * (length text.now + 1)) steps.old steps.new }
 {
-    match read_named(format, b"shallow ", text) {
+    match read_named(format, b"shallow ", text, steps) {
         Ok(id) => Ok(Boundary::Shallow(id)),
-        Err(Kind::BadLine) => Ok(Boundary::Unshallow(read_named(format, b"unshallow ", text)?)),
+        Err(Kind::BadLine) => Ok(Boundary::Unshallow(read_named(
+            format,
+            b"unshallow ",
+            text,
+            steps,
+        )?)),
         Err(kind) => Err(kind),
     }
 }
 
 /// Reads the text of a line of the wanted references: an object name, a space, and all after it, a reference name. A text
 /// without a space is `BadLine`; then from left to right `BadObjectName` and `BadRefName`.
-pub fn read_wanted(format: Format, text: &[u8]) -> Result<WantedRef<'_>, Kind>
-    ensures { MatchResult result (λ wanted. IsWantedLine format text.now (shown_wanted wanted)) (IsWantedFault format text.now) }
+pub fn read_wanted<'a>(
+    format: Format,
+    text: &'a [u8],
+    steps: &mut Steps,
+) -> Result<WantedRef<'a>, Kind>
+    ensures line { MatchResult result (λ wanted. IsWantedLine format text.now (shown_wanted wanted)) (IsWantedFault format text.now) }
+    ensures cost { TakesAtMost (40 * (length text.now + 1)) steps.old steps.new }
 {
+    steps.tick(text.len() + 1);
     let (id, Some(name)) = split_at_first(text, b' ') else {
         return Err(Kind::BadLine);
     };
-    let id = Oid::read(format, id)?;
-    RefName::read(name)?;
+    let id = Oid::read(format, id, steps)?;
+    RefName::read(name, steps)?;
     Ok(WantedRef { id, name })
 }
 
 /// Reads the text of a line of the response to object-info: an object name, a space, and all after it, a size or nothing. A
 /// text without a space is `BadLine`; then from left to right `BadObjectName`, and `BadNumber` for what is no decimal number
 /// of 64 bits.
-pub fn read_info(format: Format, text: &[u8]) -> Result<Info, Kind>
-    ensures { MatchResult result (IsInfoLine format text.now) (IsInfoFault format text.now) }
+pub fn read_info(format: Format, text: &[u8], steps: &mut Steps) -> Result<Info, Kind>
+    ensures line { MatchResult result (IsInfoLine format text.now) (IsInfoFault format text.now) }
+    ensures cost { TakesAtMost (40 * (length text.now + 1)) steps.old steps.new }
 {
+    steps.tick(text.len() + 1);
     let (id, Some(size)) = split_at_first(text, b' ') else {
         return Err(Kind::BadLine);
     };
-    let id = Oid::read(format, id)?;
-    let size = read_size(size)?;
+    let id = Oid::read(format, id, steps)?;
+    let size = read_size(size, steps)?;
     Ok(Info { id, size })
 }
 
 /// The size, or none where there is no text.
-fn read_size(text: &[u8]) -> Result<Option<u64>, Kind>
-    ensures { MatchResult result (IsSizeText text.now) (λ kind. IsNoSizeText text.now × (kind ≡ Kind.BadNumber)) }
+fn read_size(text: &[u8], steps: &mut Steps) -> Result<Option<u64>, Kind>
+    ensures size { MatchResult result (IsSizeText text.now) (λ kind. IsNoSizeText text.now × (kind ≡ Kind.BadNumber)) }
+    ensures cost { TakesAtMost (length text.now) steps.old steps.new }
 {
+    steps.tick(text.len());
     if text.is_empty() {
         return Ok(None);
     }
@@ -165,12 +183,14 @@ fn read_size(text: &[u8]) -> Result<Option<u64>, Kind>
 }
 
 /// Reads a text that has to be the word and then an object name.
-fn read_named(format: Format, word: &[u8], text: &[u8]) -> Result<Oid, Kind>
-    ensures { MatchResult result (IsNamed word.now format text.now) (IsNamedFault word.now format text.now) }
+fn read_named(format: Format, word: &[u8], text: &[u8], steps: &mut Steps) -> Result<Oid, Kind>
+    ensures line { MatchResult result (IsNamed word.now format text.now) (IsNamedFault word.now format text.now) }
+    ensures cost { TakesAtMost (17 * (length text.now + 1)) steps.old steps.new }
 {
+    steps.tick(text.len().min(word.len()) + 1);
     let Some(name) = after(text, word) else {
         return Err(Kind::BadLine);
     };
-    let id = Oid::read(format, name)?;
+    let id = Oid::read(format, name, steps)?;
     Ok(id)
 }

@@ -10,6 +10,7 @@ use crate::limits::Limits;
 use crate::offers::Offer;
 use crate::reader::{RequestReader, Taken};
 use crate::requests::Request;
+use git_names::Steps;
 use git_pkt::{Fault, Got, Kind, Packet, PacketReader};
 use std::alloc::Allocator;
 
@@ -63,7 +64,7 @@ pub struct RequestStream<A: Allocator + Copy> {
 
 impl<A: Allocator + Copy> RequestStream<A> {
     ghost use Rattle.git_msg.specs.RequestStreams.{HasRead, Feeds, Closes, wants_input, offer_of, limit_of, bytes_used};
-    ghost use Rattle.git_msg.specs.RequestStreamSteps.{Steps};
+    ghost use Rattle.git_msg.specs.RequestStreamSteps.{Steps as StepsTo};
 
     /// A reader before the first byte. It takes memory from `alloc` when an argument with a text or an object name comes.
     pub fn new(alloc: A, offer: Offer, limits: Limits) -> RequestStream<A>
@@ -146,9 +147,10 @@ impl<A: Allocator + Copy> RequestStream<A> {
         requires waits { wants_input self.old ≡ true }
         requires some { 0 < length piece.now }
         ensures used { result.used ≤ length piece.now }
-        ensures steps { Steps self.old piece.now result self.new }
+        ensures steps { StepsTo self.old piece.now result self.new }
     {
-        let fed = self.packets.feed(piece);
+        let mut steps = Steps::new();
+        let fed = self.packets.feed(piece, &mut steps);
         let used = fed.used;
         match fed.got {
             Got::More => ReadRequest {
@@ -181,10 +183,11 @@ fn take_packet<A: Allocator + Copy>(
     requires ready { is_waiting requests.old ≡ false }
     ensures { Brings requests.old (record { packet = seen packet.entry; offset = offset }) result requests.new }
 {
-    match requests.take(packet, offset) {
+    let mut steps = Steps::new();
+    match requests.take(packet, offset, &mut steps) {
         Ok(taken) => match taken {
             Taken::More => return ReadGot::More,
-            Taken::Argument(argument) => match requests.keep(argument) {
+            Taken::Argument(argument) => match requests.keep(argument, &mut steps) {
                 Ok(()) => return ReadGot::More,
                 Err(fault) => return ReadGot::Failed(fault),
             },

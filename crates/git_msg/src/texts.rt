@@ -1,8 +1,8 @@
 //! Words of lines, and where they end.
-ghost use Rattle.std.specs.Prelude.{◌≡◌, ◌<◌, ◌↔◌, ◌∷◌, ◌++◌, ◌==◌, IsTrue, MatchOption, length, position};
+ghost use Rattle.std.specs.Prelude.{◌≡◌, ◌+◌, ◌<◌, ◌↔◌, ◌∷◌, ◌++◌, ◌==◌, IsTrue, MatchOption, length, position};
 ghost use Rattle.std.specs.Option.{option_copied};
 ghost use Rattle.std.specs.Str.{bytes_eq};
-ghost use Rattle.git_msg.specs.Texts.{BeginsOtherThan, IsCutAt, IsErrorOf, IsErrorText, parts_left, parts_of};
+ghost use Rattle.git_msg.specs.Texts.{BeginsOtherThan, IsCutAt, IsErrorOf, IsErrorText, bytes_left, parts_left, parts_of};
 
 use bstr::ByteSlice;
 
@@ -33,6 +33,7 @@ pub fn split_at_first(text: &[u8], byte: u8) -> (&[u8], Option<&[u8]>)
     ensures parts { parts_of byte text.now ≡ result.0.now ∷ parts_left byte (option_copied result.1) }
     ensures cut { IsCutAt byte text.now result.0.now (option_copied result.1) }
     ensures shorter { MatchOption result.1 (Unit {0}) (λ rest. length rest.now < length text.now) }
+    ensures whole { length result.0.now + bytes_left (option_copied result.1) ≡ length text.now }
 {
     match find_byte(text, byte) {
         Some(at) => (&text[..at], Some(&text[at + 1..])),

@@ -5,3 +5,4 @@ pub mod NextByte
 pub mod ObjectFormat
 pub mod ObjectName
 pub mod RefName
+pub mod Steps

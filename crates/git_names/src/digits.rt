@@ -2,7 +2,9 @@
 ghost use Rattle.std.specs.Prelude.{◌≡◌, ◌+◌, ◌-◌, ◌*◌, ◌<◌, ◌≤◌, ◌++◌, List, ℕ, length, replicate, slice_index, MatchBool, MatchOption};
 ghost use Rattle.git_names.specs.Digits.{AreDigits, HaveValues, digit_value, lower_digit};
 ghost use Rattle.git_names.specs.ObjectName.{ArePairs, hex_text};
+ghost use Rattle.git_names.specs.Steps.{TakesAtMost};
 
+use crate::counter::Steps;
 use std::simd::prelude::*;
 
 // The value of each byte as a digit of either case, and 16 where it is none; a row has 16 bytes.
@@ -26,6 +28,9 @@ static DIGIT_VALUES: [u8; 256] = *b"\
     \x10\x10\x10\x10\x10\x10\x10\x10\x10\x10\x10\x10\x10\x10\x10\x10\
     \x10\x10\x10\x10\x10\x10\x10\x10\x10\x10\x10\x10\x10\x10\x10\x10";
 
+// The steps of joining pairs: six calls of vectors, one over 64 bytes and five over 32.
+const PAIRING: usize = 65 + 5 * 33;
+
 static LOWER_DIGITS: [u8; 16] = *b"0123456789abcdef";
 
 /// The value of a hexadecimal digit of either case, and 16 for any other byte.
@@ -45,17 +50,21 @@ pub fn lower_digit(value: usize) -> u8
 
 // Reads a pair of digits for each byte of `out`. Where `text` is something else the answer is
 // false, and `out` is of no use.
-pub(crate) fn read_pairs(text: &[u8], out: &mut [u8]) -> bool
-    requires { length out.old ≤ 32 }
+pub(crate) fn read_pairs(text: &[u8], out: &mut [u8], steps: &mut Steps) -> bool
+    requires fits { length out.old ≤ 32 }
+    requires least { 20 ≤ length out.old }
     ensures pairs { MatchBool result (ArePairs text.now out.new)
         ((bytes : List ℕ) → length bytes ≡ length out.old → ¬ ArePairs text.now bytes) }
+    ensures cost { TakesAtMost (16 * (length text.now + 1)) steps.old steps.new }
 {
     if text.len() != 2 * out.len() {
         return false;
     }
-    let Some(values) = digit_values(&with_zeros(text)) else {
+    steps.tick(text.len() + 1);
+    let Some(values) = digit_values(&with_zeros(text), steps) else {
         return false;
     };
+    steps.tick(PAIRING + out.len() + 1);
     out.copy_from_slice(&joined(&values)[..out.len()]);
     true
 }
@@ -72,11 +81,13 @@ fn with_zeros(text: &[u8]) -> [u8; 64]
 
 // The values of 64 digits. Each step of the loop is the same and goes on whatever it finds, so that the compiler makes
 // one of many.
-fn digit_values(digits: &[u8; 64]) -> Option<[u8; 64]>
+fn digit_values(digits: &[u8; 64], steps: &mut Steps) -> Option<[u8; 64]>
     ensures values { MatchOption result (¬ AreDigits digits.now) (λ values. HaveValues digits.now values) }
+    ensures cost { TakesAtMost 64 steps.old steps.new }
 {
     let mut values = [0; 64];
     let mut has_other = false;
+    steps.tick(64);
     for i in 0..64 {
         let value = value_of(digits[i]);
         has_other |= value > 15;

@@ -1,9 +1,11 @@
 //! Object names: read from digits, and written.
 
-ghost use Rattle.std.specs.Prelude.{◌≡◌, MatchResult, take, drop};
+ghost use Rattle.std.specs.Prelude.{◌≡◌, ◌+◌, ◌*◌, MatchResult, length, take, drop};
 ghost use Rattle.git_names.specs.ObjectFormat.{digits_of};
 ghost use Rattle.git_names.specs.ObjectName.{IsObjectName, IsNoObjectName, IsOid, hex_of};
+ghost use Rattle.git_names.specs.Steps.{TakesAtMost};
 
+use crate::counter::Steps;
 use crate::digits::{read_pairs, write_pairs};
 use crate::fault::NameFault;
 use crate::object_format::Format;
@@ -35,12 +37,13 @@ const _: () = prove!(size_of::<Oid>() == 33);
 impl Oid {
     /// The object name that `text` spells: exactly as many hexadecimal digits as the format has,
     /// of either case. Any other text is `BadObjectName`.
-    pub fn read(format: Format, text: &[u8]) -> Result<Oid, NameFault>
+    pub fn read(format: Format, text: &[u8], steps: &mut Steps) -> Result<Oid, NameFault>
         ensures name { MatchResult result (IsObjectName format text.now)
             (λ fault. (fault ≡ NameFault.BadObjectName) × IsNoObjectName format text.now) }
+        ensures cost { TakesAtMost (16 * (length text.now + 1)) steps.old steps.new }
     {
         let mut bytes = [0; 32];
-        if !read_pairs(text, &mut bytes[..format.width()]) {
+        if !read_pairs(text, &mut bytes[..format.width()], steps) {
             return Err(NameFault::BadObjectName);
         }
         Ok(Oid { format, bytes })

@@ -1,9 +1,11 @@
 //! Reference names.
 
-ghost use Rattle.std.specs.Prelude.{◌≡◌, ◌≢◌, ℕ, ◌<◌, ◌↔◌, codes, length, slice_index, take, IsTrue, MatchResult};
+ghost use Rattle.std.specs.Prelude.{◌≡◌, ◌≢◌, ℕ, ◌+◌, ◌*◌, ◌<◌, ◌≤◌, ◌↔◌, codes, length, slice_index, take, IsTrue, MatchResult};
 ghost use Rattle.git_names.specs.RefName.{BeginsWith, IsRefName};
 ghost use Rattle.git_names.specs.NextByte.{IsPlain, MayFollow};
+ghost use Rattle.git_names.specs.Steps.{TakesAtMost};
 
+use crate::counter::Steps;
 use crate::fault::NameFault;
 use bstr::ByteSlice;
 
@@ -34,11 +36,12 @@ impl<'a> RefName<'a> {
     ghost use Rattle.git_names.specs.NameBytes.{name_bytes};
 
     /// The reference name that is `text`, or `BadRefName` where it breaks a rule.
-    pub fn read(text: &'a [u8]) -> Result<RefName<'a>, NameFault>
+    pub fn read(text: &'a [u8], steps: &mut Steps) -> Result<RefName<'a>, NameFault>
         ensures name { MatchResult result (λ name. (name_bytes name ≡ text.now) × IsRefName text.now)
             (λ fault. (fault ≡ NameFault.BadRefName) × ¬ IsRefName text.now) }
+        ensures cost { TakesAtMost (16 * (length text.now + 1)) steps.old steps.new }
     {
-        if !is_ref_name(text) {
+        if !is_ref_name(text, steps) {
             return Err(NameFault::BadRefName);
         }
         Ok(RefName { text })
@@ -54,28 +57,33 @@ impl<'a> RefName<'a> {
 }
 
 // The rules for what follows what hold of `HEAD` too, so it takes the same way.
-fn is_ref_name(text: &[u8]) -> bool
+fn is_ref_name(text: &[u8], steps: &mut Steps) -> bool
     ensures name { IsTrue result ↔ IsRefName text.now }
+    ensures cost { TakesAtMost (16 * (length text.now + 1)) steps.old steps.new }
 {
-    if !begins_well(text) {
+    if !begins_well(text, steps) {
         return false;
     }
     if text.len() > MOST_BYTES {
         return false;
     }
-    if !follows_well(text) {
+    if !follows_well(text, steps) {
         return false;
     }
+    steps.tick(2);
     if text.ends_with_str(b".") {
         return false;
     }
     // Where a slash may follow, the last component is not empty and does not end with `.lock`.
-    may_follow(text, b'/')
+    may_follow(text, b'/', steps)
 }
 
-fn begins_well(text: &[u8]) -> bool
+fn begins_well(text: &[u8], steps: &mut Steps) -> bool
     ensures begins { IsTrue result ↔ (text.now ≢ codes "HEAD" → BeginsWith text.now (codes "refs/")) }
+    ensures some { IsTrue result → 0 < length text.now }
+    ensures cost { TakesAtMost 11 steps.old steps.new }
 {
+    steps.tick(5 + 6);
     if text == b"HEAD".as_slice() {
         return true;
     }
@@ -83,11 +91,13 @@ fn begins_well(text: &[u8]) -> bool
 }
 
 // Whether each byte may stand after those before it.
-fn follows_well(text: &[u8]) -> bool
+fn follows_well(text: &[u8], steps: &mut Steps) -> bool
     ensures follows { IsTrue result ↔ ((k : ℕ) → k < length text.now → MayFollow (take k text.now) (slice_index text.now k)) }
+    ensures cost { TakesAtMost (9 * length text.now) steps.old steps.new }
 {
     for (i, byte) in text.iter().enumerate() {
-        if !is_plain(*byte) && !may_follow(&text[..i], *byte) {
+        steps.tick(1);
+        if !is_plain(*byte) && !may_follow(&text[..i], *byte, steps) {
             return false;
         }
     }
@@ -95,9 +105,11 @@ fn follows_well(text: &[u8]) -> bool
 }
 
 // Whether the rules let the byte stand after `front`.
-fn may_follow(front: &[u8], byte: u8) -> bool
+fn may_follow(front: &[u8], byte: u8, steps: &mut Steps) -> bool
     ensures follows { IsTrue result ↔ MayFollow front.now byte }
+    ensures cost { TakesAtMost 8 steps.old steps.new }
 {
+    steps.tick(2 + 6);
     match byte {
         b'/' => !front.ends_with_str(b"/") && !front.ends_with_str(b".lock"),
         b'.' => !front.ends_with_str(b".") && !front.ends_with_str(b"/"),

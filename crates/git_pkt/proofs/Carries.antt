@@ -1,10 +1,10 @@
 -- A step of the reader carries what it stands for.
-use Rattle.std.proofs.Common.{arith, ◌≡◌, ℕ, ◌+◌, ◌-◌, List, [], ◌∷◌, ◌++◌, length, Option, None, ap, sym, ◌∙◌, subst, length-append}
+use Rattle.std.proofs.Common.{arith, ◌≡◌, ℕ, ◌+◌, ◌-◌, ◌≤◌, List, [], ◌∷◌, ◌++◌, length, Option, None, ap, sym, ◌∙◌, subst, length-append}
 use Rattle.std.proofs.lemmas.List.{append-nil}
 use Rattle.git_pkt.specs.Packets.{Spells}
 use Rattle.git_pkt.specs.Splits.{Given, NoneBegins}
 use Rattle.git_pkt.specs.Faults.{IsOpen, StopsBy}
-use Rattle.git_pkt.specs.PacketReader.{position_of, held_of, rest_of, fault_of, StandsAt, ReadsOn}
+use Rattle.git_pkt.specs.PacketReader.{bytes_held, position_of, held_of, rest_of, fault_of, StandsAt, ReadsOn}
 use Rattle.git_pkt.specs.PacketReaderSteps.{Moves}
 use Rattle.git_pkt.specs.declared.fault.Fault.{Fault}
 use Rattle.git_pkt.specs.declared.reader.PacketReader.{PacketReader}
@@ -18,14 +18,15 @@ stands_open : (r : PacketReader) (p end : ℕ) (rest : List ℕ) → fault_of r 
 stands_open r p end rest sound same =
     subst (λ (o : Option Fault). StandsAt o p end rest r) (sym sound) (record { all = same }, subst (λ (l : List ℕ). IsOpen l) same (rest_is_open r))
 
-pub carry_open : (old new : PacketReader) (u : List ℕ) → fault_of old ≡ None → Moves old u Open new → ReadsOn old u [] new
-carry_open old new u sound m start bytes given rest r =
+pub carry_open : (old new : PacketReader) (u : List ℕ) → bytes_held new ≤ 65520 → fault_of old ≡ None → Moves old u Open new → ReadsOn old u [] new
+carry_open old new u fits sound m start bytes given rest r =
     let was = (sound_rest old start bytes given rest sound r).0.all in
     let same : rest_of new ≡ rest ++ u = m.arrives.rest_is ∙ ap (λ (l : List ℕ). l ++ u) was in (
       rest ++ u,
       record {
         position = omega (arith, m.position, r.position, length-append bytes u);
         within = omega (arith, m.position, r.position, length-append bytes u, new.within);
+        fits = fits;
         splits = record {
           spelled = rw (append-nil given) (spells_all_more start bytes given rest u r.splits.spelled);
           ends = subst (λ (l : List ℕ). NoneBegins l) same (rest_is_partial new);
@@ -35,9 +36,9 @@ carry_open old new u sound m start bytes given rest r =
     )
 
 pub carry_whole : (old new : PacketReader) (u : List ℕ) (g : Given)
-    → fault_of old ≡ None → Moves old u Whole new → Spells g.packet (held_of new)
+    → bytes_held new ≤ 65520 → fault_of old ≡ None → Moves old u Whole new → Spells g.packet (held_of new)
     → g.offset + length (held_of new) ≡ position_of new → ReadsOn old u (g ∷ []) new
-carry_whole old new u g sound m spells at start bytes given rest r =
+carry_whole old new u g fits sound m spells at start bytes given rest r =
     let was = (sound_rest old start bytes given rest sound r).0.all in
     let same : held_of new ≡ rest ++ u = m.arrives.held ∙ ap (λ (l : List ℕ). l ++ u) was in
     let spelled : Spells g.packet (rest ++ u) = subst (λ (l : List ℕ). Spells g.packet l) same spells in (
@@ -45,6 +46,7 @@ carry_whole old new u g sound m spells at start bytes given rest r =
       record {
         position = omega (arith, m.position, r.position, length-append bytes u);
         within = omega (arith, m.position, r.position, length-append bytes u, new.within);
+        fits = fits;
         splits = record {
           spelled = spells_all_whole start (bytes ++ u) given (rest ++ u) g (spells_all_more start bytes given rest u r.splits.spelled) spelled
               (omega (arith, at, m.position, r.position, ap length same, length-append bytes u));
@@ -54,8 +56,8 @@ carry_whole old new u g sound m spells at start bytes given rest r =
       },
     )
 
-pub carry_failed : (old new : PacketReader) (u : List ℕ) (f : Fault) → fault_of old ≡ None → Moves old u (Failed f) new → ReadsOn old u [] new
-carry_failed old new u f sound m start bytes given rest r =
+pub carry_failed : (old new : PacketReader) (u : List ℕ) (f : Fault) → bytes_held new ≤ 65520 → fault_of old ≡ None → Moves old u (Failed f) new → ReadsOn old u [] new
+carry_failed old new u f fits sound m start bytes given rest r =
     let was = (sound_rest old start bytes given rest sound r).0.all in
     let same : rest_of old ++ u ≡ rest ++ u = ap (λ (l : List ℕ). l ++ u) was in
     let end : position_of new ≡ start + length (bytes ++ u) = omega (arith, m.position, r.position, length-append bytes u) in
@@ -66,6 +68,7 @@ carry_failed old new u f sound m start bytes given rest r =
       record {
         position = end;
         within = omega (arith, end, new.within);
+        fits = fits;
         splits = record {
           spelled = rw (append-nil given) (spells_all_more start bytes given rest u r.splits.spelled);
           ends = subst (λ (l : List ℕ). NoneBegins l) same m.arrives.none;

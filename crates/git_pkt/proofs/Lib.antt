@@ -5,6 +5,8 @@ pub mod Streams
 pub mod Gathered
 pub mod ReaderMoves
 pub mod KnownRest
+pub mod Credits
+pub mod OpenLengths
 pub mod Carries
 pub mod Pieces
 pub mod Written

@@ -13,18 +13,11 @@ true_not_false false e h = cc
 
 abbrev pub with_hold_by : (r : PacketReader) → ArrayVec ℕ → (b : Bool) → r.begun ≡ b → PacketReader
 with_hold_by r w true e = r
-with_hold_by r w false e = record {
+with_hold_by r w false e = record r {
   hold = w;
-  count = r.count;
-  position = r.position;
-  field = r.field;
-  begun = r.begun;
-  fault = r.fault;
-  within = r.within;
   counted = λ h. absurd (true_not_false r.begun e h);
   gathers = λ h. absurd (true_not_false r.begun e h);
   behind = λ h. absurd (true_not_false r.begun e h);
-  failed = r.failed;
 }
 
 -- the reader with another hold, where no packet is open; else the reader

@@ -5,6 +5,7 @@ pub mod Splits
 pub mod Faults
 pub mod HeldPacket
 pub mod PacketReader
+pub mod Credit
 pub mod PacketReaderSteps
 pub mod LentHold
 pub mod Escape

@@ -1,6 +1,6 @@
 -- What a packet reader stands for: the stream so far, its packets, and the rest.
 use Rattle.std.specs.Prelude.{◌≡◌, ◌≢◌, ℕ, ◌+◌, ◌-◌, ◌<◌, ◌≤◌, Bool, false, List, [], ◌∷◌, ◌++◌, length, take, Option, Some, None, if◌then◌else◌}
-use Rattle.git_pkt.specs.Packets.{Spells, seen}
+use Rattle.git_pkt.specs.Packets.{Spells, body_of, seen}
 use Rattle.git_pkt.specs.Splits.{Given, Splits}
 use Rattle.git_pkt.specs.Faults.{IsOpen, StopsBy, last_position}
 use Rattle.git_pkt.specs.declared.fault.Fault.{Fault}
@@ -21,6 +21,28 @@ is_open r = r.begun
 -- the hold, as it is
 abbrev pub held_of : PacketReader → List ℕ
 held_of r = r.hold.items
+
+-- how many bytes the reader has in its hold, its one field with bytes
+abbrev pub bytes_held : PacketReader → ℕ
+bytes_held r = length r.hold.items
+
+-- the same with each field named, so that none can be added without being counted
+abbrev pub bytes_held_by_fields : PacketReader → ℕ
+bytes_held_by_fields r =
+    let record {
+      hold = hold;
+      count = count;
+      position = position;
+      field = field;
+      begun = begun;
+      fault = fault;
+      within = within;
+      counted = counted;
+      gathers = gathers;
+      behind = behind;
+      failed = failed;
+    } = r in
+    length hold.items
 
 -- what the hold has of the open packet
 abbrev pub rest_of : PacketReader → List ℕ
@@ -51,6 +73,7 @@ StandsAt (Some f) p end rest r = (is_open r ≡ false) × StopsBy p rest end f.k
 pub record Reads (r : PacketReader) (start : ℕ) (bytes : List ℕ) (given : List Given) (rest : List ℕ) : Type 0 where
   pub position : position_of r ≡ start + length bytes
   pub within : start + length bytes ≤ last_position
+  pub fits : bytes_held r ≤ 65520
   pub splits : Splits start bytes given rest
   pub state : StandsAt (fault_of r) (start + length bytes - length rest) (start + length bytes) rest r
 
@@ -93,6 +116,12 @@ HoldsAsItCame old used More new = Unit {0}
 HoldsAsItCame old used (Packet p offset) new = (rest : List ℕ) → Holds old rest → held_of new ≡ rest ++ used
 HoldsAsItCame old used (Failed f) new = Unit {0}
 
+-- how many bytes of the open packet have come after a call; of a packet that is whole now all had come
+abbrev pub Counts : PacketReader → ℕ → Got → PacketReader → Type 0
+Counts old used More new = open_length new ≡ open_length old + used
+Counts old used (Packet p offset) new = (length (body_of (seen p)) + 4 ≡ open_length old + used) × (open_length new ≡ 0)
+Counts old used (Failed f) new = open_length new ≡ 0
+
 -- what a call of `feed` does
 pub record Feeds (old : PacketReader) (piece : List ℕ) (fed : Fed) (new : PacketReader) : Type 0 where
   pub reads : ReadsOn old (take fed.used piece) (given_by fed.got) new
@@ -101,3 +130,4 @@ pub record Feeds (old : PacketReader) (piece : List ℕ) (fed : Fed) (new : Pack
   pub stays : Repeats old fed new
   pub keeps : fed.used ≡ 0 → held_of new ≡ held_of old
   pub held : HoldsAsItCame old (take fed.used piece) fed.got new
+  pub counts : Counts old fed.used fed.got new

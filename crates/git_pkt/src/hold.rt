@@ -1,9 +1,11 @@
 //! The one buffer of each end.
 
-ghost use Rattle.std.specs.Prelude.{◌≡◌, ◌+◌, ◌≤◌, ◌++◌, length, take, drop};
+ghost use Rattle.std.specs.Prelude.{◌≡◌, ◌+◌, ◌*◌, ◌≤◌, ◌++◌, length, take, drop};
 ghost use Rattle.arrayvec.specs.ArrayVec.{array_vec_len};
+ghost use Rattle.git_names.specs.Steps.{TakesAtMost};
 
 use arrayvec::ArrayVec;
+use git_names::Steps;
 
 /// How many bytes the longest packet has, its four digits among them.
 pub const LONGEST_PACKET: usize = 65_520;
@@ -21,13 +23,16 @@ pub fn append(hold: &mut Hold, bytes: &[u8])
 }
 
 /// Puts bytes at a place of the hold, over what stands there. The hold grows where they end after it; it is
-/// never emptied first, since that would fill it with zeros.
-pub(crate) fn place(hold: &mut Hold, at: usize, bytes: &[u8])
+/// never emptied first, since that would fill it with zeros. Each byte counts twice: once for its copy, and once for being cut
+/// off later.
+pub(crate) fn place(hold: &mut Hold, at: usize, bytes: &[u8], steps: &mut Steps)
     requires within { at ≤ array_vec_len hold.old }
     requires fits { at + length bytes.now ≤ 65520 }
     ensures placed { take (at + length bytes.now) hold.new.items ≡ take at hold.old.items ++ bytes.now }
     ensures long { at + length bytes.now ≤ array_vec_len hold.new }
+    ensures cost { TakesAtMost (2 * (length bytes.now + 1)) steps.old steps.new }
 {
+    steps.tick(2 * (bytes.len() + 1));
     let over = bytes.len().min(hold.len() - at);
     overwrite(hold.as_mut_slice(), at, &bytes[..over]);
     if over < bytes.len() {

@@ -5,7 +5,7 @@ ghost use Rattle.git_pkt.specs.Bands.{IsNoBand, byte_of};
 ghost use Rattle.git_pkt.specs.Packets.{Pkt, Spells, body_of, spelling_of, text_of, longest_payload};
 ghost use Rattle.git_pkt.specs.Splits.{Given, NoneBegins, Splits};
 ghost use Rattle.git_pkt.specs.Faults.{IsOpen, RestFault, ShowsAtEnd};
-ghost use Rattle.git_pkt.specs.PacketReader.{Holds, HoldsAll, Reads, fault_of, is_open, open_length, position_of, rest_of};
+ghost use Rattle.git_pkt.specs.PacketReader.{Holds, HoldsAll, Reads, bytes_held, bytes_held_by_fields, fault_of, is_open, open_length, position_of, rest_of};
 ghost use Rattle.git_pkt.specs.declared.band.Band.{Band};
 ghost use Rattle.git_pkt.specs.declared.fault.Fault.{Fault};
 ghost use Rattle.git_pkt.specs.declared.fault.Kind.{Kind};
@@ -76,6 +76,11 @@ pub fn reader_knows_its_rest()
     ensures inside { (r : PacketReader) (rest : List ℕ) → Holds r rest → is_open r ≡ true → rest ≢ [] }
     ensures long { (r : PacketReader) (rest : List ℕ) → Holds r rest → open_length r ≡ length rest }
     ensures all { (r : PacketReader) → HoldsAll r }
+{}
+
+/// What is counted of a reader is all that its fields have.
+pub fn all_fields_are_counted()
+    ensures { (r : PacketReader) → bytes_held_by_fields r ≡ bytes_held r }
 {}
 
 /// Readers of the same bytes gave the same packets and have the same rest, however the bytes came; those that hold all

@@ -1,8 +1,9 @@
 //! Packets out of pieces of any size.
 
-ghost use Rattle.std.specs.Prelude.{◌≡◌, ◌≢◌, ◌+◌, ◌-◌, ◌≤◌, ◌<◌, ◌∷◌, [], length, take, true, false, Some, None, Err, IfErr, OnOk, IsTrue, ◌↔◌, ℕ, List};
+ghost use Rattle.std.specs.Prelude.{◌≡◌, ◌≢◌, ◌+◌, ◌-◌, ◌*◌, ◌≤◌, ◌<◌, ◌∷◌, [], length, take, true, false, Some, None, Err, IfErr, OnOk, IsTrue, ◌↔◌, ℕ, List};
 ghost use Rattle.std.specs.Borrow.{sem};
 ghost use Rattle.std.specs.Io.BufRead.{Rests};
+ghost use Rattle.git_names.specs.Steps.{TakesAtMost};
 ghost use Rattle.git_pkt.specs.Packets.{Spells, seen};
 ghost use Rattle.git_pkt.specs.Splits.{Given};
 ghost use Rattle.git_pkt.specs.declared.fault.Fault.{Fault};
@@ -14,7 +15,7 @@ use crate::digits::{Digits, read_digits};
 use crate::fault::{Fault, Kind};
 use crate::hold::{Hold, place};
 use crate::packet::Packet;
-use git_names::digit_value;
+use git_names::{Steps, digit_value};
 
 /// The last position of a stream.
 const LAST_POSITION: u64 = 9_223_372_036_854_775_807;
@@ -114,9 +115,10 @@ impl PacketReader {
 
     /// Reads on. It returns after one packet, or with the whole piece used, or at the first fault, which is told
     /// with the byte that shows it. Call it again with the bytes that it did not use.
-    pub fn feed<'a>(&'a mut self, piece: &'a [u8]) -> Fed<'a>
+    pub fn feed<'a>(&'a mut self, piece: &'a [u8], steps: &mut Steps) -> Fed<'a>
         ensures* after { sem 𝓛 (Rests the_row self.entry (λ new. Feeds self.old piece.now result new)) }
         ensures used { result.used ≤ length piece.now }
+        ensures cost { TakesAtMost (8 * (result.used + 1)) steps.old steps.new }
     {
         if let Some(fault) = self.fault {
             return Fed {
@@ -124,7 +126,8 @@ impl PacketReader {
                 got: Got::Failed(fault),
             };
         }
-        let step = self.step(piece);
+        let step = self.step(piece, steps);
+        let _ = self.hold.len();
         match step.progress {
             Progress::Open => Fed {
                 used: step.used,
@@ -212,8 +215,9 @@ impl PacketReader {
     }
 
     /// One packet, or all of the piece, or all of it up to the stream's last position.
-    fn step(&mut self, piece: &[u8]) -> Step
+    fn step(&mut self, piece: &[u8], steps: &mut Steps) -> Step
         requires sound { fault_of self.old ≡ None }
+        ensures cost { TakesAtMost (8 * (result.used + 1)) steps.old steps.new }
         ensures used { result.used ≤ length piece.now }
         ensures all { result.progress ≡ Progress.Open → result.used ≡ length piece.now }
         ensures moves { Moves self.old (take result.used piece.now) result.progress self.new }
@@ -222,9 +226,9 @@ impl PacketReader {
     {
         let room = (LAST_POSITION - self.position) as usize;
         if piece.len() <= room {
-            return self.gather(piece);
+            return self.gather(piece, steps);
         }
-        let step = self.gather(&piece[..room]);
+        let step = self.gather(&piece[..room], steps);
         match step.progress {
             Progress::Open => {
                 let progress = self.stop(Kind::StreamTooLong, LAST_POSITION);
@@ -238,9 +242,10 @@ impl PacketReader {
     }
 
     /// One packet, or all of the piece, for which the stream has room.
-    fn gather(&mut self, piece: &[u8]) -> Step
+    fn gather(&mut self, piece: &[u8], steps: &mut Steps) -> Step
         requires sound { fault_of self.old ≡ None }
         requires room { position_of self.old + length piece.now ≤ last_position }
+        ensures cost { TakesAtMost (8 * (result.used + 1)) steps.old steps.new }
         ensures used { result.used ≤ length piece.now }
         ensures all { result.progress ≡ Progress.Open → result.used ≡ length piece.now }
         ensures moves { Moves self.old (take result.used piece.now) result.progress self.new }
@@ -248,17 +253,18 @@ impl PacketReader {
         ensures keeps { result.used ≡ 0 → held_of self.new ≡ held_of self.old }
     {
         if !self.begun && piece.len() >= 4 {
-            return self.begin(piece);
+            return self.begin(piece, steps);
         }
         for (used, byte) in piece.iter().enumerate() {
+            steps.tick(1);
             if self.begun && self.count >= 4 {
-                let step = self.gather_body(&piece[used..]);
+                let step = self.gather_body(&piece[used..], steps);
                 return Step {
                     used: used + step.used,
                     progress: step.progress,
                 };
             }
-            match self.gather_digit(*byte) {
+            match self.gather_digit(*byte, steps) {
                 Progress::Open => {}
                 progress => {
                     return Step {
@@ -286,10 +292,11 @@ impl PacketReader {
     }
 
     /// One byte of the four digits.
-    fn gather_digit(&mut self, byte: u8) -> Progress
+    fn gather_digit(&mut self, byte: u8, steps: &mut Steps) -> Progress
         requires sound { fault_of self.old ≡ None }
         requires digits { length (rest_of self.old) < 4 }
         requires room { position_of self.old < last_position }
+        ensures cost { TakesAtMost 5 steps.old steps.new }
         ensures moves { Moves self.old (byte ∷ []) result self.new }
         ensures kind { IsOfPacket result }
     {
@@ -297,7 +304,7 @@ impl PacketReader {
             self.count = 0;
         }
         self.begun = false;
-        place(&mut self.hold, self.count, &[byte]);
+        place(&mut self.hold, self.count, &[byte], steps);
         self.count += 1;
         self.position += 1;
         if digit_value(byte) > 15 {
@@ -315,6 +322,7 @@ impl PacketReader {
         }
         self.field = field;
         if field <= 4 {
+            steps.tick(1);
             self.hold.truncate(self.count);
             return Progress::Whole;
         }
@@ -323,10 +331,11 @@ impl PacketReader {
     }
 
     /// Bytes after the four digits, as many as the packet lacks or the piece has.
-    fn gather_body(&mut self, piece: &[u8]) -> Step
+    fn gather_body(&mut self, piece: &[u8], steps: &mut Steps) -> Step
         requires begun { is_open self.old ≡ true }
         requires digits { 4 ≤ length (rest_of self.old) }
         requires room { position_of self.old + length piece.now ≤ last_position }
+        ensures cost { TakesAtMost (2 * result.used + 3) steps.old steps.new }
         ensures used { result.used ≤ length piece.now }
         ensures all { result.progress ≡ Progress.Open → result.used ≡ length piece.now }
         ensures moves { Moves self.old (take result.used piece.now) result.progress self.new }
@@ -334,7 +343,7 @@ impl PacketReader {
         ensures some { 0 < length piece.now → 0 < result.used }
     {
         let used = (self.field - self.count).min(piece.len());
-        place(&mut self.hold, self.count, &piece[..used]);
+        place(&mut self.hold, self.count, &piece[..used], steps);
         self.count += used;
         self.position += used as u64;
         if self.count < self.field {
@@ -344,6 +353,7 @@ impl PacketReader {
             };
         }
         self.begun = false;
+        steps.tick(1);
         self.hold.truncate(self.count);
         Step {
             used,
@@ -352,11 +362,12 @@ impl PacketReader {
     }
 
     /// A packet that begins with the piece, which has its four digits.
-    fn begin(&mut self, piece: &[u8]) -> Step
+    fn begin(&mut self, piece: &[u8], steps: &mut Steps) -> Step
         requires sound { fault_of self.old ≡ None }
         requires between { is_open self.old ≡ false }
         requires digits { 4 ≤ length piece.now }
         requires room { position_of self.old + length piece.now ≤ last_position }
+        ensures cost { TakesAtMost (2 * result.used + 3) steps.old steps.new }
         ensures used { result.used ≤ length piece.now }
         ensures all { result.progress ≡ Progress.Open → result.used ≡ length piece.now }
         ensures moves { Moves self.old (take result.used piece.now) result.progress self.new }
@@ -381,7 +392,7 @@ impl PacketReader {
             return Step { used: 4, progress };
         }
         let used = field.max(4).min(piece.len());
-        place(&mut self.hold, 0, &piece[..used]);
+        place(&mut self.hold, 0, &piece[..used], steps);
         self.count = used;
         self.position += used as u64;
         self.field = field;
@@ -392,6 +403,7 @@ impl PacketReader {
                 progress: Progress::Open,
             };
         }
+        steps.tick(1);
         self.hold.truncate(used);
         Step {
             used,

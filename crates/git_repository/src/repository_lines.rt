@@ -6,7 +6,7 @@ ghost use Rattle.git_names.specs.ObjectName.{ObjectName};
 ghost use Rattle.git_repository.specs.RepositoryLines.{IsCount, IsSizedObject, Says, SaysNothing, format_line, shown};
 
 use git_msg::{Boundary, Reference, after, read_number, read_reference};
-use git_names::{Format, Oid};
+use git_names::{Format, Oid, Steps};
 
 /// The most common objects that a repository may want before it is ready.
 const MOST_COMMON: u64 = 2_147_483_647;
@@ -36,7 +36,7 @@ pub(crate) fn read_item(format: Format, line: &[u8]) -> Option<Item<'_>>
     ensures { MatchOption result (SaysNothing format line.now) (λ item. Says format line.now (shown item)) }
 {
     if let Some(text) = after(line, b"ref ") {
-        return match read_reference(format, text) {
+        return match read_reference(format, text, &mut Steps::new()) {
             Ok(reference) => Some(Item::Reference(reference)),
             Err(_) => None,
         };
@@ -50,11 +50,11 @@ pub(crate) fn read_item(format: Format, line: &[u8]) -> Option<Item<'_>>
         return Some(Item::ReadyAfter(count));
     }
     if let Some(text) = after(line, b"shallow ") {
-        let id = Oid::read(format, text).ok()?;
+        let id = Oid::read(format, text, &mut Steps::new()).ok()?;
         return Some(Item::BoundaryLine(Boundary::Shallow(id)));
     }
     if let Some(text) = after(line, b"unshallow ") {
-        let id = Oid::read(format, text).ok()?;
+        let id = Oid::read(format, text, &mut Steps::new()).ok()?;
         return Some(Item::BoundaryLine(Boundary::Unshallow(id)));
     }
     None
@@ -69,7 +69,7 @@ fn read_object(format: Format, text: &[u8]) -> Option<(Oid, u64)>
         return None;
     }
     let (name, rest) = text.split_at(format.digits());
-    let id = Oid::read(format, name).ok()?;
+    let id = Oid::read(format, name, &mut Steps::new()).ok()?;
     let size = read_number(after(rest, b" ")?)?;
     Some((id, size))
 }

@@ -1,5 +1,5 @@
 -- A server whose answer breaks off, since the source of the pack failed.
-use Rattle.std.proofs.Common.{arith, ◌≡◌, ℕ, Bool, false, List, [], ◌∷◌, ◌++◌, Option, None}
+use Rattle.std.proofs.Common.{arith, ◌≡◌, ℕ, Bool, false, List, [], ◌∷◌, ◌++◌, Option, None, ◌*◌, ap}
 use Rattle.std.proofs.Common.{refl, sym, ap, ◌∙◌, append_assoc, append-nil, subst, inr}
 use Rattle.git_pkt.specs.Packets.{Pkt}
 use Rattle.git_pkt.specs.Splits.{Given}
@@ -10,12 +10,13 @@ use Rattle.git_msg.specs.Asked.{Asked}
 use Rattle.git_msg.specs.RequestReader.{offer_of, limit_in, kept_so_far}
 use Rattle.git_msg.specs.WholeRequests.{AreRequests}
 use Rattle.git_msg.proofs.WholeRequests.{last_packet, last_request}
+use Rattle.git_pkt.proofs.OpenLengths.{shut_counts_none}
 use Rattle.git_server.specs.Repository.{Repository, RepoState}
 use Rattle.git_server.specs.Packs.{broken}
 use Rattle.git_server.specs.Answers.{AllFit, IsAnswerAs, spelled}
 use Rattle.git_server.specs.Sessions.{Setting, IsAnswering, IsEnding, IsLastAt, IsRequest, advertised}
 use Rattle.git_server.specs.AnsweredRequest.{IsAnswerFrom, ReadsPack}
-use Rattle.git_server.specs.Phases.{FlushIsAt, LeftIn, MayBreak, Owes, kept_in, lost_pack, most_owed, outcome_in, owes_in}
+use Rattle.git_server.specs.Phases.{FlushIsAt, LeftIn, MayBreak, Owes, kept_in, lost_pack, most_owed, outcome_in, owes_in, stored_in}
 use Rattle.git_server.specs.WrittenPackets.{Writes}
 use Rattle.git_server.specs.Server.{IsPackLost, Serves, StandsBy, outcome_of}
 use Rattle.git_server.specs.ServerCalls.{Gives, OwesNow}
@@ -116,6 +117,7 @@ module _ {R A : Type 0} (state : R → RepoState) (old new : Server R A) (packet
           some_left (state old.repo).answers answer,
         );
         held = writes.held;
+        credit = ap (λ (n : ℕ). 56 * n) (shut_counts_none new.reader writes.between);
         outcome = lost_by_pull (outcome_of old) (outcome_of new) went_on lost;
         goes = λ s so_far over before r.
             let (not_over, h) = goes_on state old s so_far over before went_on r in
@@ -127,6 +129,8 @@ module _ {R A : Type 0} (state : R → RepoState) (old new : Server R A) (packet
               repo = reads.answers ∙ r.repo;
               failures = record { risen = λ l. omega (arith, unfailed, reads.failures); same = λ not_lost. absurd (not_lost lost) };
               within = omega (arith, r.within, ap kept_so_far requests, ap kept_in is);
+              covered = omega (arith, ap stored_in is);
+              fits = writes.holds;
               stands = subst (λ (o : Option Outcome). StandsBy o s (so_far ++ []) over (before ++ held_of new.reader) new) (sym (ap outcome_in is))
                   (λ owed owes. subst (λ (l : List ℕ). IsEnding s l over (before ++ held_of new.reader) (lost_pack offset) owed) (sym (append-nil so_far))
                   (ends_broken s so_far over before r.repo not_over h owed

@@ -1,13 +1,14 @@
 -- A server that gives a packet.
-use Rattle.std.proofs.Common.{arith, ◌≡◌, ◌≤◌, ◌<◌, ℕ, Bool, List, [], ◌∷◌, ◌++◌, Option, Some, None, sym, ap, ◌∙◌, append_assoc, append-nil, subst, inl}
+use Rattle.std.proofs.Common.{arith, ◌≡◌, ◌≤◌, ◌<◌, ℕ, Bool, List, [], ◌∷◌, ◌++◌, Option, Some, None, sym, ap, ◌∙◌, append_assoc, append-nil, subst, inl, ◌*◌}
 use Rattle.git_pkt.specs.Packets.{Pkt}
 use Rattle.git_pkt.specs.Splits.{Given}
 use Rattle.git_pkt.specs.PacketReader.{held_of}
+use Rattle.git_pkt.proofs.OpenLengths.{shut_counts_none}
 use Rattle.git_server.specs.Repository.{Repository, RepoState}
 use Rattle.git_server.specs.Answers.{AllFit, spelled}
 use Rattle.git_server.specs.Sessions.{Setting, IsTail, advertised}
 use Rattle.git_server.specs.Packs.{broken}
-use Rattle.git_server.specs.Phases.{FlushIsAt, LeftIn, MayBreak, kept_in, most_owed, Owes}
+use Rattle.git_server.specs.Phases.{FlushIsAt, LeftIn, MayBreak, kept_in, most_owed, Owes, stored_in}
 use Rattle.git_server.specs.WrittenPackets.{Writes}
 use Rattle.git_server.specs.Server.{StandsBy, outcome_of}
 use Rattle.git_server.specs.ServerCalls.{ComesBefore, Gives, Keeps, most_left}
@@ -24,7 +25,8 @@ module _ {R A : Type 0} (state : R → RepoState) (old new : Server R A) (packet
     (less : most_owed new.offer (state old.repo).answers new.phase < most_owed old.offer (state old.repo).answers old.phase)
     (same : outcome_of new ≡ outcome_of old)
     (left_stays : (left : List Given) → LeftIn old.phase left → LeftIn new.phase left)
-    (flush_stays : (packets : List Given) → FlushIsAt old.phase packets → FlushIsAt new.phase packets) (no_more : kept_in new.phase ≤ kept_in old.phase) where
+    (flush_stays : (packets : List Given) → FlushIsAt old.phase packets → FlushIsAt new.phase packets) (no_more : kept_in new.phase ≤ kept_in old.phase)
+    (covered : stored_in old.phase ≤ kept_in old.phase → stored_in new.phase ≤ kept_in new.phase) where
   -- what is owed, as the session's repository has it
   owed_here : (s : Setting) (later : List Pkt) → (state old.repo).answers ≡ s.repo → Owes new.offer s.repo new.phase later
       → Owes old.offer s.repo old.phase (packet ∷ later)
@@ -97,6 +99,7 @@ module _ {R A : Type 0} (state : R → RepoState) (old new : Server R A) (packet
         owed = inl comes_before;
         less = fewer;
         held = writes.held;
+        credit = ap (λ (n : ℕ). 56 * n) (shut_counts_none new.reader writes.between);
         outcome = stays_as (outcome_of old) (outcome_of new) same;
         goes = λ s so_far over before r.
             let stands = gives_in (outcome_of old) s so_far over before r.repo r.stands in
@@ -107,6 +110,8 @@ module _ {R A : Type 0} (state : R → RepoState) (old new : Server R A) (packet
               repo = ap (λ (x : RepoState). x.answers) keeps.repo ∙ r.repo;
               failures = failures_as (outcome_of old) (outcome_of new) s.failures _ _ same (ap (λ (x : RepoState). x.failures) keeps.repo) r.failures;
               within = omega (arith, r.within, ap kept_so_far keeps.requests, no_more);
+              covered = covered r.covered;
+              fits = writes.holds;
               stands = subst (λ (o : Option Outcome). StandsBy o s (so_far ++ []) over (before ++ held_of new.reader) new) (sym same)
                   (subst (λ (l : List ℕ). StandsBy (outcome_of old) s l over (before ++ held_of new.reader) new) (sym (append-nil so_far)) stands);
             };

@@ -6,7 +6,7 @@ pub mod FirstOfKey
 pub mod FoundReference
 pub mod FoundObject
 pub mod BoundaryLines
-pub mod Prefixes
+pub mod Skipped
 pub mod TakenArguments
 pub mod Readers
 pub mod Openings

@@ -4,7 +4,7 @@ use Rattle.git_pkt.specs.Packets.{Pkt}
 use Rattle.git_msg.specs.declared.offers.Offer.{Offer}
 use Rattle.git_server.specs.Repository.{RepoState}
 use Rattle.git_server.specs.Sessions.{Setting, advertised}
-use Rattle.git_server.specs.Phases.{FlushIsAt, LeftIn, kept_in, outcome_in, MayBreak, Owes}
+use Rattle.git_server.specs.Phases.{FlushIsAt, LeftIn, kept_in, outcome_in, MayBreak, Owes, stored_in}
 use Rattle.git_server.specs.Server.{IsFresh, IsPackLost, Running, StandsBy}
 use Rattle.git_server.specs.declared.outcome.Outcome.{Outcome}
 use Rattle.git_server.specs.declared.server.Server.{Server}
@@ -16,10 +16,10 @@ use Rattle.git_server.proofs.Readers.{fresh_has_no_fault}
 module _ {R A : Type 0} (state : R → RepoState) (s : Setting) (repo : R) (phase : Phase A) (server : Server R A) where
   -- nothing was used and nothing given, and the advertisement is owed, if there is one
   pub opens : IsFresh repo s.offer s.limit phase server
-      → (state repo).answers ≡ s.repo → outcome_in phase ≡ None → LeftIn phase [] → FlushIsAt phase [] → kept_in phase ≡ 0
+      → (state repo).answers ≡ s.repo → outcome_in phase ≡ None → LeftIn phase [] → FlushIsAt phase [] → kept_in phase ≡ 0 → stored_in phase ≡ 0
       → ((owed : List Pkt) → Owes s.offer s.repo phase owed → owed ≡ advertised s)
       → ((owed : List Pkt) → MayBreak s.repo phase owed → ⊥) → (state repo).failures ≡ s.failures → Running state s [] false [] server
-  opens fresh same none left flush kept owed whole failures =
+  opens fresh same none left flush kept stored owed whole failures =
       let owed_now : (l : List Pkt) → Owes server.offer s.repo server.phase l → l ≡ advertised s =
       λ l owes. owed l (subst (λ (p : Phase A). Owes s.offer s.repo p l) fresh.phase_is
       (subst (λ (o : Offer). Owes o s.repo server.phase l) fresh.offer_is owes)) in
@@ -33,6 +33,8 @@ module _ {R A : Type 0} (state : R → RepoState) (s : Setting) (repo : R) (phas
           same = λ not_lost. ap (λ (r : R). (state r).failures) fresh.repo_is ∙ failures;
         };
         within = omega (arith, fresh.kept, kept, ap kept_in fresh.phase_is);
+        covered = omega (arith, stored, ap stored_in fresh.phase_is);
+        fits = fresh.reads.fits;
         stands = subst (λ (o : Option Outcome). StandsBy o s [] false [] server) (sym (ap outcome_in fresh.phase_is ∙ none)) (
           refl,
           record {

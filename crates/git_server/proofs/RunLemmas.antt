@@ -148,6 +148,17 @@ part_flushed broken state old new bytes before held after part kept = record {
   };
 }
 
+pub end_flushed : {R A : Type 0} (state : R → RepoState) (old new : Server R A) (bytes : List ℕ) (before held after : Option (List ℕ)) (outcome : Outcome)
+    → WritesItsEnd state old new bytes (flow before held) outcome → Keeps held after → WritesItsEnd state old new bytes (flow before after) outcome
+unfolding part_flushed
+end_flushed state old new bytes before held after outcome end kept = record {
+  part = part_flushed false state old new bytes before held after end.part kept;
+  ends = end.ends;
+  owes = end.owes;
+  session = end.session;
+  in_time = end.in_time;
+}
+
 -- a writer that nobody called holds what it held
 keeps_same : (o : Option (List ℕ)) → Keeps o o
 keeps_same None = tt

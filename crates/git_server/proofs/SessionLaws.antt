@@ -104,4 +104,5 @@ ends_now {A = A} state server outcome turn =
       tells = (ap outcome_in is, nothing, refl, λ s used over given r. its_end state server s used over given r outcome (ap outcome_in is) nothing);
       outcome = stays_as (outcome_of server) (outcome_of server) refl;
       fits = omega arith;
+      credit = omega arith;
     }

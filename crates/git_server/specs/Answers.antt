@@ -1,6 +1,6 @@
 -- What a server gives: its advertisement, the answer to each request, and what it writes of a fault.
-use Rattle.std.specs.Prelude.{◌≡◌, ◌≤◌, length, ℕ, Bool, ◌||◌, if◌then◌else◌, None, List, [], ◌∷◌, ◌++◌, true, false, codes, filter, map, nat_eq}
-use Rattle.std.specs.List.{list_any, flat_map, starts_with}
+use Rattle.std.specs.Prelude.{◌≡◌, ◌≤◌, length, ℕ, Bool, if◌then◌else◌, None, List, [], ◌∷◌, ◌++◌, true, false, codes, filter, map}
+use Rattle.std.specs.List.{flat_map}
 use Rattle.git_pkt.specs.Packets.{Pkt, flush, spelling_of, body_of, longest_payload}
 use Rattle.git_pkt.specs.FaultNames.{fault_text}
 use Rattle.git_pkt.specs.declared.fault.Fault.{Fault}
@@ -12,6 +12,7 @@ use Rattle.git_msg.specs.Asked.{Asked, LsRefsAsked, ObjectInfoAsked, ls_refs, fe
 use Rattle.git_msg.specs.WrittenRequest.{text_line, agent_line, format_line}
 use Rattle.git_msg.specs.References.{Ref, reference_text}
 use Rattle.git_msg.specs.ResponseLines.{info_text}
+pub use Rattle.git_msg.specs.Prefixes.{is_empty, is_shown}
 use Rattle.git_server.specs.Repository.{Entry, Repository}
 use Rattle.git_server.specs.Packs.{Manner, whole, broken}
 use Rattle.git_server.specs.FetchAnswers.{IsFetchAnswer}
@@ -46,14 +47,6 @@ advertisement_of offer =
     text_line (codes "version 2") ∷ agent_line ∷ text_line (codes "ls-refs") ∷ fetch_line offer
     ∷ (offered_line offer.server_option (codes "server-option")
     ++ format_line offer.format ∷ (offered_line offer.object_info (codes "object-info") ++ flush ∷ []))
-
-abbrev pub is_empty : List (List ℕ) → Bool
-is_empty [] = true
-is_empty (p ∷ ps) = false
-
--- the name begins with one of the prefixes, or there are none
-abbrev pub is_shown : List (List ℕ) → List ℕ → Bool
-is_shown prefixes name = is_empty prefixes || list_any (starts_with nat_eq name) prefixes
 
 -- the references that are shown for these prefixes
 abbrev pub shown_refs : List (List ℕ) → List Entry → List Entry

@@ -2,7 +2,7 @@
 use Rattle.std.specs.Prelude.{◌≡◌, ◌≤◌, Bool, true, false, None, List, [], ◌∷◌, ◌++◌}
 use Rattle.git_pkt.specs.Splits.{Given}
 use Rattle.git_msg.specs.declared.reader.RequestReader.{RequestReader}
-use Rattle.git_msg.specs.HeldRequest.{asked_of, kept_of}
+use Rattle.git_msg.specs.HeldRequest.{asked_of, kept_of, stored_of}
 use Rattle.git_msg.specs.Requests.{Asks, IsStop}
 use Rattle.git_msg.specs.RequestReader.{Takes, offer_of, limit_in, kept_so_far, fault_of, is_waiting}
 use Rattle.git_server.specs.Admission.{IsToldFor, IsUnbarred}
@@ -30,6 +30,11 @@ module _ {A : Type 0} where
   abbrev pub IsWithin : Brought A → RequestReader A → Type 0
   IsWithin (Whole request) new = (kept_of request ≤ limit_in new) × (kept_so_far new ≡ 0)
   IsWithin _ new = kept_so_far new ≤ limit_in new
+
+  -- no more is stored of a whole request than is kept of it
+  abbrev pub IsCovered : Brought A → Type 0
+  IsCovered (Whole request) = stored_of request ≤ kept_of request
+  IsCovered _ = Unit {0}
 
   -- what a packet does
   pub record Brings (repo : Repository) (old : RequestReader A) (g : Given) (brought : Brought A) (new : RequestReader A) : Type 0 where

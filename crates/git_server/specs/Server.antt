@@ -2,15 +2,16 @@
 use Rattle.std.specs.Prelude.{◌≡◌, ◌<◌, ◌≤◌, ◌+◌, ℕ, Bool, false, Option, Some, None, List, []}
 use Rattle.git_pkt.specs.Packets.{Pkt}
 use Rattle.git_pkt.specs.Splits.{Given}
-use Rattle.git_pkt.specs.PacketReader.{Reads, fault_of}
+use Rattle.git_pkt.specs.PacketReader.{Reads, bytes_held as held_in_packet, fault_of}
+use Rattle.git_pkt.specs.declared.reader.PacketReader.{PacketReader}
 use Rattle.git_msg.specs.Asked.{Asked}
-use Rattle.git_msg.specs.RequestReader.{Takes, offer_of, limit_in, kept_so_far}
+use Rattle.git_msg.specs.RequestReader.{Takes, offer_of, limit_in, kept_so_far, stored_so_far}
 use Rattle.git_msg.specs.WholeRequests.{AreRequests}
 use Rattle.git_server.specs.Repository.{RepoState}
 use Rattle.git_server.specs.Answers.{AllFit, spelled}
 use Rattle.git_server.specs.Packs.{broken}
 use Rattle.git_server.specs.Sessions.{Setting, Begins, IsRequest, IsSent, IsAnswering, IsEnding}
-use Rattle.git_server.specs.Phases.{FlushIsAt, LeftIn, kept_in, outcome_in, MayBreak, Owes, reads_in}
+use Rattle.git_server.specs.Phases.{FlushIsAt, LeftIn, kept_in, outcome_in, MayBreak, Owes, reads_in, stored_in}
 use Rattle.git_server.specs.declared.outcome.Outcome.{Outcome}
 use Rattle.git_server.specs.declared.outcome.Outcome.TheVariants.{Refused}
 use Rattle.git_pkt.specs.declared.fault.Fault.{Fault}
@@ -29,6 +30,10 @@ pub record HasFailed (o : Option Outcome) (before now : ℕ) : Type 0 where
   pub same : ¬ IsPackLost o → now ≡ before
 
 module _ {R A : Type 0} where
+  -- what reads its packets
+  abbrev pub reader_of : Server R A → PacketReader
+  reader_of server = server.reader
+
   -- the repository that the server answers from
   abbrev pub repo_of : Server R A → R
   repo_of server = server.repo
@@ -44,6 +49,22 @@ module _ {R A : Type 0} where
   -- how many bytes of argument lines are kept: of the request that is read, and of the one that is answered
   abbrev pub kept_by : Server R A → ℕ
   kept_by server = kept_so_far server.requests + kept_in server.phase
+
+  -- how many bytes the server has: those of the hold of its packet reader, and those stored of the request that it reads and of the one that
+  -- it answers. Each field is named, so that none can be added without being counted.
+  abbrev pub bytes_held : Server R A → ℕ
+  bytes_held server =
+      let record {
+        reader = reader;
+        requests = requests;
+        offer = offer;
+        repo = repo;
+        phase = phase;
+        sound = sound;
+        ready = ready;
+        between = between;
+      } = server in
+      held_in_packet reader + (stored_so_far requests + stored_in phase)
 
   -- the session goes on: the bytes were read, and what is owed was asked for or is the advertisement
   pub record Serves (s : Setting) (used given : List ℕ) (server : Server R A) : Type 0 where
@@ -77,6 +98,8 @@ module _ {R A : Type 0} where
     pub repo : (state server.repo).answers ≡ s.repo
     pub failures : HasFailed (outcome_of server) s.failures (state server.repo).failures
     pub within : kept_by server ≤ s.limit
+    pub covered : stored_in server.phase ≤ kept_in server.phase
+    pub fits : held_in_packet server.reader ≤ 65520
     pub stands : StandsBy (outcome_of server) s used over given server
 
   -- nothing was used or given yet

@@ -1,5 +1,6 @@
 -- What each call does to all that a server used and gave.
 use Rattle.std.specs.Prelude.{◌≡◌, ◌⊎◌, ℕ, ◌<◌, ◌≤◌, Bool, true, List, [], ◌∷◌, ◌++◌, length, Option, Some, None}
+use Rattle.git_pkt.specs.Credit.{credit_of}
 use Rattle.git_pkt.specs.Packets.{Pkt, spelling_of}
 use Rattle.git_pkt.specs.Splits.{Given}
 use Rattle.git_pkt.specs.PacketReader.{ReadsOn, held_of}
@@ -92,6 +93,7 @@ module _ {R A : Type 0} where
     pub tells : TellsPulled state old pulled new
     pub outcome : IsAfterPull (outcome_of old) (outcome_of new)
     pub fits : length (given_by pulled) ≤ 65520
+    pub credit : credit_of new.reader ≤ credit_of old.reader
 
   -- the reader used these bytes, which gave these packets; the offer and the repository are as they were
   pub record ReadsFor (state : R → RepoState) (old : Server R A) (used : List ℕ) (packets : List Given) (new : Server R A) : Type 0 where
@@ -111,5 +113,6 @@ module _ {R A : Type 0} where
     pub owed : ComesFirst state packet old new
     pub less : most_left state new < most_left state old
     pub held : held_of new.reader ≡ spelling_of packet
+    pub credit : credit_of new.reader ≡ 0
     pub goes : Goes state [] (held_of new.reader) old new
     pub outcome : IsAfterPull (outcome_of old) (outcome_of new)

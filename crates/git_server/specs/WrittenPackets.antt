@@ -2,7 +2,7 @@
 use Rattle.std.specs.Prelude.{◌≡◌, ◌≤◌, ℕ, false, List, ◌∷◌, length}
 use Rattle.git_pkt.specs.Packets.{Pkt, spelling_of, body_of, longest_payload}
 use Rattle.git_pkt.specs.Splits.{Given}
-use Rattle.git_pkt.specs.PacketReader.{Reads, held_of, fault_of, is_open, position_of}
+use Rattle.git_pkt.specs.PacketReader.{Reads, bytes_held, held_of, fault_of, is_open, position_of}
 use Rattle.git_pkt.specs.declared.reader.PacketReader.{PacketReader}
 
 -- the packet's spelling is in the hold, and the reader reads on as before
@@ -12,6 +12,7 @@ pub record Writes (old : PacketReader) (packet : Pkt) (new : PacketReader) : Typ
   pub between : is_open new ≡ false
   pub fault : fault_of new ≡ fault_of old
   pub position : position_of new ≡ position_of old
+  pub holds : bytes_held new ≤ 65520
   pub reads : (start : ℕ) (bytes : List ℕ) (given : List Given) (rest : List ℕ) → Reads old start bytes given rest → Reads new start bytes given rest
 
 -- the first of the packets that are owed was written, and these others are owed then

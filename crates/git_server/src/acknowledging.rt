@@ -88,6 +88,7 @@ fn write_common(reader: &mut PacketReader, id: &Oid)
     ensures { Writes reader.old (ack_packet id.now) reader.new }
 {
     put_ack(reader.lend(), id);
+    let _ = reader.hold();
 }
 
 // Where the first of these objects at `from` or after it stands that the repository has.

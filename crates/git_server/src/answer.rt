@@ -5,7 +5,7 @@ ghost use Rattle.std.specs.Option.{option_copied};
 ghost use Rattle.git_names.specs.RefName.{IsRefName};
 ghost use Rattle.git_pkt.specs.PacketReader.{is_open};
 ghost use Rattle.git_msg.specs.References.{IsWritable, shown_reference};
-ghost use Rattle.git_server.specs.AnsweredRequest.{AnswersOne, WritesAnswer, answer_to, kept_with};
+ghost use Rattle.git_server.specs.AnsweredRequest.{AnswersOne, IsAnswerTo, WritesAnswer, kept_with, stored_with};
 ghost use Rattle.git_server.specs.Answers.{reference_packet, shown_line};
 ghost use Rattle.git_server.specs.WrittenPackets.{Writes};
 ghost use Rattle.git_server.specs.Repository.{HasOneFormat};
@@ -16,7 +16,7 @@ use crate::informing::{SizesPlace, write_sizes};
 use crate::packets::write_packet;
 use crate::repo::Repo;
 use crate::shown::next_shown;
-use git_msg::{Fetch, LsRefs, ObjectInfo, Reference, Request, put_reference};
+use git_msg::{Fetch, Listing, ObjectInfo, Reference, Request, put_reference};
 use git_names::Oid;
 use git_pkt::{Packet, PacketReader};
 use std::alloc::Allocator;
@@ -25,7 +25,7 @@ use std::alloc::Allocator;
 #[derive(Drop)]
 pub(crate) enum Answer<A: Allocator + Copy> {
     /// Of a request for references: from the reference at this place on.
-    References(LsRefs<A>, usize),
+    References(Listing<A>, usize),
     /// Of a request for objects: from this place on.
     Fetching(Fetch<A>, FetchPlace),
     /// Of a request for the sizes of objects: from this place on.
@@ -46,10 +46,10 @@ pub(crate) enum Answered {
 impl<A: Allocator + Copy> Answer<A> {
     /// The answer to a request, of which nothing was given.
     pub(crate) fn new(request: Request<A>) -> Answer<A>
-        ensures { result ≡ answer_to request }
+        ensures { IsAnswerTo request result }
     {
         match request {
-            Request::LsRefs(request) => Answer::References(request, 0),
+            Request::LsRefs(request) => Answer::References(Listing::new(request), 0),
             Request::Fetch(request) => {
                 let place = FetchPlace::first(&request);
                 Answer::Fetching(request, place)
@@ -63,6 +63,7 @@ impl<A: Allocator + Copy> Answer<A> {
         requires { is_open reader.old ≡ false }
         ensures writes { WritesAnswer (R.state repo.old) self.old reader.old result (R.state repo.new) self.new reader.new }
         ensures kept { kept_with self.new ≡ kept_with self.old }
+        ensures stored { stored_with self.new ≡ stored_with self.old }
     {
         match self {
             Answer::References(request, next) => match answer_one(repo, request, *next, reader) {
@@ -88,7 +89,7 @@ impl<A: Allocator + Copy> Answer<A> {
 /// packet after it begins. There is none after the flush that ends the answer.
 pub(crate) fn answer_one<R: Repo, A: Allocator + Copy>(
     repo: &R,
-    request: &LsRefs<A>,
+    request: &Listing<A>,
     next: usize,
     reader: &mut PacketReader,
 ) -> Option<usize>
@@ -112,17 +113,18 @@ pub(crate) fn answer_one<R: Repo, A: Allocator + Copy>(
 fn write_entry<A: Allocator + Copy>(
     reader: &mut PacketReader,
     entry: &RefEntry,
-    request: &LsRefs<A>,
+    request: &Listing<A>,
 )
     requires between { is_open reader.old ≡ false }
     requires format { HasOneFormat entry.now }
     ensures { Writes reader.old (reference_packet request.now.asked.symrefs request.now.asked.peel entry.now) reader.new }
 {
     put_reference(reader.lend(), shown(entry, request));
+    let _ = reader.hold();
 }
 
 // What the request asks for of a reference.
-fn shown<'a, A: Allocator + Copy>(entry: &'a RefEntry, request: &LsRefs<A>) -> Reference<'a>
+fn shown<'a, A: Allocator + Copy>(entry: &'a RefEntry, request: &Listing<A>) -> Reference<'a>
     requires { HasOneFormat entry.now }
     ensures shown { shown_reference result ≡ shown_line request.now.asked.symrefs request.now.asked.peel entry.now }
     ensures writable { IsWritable (shown_reference result) }

@@ -50,4 +50,5 @@ fn write_boundary(reader: &mut PacketReader, boundary: &Boundary)
     ensures { Writes reader.old (boundary_packet boundary.now) reader.new }
 {
     put_boundary(reader.lend(), boundary);
+    let _ = reader.hold();
 }

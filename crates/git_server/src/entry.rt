@@ -5,7 +5,7 @@ ghost use Rattle.std.specs.Option.{option_copied, ForSome};
 ghost use Rattle.git_names.specs.RefName.{IsRefName};
 ghost use Rattle.git_server.specs.Repository.{Entry, IsNamed, IsOfFormat, bytes_of};
 
-use git_names::{Format, NameFault, Oid, RefName};
+use git_names::{Format, NameFault, Oid, RefName, Steps};
 use smallvec::SmallVec;
 use std::alloc::{AllocError, Global};
 use std::marker::Model;
@@ -48,9 +48,9 @@ impl RefEntry {
             (λ e. (e ≡ record { name = name.items; id = id; target = bytes_of target; peeled = peeled }) × IsNamed name.items (bytes_of target))
             (λ fault. (fault ≡ NameFault.BadRefName) × ¬ IsNamed name.items (bytes_of target)) }
     {
-        RefName::read(&name)?;
+        RefName::read(&name, &mut Steps::new())?;
         if let Some(target) = &target {
-            RefName::read(target)?;
+            RefName::read(target, &mut Steps::new())?;
         }
         Ok(RefEntry {
             name: SmallVec::from_vec(name),

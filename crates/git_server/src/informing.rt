@@ -62,4 +62,5 @@ fn write_size<R: Repo>(repo: &R, id: &Oid, reader: &mut PacketReader)
         size: repo.object_size(id),
     };
     put_info(reader.lend(), &info);
+    let _ = reader.hold();
 }

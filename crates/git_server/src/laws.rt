@@ -1,9 +1,10 @@
 //! What a server's contract says of the bytes alone: each function does nothing, and its contract is the law.
 
-ghost use Rattle.std.specs.Prelude.{◌≡◌, ◌<◌, ◌≤◌, ◌↔◌, ℕ, Bool, true, None, List};
+ghost use Rattle.std.specs.Prelude.{◌≡◌, ◌+◌, ◌*◌, ◌<◌, ◌≤◌, ◌↔◌, ℕ, Bool, true, None, List};
+ghost use Rattle.git_pkt.specs.Credit.{Call, ArePaid, bytes_of, feeds_of};
 ghost use Rattle.git_server.specs.Sessions.{IsAnswered, IsOfTheBytes, IsRunning, IsSession, Setting};
 ghost use Rattle.git_server.specs.declared.outcome.Outcome.{Outcome};
-ghost use Rattle.git_server.specs.Server.{IsPackLost, Running, kept_by, outcome_of, repo_of, wants_input};
+ghost use Rattle.git_server.specs.Server.{IsPackLost, Running, bytes_held, kept_by, outcome_of, repo_of, wants_input};
 
 use crate::repo::Repo;
 use crate::server::Server;
@@ -16,6 +17,12 @@ pub fn server_keeps_to_its_session<R: Repo, A: Allocator + Copy>(server: &Server
         Running R.state s used over given server.now → kept_by server.now ≤ s.limit }
     ensures session { (s : Setting) (used : List ℕ) (over : Bool) (given : List ℕ) →
         Running R.state s used over given server.now → IsRunning s used over given }
+{}
+
+/// A server has at no time more bytes than the longest packet and its limit together.
+pub fn server_holds_within_its_limit<R: Repo, A: Allocator + Copy>(server: &Server<R, A>)
+    ensures { (s : Setting) (used : List ℕ) (over : Bool) (given : List ℕ) →
+        Running R.state s used over given server.now → bytes_held server.now ≤ 65520 + s.limit }
 {}
 
 /// A server waits for input exactly where no outcome stands, and the advertisement and the answer to each whole request
@@ -37,4 +44,10 @@ pub fn session_has_one_outcome()
     ensures { (s : Setting) (used : List ℕ) (over : Bool) (given others : List ℕ) (outcome other : Outcome)
         → IsSession s used over given outcome → IsSession s used over others other
         → IsOfTheBytes outcome → IsOfTheBytes other → outcome ≡ other }
+{}
+
+/// All calls of a server together take at most 64 steps for each byte that was used and for each call of `feed`.
+pub fn server_steps_are_bounded()
+    ensures { (calls : List Call) (before after left : ℕ) → ArePaid calls before after 0 left
+        → after ≤ before + 64 * (bytes_of calls + feeds_of calls) }
 {}

@@ -18,6 +18,7 @@ pub(crate) fn write_packet(reader: &mut PacketReader, packet: Packet<'_>)
     ensures { Writes reader.old (seen packet.entry) reader.new }
 {
     put(reader.lend(), packet);
+    let _ = reader.hold();
 }
 
 /// Makes the hold the packet of a line, a word and what comes after it, between two packets that are read.
@@ -27,6 +28,7 @@ pub(crate) fn write_line(reader: &mut PacketReader, word: &[u8], value: &[u8])
     ensures { Writes reader.old (text_line (word.now ++ value.now)) reader.new }
 {
     put_line(reader.lend(), word, value);
+    let _ = reader.hold();
 }
 
 /// Appends the packet's spelling, for which there is room.

@@ -71,4 +71,5 @@ fn write_band(reader: &mut PacketReader, band: Band, bytes: &[u8])
     ensures { Writes reader.old (band_packet band bytes.now) reader.new }
 {
     put_band(reader.lend(), band, bytes);
+    let _ = reader.hold();
 }

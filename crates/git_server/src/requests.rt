@@ -1,14 +1,16 @@
 //! Requests, read packet by packet, each argument kept at once.
 
-ghost use Rattle.std.specs.Prelude.{◌≡◌, false, None};
-ghost use Rattle.git_pkt.specs.Packets.{seen};
+ghost use Rattle.std.specs.Prelude.{◌≡◌, false, None, ◌+◌, ◌*◌, length};
+ghost use Rattle.git_names.specs.Steps.{TakesAtMost};
+ghost use Rattle.git_pkt.specs.Packets.{body_of, seen};
 ghost use Rattle.git_msg.specs.Arguments.{shown};
 ghost use Rattle.git_msg.specs.RequestReader.{fault_of, is_waiting};
 ghost use Rattle.git_server.specs.Admission.{barred};
-ghost use Rattle.git_server.specs.Brought.{Brings};
+ghost use Rattle.git_server.specs.Brought.{Brings, IsCovered};
 
 use crate::repo::Repo;
 use git_msg::{Argument, Request, RequestReader, Taken};
+use git_names::Steps;
 use git_pkt::{Fault, Kind, Packet};
 use std::alloc::Allocator;
 
@@ -30,24 +32,32 @@ pub(crate) fn take_packet<R: Repo, A: Allocator + Copy>(
     repo: &R,
     packet: Packet<'_>,
     offset: u64,
+    steps: &mut Steps,
 ) -> Brought<A>
     requires sound { fault_of requests.old ≡ None }
     requires ready { is_waiting requests.old ≡ false }
-    ensures { Brings (R.state repo.now).answers requests.old (record { packet = seen packet.entry; offset = offset }) result requests.new }
+    ensures brings { Brings (R.state repo.now).answers requests.old (record { packet = seen packet.entry; offset = offset }) result requests.new }
+    ensures cost { TakesAtMost (53 * (length (body_of (seen packet.entry)) + 1)) steps.old steps.new }
+    ensures covered { IsCovered result }
 {
-    match requests.take(packet, offset) {
+    match requests.take(packet, offset, steps) {
         Ok(taken) => match taken {
             Taken::More => return Brought::Part,
             Taken::Argument(argument) => {
+                // The repository is asked once.
+                steps.tick(1);
                 if let Some(kind) = refusal_of(repo, &argument) {
                     return Brought::Refused(Fault { kind, offset });
                 }
-                match requests.keep(argument) {
+                match requests.keep(argument, steps) {
                     Ok(()) => return Brought::Part,
                     Err(fault) => return Brought::Refused(fault),
                 }
             }
-            Taken::Request(request) => return Brought::Whole(request),
+            Taken::Request(request) => {
+                let _ = request.kept();
+                return Brought::Whole(request);
+            }
             Taken::Stop => return Brought::Stop,
         },
         Err(fault) => return Brought::Refused(fault),

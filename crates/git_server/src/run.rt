@@ -12,6 +12,7 @@ ghost use Rattle.git_server.specs.Sessions.{Setting};
 use crate::outcome::Outcome;
 use crate::repo::Repo;
 use crate::server::{Pulled, Server};
+use git_names::Steps;
 use git_pkt::{RunFault, Told, flush, receive, send};
 use std::alloc::Allocator;
 use std::io::{Read, Write};
@@ -55,7 +56,7 @@ fn serve_piece<W: Write, R: Repo, A: Allocator + Copy>(
 {
     let mut used = 0;
     while used < bytes.len() {
-        used += server.feed(&bytes[used..]);
+        used += server.feed(&bytes[used..], &mut Steps::new());
         if let Some(outcome) = drain(writer, server)? {
             return Ok(Some(outcome));
         }

@@ -3,7 +3,7 @@
 ghost use Rattle.std.specs.Prelude.{◌≡◌, true, false, None};
 ghost use Rattle.git_pkt.specs.PacketReader.{is_open};
 ghost use Rattle.git_msg.specs.RequestReader.{fault_of, is_waiting};
-ghost use Rattle.git_server.specs.Phases.{advertising_phase, lost_pack, outcome_in, owes_in, phase_after, refusal_in, refused_by, turn_in};
+ghost use Rattle.git_server.specs.Phases.{advertising_phase, lost_pack, IsAfter, outcome_in, owes_in, refusal_in, refused_by, turn_in};
 
 use crate::advertisement::AdvertisementLine;
 use crate::answer::{Answer, Answered};
@@ -12,6 +12,7 @@ use crate::refusal::write_error;
 use crate::repo::Repo;
 use crate::requests::{Brought, take_packet};
 use git_msg::{Limits, Offer, RequestReader};
+use git_names::Steps;
 use git_pkt::{Fault, Got, Kind, PacketReader};
 use std::alloc::Allocator;
 
@@ -64,11 +65,12 @@ enum Turn {
 }
 
 impl<R: Repo, A: Allocator + Copy> Server<R, A> {
-    ghost use Rattle.std.specs.Prelude.{◌≤◌, ◌<◌, ◌⊎◌, ◌↔◌, [], length, take, IsTrue, IsSome};
+    ghost use Rattle.std.specs.Prelude.{◌+◌, ◌*◌, ◌≤◌, ◌<◌, ◌⊎◌, ◌↔◌, [], length, take, IsTrue, IsSome};
     ghost use Rattle.std.specs.Borrow.{sem};
     ghost use Rattle.std.specs.Io.BufRead.{Rests};
     ghost use Rattle.git_server.specs.contracts.server.Server.{the_row};
-    ghost use Rattle.git_server.specs.Server.{IsFresh, Running, repo_of, wants_input, outcome_of};
+    ghost use Rattle.git_pkt.specs.Credit.{Pays, credit_of};
+    ghost use Rattle.git_server.specs.Server.{IsFresh, Running, reader_of, repo_of, wants_input, outcome_of};
     ghost use Rattle.git_server.specs.ServerCalls.{Closes, Gives, Goes, OwesNow, Pulls, StopsInTime};
     ghost use Rattle.git_pkt.specs.PacketReader.{held_of};
 
@@ -85,6 +87,7 @@ impl<R: Repo, A: Allocator + Copy> Server<R, A> {
           failures = (R.state repo).failures;
         }) [] false [] result }
         ensures repo { repo_of result ≡ repo }
+        ensures credit { credit_of (reader_of result) ≡ 0 }
     {
         if advertise {
             return Self::begin(
@@ -100,7 +103,8 @@ impl<R: Repo, A: Allocator + Copy> Server<R, A> {
 
     fn begin(alloc: A, repo: R, offer: Offer, limits: Limits, phase: Phase<A>) -> Server<R, A>
         requires open_ended { outcome_in phase ≡ None }
-        ensures { IsFresh repo offer limits.args phase result }
+        ensures fresh { IsFresh repo offer limits.args phase result }
+        ensures credit { credit_of (reader_of result) ≡ 0 }
     {
         Server {
             reader: PacketReader::new(),
@@ -145,7 +149,7 @@ impl<R: Repo, A: Allocator + Copy> Server<R, A> {
     /// Takes bytes of the input, and says how many were used: all of them, or those up to the end of a request, a flush
     /// in the place of one, or a fault. None is used while a packet waits to be pulled, nor after the end. An empty
     /// piece changes nothing.
-    pub fn feed(&mut self, piece: &[u8]) -> usize
+    pub fn feed(&mut self, piece: &[u8], steps: &mut Steps) -> usize
         ensures used { result ≤ length piece.now }
         ensures goes { Goes R.state (take result piece.now) [] self.old self.new }
         ensures whole { IsTrue (wants_input self.new) → result ≡ length piece.now }
@@ -153,10 +157,11 @@ impl<R: Repo, A: Allocator + Copy> Server<R, A> {
         ensures in_time { StopsInTime R.state self.old result piece.now (outcome_of self.new) }
         ensures stays { wants_input self.old ≡ false → (result ≡ 0) × (self.new ≡ self.old) }
         ensures nothing { length piece.now ≡ 0 → (result ≡ 0) × (self.new ≡ self.old) }
+        ensures cost { Pays result steps.old steps.new (credit_of (reader_of self.old)) (credit_of (reader_of self.new)) }
     {
         let mut used = 0;
         while used < piece.len() && self.wants_input() {
-            used += self.step(&piece[used..]);
+            used += self.step(&piece[used..], steps);
         }
         used
     }
@@ -166,9 +171,12 @@ impl<R: Repo, A: Allocator + Copy> Server<R, A> {
     pub fn close(&mut self)
         requires { wants_input self.old ≡ true }
         ensures closes { Closes R.state self.old self.new }
+        ensures credit { credit_of (reader_of self.new) ≤ credit_of (reader_of self.old) }
         ensures ended { IsSome (outcome_of self.new) }
     {
-        if let Err(fault) = self.reader.close() {
+        let closed = self.reader.close();
+        let _ = self.reader.hold();
+        if let Err(fault) = closed {
             self.phase = refusal(fault);
             return;
         }
@@ -246,22 +254,26 @@ impl<R: Repo, A: Allocator + Copy> Server<R, A> {
         }
     }
 
-    // One packet, or all of the piece.
-    fn step(&mut self, piece: &[u8]) -> usize
+    // One packet, or all of the piece. A packet after which more is wanted has been paid for by its own bytes.
+    fn step(&mut self, piece: &[u8], steps: &mut Steps) -> usize
         requires wants { wants_input self.old ≡ true }
         requires some { 0 < length piece.now }
         ensures used { result ≤ length piece.now }
         ensures goes { Goes R.state (take result piece.now) [] self.old self.new }
         ensures moves { 0 < result ⊎ IsSome (outcome_of self.new) }
         ensures goes_on { wants_input self.new ≡ true → 0 < result }
+        ensures cost { Pays result steps.old steps.new (credit_of (reader_of self.old)) (credit_of (reader_of self.new)) }
+        ensures paid { wants_input self.new ≡ true → result < length piece.now
+            → steps.new + credit_of (reader_of self.new) ≤ steps.old + credit_of (reader_of self.old) + 64 * result }
         ensures in_time { StopsInTime R.state self.old result piece.now (outcome_of self.new) }
     {
-        let fed = self.reader.feed(piece);
+        steps.tick(1);
+        let fed = self.reader.feed(piece, steps);
         let used = fed.used;
         match fed.got {
             Got::More => used,
             Got::Packet(packet, offset) => {
-                let brought = take_packet(&mut self.requests, &self.repo, packet, offset);
+                let brought = take_packet(&mut self.requests, &self.repo, packet, offset, steps);
                 self.phase = following(brought, offset);
                 used
             }
@@ -275,7 +287,7 @@ impl<R: Repo, A: Allocator + Copy> Server<R, A> {
 
 // The phase after a packet at this offset.
 fn following<A: Allocator + Copy>(brought: Brought<A>, offset: u64) -> Phase<A>
-    ensures { result ≡ phase_after offset brought }
+    ensures { IsAfter offset brought result }
 {
     match brought {
         Brought::Part => Phase::Within,

@@ -1,38 +1,75 @@
-//! Which references a request asks for.
+//! Which references a request asks for: both its prefixes and the references are searched by halves.
 
-ghost use Rattle.std.specs.Prelude.{◌≡◌, ◌+◌, ◌<◌, []};
-ghost use Rattle.git_server.specs.Answers.{is_shown as shows};
+ghost use Rattle.std.specs.Prelude.{◌≡◌, ℕ, ◌<◌, ◌≤◌, false, true, drop, length, slice_index_or};
+ghost use Rattle.git_msg.specs.Prefixes.{IsOrdered, SplitsAt};
+ghost use Rattle.git_server.specs.Repository.{Entry, IsRising, comes_before};
+ghost use Rattle.git_server.specs.Answers.{is_shown, shown_refs};
 ghost use Rattle.git_server.specs.NextShown.{NextShown};
 
 use crate::entry::RefEntry;
-use git_msg::LsRefs;
+use git_msg::Listing;
 use std::alloc::Allocator;
 
 /// Where the first reference at `from` or after it stands that the request asks for.
 pub(crate) fn next_shown<A: Allocator + Copy>(
     refs: &[RefEntry],
-    request: &LsRefs<A>,
+    request: &Listing<A>,
     from: usize,
 ) -> Option<usize>
+    requires { IsRising refs.now }
     ensures { NextShown request.now.asked.ref_prefixes refs.now from result }
 {
-    for at in from..refs.len() {
-        if is_shown(request, refs[at].name()) {
+    let mut at = from;
+    while at < refs.len() {
+        let name = refs[at].name();
+        let split = request.split(name);
+        if request.shows_at(split, name) {
             return Some(at);
         }
+        at = past_hidden(refs, request, at, split);
     }
     None
 }
 
-fn is_shown<A: Allocator + Copy>(request: &LsRefs<A>, name: &[u8]) -> bool
-    ensures { result ≡ shows request.now.asked.ref_prefixes name.now }
+// Past a reference that is not shown, and past those after it that come before the next prefix: none of them is shown.
+fn past_hidden<A: Allocator + Copy>(
+    refs: &[RefEntry],
+    request: &Listing<A>,
+    at: usize,
+    split: usize,
+) -> usize
+    requires rising { IsRising refs.now }
+    requires ordered { IsOrdered request.now.asked.ref_prefixes }
+    requires within { at < length refs.now }
+    requires split { (d : Entry) → SplitsAt request.now.asked.ref_prefixes (slice_index_or refs.now at d).name split }
+    requires hidden { (d : Entry) → is_shown request.now.asked.ref_prefixes (slice_index_or refs.now at d).name ≡ false }
+    ensures onward { at < result }
+    ensures within { result ≤ length refs.now }
+    ensures same { shown_refs request.now.asked.ref_prefixes (drop result refs.now) ≡ shown_refs request.now.asked.ref_prefixes (drop at refs.now) }
 {
-    let mut count = 0;
-    while let Some(prefix) = request.ref_prefix(count) {
-        if name.starts_with(prefix) {
-            return true;
-        }
-        count += 1;
+    match request.ref_prefix(split) {
+        Some(next) => first_from(refs, next, at + 1),
+        None => refs.len(),
     }
-    count == 0
+}
+
+// Past those of the references from this place on that come before the text.
+fn first_from(refs: &[RefEntry], text: &[u8], from: usize) -> usize
+    requires rising { IsRising refs.now }
+    requires within { from ≤ length refs.now }
+    ensures onward { from ≤ result }
+    ensures within { result ≤ length refs.now }
+    ensures before { (k : ℕ) (d : Entry) → from ≤ k → k < result → comes_before (slice_index_or refs.now k d).name text.now ≡ true }
+{
+    let mut low = from;
+    let mut high = refs.len();
+    while low < high {
+        let middle = low + (high - low) / 2;
+        if refs[middle].name().cmp(text).is_lt() {
+            low = middle + 1;
+        } else {
+            high = middle;
+        }
+    }
+    low
 }

@@ -68,4 +68,5 @@ fn write_wanted(reader: &mut PacketReader, id: Oid, name: &[u8])
     ensures { Writes reader.old (text_line (wanted_text (wanted_of id name.now))) reader.new }
 {
     put_wanted(reader.lend(), WantedRef { id, name });
+    let _ = reader.hold();
 }

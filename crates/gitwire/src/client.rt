@@ -13,7 +13,7 @@ use crate::numbers::format_numbered;
 use crate::told::{GitwireTold, What};
 use git_client::{Client, Ending, HeardGot, Sent};
 use git_msg::{Command, Limits, Request};
-use git_names::Format;
+use git_names::{Format, Steps};
 use git_pkt::LONGEST_PACKET;
 use std::alloc::Global;
 use std::mem::replace;
@@ -116,7 +116,7 @@ fn feed(client: &mut Client<Global>, piece: &[u8], room: &mut [u8]) -> GitwireEv
     if room.len() < LONGEST_PARTS {
         return GitwireEvent::none(0, What::RoomTooSmall);
     }
-    let heard = client.feed(piece);
+    let heard = client.feed(piece, &mut Steps::new());
     match heard.got {
         HeardGot::More => GitwireEvent::none(heard.used, What::More),
         HeardGot::Event(event) => EventParts::of(event).show(heard.used, room),

@@ -17,7 +17,7 @@ use git_msg::{
     Boundary, Info, Reference, WantedRef, put_ack, put_boundary, put_info, put_reference,
     put_wanted,
 };
-use git_names::{Format, NameFault, Oid, RefName};
+use git_names::{Format, NameFault, Oid, RefName, Steps};
 use git_pkt::Hold;
 use std::alloc::Global;
 
@@ -162,7 +162,7 @@ fn make_reference(
     ensures { Makes (MeansReference format id.now name.now target.now peeled.now) result hold.new.items }
 {
     let id = read_id(format, id)?;
-    let name = RefName::read(name)?;
+    let name = RefName::read(name, &mut Steps::new())?;
     let target = read_target(target)?;
     let peeled = read_peeled(id.format(), peeled)?;
     let reference = Reference {
@@ -196,7 +196,7 @@ fn make_wanted(hold: &mut Hold, format: u8, id: &[u8], name: &[u8]) -> Result<()
     ensures { Makes (MeansWanted format id.now name.now) result hold.new.items }
 {
     let id = read_id(format, id)?;
-    let name = RefName::read(name)?;
+    let name = RefName::read(name, &mut Steps::new())?;
     let wanted = WantedRef {
         id,
         name: name.as_bytes(),
@@ -237,7 +237,7 @@ fn read_id(number: u8, digits: &[u8]) -> Result<Oid, Unwritten>
     let Some(format) = format_numbered(number) else {
         return Err(Unwritten::BadValue);
     };
-    Ok(Oid::read(format, digits)?)
+    Ok(Oid::read(format, digits, &mut Steps::new())?)
 }
 
 /// A reference name, or none where there is no text.
@@ -248,7 +248,7 @@ fn read_target(text: &[u8]) -> Result<Option<&[u8]>, NameFault>
     if text.is_empty() {
         return Ok(None);
     }
-    let name = RefName::read(text)?;
+    let name = RefName::read(text, &mut Steps::new())?;
     Ok(Some(name.as_bytes()))
 }
 
@@ -260,5 +260,5 @@ fn read_peeled(format: Format, digits: &[u8]) -> Result<Option<Oid>, NameFault>
     if digits.is_empty() {
         return Ok(None);
     }
-    Ok(Some(Oid::read(format, digits)?))
+    Ok(Some(Oid::read(format, digits, &mut Steps::new())?))
 }

@@ -7,6 +7,7 @@ ghost use Rattle.gitwire.specs.PacketsTold.{Begins, ClosesIn, ClosesTold, FeedsI
 use crate::handles::GitwirePacketReader;
 use crate::machine::Machine;
 use crate::told::{GitwireTold, What};
+use git_names::Steps;
 use git_pkt::{Got, Packet, PacketReader};
 use std::alloc::Global;
 use std::mem::replace;
@@ -60,7 +61,7 @@ fn feed(reader: &mut PacketReader, piece: &[u8], room: &mut [u8]) -> GitwireTold
     if room.len() < LONGEST_PAYLOAD {
         return GitwireTold::of(What::RoomTooSmall);
     }
-    let fed = reader.feed(piece);
+    let fed = reader.feed(piece, &mut Steps::new());
     match fed.got {
         Got::More => GitwireTold::of_used(fed.used, What::More),
         Got::Failed(fault) => GitwireTold::of_fault(fed.used, fault),

@@ -15,6 +15,7 @@ use crate::numbers::{
 use crate::request_items::put_item;
 use crate::told::{GitwireTold, What};
 use git_msg::{Limits, Offer, Request, read_argument};
+use git_names::Steps;
 use git_pkt::{Fault, Kind};
 use std::alloc::Global;
 use std::mem::replace;
@@ -95,7 +96,7 @@ fn add_line(request: &mut Request<Global>, line: &[u8]) -> Result<(), Kind>
 {
     // So that a line is judged by what it says alone.
     let offer = Offer::everything(request.format());
-    match read_argument(request.command(), &offer, line) {
+    match read_argument(request.command(), &offer, line, &mut Steps::new()) {
         Ok(argument) => request.add(argument),
         Err(kind) => Err(kind),
     }

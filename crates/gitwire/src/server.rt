@@ -9,6 +9,7 @@ use crate::handles::{GitwireRepository, GitwireServer};
 use crate::machine::Machine;
 use crate::told::{GitwireTold, What};
 use git_msg::{Limits, Offer};
+use git_names::Steps;
 use git_pkt::LONGEST_PACKET;
 use git_server::{Outcome, Pulled, Repo, Server, SharedRepo};
 use std::alloc::Global;
@@ -112,7 +113,7 @@ pub extern "C" fn gitwire_server_feed(
 fn feed(server: &mut Server<SharedRepo, Global>, piece: &[u8]) -> GitwireTold
     ensures { FeedsTold server.old piece.now result server.new }
 {
-    let used = server.feed(piece);
+    let used = server.feed(piece, &mut Steps::new());
     GitwireTold::of_used(used, What::More)
 }
 

@@ -5,7 +5,7 @@ use crate::script::{Script, Step};
 use crate::setup::{MANY, limits, offer};
 use crate::trouble::Trouble;
 use git_msg::{Argument, Caps, Command, Request, RequestWriter, read_argument};
-use git_names::Format;
+use git_names::{Format, Steps};
 use git_pkt::Hold;
 use std::alloc::Global;
 
@@ -23,7 +23,7 @@ pub struct Asking {
 fn argument_of(format: Format, text: &[u8]) -> Option<Argument<'_>> {
     let offer = offer(format, true);
     for command in [Command::LsRefs, Command::Fetch, Command::ObjectInfo] {
-        if let Ok(argument) = read_argument(command, &offer, text) {
+        if let Ok(argument) = read_argument(command, &offer, text, &mut Steps::new()) {
             return Some(argument);
         }
     }

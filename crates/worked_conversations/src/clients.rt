@@ -9,7 +9,7 @@ use crate::setup::MANY;
 use crate::trouble::Trouble;
 use git_client::{Client, Ending, Event, HeardGot, Sent, write_asked, write_event};
 use git_msg::Caps;
-use git_names::Format;
+use git_names::{Format, Steps};
 use git_pkt::Told;
 use std::alloc::{AllocError, Global};
 
@@ -131,7 +131,7 @@ impl<'a> Talk<'a> {
 
     // A client that does not wait for input uses none.
     fn check_waiting(&mut self) -> Result<(), Trouble> {
-        if !self.client.wants_input() && self.client.feed(b"0000").used != 0 {
+        if !self.client.wants_input() && self.client.feed(b"0000", &mut Steps::new()).used != 0 {
             return Err(Trouble::Breaks("a client uses bytes that it does not want"));
         }
         Ok(())
@@ -209,7 +209,7 @@ impl<'a> Talk<'a> {
         let mut rest = piece;
         for _ in 0..=piece.len() {
             let is_wanted = self.client.wants_input();
-            let heard = self.client.feed(rest);
+            let heard = self.client.feed(rest, &mut Steps::new());
             rest = &rest[heard.used..];
             match heard.got {
                 HeardGot::More if is_wanted && !rest.is_empty() => {
@@ -244,7 +244,7 @@ impl<'a> Talk<'a> {
     // A client that is at its end uses nothing more, and says so of itself in every way. Answers how it ended.
     fn ended(&mut self) -> Result<String, Trouble> {
         let position = self.client.position();
-        let heard = self.client.feed(b"0000");
+        let heard = self.client.feed(b"0000", &mut Steps::new());
         let used = heard.used;
         let told = match heard.got {
             HeardGot::More => None,

@@ -5,6 +5,7 @@ use crate::runs::Run;
 use crate::script::Script;
 use crate::setup::{LAST_POSITION, TURNS};
 use crate::trouble::Trouble;
+use git_names::Steps;
 use git_pkt::{Fault, Got, Packet, PacketReader, RunFault, Told, put};
 use git2show_lib::show;
 use std::alloc::{AllocError, Global};
@@ -38,7 +39,7 @@ fn check_hold(reader: &mut PacketReader, came: &[u8]) -> Result<(), Trouble> {
     if !came.ends_with(reader.hold().as_slice()) {
         return Err(Trouble::Breaks("the hold has not the packet as it came"));
     }
-    let used = reader.feed(b"").used;
+    let used = reader.feed(b"", &mut Steps::new()).used;
     if used != 0 || !came.ends_with(reader.hold().as_slice()) {
         return Err(Trouble::Breaks("an empty piece changes the hold"));
     }
@@ -60,7 +61,7 @@ fn feed(
 ) -> Result<bool, Trouble> {
     let mut rest = piece;
     for _ in 0..=piece.len() {
-        let fed = reader.feed(rest);
+        let fed = reader.feed(rest, &mut Steps::new());
         rest = &rest[fed.used..];
         match fed.got {
             Got::More => return Ok(false),
@@ -77,7 +78,7 @@ fn feed(
 fn check_failed(reader: &mut PacketReader, fault: Fault) -> Result<(), Trouble> {
     let position = reader.position();
     for piece in [b"0000".as_slice(), b"".as_slice()] {
-        let fed = reader.feed(piece);
+        let fed = reader.feed(piece, &mut Steps::new());
         let told = match fed.got {
             Got::Failed(told) => Some(told),
             _ => None,

@@ -4,7 +4,7 @@ use crate::asking::written;
 use crate::setup::{MOST_KEPT, limits, offer};
 use crate::trouble::Trouble;
 use git_msg::{Caps, Command, Request, read_argument};
-use git_names::Format;
+use git_names::{Format, Steps};
 use std::alloc::Global;
 
 /// A request that is to be made.
@@ -41,7 +41,7 @@ impl Question {
         let offer = offer(self.format, true);
         let mut request = Request::new(alloc, self.command, self.format, limits(MOST_KEPT));
         for text in self.arguments.as_slice() {
-            let Ok(argument) = read_argument(self.command, &offer, text.as_slice()) else {
+            let Ok(argument) = read_argument(self.command, &offer, text.as_slice(), &mut Steps::new()) else {
                 return Err(Trouble::BadCase("no argument"));
             };
             if request.add(argument).is_err() {

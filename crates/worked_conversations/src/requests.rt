@@ -8,7 +8,7 @@ use crate::runs::Run;
 use crate::setup::{MANY, limits};
 use crate::trouble::Trouble;
 use git_msg::{Offer, Request, RequestReader, Taken};
-use git_names::Oid;
+use git_names::{Oid, Steps};
 use git_pkt::{Fault, Got, Packet, PacketReader, text};
 use std::alloc::{AllocError, Global};
 
@@ -31,13 +31,13 @@ struct Keeper {
 impl Keeper {
     // Gives the reader a packet, and keeps the argument that it is.
     fn hear(&mut self, packet: Packet<'_>, offset: u64) -> Result<Brought, Fault> {
-        let taken = match self.reader.take(packet, offset) {
+        let taken = match self.reader.take(packet, offset, &mut Steps::new()) {
             Ok(taken) => taken,
             Err(fault) => return Err(fault),
         };
         match taken {
             Taken::More => return Ok(Brought::More),
-            Taken::Argument(argument) => match self.reader.keep(argument) {
+            Taken::Argument(argument) => match self.reader.keep(argument, &mut Steps::new()) {
                 Ok(()) => return Ok(Brought::Kept),
                 Err(fault) => return Err(fault),
             },
@@ -190,7 +190,7 @@ fn feed(
 ) -> Result<Option<String>, Trouble> {
     let mut rest = piece;
     for _ in 0..=piece.len() {
-        let fed = packets.feed(rest);
+        let fed = packets.feed(rest, &mut Steps::new());
         rest = &rest[fed.used..];
         let (packet, offset) = match fed.got {
             Got::More => return Ok(None),

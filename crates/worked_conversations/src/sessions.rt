@@ -3,6 +3,7 @@
 use crate::runs::Run;
 use crate::setup::{MANY, TURNS, limits, offer};
 use crate::trouble::Trouble;
+use git_names::Steps;
 use git_pkt::{Fault, Told};
 use git_repository::{TextFault, read_repo};
 use git_server::{Faulty, ListRepo, Outcome, Pulled, Repo, Server, serve};
@@ -88,7 +89,7 @@ fn feed<R: Repo>(
 ) -> Result<(Option<Outcome>, usize), Trouble> {
     let mut rest = piece;
     for _ in 0..=piece.len() {
-        let used = server.feed(rest);
+        let used = server.feed(rest, &mut Steps::new());
         rest = &rest[used..];
         let outcome = drain(server, output)?;
         if rest.is_empty() || outcome.is_some() {
@@ -100,7 +101,7 @@ fn feed<R: Repo>(
 
 // A server whose session is over uses nothing more, gives nothing more, and has its outcome's fault.
 fn check_over<R: Repo>(server: &mut Server<R, Global>, outcome: Outcome) -> Result<(), Trouble> {
-    let used = server.feed(b"0000");
+    let used = server.feed(b"0000", &mut Steps::new());
     let again = match server.pull() {
         Pulled::Finished(again) => Some(again),
         _ => None,

@@ -8,7 +8,7 @@ use crate::script::{Script, Step};
 use crate::setup::{limits, offer};
 use crate::trouble::Trouble;
 use git_msg::{Argument, Caps, Command, read_argument, read_capability, read_reference};
-use git_names::{Format, Oid, RefName};
+use git_names::{Format, Oid, RefName, Steps};
 use git_pkt::{Hold, Packet, put, text};
 use git_repository::{TextFault, read_repo};
 use git_server::Repo;
@@ -89,7 +89,7 @@ fn say_object_name(
     format: Format,
     text: &[u8],
 ) -> Result<(), AllocError> {
-    match Oid::read(format, text) {
+    match Oid::read(format, text, &mut Steps::new()) {
         Ok(id) => say_object(alloc, lines, "object", id),
         Err(fault) => say(
             alloc,
@@ -101,7 +101,7 @@ fn say_object_name(
 }
 
 fn say_reference_name(alloc: Global, lines: &mut Vec<u8>, text: &[u8]) -> Result<(), AllocError> {
-    match RefName::read(text) {
+    match RefName::read(text, &mut Steps::new()) {
         Ok(name) if name.as_bytes() == text => say(alloc, lines, "reference", Said::Nothing),
         Ok(name) => say(alloc, lines, "another name", Said::Bytes(name.as_bytes())),
         Err(fault) => say(
@@ -114,7 +114,7 @@ fn say_reference_name(alloc: Global, lines: &mut Vec<u8>, text: &[u8]) -> Result
 }
 
 fn say_capability(alloc: Global, lines: &mut Vec<u8>, text: &[u8]) -> Result<(), AllocError> {
-    match read_capability(text) {
+    match read_capability(text, &mut Steps::new()) {
         Ok(capability) => {
             say(alloc, lines, "key", Said::Bytes(capability.key))?;
             match capability.value {
@@ -129,8 +129,8 @@ fn say_capability(alloc: Global, lines: &mut Vec<u8>, text: &[u8]) -> Result<(),
 fn say_notes(alloc: Global, lines: &mut Vec<u8>, text: &[u8]) -> Result<(), AllocError> {
     let mut caps = Caps::new();
     for line in text.split(|byte| *byte == b'\n') {
-        if let Ok(capability) = read_capability(line) {
-            caps = caps.with(&capability);
+        if let Ok(capability) = read_capability(line, &mut Steps::new()) {
+            caps = caps.with(&capability, &mut Steps::new());
         }
     }
     let mut said = String::new(alloc);
@@ -164,7 +164,7 @@ fn say_argument(
     (command, format, features): (Command, Format, bool),
     text: &[u8],
 ) -> Result<(), AllocError> {
-    let argument = match read_argument(command, &offer(format, features), text) {
+    let argument = match read_argument(command, &offer(format, features), text, &mut Steps::new()) {
         Ok(argument) => argument,
         Err(kind) => return say(alloc, lines, kind.name(), Said::Nothing),
     };
@@ -196,7 +196,7 @@ fn say_reference(
     format: Format,
     text: &[u8],
 ) -> Result<(), AllocError> {
-    let reference = match read_reference(format, text) {
+    let reference = match read_reference(format, text, &mut Steps::new()) {
         Ok(reference) => reference,
         Err(kind) => return say(alloc, lines, kind.name(), Said::Nothing),
     };

@@ -1,8 +1,8 @@
-use Rattle.std.proofs.Common.{rules, arith}
+use Rattle.std.proofs.Common.{rules, arith, []}
 use Rattle.git_pkt.specs.Told.{inner_of}
 use Rattle.git_pkt.specs.Streams.{flow}
 use Rattle.git2show_lib.specs.ShownStream.{WritesFront}
-use Rattle.git2show_lib.proofs.Printing.{fed_failed, fed_packet, fed_packet_front, left_length, tells_by}
+use Rattle.git2show_lib.proofs.Printing.{fed_failed, fed_packet, fed_packet_front, left_length, none_read, tells_by}
 use Rattle.git2show_lib.proofs.showing.print_piece.Goals as goal
 
 pub returns-in-Failed-clause-ok : goal.returns-in-Failed-clause-ok
@@ -17,6 +17,14 @@ returns-in_err-put-in-Packet-clause-front g c =
     fed_packet_front _ _ _ _ _ _ _ _ _ c.loop-done.invariant.within c.loop-done.invariant.prints c.feed-fed.follows.holds-at-none _ _ _ c.in-Packet.is
     (search rules) in
     search rules
+
+pub loop-done-init : goal.loop-done-init
+loop-done-init g c = record {
+  within = search rules;
+  sound = search rules;
+  writer_sound = search rules;
+  prints = record { packets = []; reads = none_read c.args.packets.now; emits = search rules };
+}
 
 pub loop-done-preserved : goal.loop-done-preserved
 loop-done-preserved g c =

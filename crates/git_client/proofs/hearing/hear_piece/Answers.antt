@@ -24,7 +24,7 @@ loop-used-init g c = record {
 pub returns-in-More-clause-heard : goal.returns-in-More-clause-heard
 returns-in-More-clause-heard g c =
     let waits : wants_input c.loop-used.client ≡ true = sym c.wants_input.ensures.value ∙ c.if-wants_input.true in
-    heard_all waits c.loop-used.invariant.within c.loop-used.invariant.hears c.feed-heard.follows.holds-at-none c.in-More.is
+    heard_all waits c.loop-used.invariant.within c.loop-used.invariant.hears c.feed-heard.follows.holds-at-none.0 c.in-More.is
 
 pub returns-in_err-flush_both-in-Failed-clause-heard :
     goal.returns-in_err-flush_both-in-Failed-clause-heard
@@ -35,13 +35,13 @@ returns-in_err-flush_both-in-Failed-clause-heard g c =
     c.loop-used.counts c.args.piece.now
     (flow (g.O.Write.contents (inner_of c.args.out.now)) (g.O.Write.contents (inner_of c.flush_both.new.out)))
     (flow (g.P.Output.contents c.args.pack.now) (g.P.Output.contents c.flush_both.new.pack))) named c.from_residual.ensures.1
-    (heard_failed_unflushed waits c.loop-used.invariant.within c.loop-used.invariant.hears c.feed-heard.follows.holds-at-none
+    (heard_failed_unflushed waits c.loop-used.invariant.within c.loop-used.invariant.hears c.feed-heard.follows.holds-at-none.0
     _ _ _ c.in-Failed.is c.flush_both.ensures.told c.flush_both.ensures.sent)
 
 pub returns-in-Failed-clause-heard : goal.returns-in-Failed-clause-heard
 returns-in-Failed-clause-heard g c =
     let waits : wants_input c.loop-used.client ≡ true = sym c.wants_input.ensures.value ∙ c.if-wants_input.true in
-    heard_failed waits c.loop-used.invariant.within c.loop-used.invariant.hears c.feed-heard.follows.holds-at-none
+    heard_failed waits c.loop-used.invariant.within c.loop-used.invariant.hears c.feed-heard.follows.holds-at-none.0
     _ _ _ c.in-Failed.is c.flush_both.ensures.told c.flush_both.ensures.sent
 
 pub returns-in_err-tell-in-Event-clause-heard : goal.returns-in_err-tell-in-Event-clause-heard
@@ -53,23 +53,23 @@ returns-in_err-tell-in-Event-clause-heard g c =
     (flow (g.O.Write.contents (inner_of c.args.out.now)) (g.O.Write.contents (inner_of c.tell.new.out)))
     (flow (g.P.Output.contents c.args.pack.now) (g.P.Output.contents c.tell.new.pack))) named
     c.from_residual-in_err-tell-in-Event.ensures.1
-    (heard_event_front waits c.loop-used.invariant.within c.loop-used.invariant.hears c.feed-heard.follows.holds-at-none _ c.in-Event.is
+    (heard_event_front waits c.loop-used.invariant.within c.loop-used.invariant.hears c.feed-heard.follows.holds-at-none.0 _ c.in-Event.is
     c.tell.result _ _ _ _ c.in_err-tell-in-Event.was named c.tell.ensures.counts c.tell.ensures.told c.tell.ensures.sent)
 
 pub loop-used-preserved : goal.loop-used-preserved
 loop-used-preserved g c =
     let waits : wants_input c.loop-used.client ≡ true = sym c.wants_input.ensures.value ∙ c.if-wants_input.true in
     record {
-      within = used_within waits c.loop-used.invariant.within c.loop-used.invariant.hears c.feed-heard.follows.holds-at-none
+      within = used_within waits c.loop-used.invariant.within c.loop-used.invariant.hears c.feed-heard.follows.holds-at-none.0
           c.feed-heard.ensures.used;
-      sound = heard_sound waits c.loop-used.invariant.within c.loop-used.invariant.hears c.feed-heard.follows.holds-at-none
+      sound = heard_sound waits c.loop-used.invariant.within c.loop-used.invariant.hears c.feed-heard.follows.holds-at-none.0
           _ c.in-Event.is;
       stands = heard_to_question waits c.loop-used.invariant.within c.loop-used.invariant.hears
-          c.feed-heard.follows.holds-at-none _ c.in-Event.is;
+          c.feed-heard.follows.holds-at-none.0 _ c.in-Event.is;
       moves = λ none. heard_some waits c.loop-used.invariant.within c.loop-used.invariant.hears
-          c.feed-heard.follows.holds-at-none _ c.in-Event.is;
+          c.feed-heard.follows.holds-at-none.0 _ c.in-Event.is;
       out_stays = search rules;
       pack_stays = search rules;
-      hears = heard_event waits c.loop-used.invariant.within c.loop-used.invariant.hears c.feed-heard.follows.holds-at-none
+      hears = heard_event waits c.loop-used.invariant.within c.loop-used.invariant.hears c.feed-heard.follows.holds-at-none.0
           _ c.in-Event.is false _ _ _ c.in_ok-tell-in-Event.ensures.counts c.in_ok-tell-in-Event.ensures.told c.in_ok-tell-in-Event.ensures.sent;
     }

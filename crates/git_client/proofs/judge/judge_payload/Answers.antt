@@ -53,11 +53,9 @@ takes_lines Packfile no_pack no_end = absurd (no_pack refl)
 takes_lines ResponseEnd no_pack no_end = absurd (no_end refl)
 takes_lines due no_pack no_end = tt
 
-pub returns-else-is_error : goal.returns-else-is_error
-returns-else-is_error c =
+pub returns-else-is_error-clause-turn : goal.returns-else-is_error-clause-turn
+returns-else-is_error-clause-turn c =
     let takes : TakesLines c.args.due = takes_lines c.args.due c.in_default.not-Packfile c.in_default.not-ResponseEnd in
     let line = c.text-line.ensures in
     let no_error : ¬ IsErrorText (text_of c.args.payload.now) = rw (← line) (iff_false c.is_error.ensures.error c.if-is_error.false) in
-    record {
-      turn = λ ending. line_judged c.args.format ending c.args.due c.args.caps c.args.payload.now _ takes no_error (rw (← line) c.judge_line.ensures.turn);
-    }
+    (λ ending. line_judged c.args.format ending c.args.due c.args.caps c.args.payload.now _ takes no_error (rw (← line) c.judge_line.ensures.turn))

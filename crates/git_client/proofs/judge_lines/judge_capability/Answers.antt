@@ -28,8 +28,8 @@ some_copied : (value : Option (Bor (List ℕ))) (b : Bool) → b ≡ is_some val
 some_copied None b is = sym is
 some_copied (Some value) b is = sym is
 
-pub returns : goal.returns
-returns c =
+pub returns-clause-line : goal.returns-clause-line
+returns-clause-line c =
     let text = c.args.line.now in
     let capability = c.in_ok-capability.capability in
     let line = c.in_ok-capability.ensures.line in

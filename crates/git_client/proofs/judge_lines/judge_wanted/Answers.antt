@@ -20,5 +20,5 @@ located format text wanted line =
       fits = omega (arith, ap length line.spelled ∙ length-append line.id (32 ∷ wanted.name));
     }
 
-pub returns-in-Ok : goal.returns-in-Ok
-returns-in-Ok c = located c.args.format c.args.line.now _ c.in-Ok.ensures
+pub returns-in-Ok-clause-line : goal.returns-in-Ok-clause-line
+returns-in-Ok-clause-line c = located c.args.format c.args.line.now _ c.in-Ok.ensures.line

@@ -20,12 +20,10 @@ by_its_key offer first text key value (Ok noted) clean has h =
 by_its_key offer first text key value (Err kind) clean has h =
     inr (clean, inr ((has.word, value, has.is_capability), inl (key, value, has, h)))
 
-pub returns : goal.returns
-returns c =
+pub returns-clause-line : goal.returns-clause-line
+returns-clause-line c =
     let clean : ¬ IsErrorText c.args.text.now = search rules in
-    record {
-      line = by_its_key c.args.offer.now c.args.first c.args.text.now c.read_key-key.result (option_copied c.in_ok-capability.capability.value)
-          c.judge_key.result clean
-          (record { word = c.in_ok-capability.capability.key.now; is_capability = c.in_ok-capability.ensures.line; is_word = c.read_key-key.ensures.word })
-          c.judge_key.ensures.line;
-    }
+    (by_its_key c.args.offer.now c.args.first c.args.text.now c.read_key-key.result (option_copied c.in_ok-capability.capability.value)
+    c.judge_key.result clean
+    (record { word = c.in_ok-capability.capability.key.now; is_capability = c.in_ok-capability.ensures.line; is_word = c.read_key-key.ensures.word })
+    c.judge_key.ensures.line)

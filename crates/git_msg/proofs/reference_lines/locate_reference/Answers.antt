@@ -4,12 +4,12 @@ use Rattle.std.proofs.lemmas.Result.{err_from_is_err_and}
 use Rattle.git_msg.proofs.ReferenceWords.{id_refused, left_after_names, located}
 use Rattle.git_msg.proofs.reference_lines.locate_reference.Goals as goal
 
-pub returns-in_err-id : goal.returns-in_err-id
-returns-in_err-id c =
+pub returns-in_err-id-clause-line : goal.returns-in_err-id-clause-line
+returns-in_err-id-clause-line c =
     let p = err_from_is_err_and c.from_residual.result c.from_residual.ensures.1 in
     let words = rw c.in_default-Some.is-1 at c.split_at_first.ensures.parts in
     rw (p.1, p.2, c.in_err-id.ensures.name.0)
-    (record { line = id_refused c.args.format c.args.text.now c.split_at_first.result.0.now c.in_default-Some.rest.now words c.in_err-id.ensures.name.1 })
+    (id_refused c.args.format c.args.text.now c.split_at_first.result.0.now c.in_default-Some.rest.now words c.in_err-id.ensures.name.1)
 
 pub read_attributes-requires : goal.read_attributes-requires
 read_attributes-requires c =
@@ -18,12 +18,10 @@ read_attributes-requires c =
     left_after_names c.args.text.now c.split_at_first.result.0.now c.in_default-Some.rest.now c.in_ok-name.name.now
     (option_copied c.in_ok-name.words) cut begins
 
-pub returns : goal.returns
-returns c =
+pub returns-clause-line : goal.returns-clause-line
+returns-clause-line c =
     let words = rw c.in_default-Some.is-1 at c.split_at_first.ensures.parts in
     let cut = rw c.in_default-Some.is-1 at c.split_at_first.ensures.cut in
     let begins = rw c.in_default-Some.rest-is at c.in_ok-name.ensures.parts in
-    record {
-      line = located c.args.format c.args.text.now c.split_at_first.result.0.now c.in_default-Some.rest.now c.in_ok-name.name.now
-          (option_copied c.in_ok-name.words) _ words cut c.in_ok-id.ensures.name begins refl c.in_ok-found.ensures.values;
-    }
+    (located c.args.format c.args.text.now c.split_at_first.result.0.now c.in_default-Some.rest.now c.in_ok-name.name.now
+    (option_copied c.in_ok-name.words) _ words cut c.in_ok-id.ensures.name begins refl c.in_ok-found.ensures.values)

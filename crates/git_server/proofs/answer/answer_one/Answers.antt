@@ -1,4 +1,5 @@
-use Rattle.std.proofs.Common.{rules}
+use Rattle.std.proofs.Common.{rules, sym, subst}
+use Rattle.git_server.specs.Repository.{IsRising}
 use Rattle.git_server.proofs.Formats.{of_one_format}
 use Rattle.git_server.proofs.answer.answer_one.Goals as goal
 
@@ -8,3 +9,6 @@ returns-in-Some g c = search rules
 pub write_entry-requires-clause-format : goal.write_entry-requires-clause-format
 write_entry-requires-clause-format g c =
     of_one_format _ _ c.in-Some.at _ (g.met.R.Repo.sound c.args.repo.now) c.refs-refs.ensures c.in-Some.ensures.within c.index-refs-at.is
+
+pub next_shown-requires : goal.next_shown-requires
+next_shown-requires g c = subst IsRising (sym c.refs-refs.ensures) (g.met.R.Repo.sound c.args.repo.now).rising

@@ -1,10 +1,18 @@
-use Rattle.std.proofs.Common.{arith, ◌≡◌, [], List, subst, take, drop, length, ◌-◌}
+use Rattle.std.proofs.Common.{arith, ap, ◌≡◌, ◌<◌, ◌≤◌, ◌+◌, ◌*◌, ℕ, [], List, subst, take, drop, length, ◌-◌, length-drop}
+use Rattle.git_pkt.specs.Credit.{Pays}
+use Rattle.git_pkt.proofs.Pieces.{left_of}
 use Rattle.git_client.specs.Events.{EventValue}
 use Rattle.git_client.specs.Client.{Comes, HearsOn, LeavesStep}
 use Rattle.git_client.specs.declared.client.Outcome.{Outcome}
 use Rattle.git_client.specs.declared.client.Outcome.TheVariants.{More}
 use Rattle.git_client.proofs.Twice.{hears_then, leaves_then}
 use Rattle.git_client.proofs.client.Client.advance.Goals as goal
+
+-- one call after another, where the first has been paid for by its bytes
+paid_on : (used more before middle after credit rest left : ℕ) → middle + rest ≤ before + credit + 64 * used → Pays used before middle credit rest
+    → Pays more middle after rest left → Pays (used + more) before after credit left
+paid_on used more before middle after credit rest left paid first second =
+    record { rises = omega (arith, first.rises, second.rises); within = omega (arith, paid, second.within) }
 
 pub loop-used-preserved : goal.loop-used-preserved
 loop-used-preserved g c =
@@ -21,6 +29,13 @@ loop-used-preserved g c =
           hears_then c.args.self.now c.loop-used.self new c.args.piece.now c.loop-used.used c.take-step.result.used [] c.loop-used.invariant.within
           c.loop-used.invariant.hears
           (subst (λ (es : List EventValue). HearsOn c.loop-used.self (take c.take-step.result.used rest) es new) none takes.hears);
+      cost = paid_on _ _ _ _ _ _ _ _ (c.loop-used.invariant.paid c.loop-used-test.true) c.loop-used.invariant.cost c.take-step.ensures.cost;
+      paid =
+          λ more.
+          let less : c.take-step.result.used < length rest =
+          omega (arith, more, ap length (left_of c.args.piece.now c.loop-used.used c.loop-used.invariant.within), length-drop c.loop-used.used c.args.piece.now) in
+          let step = c.take-step.ensures.paid c.in-More.is less in
+          omega (arith, step, c.loop-used.invariant.paid c.loop-used-test.true);
     }
 
 pub returns-in_default : goal.returns-in_default
@@ -39,4 +54,5 @@ returns-in_default g c =
             c.loop-used.invariant.within takes.leaves;
         fits = takes.fits;
       };
+      cost = paid_on _ _ _ _ _ _ _ _ (c.loop-used.invariant.paid c.loop-used-test.true) c.loop-used.invariant.cost c.take-step.ensures.cost;
     }

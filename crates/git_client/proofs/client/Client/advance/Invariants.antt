@@ -1,5 +1,6 @@
-use Rattle.std.proofs.Common.{length, ◌-◌, ◌≡◌, ◌≤◌, true, take, []}
-use Rattle.git_client.specs.Client.{HearsOn, wants_input}
+use Rattle.std.proofs.Common.{length, ◌+◌, ◌-◌, ◌*◌, ◌≡◌, ◌<◌, ◌≤◌, true, take, []}
+use Rattle.git_pkt.specs.Credit.{Pays, credit_of}
+use Rattle.git_client.specs.Client.{HearsOn, reader_of, wants_input}
 use Rattle.git_client.proofs.client.Client.advance.Given as goal
 
 -- the bytes so far gave no event
@@ -8,6 +9,9 @@ invariant-loop-used g l = record {
   within : l.used ≤ length l.piece;
   waits : wants_input l.self ≡ true;
   hears : HearsOn l.fn.self (take l.used l.piece) [] l.self;
+  cost : Pays l.used l.fn.steps l.steps (credit_of (reader_of l.fn.self)) (credit_of (reader_of l.self));
+  paid : l.used < length l.piece
+      → l.steps + credit_of (reader_of l.self) ≤ l.fn.steps + credit_of (reader_of l.fn.self) + 64 * l.used;
 }
 
 abbrev pub decreases-loop-used : goal.decreases-loop-used

@@ -1,4 +1,4 @@
-use Rattle.std.proofs.Common.{refl}
+use Rattle.std.proofs.Common.{arith, refl}
 use Rattle.git_client.proofs.Questions.{asks, ready_phase}
 use Rattle.git_client.proofs.client.Client.ask.Goals as goal
 
@@ -17,5 +17,6 @@ returns-in-Ok g c = record {
     });
     owes = c.new.ensures;
     no_more = refl;
+    credit = omega arith;
   };
 }

@@ -88,4 +88,4 @@ returns-in-Event g c =
     let fits =
     event_fits c.args.self.now c.advance-step.new.self c.args.piece.now step.used step.outcome c.event.result c.in-Event.is
     c.advance-step.ensures.takes c.event.ensures in
-    ((refl, (λ _. tt), feeds), record { after = tt; used = c.advance-step.ensures.used; fits = fits })
+    ((refl, (λ _. tt), (feeds, c.advance-step.ensures.cost)), record { after = tt; used = c.advance-step.ensures.used; fits = fits })

@@ -1,9 +1,10 @@
-use Rattle.std.proofs.Common.{rules, ◌≡◌, ◌+◌, ◌++◌, ◌∷◌, [], sym}
-use Rattle.git_msg.specs.Arguments.{shown}
+use Rattle.std.proofs.Common.{rules, arith, ◌≡◌, ◌+◌, ◌≤◌, ◌++◌, ◌∷◌, [], codes, sym, length-append}
+use Rattle.git_msg.specs.Arguments.{shown, stored_in}
 use Rattle.git_msg.specs.Asked.{FetchAsked, fetch, with_argument}
 use Rattle.git_msg.specs.Kept.{IsCounted}
-use Rattle.git_msg.specs.Insides.{fetch_inside}
-use Rattle.git_msg.proofs.KeptBytes.{counted_more}
+use Rattle.git_msg.specs.Insides.{fetch_inside, fetch_stored}
+use Rattle.git_msg.specs.HeldTexts.{texts_of}
+use Rattle.git_msg.proofs.KeptBytes.{counted_more, stored_fits}
 use Rattle.git_msg.proofs.fetch.Fetch.keep.Goals as goal
 use Rattle.git_msg.proofs.fetch.Fetch.keep.Goals.{in-IsDone, in-ThinPack, in-NoProgress, in-IncludeTag, in-OfsDelta}
 use Rattle.git_msg.proofs.fetch.Fetch.keep.Goals.{in-Deepen, in-DeepenRelative, in-DeepenSince}
@@ -16,30 +17,89 @@ invariant_of-self-2 g c =
     let charged : c.charge.new.self.kept ≡ c.self.inside.budget.kept + c.args.text_length = search rules in
     let value = rw (sym c.self.view_is) at c.requires.value in
     let more : IsCounted c.self.inside.format (with_argument (fetch q) (shown c.args.argument.now)) c.charge.new.self.kept =
-    rw charged (counted_more c.self.inside.format (fetch q) (shown c.args.argument.now) c.self.inside.budget.kept c.args.text_length c.self.invariant
+    rw charged (counted_more c.self.inside.format (fetch q) (shown c.args.argument.now) c.self.inside.budget.kept c.args.text_length c.self.invariant.counted
     value c.requires.counted) in
+    let room : fetch_stored c.self.inside + stored_in (shown c.args.argument.now) ≤ c.charge.new.self.kept =
+    omega (arith, charged, stored_fits c.self.inside.format (shown c.args.argument.now) value.1, c.requires.counted, c.self.invariant.covered) in
     elim c.match-argument.branch [
       | in-Want+in_ok-keep_id-in-Want w ↦
           let grown : w.keep_id.new.ids.items ≡ c.self.inside.wants.items ++ w.in-Want.id ∷ [] = search rules in
-          rw (w.self-inside-is, grown) (rw w.in-Want.is at more)
+          let here = rw w.in-Want.is at more in
+          let fits = rw w.in-Want.is at room in
+          rw (w.self-inside-is, grown)
+          (record { counted = here; covered = omega (arith, fits, length-append c.self.inside.wants.items (w.in-Want.id ∷ [])) })
       | in-Have+in_ok-keep_id-in-Have w ↦
           let grown : w.keep_id-in-Have.new.ids.items ≡ c.self.inside.haves.items ++ w.in-Have.id ∷ [] = search rules in
-          rw (w.self-inside-is, grown) (rw w.in-Have.is at more)
-      | in-IsDone w ↦ rw w.self-inside-is (rw w.in-IsDone.is at more)
-      | in-ThinPack w ↦ rw w.self-inside-is (rw w.in-ThinPack.is at more)
-      | in-NoProgress w ↦ rw w.self-inside-is (rw w.in-NoProgress.is at more)
-      | in-IncludeTag w ↦ rw w.self-inside-is (rw w.in-IncludeTag.is at more)
-      | in-OfsDelta w ↦ rw w.self-inside-is (rw w.in-OfsDelta.is at more)
+          let here = rw w.in-Have.is at more in
+          let fits = rw w.in-Have.is at room in
+          rw (w.self-inside-is, grown)
+          (record { counted = here; covered = omega (arith, fits, length-append c.self.inside.haves.items (w.in-Have.id ∷ [])) })
+      | in-IsDone w ↦
+          let here = rw w.in-IsDone.is at more in
+          let fits = rw w.in-IsDone.is at room in
+          rw w.self-inside-is (record { counted = here; covered = omega (arith, fits) })
+      | in-ThinPack w ↦
+          let here = rw w.in-ThinPack.is at more in
+          let fits = rw w.in-ThinPack.is at room in
+          rw w.self-inside-is (record { counted = here; covered = omega (arith, fits) })
+      | in-NoProgress w ↦
+          let here = rw w.in-NoProgress.is at more in
+          let fits = rw w.in-NoProgress.is at room in
+          rw w.self-inside-is (record { counted = here; covered = omega (arith, fits) })
+      | in-IncludeTag w ↦
+          let here = rw w.in-IncludeTag.is at more in
+          let fits = rw w.in-IncludeTag.is at room in
+          rw w.self-inside-is (record { counted = here; covered = omega (arith, fits) })
+      | in-OfsDelta w ↦
+          let here = rw w.in-OfsDelta.is at more in
+          let fits = rw w.in-OfsDelta.is at room in
+          rw w.self-inside-is (record { counted = here; covered = omega (arith, fits) })
       | in-Shallow+in_ok-keep_id-in-Shallow w ↦
           let grown : w.keep_id-in-Shallow.new.ids.items ≡ c.self.inside.shallows.items ++ w.in-Shallow.id ∷ [] = search rules in
-          rw (w.self-inside-is, grown) (rw w.in-Shallow.is at more)
-      | in-Deepen w ↦ rw w.self-inside-is (rw w.in-Deepen.is at more)
-      | in-DeepenRelative w ↦ rw w.self-inside-is (rw w.in-DeepenRelative.is at more)
-      | in-DeepenSince w ↦ rw w.self-inside-is (rw w.in-DeepenSince.is at more)
+          let here = rw w.in-Shallow.is at more in
+          let fits = rw w.in-Shallow.is at room in
+          rw (w.self-inside-is, grown)
+          (record { counted = here; covered = omega (arith, fits, length-append c.self.inside.shallows.items (w.in-Shallow.id ∷ [])) })
+      | in-Deepen w ↦
+          let here = rw w.in-Deepen.is at more in
+          let fits = rw w.in-Deepen.is at room in
+          rw w.self-inside-is (record { counted = here; covered = omega (arith, fits) })
+      | in-DeepenRelative w ↦
+          let here = rw w.in-DeepenRelative.is at more in
+          let fits = rw w.in-DeepenRelative.is at room in
+          rw w.self-inside-is (record { counted = here; covered = omega (arith, fits) })
+      | in-DeepenSince w ↦
+          let here = rw w.in-DeepenSince.is at more in
+          let fits = rw w.in-DeepenSince.is at room in
+          rw w.self-inside-is (record { counted = here; covered = omega (arith, fits) })
       | in-DeepenNot+in_ok-keep-in-DeepenNot w ↦
-          let grown : w.keep.new.self ≡ c.self.inside.deepen_nots ++ w.in-DeepenNot.revision.now ∷ [] = search rules in
-          rw (w.self-inside-is, grown) (rw w.in-DeepenNot.is at more)
+          let grown : texts_of w.keep.new.self ≡ texts_of c.self.inside.deepen_nots ++ w.in-DeepenNot.revision.now ∷ [] = w.in_ok-keep-in-DeepenNot.ensures.ok in
+          let here = rw w.in-DeepenNot.is at more in
+          let fits = rw w.in-DeepenNot.is at room in
+          rw w.self-inside-is (record { counted = rw grown here; covered = omega (arith, fits, w.in_ok-keep-in-DeepenNot.ensures.stored) })
       | in-WantRef+in_ok-keep-in-WantRef w ↦
-          let grown : w.keep-in-WantRef.new.self ≡ c.self.inside.want_refs ++ w.in-WantRef.name.now ∷ [] = search rules in
-          rw (w.self-inside-is, grown) (rw w.in-WantRef.is at more)
+          let grown : texts_of w.keep-in-WantRef.new.self ≡ texts_of c.self.inside.want_refs ++ w.in-WantRef.name.now ∷ [] = w.in_ok-keep-in-WantRef.ensures.ok in
+          let here = rw w.in-WantRef.is at more in
+          let fits = rw w.in-WantRef.is at room in
+          rw w.self-inside-is (record { counted = rw grown here; covered = omega (arith, fits, w.in_ok-keep-in-WantRef.ensures.stored) })
     ]
+
+pub keep-requires : goal.keep-requires
+keep-requires g c =
+    let counted = rw c.in-DeepenNot.is at c.requires.counted in
+    let value = rw c.in-DeepenNot.is at c.requires.value in
+    let long = length-append (codes "deepen-not ") c.in-DeepenNot.revision.now in
+    record {
+      short = let most = value.1.1 in omega (arith, most);
+      fits = omega (arith, counted, long, c.in_ok-charge.ensures.sides, c.self.invariant.covered, c.self.inside.budget.in_range);
+    }
+
+pub keep-requires-in-WantRef : goal.keep-requires-in-WantRef
+keep-requires-in-WantRef g c =
+    let counted = rw c.in-WantRef.is at c.requires.counted in
+    let value = rw c.in-WantRef.is at c.requires.value in
+    let long = length-append (codes "want-ref ") c.in-WantRef.name.now in
+    record {
+      short = let most = value.1.at_most in omega (arith, most);
+      fits = omega (arith, counted, long, c.in_ok-charge.ensures.sides, c.self.invariant.covered, c.self.inside.budget.in_range);
+    }

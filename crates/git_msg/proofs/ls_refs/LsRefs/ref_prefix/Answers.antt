@@ -4,4 +4,4 @@ use Rattle.git_msg.proofs.ls_refs.LsRefs.ref_prefix.Goals as goal
 
 pub returns-clause-fits : goal.returns-clause-fits
 returns-clause-fits g c =
-    prefix_fits c.self.inside.format (ls_refs_inside c.self.inside) c.self.inside.budget.kept _ c.get.result c.self.invariant c.get.ensures.value
+    prefix_fits c.self.inside.format (ls_refs_inside c.self.inside) c.self.inside.budget.kept _ c.get.result c.self.invariant.counted c.get.ensures.value

@@ -1,9 +1,9 @@
-use Rattle.std.proofs.Common.{rules, ◌≡◌, ◌+◌, ◌++◌, ◌∷◌, [], sym}
-use Rattle.git_msg.specs.Arguments.{shown}
+use Rattle.std.proofs.Common.{rules, arith, ◌≡◌, ◌+◌, ◌≤◌, ◌++◌, ◌∷◌, [], sym, length-append}
+use Rattle.git_msg.specs.Arguments.{shown, stored_in}
 use Rattle.git_msg.specs.Asked.{ObjectInfoAsked, object_info, with_argument}
 use Rattle.git_msg.specs.Kept.{IsCounted}
-use Rattle.git_msg.specs.Insides.{object_info_inside}
-use Rattle.git_msg.proofs.KeptBytes.{counted_more}
+use Rattle.git_msg.specs.Insides.{object_info_inside, object_info_stored}
+use Rattle.git_msg.proofs.KeptBytes.{counted_more, stored_fits}
 use Rattle.git_msg.proofs.object_info.ObjectInfo.keep.Goals as goal
 use Rattle.git_msg.proofs.object_info.ObjectInfo.keep.Goals.{in-Size, in-ObjectId+in_ok-keep_id-in-ObjectId}
 
@@ -14,10 +14,18 @@ invariant_of-self-2 g c =
     let value = rw (sym c.self.view_is) at c.requires.value in
     let more : IsCounted c.self.inside.format (with_argument (object_info q) (shown c.args.argument.now)) c.charge.new.self.kept =
     rw charged (counted_more c.self.inside.format (object_info q) (shown c.args.argument.now) c.self.inside.budget.kept c.args.text_length
-    c.self.invariant value c.requires.counted) in
+    c.self.invariant.counted value c.requires.counted) in
+    let room : object_info_stored c.self.inside + stored_in (shown c.args.argument.now) ≤ c.charge.new.self.kept =
+    omega (arith, charged, stored_fits c.self.inside.format (shown c.args.argument.now) value.1, c.requires.counted, c.self.invariant.covered) in
     elim c.match-argument.branch [
-      | in-Size w ↦ rw w.self-inside-is (rw w.in-Size.is at more)
+      | in-Size w ↦
+          let here = rw w.in-Size.is at more in
+          let fits = rw w.in-Size.is at room in
+          rw w.self-inside-is (record { counted = here; covered = omega (arith, fits) })
       | in-ObjectId+in_ok-keep_id-in-ObjectId w ↦
           let grown : w.keep_id.new.ids.items ≡ c.self.inside.oids.items ++ w.in-ObjectId.id ∷ [] = search rules in
-          rw (w.self-inside-is, grown) (rw w.in-ObjectId.is at more)
+          let here = rw w.in-ObjectId.is at more in
+          let fits = rw w.in-ObjectId.is at room in
+          rw (w.self-inside-is, grown)
+          (record { counted = here; covered = omega (arith, fits, length-append c.self.inside.oids.items (w.in-ObjectId.id ∷ [])) })
     ]

@@ -1,4 +1,6 @@
-use Rattle.std.proofs.Common.{◌≡◌, subst, Bool}
+use Rattle.std.proofs.Common.{◌≡◌, ◌≤◌, ap, subst, Bool}
+use Rattle.std.specs.Coded.{le_prop}
+use Rattle.git_msg.specs.HeldRequest.{kept_of, stored_of}
 use Rattle.std.proofs.lemmas.Result.{err_from_is_err_and}
 use Rattle.git_msg.specs.Checks.{Refuses}
 use Rattle.git_msg.specs.Lines.{capability_checks}
@@ -12,3 +14,8 @@ returns-in_err-command-clause-err g c =
     let same : c.is_none.result ≡ is_first c.args.self.now = first_by c.args.self.now.command c.is_none.result c.is_none.ensures in
     rw (p.1, p.2)
     (subst (λ (b : Bool). Refuses (capability_checks c.args.self.now.offer b c.args.text.now) c.in_err-command.field-0.0) same c.in_err-command.ensures.line)
+
+pub returns-in_err-command-clause-unchanged : goal.returns-in_err-command-clause-unchanged
+returns-in_err-command-clause-unchanged g c =
+    let p = err_from_is_err_and c.from_residual.result c.from_residual.ensures.1 in
+    rw p.1 (ap (λ (h : stored_of c.args.self.now.request ≤ kept_of c.args.self.now.request). record c.args.self.now { covered = h }) (le_prop _ _))

@@ -1,25 +1,34 @@
+use Rattle.std.proofs.Common.{arith, ◌≡◌, ◌≤◌, ◌∙◌, ap, length}
+use Rattle.git_pkt.specs.Packets.{text_of}
+use Rattle.git_msg.specs.Arguments.{shown, written_text}
+use Rattle.git_msg.proofs.KeptArguments.{as_written, text_fits}
 use Rattle.std.proofs.lemmas.Result.{err_from_is_err_and}
+use Rattle.git_msg.proofs.Rows.{argument_has_name}
 use Rattle.git_msg.proofs.StepFacts.{unread, completed, end_refused}
 use Rattle.git_msg.proofs.reader.RequestReader.take_argument.Goals as goal
 
-pub returns-in-Err : goal.returns-in-Err
-returns-in-Err g c =
+pub returns-in-Err-clause-goes_on : goal.returns-in-Err-clause-goes_on
+returns-in-Err-clause-goes_on g c =
     let h = c.in-Err.ensures.argument in
     rw c.in-Payload.is
-    (record {
-      steps = unread c.args.self.now c.in-Payload.payload.now c.args.offset c.in-Err.kind c.requires (rw (c.command.ensures, c.text-text.ensures) at h);
-    })
+    (unread c.args.self.now c.in-Payload.payload.now c.args.offset c.in-Err.kind c.requires (rw (c.command.ensures, c.text-text.ensures) at h))
 
-pub returns-in_ok-check_end-in-Flush : goal.returns-in_ok-check_end-in-Flush
-returns-in_ok-check_end-in-Flush g c =
+pub returns-in_ok-check_end-in-Flush-clause-goes_on : goal.returns-in_ok-check_end-in-Flush-clause-goes_on
+returns-in_ok-check_end-in-Flush-clause-goes_on g c =
     rw (c.in-Flush.is, c.restart.ensures.given)
-    (record {
-      steps = completed c.args.self.now c.restart.new.self c.args.offset c.requires c.in_ok-check_end-in-Flush.ensures c.restart.ensures.next
-          c.restart.ensures.new;
-    })
+    (completed c.args.self.now c.restart.new.self c.args.offset c.requires c.in_ok-check_end-in-Flush.ensures c.restart.ensures.next
+    c.restart.ensures.new)
 
-pub returns-in_err-check_end-in-Flush : goal.returns-in_err-check_end-in-Flush
-returns-in_err-check_end-in-Flush g c =
+pub returns-in_err-check_end-in-Flush-clause-goes_on : goal.returns-in_err-check_end-in-Flush-clause-goes_on
+returns-in_err-check_end-in-Flush-clause-goes_on g c =
     let p = err_from_is_err_and c.from_residual.result c.from_residual.ensures.1 in
     rw (p.1, p.2, c.in-Flush.is)
-    (record { steps = end_refused c.args.self.now c.args.offset c.in_err-check_end-in-Flush.field-0.0 c.requires c.in_err-check_end-in-Flush.ensures })
+    (end_refused c.args.self.now c.args.offset c.in_err-check_end-in-Flush.field-0.0 c.requires c.in_err-check_end-in-Flush.ensures)
+
+pub returns-in-Ok-clause-keepable : goal.returns-in-Ok-clause-keepable
+returns-in-Ok-clause-keepable g c =
+    let says = c.in-Ok.ensures.argument.reads.is_argument.1 in
+    let written = as_written c.args.self.now.offer.format c.text-text.result.now (shown c.in-Ok.argument) says in
+    let fits = text_fits c.in-Payload.payload.now in
+    let whole = ap length c.text-text.ensures in
+    rw c.in-Payload.is (argument_has_name c.args.self.now.offer.format _ _ says, omega (arith, written, fits, whole))

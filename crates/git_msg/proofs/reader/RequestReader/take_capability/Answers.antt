@@ -3,46 +3,38 @@ use Rattle.std.proofs.lemmas.Result.{err_from_is_err_and}
 use Rattle.git_msg.proofs.StepFacts.{noted, refused, delimited, flushed, flush_refused}
 use Rattle.git_msg.proofs.reader.RequestReader.take_capability.Goals as goal
 
-pub returns-in_err-note-in-Payload : goal.returns-in_err-note-in-Payload
-returns-in_err-note-in-Payload g c =
+pub returns-in_err-note-in-Payload-clause-goes_on : goal.returns-in_err-note-in-Payload-clause-goes_on
+returns-in_err-note-in-Payload-clause-goes_on g c =
     let p = err_from_is_err_and c.from_residual.result c.from_residual.ensures.1 in
     let h = c.in_err-note-in-Payload.ensures.err in
     rw (p.1, p.2, c.in-Payload.is)
-    (record {
-      steps = refused c.args.self.now c.note.new.self c.in-Payload.payload.now c.args.offset
-          c.in_err-note-in-Payload.field-0.0 c.requires c.in_err-note-in-Payload.ensures.unchanged
-          (rw c.text.ensures at h);
-    })
+    (refused c.args.self.now c.note.new.self c.in-Payload.payload.now c.args.offset
+    c.in_err-note-in-Payload.field-0.0 c.requires c.in_err-note-in-Payload.ensures.unchanged
+    (rw c.text.ensures at h))
 
-pub returns-in_ok-note-in-Payload : goal.returns-in_ok-note-in-Payload
-returns-in_ok-note-in-Payload g c =
+pub returns-in_ok-note-in-Payload-clause-goes_on : goal.returns-in_ok-note-in-Payload-clause-goes_on
+returns-in_ok-note-in-Payload-clause-goes_on g c =
     let h = c.in_ok-note-in-Payload.ensures.ok in
     rw c.in-Payload.is
-    (record { steps = noted c.args.self.now c.note.new.self c.in-Payload.payload.now c.args.offset c.requires (rw c.text.ensures at h) })
+    (noted c.args.self.now c.note.new.self c.in-Payload.payload.now c.args.offset c.requires (rw c.text.ensures at h))
 
-pub returns-in_ok-command-in-Delim : goal.returns-in_ok-command-in-Delim
-returns-in_ok-command-in-Delim g c =
+pub returns-in_ok-command-in-Delim-clause-goes_on : goal.returns-in_ok-command-in-Delim-clause-goes_on
+returns-in_ok-command-in-Delim-clause-goes_on g c =
     rw c.in-Delim.is
-    (record {
-      steps = delimited c.args.self.now c.args.offset c.in_ok-command-in-Delim.command
-          c.empty_request.result c.requires c.in_ok-command-in-Delim.ensures.command c.empty_request.ensures;
-    })
+    (delimited c.args.self.now c.args.offset c.in_ok-command-in-Delim.command
+    c.empty_request.result _ c.requires c.in_ok-command-in-Delim.ensures.command c.empty_request.ensures)
 
-pub returns-in_ok-check_end-in-Flush : goal.returns-in_ok-check_end-in-Flush
-returns-in_ok-check_end-in-Flush g c =
+pub returns-in_ok-check_end-in-Flush-clause-goes_on : goal.returns-in_ok-check_end-in-Flush-clause-goes_on
+returns-in_ok-check_end-in-Flush-clause-goes_on g c =
     rw (c.in-Flush.is, c.restart.ensures.given)
-    (record {
-      steps = flushed c.args.self.now c.restart.new.self c.args.offset c.in_ok-command-in-Flush.command
-          c.empty_request-request.result c.requires c.in_ok-command-in-Flush.ensures.command
-          c.empty_request-request.ensures c.in_ok-check_end-in-Flush.ensures c.restart.ensures.next c.restart.ensures.new;
-    })
+    (flushed c.args.self.now c.restart.new.self c.args.offset c.in_ok-command-in-Flush.command
+    c.empty_request-request.result c.requires c.in_ok-command-in-Flush.ensures.command
+    c.empty_request-request.ensures c.in_ok-check_end-in-Flush.ensures c.restart.ensures.next c.restart.ensures.new)
 
-pub returns-in_err-check_end-in-Flush : goal.returns-in_err-check_end-in-Flush
-returns-in_err-check_end-in-Flush g c =
+pub returns-in_err-check_end-in-Flush-clause-goes_on : goal.returns-in_err-check_end-in-Flush-clause-goes_on
+returns-in_err-check_end-in-Flush-clause-goes_on g c =
     let p = err_from_is_err_and c.from_residual-in_err-check_end-in-Flush.result c.from_residual-in_err-check_end-in-Flush.ensures.1 in
     rw (p.1, p.2, c.in-Flush.is)
-    (record {
-      steps = flush_refused c.args.self.now c.args.offset c.in_ok-command-in-Flush.command
-          c.empty_request-request.result c.in_err-check_end-in-Flush.field-0.0 c.requires (search rules)
-          c.in_ok-command-in-Flush.ensures.command c.empty_request-request.ensures c.in_err-check_end-in-Flush.ensures;
-    })
+    (flush_refused c.args.self.now c.args.offset c.in_ok-command-in-Flush.command
+    c.empty_request-request.result c.in_err-check_end-in-Flush.field-0.0 c.requires (search rules)
+    c.in_ok-command-in-Flush.ensures.command c.empty_request-request.ensures c.in_err-check_end-in-Flush.ensures)

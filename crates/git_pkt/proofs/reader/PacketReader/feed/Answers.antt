@@ -6,11 +6,14 @@ use Rattle.git_pkt.specs.declared.fault.Fault.{Fault}
 use Rattle.git_pkt.specs.declared.reader.Progress.{Progress}
 use Rattle.git_pkt.specs.declared.reader.Progress.TheVariants.{Open, Whole, Failed}
 use Rattle.git_pkt.proofs.ReaderMoves.{whole_uses, whole_behind}
+use Rattle.git_pkt.proofs.OpenLengths.{failed_counts_none, open_counts, shut_counts_none, whole_counts}
 use Rattle.git_pkt.proofs.Carries.{carry_open, carry_whole, carry_failed}
 use Rattle.git_pkt.proofs.reader.PacketReader.feed.Goals as goal
 
 pub returns-in-Some : goal.returns-in-Some
-returns-in-Some c = search rules
+returns-in-Some c =
+    let none = failed_counts_none c.args.self.now c.in-Some.fault c.in-Some.is in
+    search (rules, none)
 
 pub returns-in-Open : goal.returns-in-Open
 returns-in-Open c =
@@ -21,15 +24,16 @@ returns-in-Open c =
         refl,
         (λ _. tt),
         record {
-          reads = carry_open _ _ _ c.in_default.is moves;
+          reads = carry_open _ _ _ (omega (arith, c.len.ensures.value, c.len.ensures.fits)) c.in_default.is moves;
           tells = (c.step-step.ensures.all c.in-Open.is, moves.arrives.no_fault);
           news = λ f sound is. absurd (cc);
           stays = λ f is. absurd (c.in_default.not-Some f is);
           keeps = c.step-step.ensures.keeps;
           held = tt;
+          counts = open_counts _ _ _ _ (length-take-le c.step-step.result.used c.args.piece.now c.step-step.ensures.used) moves;
         },
       ),
-      record { after = tt; used = c.step-step.ensures.used },
+      record { after = tt; used = c.step-step.ensures.used; cost = c.step-step.ensures.cost },
     )
 
 pub returns-in-Failed : goal.returns-in-Failed
@@ -43,7 +47,7 @@ returns-in-Failed c =
         refl,
         (λ _. tt),
         record {
-          reads = carry_failed _ _ _ c.in-Failed.fault c.in_default.is moves;
+          reads = carry_failed _ _ _ c.in-Failed.fault (omega (arith, c.len.ensures.value, c.len.ensures.fits)) c.in_default.is moves;
           tells = moves.arrives.told ∙ (cc);
           news =
               λ f sound is.
@@ -52,9 +56,10 @@ returns-in-Failed c =
           stays = λ f is. absurd (c.in_default.not-Some f is);
           keeps = c.step-step.ensures.keeps;
           held = tt;
+          counts = shut_counts_none c.step-step.new.self moves.arrives.closed;
         },
       ),
-      record { after = tt; used = c.step-step.ensures.used },
+      record { after = tt; used = c.step-step.ensures.used; cost = c.step-step.ensures.cost },
     )
 
 pub returns-in-Whole : goal.returns-in-Whole
@@ -68,7 +73,7 @@ returns-in-Whole c =
         refl,
         (λ _. tt),
         record {
-          reads = carry_whole _ _ _ _ c.in_default.is moves c.packet.ensures.spells (omega (arith, behind, c.len.ensures.value));
+          reads = carry_whole _ _ _ _ (omega (arith, c.len.ensures.value, c.len.ensures.fits)) c.in_default.is moves c.packet.ensures.spells (omega (arith, behind, c.len.ensures.value));
           tells = (
             omega (arith, uses, length-take-le c.step-step.result.used c.args.piece.now c.step-step.ensures.used),
             moves.arrives.no_fault,
@@ -80,7 +85,8 @@ returns-in-Whole c =
           stays = λ f is. absurd (c.in_default.not-Some f is);
           keeps = c.step-step.ensures.keeps;
           held = λ rest holds. moves.arrives.held ∙ ap (λ (l : List ℕ). l ++ take c.step-step.result.used c.args.piece.now) holds.all;
+          counts = whole_counts _ _ _ _ _ (length-take-le c.step-step.result.used c.args.piece.now c.step-step.ensures.used) moves c.packet.ensures.spells;
         },
       ),
-      record { after = tt; used = c.step-step.ensures.used },
+      record { after = tt; used = c.step-step.ensures.used; cost = c.step-step.ensures.cost },
     )

@@ -1,4 +1,5 @@
-use Rattle.std.proofs.Common.{◌≡◌, take}
+use Rattle.std.proofs.Common.{◌≡◌, ◌*◌, take}
+use Rattle.git_names.specs.Steps.{TakesAtMost}
 use Rattle.git_pkt.specs.PacketReader.{held_of}
 use Rattle.git_pkt.specs.PacketReaderSteps.{Moves}
 use Rattle.git_pkt.specs.declared.reader.Progress.TheVariants.{Open}
@@ -8,5 +9,6 @@ use Rattle.git_pkt.proofs.reader.PacketReader.gather.Given as goal
 abbrev pub invariant-loop-used : goal.invariant-loop-used
 invariant-loop-used l = record {
   moves : Moves l.fn.self (take l.used l.piece) Open l.self;
+  cost : TakesAtMost (6 * l.used) l.fn.steps l.steps;
   keeps : l.used ≡ 0 → held_of l.self ≡ held_of l.fn.self;
 }

@@ -1,5 +1,6 @@
-use Rattle.std.proofs.Common.{rules, ◌++◌, ◌⊎◌, ◌<◌, inl, inr, ℕ, List, ◌≡◌, ◌+◌, ◌-◌, true, false}
+use Rattle.std.proofs.Common.{rules, ◌++◌, ◌⊎◌, ◌<◌, ◌≤◌, ◌*◌, inl, inr, ℕ, List, ◌≡◌, ◌+◌, ◌-◌, true, false}
 use Rattle.std.proofs.Common.{take, drop, length, arith, subst, ap, sym, ◌∙◌, [], length-drop}
+use Rattle.git_pkt.specs.Credit.{Pays}
 use Rattle.git_pkt.proofs.Pieces.{left_of, take_joined}
 use Rattle.git_server.specs.ServerCalls.{Goes}
 use Rattle.git_server.specs.Server.{wants_input}
@@ -20,6 +21,12 @@ returns-else-wants_input-clause-moves g c =
       | inl still ↦ absurd (true_not_false (sym still ∙ sym c.wants_input.ensures.value ∙ c.if-wants_input.false))
       | inr moved ↦ moved
     ]
+
+-- one call after another, where the first has been paid for by its bytes
+paid_on : (used more before middle after credit rest left : ℕ) → middle + rest ≤ before + credit + 64 * used → Pays used before middle credit rest
+    → Pays more middle after rest left → Pays (used + more) before after credit left
+paid_on used more before middle after credit rest left paid first second =
+    record { rises = omega (arith, first.rises, second.rises); within = omega (arith, paid, second.within) }
 
 pub loop-used-preserved : goal.loop-used-preserved
 loop-used-preserved g c =
@@ -45,6 +52,15 @@ loop-used-preserved g c =
           let loud : wants_input c.loop-used.self ≡ true = sym c.wants_input.ensures.value ∙ c.if-wants_input.true in
           absurd (true_not_false (sym loud ∙ same ∙ quiet));
       nothing = λ empty. absurd (omega (arith, empty, c.loop-used-test));
+      cost =
+          let loud : wants_input c.loop-used.self ≡ true = sym c.wants_input.ensures.value ∙ c.if-wants_input.true in
+          paid_on _ _ _ _ _ _ _ _ (c.loop-used.invariant.paid loud c.loop-used-test.true) c.loop-used.invariant.cost c.step-used.ensures.cost;
+      paid =
+          λ wants more.
+          let loud : wants_input c.loop-used.self ≡ true = sym c.wants_input.ensures.value ∙ c.if-wants_input.true in
+          let step = c.step-used.ensures.paid wants
+          (omega (arith, more, ap length (left_of piece done c.loop-used.invariant.within), length-drop done piece)) in
+          omega (arith, step, c.loop-used.invariant.paid loud c.loop-used-test.true);
     }
 
 pub loop-used-init : goal.loop-used-init
@@ -55,4 +71,6 @@ loop-used-init g c = record {
   in_time = open_in_time g.R.Repo.state c.args.self.now 0 c.args.piece.now;
   stays = search rules;
   nothing = search rules;
+  cost = search rules;
+  paid = search rules;
 }

@@ -1,6 +1,7 @@
-use Rattle.std.proofs.Common.{◌⊎◌, IsSome, length, ◌-◌, ◌+◌, ◌≡◌, true, false, ◌≤◌, ◌<◌, [], take, if◌then◌else◌}
+use Rattle.std.proofs.Common.{◌⊎◌, IsSome, length, ◌-◌, ◌+◌, ◌*◌, ◌≡◌, true, false, ◌≤◌, ◌<◌, [], take, if◌then◌else◌}
 use Rattle.git_server.specs.ServerCalls.{Goes, StopsInTime}
-use Rattle.git_server.specs.Server.{wants_input, outcome_of}
+use Rattle.git_pkt.specs.Credit.{Pays, credit_of}
+use Rattle.git_server.specs.Server.{reader_of, wants_input, outcome_of}
 use Rattle.git_server.proofs.server.Server.feed.Given as goal
 
 -- what was used so far was used well, and a server that does not wait for bytes, or got none, is as it was
@@ -12,6 +13,9 @@ invariant-loop-used g l = record {
   in_time : StopsInTime g.R.Repo.state l.fn.self l.used l.piece (outcome_of l.self);
   stays : wants_input l.fn.self ≡ false → (l.used ≡ 0) × (l.self ≡ l.fn.self);
   nothing : length l.piece ≡ 0 → (l.used ≡ 0) × (l.self ≡ l.fn.self);
+  cost : Pays l.used l.fn.steps l.steps (credit_of (reader_of l.fn.self)) (credit_of (reader_of l.self));
+  paid : wants_input l.self ≡ true → l.used < length l.piece
+      → l.steps + credit_of (reader_of l.self) ≤ l.fn.steps + credit_of (reader_of l.fn.self) + 64 * l.used;
 }
 
 -- a step uses bytes, or stops

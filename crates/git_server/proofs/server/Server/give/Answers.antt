@@ -1,13 +1,13 @@
 use Rattle.std.proofs.Common.{arith, refl, ap}
 use Rattle.git_server.specs.Answers.{error_packet}
-use Rattle.git_server.specs.Phases.{kept_in, most_owed}
+use Rattle.git_server.specs.Phases.{kept_in, most_owed, stored_in}
 use Rattle.git_server.specs.declared.server.Phase.TheVariants.{Answering, Between, Ended}
 use Rattle.git_server.proofs.Breaking.{gives_broken}
 use Rattle.git_server.proofs.Giving.{gives}
 use Rattle.git_server.proofs.Outcomes.{same_state}
 use Rattle.git_server.proofs.Owing.{line_behind, fewer_lines, flush_stays, flush_unasked, is_advertising, is_advertised, is_answering, is_between}
 use Rattle.git_server.proofs.Owing.{last_less, last_owes, part_breaks, part_less, part_owes, whole_advertising}
-use Rattle.git_server.proofs.Owing.{same_outcome, left_stays, refusal_behind, refusal_outcome, refusal_left, none_kept_in_advertising}
+use Rattle.git_server.proofs.Owing.{same_outcome, left_stays, refusal_behind, refusal_outcome, refusal_left, none_kept_in_advertising, none_stored_in_advertising}
 use Rattle.git_server.proofs.server.Server.give.Goals as goal
 
 pub returns-in-Advertising : goal.returns-in-Advertising
@@ -25,6 +25,7 @@ returns-in-Advertising g c =
     (same_outcome old.phase _ was is) (left_stays old.phase _ was is)
     (λ packets h. flush_unasked c.next.result _ c.advertising.ensures packets)
     (omega (arith, none_kept_in_advertising c.next.result _ c.advertising.ensures))
+    (λ _. omega (arith, none_stored_in_advertising c.next.result _ c.advertising.ensures))
 
 pub returns-in-Part : goal.returns-in-Part
 returns-in-Part g c =
@@ -45,6 +46,7 @@ returns-in-Part g c =
     (part_less old.offer repo old.phase answer flush one.packet was other one.is_next)
     (same_outcome old.phase now quiet quiet_now) (left_stays old.phase now quiet quiet_now)
     (flush_stays answer flush old.phase other was) (omega (arith, ap kept_in was, c.in-Part.ensures.kept))
+    (λ h. omega (arith, h, ap kept_in was, ap stored_in was, c.in-Part.ensures.kept, c.in-Part.ensures.stored))
 
 pub returns-in-Whole : goal.returns-in-Whole
 returns-in-Whole g c =
@@ -61,7 +63,7 @@ returns-in-Whole g c =
     (last_owes old.offer repo old.phase answer flush one.packet was one.is_next)
     (λ later may. absurd may)
     (last_less old.offer repo old.phase answer flush one.packet was)
-    (same_outcome old.phase Between quiet quiet_now) (left_stays old.phase Between quiet quiet_now) (λ packets h. tt) (omega arith)
+    (same_outcome old.phase Between quiet quiet_now) (left_stays old.phase Between quiet quiet_now) (λ packets h. tt) (omega arith) (λ _. omega arith)
 
 pub returns-in-Broken : goal.returns-in-Broken
 returns-in-Broken g c =
@@ -79,4 +81,4 @@ returns-in-Refusing g c =
     (λ later may. absurd may)
     (omega (arith, ap (most_owed old.offer repo) c.in-Refusing.is))
     (refusal_outcome old.phase c.in-Refusing.fault c.in-Refusing.is)
-    (refusal_left old.phase c.in-Refusing.fault c.in-Refusing.is) (λ packets h. tt) (omega arith)
+    (refusal_left old.phase c.in-Refusing.fault c.in-Refusing.is) (λ packets h. tt) (omega arith) (λ _. omega arith)

@@ -1,0 +1,92 @@
+-- A request some of whose prefixes are dropped, and the others moved: it is counted as before.
+use Rattle.std.proofs.Common.{◌≡◌, ℕ, suc, ◌+◌, ◌≤◌, ◌<◌, Bool, true, false, if◌then◌else◌, List, [], ◌∷◌, ◌++◌, All, length, map, refl, sym, subst, arith}
+use Rattle.std.specs.List.{dedup, dedup_from, sum_by}
+use Rattle.std.specs.List.Sorted.{IsPermutation}
+use Rattle.std.proofs.lemmas.List.{get_or-map, length-map}
+use Rattle.std.proofs.lemmas.List.Elements.{All-append}
+use Rattle.std.proofs.lemmas.List.Sums.{sum_by-append, sum_by-cons}
+use Rattle.std.proofs.lemmas.List.Filters.{All-dedup}
+use Rattle.std.proofs.lemmas.List.Sorted.{All-permutation, IsPermutation-append_right, IsPermutation-map, sum_by-IsPermutation}
+use Rattle.git_names.specs.declared.object_format.Format.{Format}
+use Rattle.git_msg.specs.Arguments.{Arg, IsValue, peel, symrefs, ref_prefix, written_text}
+use Rattle.git_msg.specs.Asked.{LsRefsAsked, arguments_in, bytes_of, command_asked, ls_refs, where_asked}
+use Rattle.git_msg.specs.Kept.{IsCounted}
+use Rattle.git_msg.specs.Prefixes.{Prunes, begins}
+use Rattle.git_msg.proofs.KeptBytes.{all_front, all_back}
+
+-- fewer prefixes have fewer bytes, and what holds of each argument holds of fewer
+module _ (P : Arg → Type 0) (make : List ℕ → Arg) where
+  abbrev weight : Arg → ℕ
+  weight arg = length (written_text arg)
+
+  less_step : (k x : List ℕ) (xs : List (List ℕ)) (b : Bool)
+      → sum_by weight (map make (dedup_from begins k xs)) ≤ weight (make k) + sum_by weight (map make xs)
+      → sum_by weight (map make (dedup_from begins x xs)) ≤ weight (make x) + sum_by weight (map make xs)
+      → sum_by weight (map make (if b then dedup_from begins k xs else k ∷ dedup_from begins x xs)) ≤ weight (make k) + (weight (make x) + sum_by weight (map make xs))
+  less_step k x xs true past next = omega (arith, past)
+  less_step k x xs false past next = omega (arith, next, sum_by-cons weight (make k) (map make (dedup_from begins x xs)))
+
+  less_from : (k : List ℕ) (xs : List (List ℕ)) → sum_by weight (map make (dedup_from begins k xs)) ≤ weight (make k) + sum_by weight (map make xs)
+  less_from k [] = omega (arith, sum_by-cons weight (make k) [])
+  less_from k (x ∷ xs) =
+      subst (λ (n : ℕ). sum_by weight (map make (dedup_from begins k (x ∷ xs))) ≤ weight (make k) + n) (sym (sum_by-cons weight (make x) (map make xs)))
+      (less_step k x xs (begins x k) (less_from k xs) (less_from x xs))
+
+  pub less_pruned : (xs : List (List ℕ)) → sum_by weight (map make (dedup begins xs)) ≤ sum_by weight (map make xs)
+  less_pruned [] = omega arith
+  less_pruned (x ∷ xs) =
+      subst (λ (n : ℕ). sum_by weight (map make (dedup begins (x ∷ xs))) ≤ n) (sym (sum_by-cons weight (make x) (map make xs))) (less_from x xs)
+
+  to_made : (xs : List (List ℕ)) → All P (map make xs) → All (λ p. P (make p)) xs
+  to_made [] h = λ k d below. absurd (omega (arith, below))
+  to_made (x ∷ xs) h = by_place
+    where
+      by_place : All (λ p. P (make p)) (x ∷ xs)
+      by_place k d below = subst P (get_or-map make (x ∷ xs) k d (make d) below) (h k (make d) (omega (arith, below, length-map (x ∷ xs) make)))
+
+  from_made : (xs : List (List ℕ)) → All (λ p. P (make p)) xs → All P (map make xs)
+  from_made [] h = λ k d below. absurd (omega (arith, below))
+  from_made (x ∷ xs) h = by_place
+    where
+      by_place : All P (map make (x ∷ xs))
+      by_place k d below =
+          let inside : k < length (x ∷ xs) = omega (arith, below, length-map (x ∷ xs) make) in
+          subst P (sym (get_or-map make (x ∷ xs) k x d inside)) (h k x inside)
+
+  all_pruned : (xs : List (List ℕ)) → All P (map make xs) → All P (map make (dedup begins xs))
+  all_pruned xs h = from_made (dedup begins xs) (All-dedup begins (λ p. P (make p)) xs (to_made xs h))
+
+  all_behind : (front xs ys : List Arg) → (All P xs → All P ys) → All P (front ++ xs) → All P (front ++ ys)
+  all_behind front xs ys more h = All-append P front ys (all_front P front xs h) (more (all_back P front xs h))
+
+  all_moved : (xs ys : List (List ℕ)) → IsPermutation xs ys → All P (map make xs) → All P (map make ys)
+  all_moved xs ys moved = All-permutation P (map make xs) (map make ys) (IsPermutation-map make xs ys moved)
+
+  -- the same behind other arguments
+  pub values_pruned : (front others : List Arg) (xs ys : List (List ℕ)) → IsPermutation xs ys
+      → All P (front ++ (others ++ map make xs)) → All P (front ++ (others ++ map make (dedup begins ys)))
+  values_pruned front others xs ys moved =
+      all_behind front (others ++ map make xs) (others ++ map make (dedup begins ys))
+      (all_behind others (map make xs) (map make (dedup begins ys)) (λ h. all_pruned ys (all_moved xs ys moved h)))
+
+  pub bytes_pruned : (front others : List Arg) (xs ys : List (List ℕ)) → IsPermutation xs ys
+      → sum_by weight (front ++ (others ++ map make (dedup begins ys))) ≤ sum_by weight (front ++ (others ++ map make xs))
+  bytes_pruned front others xs ys moved =
+      let before = sum_by-append weight front (others ++ map make xs) in
+      let before_others = sum_by-append weight others (map make xs) in
+      let after = sum_by-append weight front (others ++ map make (dedup begins ys)) in
+      let after_others = sum_by-append weight others (map make (dedup begins ys)) in
+      let same = sum_by-IsPermutation weight (map make xs) (map make ys) (IsPermutation-map make xs ys moved) in
+      let less = less_pruned ys in
+      omega (arith, before, before_others, after, after_others, same, less)
+
+pub counted_pruned : (format : Format) (q : LsRefsAsked) (ps : List (List ℕ)) (kept : ℕ) → Prunes q.ref_prefixes ps → IsCounted format (ls_refs q) kept
+    → IsCounted format (ls_refs (record q { ref_prefixes = ps })) kept
+counted_pruned format q ps kept prunes counted =
+    let P : Arg → Type 0 = IsValue (command_asked (ls_refs q)) format in
+    let front : List Arg = where_asked q.peel peel in
+    let others : List Arg = where_asked q.symrefs symrefs in
+    rw prunes.kept (record {
+      values = values_pruned P ref_prefix front others q.ref_prefixes prunes.moved prunes.same counted.values;
+      written = let less = bytes_pruned P ref_prefix front others q.ref_prefixes prunes.moved prunes.same in let written = counted.written in omega (arith, less, written);
+    })

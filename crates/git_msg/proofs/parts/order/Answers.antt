@@ -1,0 +1,28 @@
+use Rattle.std.proofs.Common.{◌∙◌, arith}
+use Rattle.std.proofs.lemmas.List.Filters.{All-dedup}
+use Rattle.std.proofs.lemmas.List.Sorted.{All-permutation, length_permutation}
+use Rattle.git_msg.specs.TextPools.{IsEnd, text_at}
+use Rattle.git_msg.proofs.PrefixOrder.{same, ordered, alike_moved, alike_pruned, prunes_texts}
+use Rattle.git_msg.proofs.parts.order.Goals as goal
+
+pub returns-clause-ordered : goal.returns-clause-ordered
+returns-clause-ordered g c = rw c.prune.ensures.kept (ordered (text_at c.args.bytes.now) _ 0 c.sort.ensures.sorted)
+
+pub returns-clause-alike : goal.returns-clause-alike
+returns-clause-alike g c name =
+    rw c.prune.ensures.kept
+    (alike_moved (text_at c.args.bytes.now) _ _ c.sort.ensures.permutation name ∙ alike_pruned (text_at c.args.bytes.now) _ name)
+
+pub returns-clause-fewer : goal.returns-clause-fewer
+returns-clause-fewer g c =
+    let fewer = c.prune.ensures.fewer in
+    let moved = length_permutation _ _ c.sort.ensures.permutation in
+    omega (arith, fewer, moved)
+
+pub returns-clause-sound : goal.returns-clause-sound
+returns-clause-sound g c sound =
+    rw c.prune.ensures.kept
+    (All-dedup (same (text_at c.args.bytes.now)) (IsEnd c.args.bytes.now) _ (All-permutation (IsEnd c.args.bytes.now) _ _ c.sort.ensures.permutation sound))
+
+pub returns-clause-prunes : goal.returns-clause-prunes
+returns-clause-prunes g c = rw c.prune.ensures.kept (prunes_texts (text_at c.args.bytes.now) _ _ c.sort.ensures.permutation)
