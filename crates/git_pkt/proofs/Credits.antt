@@ -1,6 +1,8 @@
 -- Steps and credit of machines that read packets.
-use Rattle.std.proofs.Common.{arith, ◌≡◌, ℕ, ◌+◌, ◌*◌, ◌≤◌, List, [], ◌∷◌, subst}
-use Rattle.git_pkt.specs.Credit.{Call, fed, other, ArePaid, bytes_of, feeds_of}
+use Rattle.std.proofs.Common.{arith, ◌≡◌, ℕ, ◌+◌, ◌*◌, ◌≤◌, List, [], ◌∷◌, ◌++◌, length, length-append, subst, ap}
+use Rattle.std.specs.Prelude.{flat_map, sum_by}
+use Rattle.std.proofs.lemmas.List.Sums.{sum_by-cons}
+use Rattle.git_pkt.specs.Credit.{ArePaid, MakesAll}
 use Rattle.git_pkt.specs.PacketReader.{Counts}
 use Rattle.git_pkt.specs.declared.reader.Got.{Got}
 use Rattle.git_pkt.specs.declared.reader.PacketReader.{PacketReader}
@@ -9,13 +11,19 @@ use Rattle.git_pkt.specs.declared.reader.PacketReader.{PacketReader}
 pub counts_by : (old new : PacketReader) (used : ℕ) (got same : Got) → got ≡ same → Counts old used got new → Counts old used same new
 counts_by old new used got same e h = subst (λ (g : Got). Counts old used g new) e h
 
--- all calls together take no more than 64 steps for each byte used and each call of `feed`
-pub all_paid : (calls : List Call) (before after credit left : ℕ) → ArePaid calls before after credit left
-    → (before ≤ after) × (after + left ≤ before + credit + 64 * (bytes_of calls + feeds_of calls))
-all_paid [] before after credit left h = (omega (arith, h.0), omega (arith, h.0, h.1))
-all_paid (fed used ∷ calls) before after credit left (next, rest, pays, more) =
-    let later = all_paid calls next after rest left more in
-    (omega (arith, pays.rises, later.0), omega (arith, pays.within, later.1))
-all_paid (other ∷ calls) before after credit left (rest, less, more) =
-    let later = all_paid calls before after rest left more in
-    (omega (arith, later.0), omega (arith, less, later.1))
+module _ {C M : Type 0} (Makes : C → ℕ → M → ℕ → M → Type 0) (credit : M → ℕ) (used : C → List ℕ) (feeds : C → ℕ) where
+  -- where each call is paid, all together are
+  pub all_paid : ((call : C) (before : ℕ) (old : M) (after : ℕ) (new : M) → Makes call before old after new
+      → ArePaid (length (used call)) (feeds call) before after (credit old) (credit new))
+      → (calls : List C) (before : ℕ) (old : M) (after : ℕ) (new : M) → MakesAll Makes calls before old after new
+      → ArePaid (length (flat_map used calls)) (sum_by feeds calls) before after (credit old) (credit new)
+  all_paid each [] before old after new (counter, same) =
+      record { rises = omega (arith, counter); within = omega (arith, counter, ap credit same) }
+  all_paid each (call ∷ calls) before old after new (next, between, made, more) =
+      let now = each call before old next between made in
+      let later = all_paid each calls next between after new more in
+      let bytes = length-append (used call) (flat_map used calls) in
+      record {
+        rises = omega (arith, now.rises, later.rises);
+        within = omega (arith, now.within, later.within, bytes, sum_by-cons feeds call calls);
+      }

@@ -1,4 +1,4 @@
--- What the steps of a machine are counted against, which reads packets from pieces of any size.
+-- What the steps of a machine are counted against that reads packets from pieces of any size.
 use Rattle.std.specs.Prelude.{◌≡◌, ℕ, ◌+◌, ◌*◌, ◌≤◌, List, [], ◌∷◌}
 use Rattle.git_pkt.specs.PacketReader.{open_length}
 use Rattle.git_pkt.specs.declared.reader.PacketReader.{PacketReader}
@@ -12,26 +12,13 @@ pub record Pays (used before after credit left : ℕ) : Type 0 where
   pub rises : before ≤ after
   pub within : after + left ≤ before + credit + 64 * (used + 1)
 
--- a call of a machine: one of `feed` that used so many bytes, or another, which counts no steps
-pub data Call : Type 0 where
-  fed : ℕ → Call
-  other : Call
+-- calls that used so many bytes, and of which so many were of `feed`, did so
+pub record ArePaid (used feeds before after credit left : ℕ) : Type 0 where
+  pub rises : before ≤ after
+  pub within : after + left ≤ before + credit + 64 * (used + feeds)
 
--- so many bytes were used
-abbrev pub bytes_of : List Call → ℕ
-bytes_of [] = 0
-bytes_of (fed used ∷ calls) = used + bytes_of calls
-bytes_of (other ∷ calls) = bytes_of calls
-
--- so often `feed` was called
-abbrev pub feeds_of : List Call → ℕ
-feeds_of [] = 0
-feeds_of (fed used ∷ calls) = 1 + feeds_of calls
-feeds_of (other ∷ calls) = feeds_of calls
-
--- the calls, one after the other, raised the counter from `before` to `after`, and the credit from `credit` to `left`
-abbrev pub ArePaid : List Call → ℕ → ℕ → ℕ → ℕ → Type 0
-ArePaid [] before after credit left = (after ≡ before) × (left ≡ credit)
-ArePaid (fed used ∷ calls) before after credit left =
-    (next : ℕ) × (rest : ℕ) × Pays used before next credit rest × ArePaid calls next after rest left
-ArePaid (other ∷ calls) before after credit left = (rest : ℕ) × (rest ≤ credit) × ArePaid calls before after rest left
+-- the calls of a machine were made one after the other: `Makes` says of each what it does to the counter and to the machine
+abbrev pub MakesAll : {C M : Type 0} → (C → ℕ → M → ℕ → M → Type 0) → List C → ℕ → M → ℕ → M → Type 0
+MakesAll Makes [] before old after new = (after ≡ before) × (new ≡ old)
+MakesAll {M = M} Makes (call ∷ calls) before old after new =
+    (next : ℕ) × (between : M) × Makes call before old next between × MakesAll Makes calls next between after new
