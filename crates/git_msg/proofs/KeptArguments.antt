@@ -22,7 +22,7 @@ use Rattle.git_msg.specs.Texts.{Follows}
 use Rattle.git_msg.proofs.KeptBytes.{stored_fits}
 use Rattle.git_msg.specs.Asked.{asked_by, with_argument}
 use Rattle.git_msg.specs.Checks.{Passes}
-use Rattle.git_msg.specs.HeldRequest.{command_of, format_of, kept_of, limit_of, stored_of, Keeps, keep_checks, IsRefused}
+use Rattle.git_msg.specs.HeldRequest.{command_of, format_of, kept_of, limit_of, stored_of, IsBounded, Keeps, keep_checks, IsRefused}
 use Rattle.git_msg.specs.Lines.{Line, argument, commands_of, arguments_of, IsLine, IsArgumentLine, HasFault, HasFaultIn}
 use Rattle.git_msg.specs.Requests.{AreLines, FirstFault, WantsMemory, IsTold}
 use Rattle.git_msg.specs.RequestReader.{WaitsIn, WaitsBehind, InArguments, KeepsOn, limit_in, waiting_at, waiting_bytes}
@@ -46,10 +46,10 @@ waited_line packets offset long arg r w fits =
     (argument_is_line r.offer (limit_in r) w.lines w.bytes arg long w.in_part.behind line)
 
 -- the argument part with one argument more
-one_more : {A : Type 0} (lines : List Line) (arg : Arg) (long : ℕ) (r : RequestReader A) (q : Request A) (covered : stored_of q ≤ kept_of q)
+one_more : {A : Type 0} (lines : List Line) (arg : Arg) (long : ℕ) (r : RequestReader A) (q : Request A) (bounded : IsBounded q)
     → InArguments lines r → Keeps r.request arg long q
-    → InArguments (lines ++ argument arg long ∷ []) (record r { part = Arguments; request = q; covered = covered })
-one_more lines arg long r q covered h k = record {
+    → InArguments (lines ++ argument arg long ∷ []) (record r { part = Arguments; request = q; bounded = bounded })
+one_more lines arg long r q bounded h k = record {
   behind = delimiter_snoc lines (argument arg long) ∙ h.behind;
   command = commands_snoc lines (argument arg long) ∙ append-nil (commands_of lines) ∙ h.command ∙ ap (λ c. c ∷ []) (sym k.command);
   asked = k.asked ∙ ap (λ a. with_argument a arg) h.asked ∙ sym (asked_snoc (command_of r.request) (arguments_of lines) arg)
@@ -123,10 +123,10 @@ counted packets offset long arg r w =
     let same = w.long_is in
     omega arith
 
-pub keeps_ok : {A : Type 0} (r : RequestReader A) (offset long : ℕ) (arg : Arg) (q : Request A) (covered : stored_of q ≤ kept_of q)
+pub keeps_ok : {A : Type 0} (r : RequestReader A) (offset long : ℕ) (arg : Arg) (q : Request A) (bounded : IsBounded q)
     → r.part ≡ Waiting offset long → Keeps r.request arg (max long (length (written_text arg))) q
-    → Passes (keep_checks r.request arg (max long (length (written_text arg)))) → KeepsOn r arg (Ok tt) (record r { part = Arguments; request = q; covered = covered })
-keeps_ok {A} r offset long arg q covered part k passes = record {
+    → Passes (keep_checks r.request arg (max long (length (written_text arg)))) → KeepsOn r arg (Ok tt) (record r { part = Arguments; request = q; bounded = bounded })
+keeps_ok {A} r offset long arg q bounded part k passes = record {
   settles = λ packets w.
       let waits : WaitsBehind packets offset long arg r = subst (λ (p : Part). WaitsIn p packets arg r) part w.waits in
       let same = counted packets offset long arg r waits in
@@ -140,7 +140,7 @@ keeps_ok {A} r offset long arg q covered part k passes = record {
         stands = record {
           lines = waits.lines ++ argument arg long ∷ [];
           taken = subst (λ (n : ℕ). AreLines r.offer n [] packets (waits.lines ++ argument arg long ∷ [])) (sym k.limit) all;
-          in_part = one_more waits.lines arg long r q covered waits.in_part kept;
+          in_part = one_more waits.lines arg long r q bounded waits.in_part kept;
         };
       };
   keeps = subst (λ (p : Part). Keeps r.request arg (max (waiting_bytes p) (length (written_text arg))) q) (sym part) k;
@@ -230,12 +230,12 @@ told packets offset long arg r kind w (inr h) =
     inr (subst (λ (k : Kind). WantsMemory r.offer (limit_in r) packets k offset) (sym h.name)
     (no_memory packets offset long arg r w h.passes.1.0 h.takes_memory))
 
-pub keeps_err : {A : Type 0} (r : RequestReader A) (offset long : ℕ) (arg : Arg) (q : Request A) (kind : Kind) (covered : stored_of q ≤ kept_of q)
+pub keeps_err : {A : Type 0} (r : RequestReader A) (offset long : ℕ) (arg : Arg) (q : Request A) (kind : Kind) (bounded : IsBounded q)
     → r.part ≡ Waiting offset long → q ≡ r.request → IsRefused (keep_checks r.request arg (max long (length (written_text arg)))) arg kind
-    → KeepsOn r arg (Err (record { kind = kind; offset = offset })) (record r { part = Failed (record { kind = kind; offset = offset }); request = q; covered = covered })
-keeps_err {A} r offset long arg q kind covered part same refused =
-    subst (λ (x : Request A). (h : stored_of x ≤ kept_of x) → KeepsOn r arg (Err (record { kind = kind; offset = offset }))
-    (record r { part = Failed (record { kind = kind; offset = offset }); request = x; covered = h })) (sym same) (λ still. record {
+    → KeepsOn r arg (Err (record { kind = kind; offset = offset })) (record r { part = Failed (record { kind = kind; offset = offset }); request = q; bounded = bounded })
+keeps_err {A} r offset long arg q kind bounded part same refused =
+    subst (λ (x : Request A). (h : IsBounded x) → KeepsOn r arg (Err (record { kind = kind; offset = offset }))
+    (record r { part = Failed (record { kind = kind; offset = offset }); request = x; bounded = h })) (sym same) (λ still. record {
       settles = λ packets w.
           let waits : WaitsBehind packets offset long arg r = subst (λ (p : Part). WaitsIn p packets arg r) part w.waits in
           let it : IsTold r.offer (limit_in r) packets (record { kind = kind; offset = offset }) =
@@ -251,9 +251,12 @@ keeps_err {A} r offset long arg q kind covered part same refused =
       offer = refl;
       limit = refl;
       within = λ h. h;
-    }) covered
+    }) bounded
 
--- what is stored stays covered with an argument that is counted by no less than is written of it
-pub still_covered : {A : Type 0} (old new : Request A) (arg : Arg) (long : ℕ) → stored_of old ≤ kept_of old
-    → IsInRange (format_of old) arg → Keeps old arg (max long (length (written_text arg))) new → stored_of new ≤ kept_of new
-still_covered old new arg long h value k = omega (arith, h, k.stored, k.kept, stored_fits (format_of old) arg value)
+-- a request stays bounded with an argument that is counted by no less than is written of it, and for which the limit has room
+pub still_bounded : {A : Type 0} (old new : Request A) (arg : Arg) (long : ℕ) → IsBounded old
+    → Passes (keep_checks old arg (max long (length (written_text arg)))) → Keeps old arg (max long (length (written_text arg))) new → IsBounded new
+still_bounded old new arg long h passes k = record {
+  covered = omega (arith, h.covered, k.stored, k.kept, stored_fits (format_of old) arg passes.0.1);
+  within = omega (arith, k.kept, k.limit, passes.1.0);
+}

@@ -4,6 +4,7 @@ pub mod Places
 pub mod LineLists
 pub mod KeptArguments
 pub mod TakenPackets
+pub mod BoundedRequests
 pub mod StepFacts
 pub mod TextParts
 pub mod ReferenceLines

@@ -19,7 +19,8 @@ use Rattle.git_msg.specs.declared.reader.Taken.TheVariants.{More, Request as Tak
 use Rattle.git_msg.specs.Arguments.{Arg}
 use Rattle.git_msg.specs.Asked.{Asked, nothing_asked, asked_by}
 use Rattle.git_msg.specs.Checks.{Refuses, Passes}
-use Rattle.git_msg.specs.HeldRequest.{IsEmpty, asked_of, command_of, kept_of, limit_of, stored_of}
+use Rattle.git_msg.specs.HeldRequest.{IsBounded, IsEmpty, asked_of, command_of, kept_of, limit_of}
+use Rattle.git_msg.proofs.BoundedRequests.{one_bound}
 use Rattle.git_msg.specs.Lines.{Line, command, agent, server_option, object_format, delimiter, argument, is_none, commands_of, arguments_of, kept_in}
 use Rattle.git_msg.specs.Lines.{has_format, is_object_format, command_in, argument_in, long_of, is_delimiter, IsLineOf, key_checks, IsCapabilityLine}
 use Rattle.git_msg.specs.Lines.{argument_checks, text_checks, capability_checks, part_checks, end_checks, flush_checks_in, IsLineIn, HasFaultIn}
@@ -36,10 +37,10 @@ same_reader {A} r other h =
     ∙ ap (λ (x : Part). record r { alloc = other.alloc; offer = other.offer; part = x }) h.part
     ∙ ap (λ (x : Bool). record r { alloc = other.alloc; offer = other.offer; part = other.part; begun = x }) h.begun
     ∙ ap (λ (x : Option Command). record r { alloc = other.alloc; offer = other.offer; part = other.part; begun = other.begun; command = x }) h.command
-    ∙ ap (λ (x : Bool). record other { has_format = x; request = r.request; covered = r.covered }) h.has_format
-    ∙ subst (λ (q : Request A). (p : stored_of q ≤ kept_of q)
-      → record other { request = r.request; covered = r.covered } ≡ record other { request = q; covered = p }) h.request
-      (λ p. ap (λ (x : stored_of r.request ≤ kept_of r.request). record other { request = r.request; covered = x }) (le_prop r.covered p)) other.covered
+    ∙ ap (λ (x : Bool). record other { has_format = x; request = r.request; bounded = r.bounded }) h.has_format
+    ∙ subst (λ (q : Request A). (p : IsBounded q)
+      → record other { request = r.request; bounded = r.bounded } ≡ record other { request = q; bounded = p }) h.request
+      (λ p. ap (λ (x : IsBounded r.request). record other { request = r.request; bounded = x }) (one_bound r.request r.bounded p)) other.bounded
 
 -- no command came, by both words
 pub first_by : (o : Option Command) (b : Bool) → is_some o ≡ not b → b ≡ is_none (option_to_list o)
@@ -247,9 +248,9 @@ module _ {A : Type 0} where
 
   -- the delimiter
   pub delimited : (r : RequestReader A) (offset : ℕ) (c : Command) (q : Request A)
-      → (covered : stored_of q ≤ kept_of q) → r.part ≡ Capabilities → IsDue r c → IsEmpty c r.offer.format (limit_in r) q
-      → StepsOn r delim offset (Ok More) (record r { part = Arguments; request = q; covered = covered })
-  delimited r offset c q covered part due empty = record {
+      → (bounded : IsBounded q) → r.part ≡ Capabilities → IsDue r c → IsEmpty c r.offer.format (limit_in r) q
+      → StepsOn r delim offset (Ok More) (record r { part = Arguments; request = q; bounded = bounded })
+  delimited r offset c q bounded part due empty = record {
     goes = λ lines there.
         let h = in_capabilities lines r part there in
         let line : IsLineIn false r.offer (limit_in r) lines delim delimiter = judged lines r c h due in

@@ -42,6 +42,11 @@ module _ {A : Type 0} where
   abbrev pub limit_of : Request A → ℕ
   limit_of q = (holding_of q).limit
 
+  -- no more is stored of its values than is counted of its lines, and no more is counted than its limit has
+  pub record IsBounded (q : Request A) : Type 0 where
+    pub covered : stored_of q ≤ kept_of q
+    pub within : kept_of q ≤ limit_of q
+
   -- a request without arguments
   abbrev pub IsEmpty : Command → Format → ℕ → Request A → Type 0
   IsEmpty command format limit q = IsNew command format limit (holding_of q)

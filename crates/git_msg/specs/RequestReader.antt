@@ -67,7 +67,7 @@ module _ {A : Type 0} where
         command = command;
         has_format = has_format;
         request = request;
-        covered = covered;
+        bounded = bounded;
       } = r in
       stored_of request
 

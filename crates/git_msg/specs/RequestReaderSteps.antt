@@ -31,7 +31,7 @@ module _ {A : Type 0} where
 
   -- the reader at the beginning of a request, which is kept where the other keeps it
   abbrev pub restarted : RequestReader A → RequestReader A → RequestReader A
-  restarted next r = record r { part = Capabilities; begun = false; command = None; has_format = false; request = next.request; covered = next.covered }
+  restarted next r = record r { part = Capabilities; begun = false; command = None; has_format = false; request = next.request; bounded = next.bounded }
 
   -- the readers are the same, field by field
   pub record IsSame (r other : RequestReader A) : Type 0 where

@@ -74,10 +74,13 @@ module _ {A : Type 0} where
   abbrev pub limit_of : RequestStream A → ℕ
   limit_of s = limit_in s.requests
 
-  -- how many bytes the reader has: those of the hold of its packet reader, and those stored of its one request. Each field is named, so
-  -- that none can be added without being counted.
+  -- how many bytes the reader has: those of the hold of its packet reader, and those stored of its one request
   abbrev pub bytes_held : RequestStream A → ℕ
-  bytes_held s =
+  bytes_held s = held_in_packet s.packets + stored_so_far s.requests
+
+  -- the same with each field named, so that none can be added without being counted
+  abbrev pub bytes_held_by_fields : RequestStream A → ℕ
+  bytes_held_by_fields s =
       let record {
         packets = packets;
         requests = requests;

@@ -25,12 +25,12 @@ ghost use Rattle.git_msg.specs.Requests.{Asks, FirstFault};
 ghost use Rattle.git_msg.specs.HeldTexts.{texts_stored, texts_stored_by_fields};
 ghost use Rattle.git_msg.specs.Insides.{fetch_stored, fetch_stored_by_fields, ls_refs_stored, ls_refs_stored_by_fields};
 ghost use Rattle.git_msg.specs.Insides.{object_info_stored, object_info_stored_by_fields};
-ghost use Rattle.git_msg.specs.RequestReader.{kept_so_far, stored_by_fields, stored_so_far};
+ghost use Rattle.git_msg.specs.RequestReader.{kept_so_far, limit_in, stored_by_fields, stored_so_far};
 ghost use Rattle.git_msg.specs.declared.fetch.Fetch.TheInside.{Inside as FetchInside};
 ghost use Rattle.git_msg.specs.declared.ls_refs.LsRefs.TheInside.{Inside as LsRefsInside};
 ghost use Rattle.git_msg.specs.declared.object_info.ObjectInfo.TheInside.{Inside as ObjectInfoInside};
 ghost use Rattle.git_msg.specs.declared.parts.Texts.{Texts};
-ghost use Rattle.git_msg.specs.RequestStreams.{HasRead, bytes_held, limit_of};
+ghost use Rattle.git_msg.specs.RequestStreams.{HasRead, bytes_held, bytes_held_by_fields, limit_of};
 ghost use Rattle.git_msg.specs.declared.reader.RequestReader.{RequestReader};
 ghost use Rattle.git_msg.specs.declared.streams.RequestStream.{RequestStream};
 ghost use Rattle.git_msg.specs.ResponseLines.{Wanted, IsAckFault, IsAckLine, IsBoundaryFault, IsBoundaryLine, IsWantedFault, IsWantedLine};
@@ -248,14 +248,16 @@ pub fn all_fields_are_counted<A: Allocator + Copy>()
     ensures fetch { (request : FetchInside A) → fetch_stored_by_fields request ≡ fetch_stored request }
     ensures object_info { (request : ObjectInfoInside A) → object_info_stored_by_fields request ≡ object_info_stored request }
     ensures reader { (reader : RequestReader A) → stored_by_fields reader ≡ stored_so_far reader }
+    ensures stream { (stream : RequestStream A) → bytes_held_by_fields stream ≡ bytes_held stream }
 {}
 
-/// A reader of requests stores no more bytes than it counts.
-pub fn request_reader_stores_what_it_counts<A: Allocator + Copy>()
-    ensures { (reader : RequestReader A) → stored_so_far reader ≤ kept_so_far reader }
+/// A reader of requests stores at no time more bytes than it counts, and counts no more than its limit.
+pub fn request_reader_keeps_within_its_limit<A: Allocator + Copy>()
+    ensures stored { (reader : RequestReader A) → stored_so_far reader ≤ kept_so_far reader }
+    ensures kept { (reader : RequestReader A) → kept_so_far reader ≤ limit_in reader }
 {}
 
-/// A reader of requests has at no time more bytes than the longest packet and its limit together.
+/// A reader of requests from bytes holds at no time more bytes than the longest packet has and its limit together.
 pub fn request_stream_holds_within_its_limit<A: Allocator + Copy>()
     ensures { (used : List ℕ) (asked : List Asked) (stream : RequestStream A)
         → HasRead used asked stream → bytes_held stream ≤ 65520 + limit_of stream }

@@ -1,16 +1,17 @@
 //! Requests for references as they are answered: with their prefixes in order.
-ghost use Rattle.std.specs.Prelude.{◌≡◌};
+ghost use Rattle.std.specs.Prelude.{◌≡◌, false, slice_get};
 ghost use Rattle.std.specs.Option.{option_copied};
-ghost use Rattle.std.specs.Prelude.{slice_get};
 
 use crate::ls_refs::LsRefs;
 use std::alloc::Allocator;
 use std::marker::Model;
 
-/// A request for references whose prefixes stand in an order in which they are found by halves, and none begins another.
+/// A request for references that is answered. Before its first reference is looked for, its prefixes are put in an order in which
+/// they are found by binary search and none begins another.
 #[derive(Drop)]
 pub struct Listing<A: Allocator + Copy> {
     request: LsRefs<A>,
+    is_ordered: bool,
 }
 
 impl<A: Allocator + Copy> Model for Listing<A> {
@@ -22,18 +23,35 @@ impl<A: Allocator + Copy> Model for Listing<A> {
 
     ghost view = { λ l. l.request };
 
-    ghost invariant = { λ l. IsOrdered l.request.asked.ref_prefixes };
+    ghost use Rattle.std.specs.Prelude.{◌≡◌, true};
+
+    ghost invariant = { λ l. l.is_ordered ≡ true → IsOrdered l.request.asked.ref_prefixes };
 }
 
 impl<A: Allocator + Copy> Listing<A> {
     ghost use Rattle.git_msg.specs.Prefixes.{IsOrdered, OrdersPrefixes, SplitsAt, is_shown};
 
-    /// The request, its prefixes put in order where they lie.
-    pub fn new(mut request: LsRefs<A>) -> Listing<A>
-        ensures { OrdersPrefixes request result }
+    /// The request, its prefixes in the order in which they came.
+    pub fn new(request: LsRefs<A>) -> Listing<A>
+        ensures { result ≡ request }
     {
-        request.put_in_order();
-        Listing { request }
+        Listing {
+            request,
+            is_ordered: false,
+        }
+    }
+
+    /// Puts the prefixes in their order, where they lie, and drops those that begin with another: the same names begin with one of
+    /// them. A second call does nothing.
+    pub fn put_in_order(&mut self)
+        ensures ordered { IsOrdered self.new.asked.ref_prefixes }
+        ensures same { OrdersPrefixes self.old self.new }
+    {
+        if self.is_ordered {
+            return;
+        }
+        self.request.put_in_order();
+        self.is_ordered = true;
     }
 
     /// Whether symbolic references are to be shown with what they point to.
@@ -50,7 +68,7 @@ impl<A: Allocator + Copy> Listing<A> {
         self.request.peel()
     }
 
-    /// The prefix at place `i` of their order.
+    /// The prefix at place `i`.
     pub fn ref_prefix(&self, i: usize) -> Option<&[u8]>
         ensures { option_copied result ≡ slice_get self.now.asked.ref_prefixes i }
     {
@@ -59,15 +77,16 @@ impl<A: Allocator + Copy> Listing<A> {
 
     /// How many of the prefixes do not come after the name.
     pub fn split(&self, name: &[u8]) -> usize
-        ensures ordered { IsOrdered self.now.asked.ref_prefixes }
-        ensures split { SplitsAt self.now.asked.ref_prefixes name.now result }
+        requires { IsOrdered self.now.asked.ref_prefixes }
+        ensures { SplitsAt self.now.asked.ref_prefixes name.now result }
     {
         self.request.split(name)
     }
 
-    /// Whether a name is shown, after which no prefix comes before this place.
+    /// Whether a name is shown, where this many of the prefixes do not come after it.
     pub fn shows_at(&self, split: usize, name: &[u8]) -> bool
-        requires { SplitsAt self.now.asked.ref_prefixes name.now split }
+        requires ordered { IsOrdered self.now.asked.ref_prefixes }
+        requires split { SplitsAt self.now.asked.ref_prefixes name.now split }
         ensures { result ≡ is_shown self.now.asked.ref_prefixes name.now }
     {
         self.request.shows_at(split, name)

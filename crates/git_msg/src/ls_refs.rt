@@ -141,7 +141,7 @@ impl<A: Allocator + Copy> LsRefs<A> {
         self.ref_prefixes.split(name)
     }
 
-    /// Whether a name is shown, after which no prefix comes before this place.
+    /// Whether a name is shown, where this many of the prefixes do not come after it.
     pub(crate) fn shows_at(&self, split: usize, name: &[u8]) -> bool
         requires ordered { IsOrdered self.now.asked.ref_prefixes }
         requires split { SplitsAt self.now.asked.ref_prefixes name.now split }

@@ -104,7 +104,7 @@ impl<A: Allocator + Copy> Texts<A> {
         split_at(&self.bytes, &self.ends, name)
     }
 
-    /// Whether a name is shown, after which no text comes before this place.
+    /// Whether a name begins with one of the texts, or there are none, where this many of them do not come after it.
     pub(crate) fn shows_at(&self, split: usize, name: &[u8]) -> bool
         requires ordered { IsOrdered (texts_of self.now) }
         requires split { SplitsAt (texts_of self.now) name.now split }

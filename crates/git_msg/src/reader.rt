@@ -1,6 +1,5 @@
 //! Requests, read packet by packet.
-ghost use Rattle.std.specs.Prelude.{◌≤◌};
-ghost use Rattle.git_msg.specs.HeldRequest.{kept_of, stored_of};
+ghost use Rattle.git_msg.specs.HeldRequest.{IsBounded};
 
 use crate::arguments::{Argument, Command, put_together};
 use crate::judge::{Noted, judge_capability, read_text};
@@ -46,7 +45,7 @@ pub struct RequestReader<A: Allocator + Copy> {
     has_format: bool,
     // What is kept so far. It also has the limit.
     request: Request<A>,
-    ghost covered: { stored_of request ≤ kept_of request },
+    ghost bounded: { IsBounded request },
 }
 
 impl<A: Allocator + Copy> RequestReader<A> {

@@ -146,7 +146,7 @@ impl<A: Allocator + Copy> Request<A> {
         ensures value { result ≡ kept_of self.now }
         ensures within { kept_of self.now ≤ limit_of self.now }
 
-        // No more is stored of their values: 33 bytes of an object name, and of a text its own and four.
+        // No more is stored of their values: 33 bytes of an object name, and of a text its own and six.
         ensures stored { stored_of self.now ≤ kept_of self.now }
 
         // The lines as they are written have no more, and each argument may stand there.

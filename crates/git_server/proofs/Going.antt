@@ -8,7 +8,7 @@ use Rattle.git_pkt.specs.PacketReader.{Reads, is_open, fault_of, ShownByFeed}
 use Rattle.git_pkt.specs.declared.fault.Fault.{Fault}
 use Rattle.git_pkt.specs.declared.fault.Kind.{Kind}
 use Rattle.git_pkt.specs.declared.fault.Kind.TheVariants.{PackSource, RemoteError, Truncated, StreamTooLong}
-use Rattle.git_msg.specs.Asked.{Asked, LsRefsAsked}
+use Rattle.git_msg.specs.Asked.{Asked}
 use Rattle.git_msg.specs.HeldRequest.{asked_of, kept_of, stored_of}
 use Rattle.git_msg.specs.Requests.{Asks}
 use Rattle.git_msg.specs.WholeRequests.{AreRequests}
@@ -19,17 +19,16 @@ use Rattle.git_msg.specs.declared.offers.Offer.{Offer}
 use Rattle.git_msg.specs.declared.reader.RequestReader.{RequestReader}
 use Rattle.git_msg.specs.declared.requests.Request.{Request}
 use Rattle.git_msg.specs.declared.requests.Request.TheVariants.{LsRefs as OfLsRefs, Fetch as OfFetch, ObjectInfo as OfObjectInfo}
-use Rattle.git_server.specs.declared.answer.Answer.{Answer}
 use Rattle.git_server.specs.declared.answer.Answer.TheVariants.{References, Fetching, Sizes}
 use Rattle.git_server.specs.Repository.{Repository, RepoState}
 use Rattle.git_server.specs.Admission.{IsToldFor}
 use Rattle.git_server.specs.Packs.{Manner, whole, broken}
 use Rattle.git_server.specs.FetchAnswers.{negotiates}
-use Rattle.git_server.specs.Answers.{AllFit, IsAnswerAs, ls_refs_answer, error_packet, spelled}
+use Rattle.git_server.specs.Answers.{AllFit, IsAnswerAs, error_packet, spelled}
 use Rattle.git_server.specs.AdvertisementLines.{advertisement_from}
 use Rattle.git_server.specs.Sessions.{Begins, IsTail, IsTailBy, Setting, IsRequest, IsSent, IsAnswering, IsEnding, IsRefused, EndsBy}
-use Rattle.git_server.specs.Phases.{FlushIsAt, LeftIn, MayBreak, Owes, kept_in, outcome_in, reads_in, IsAfter, refused_by, stored_in}
-use Rattle.git_server.specs.AnsweredRequest.{IsAnswerFrom, IsAnswerTo, kept_with, stored_with, references_from, sizes_from}
+use Rattle.git_server.specs.Phases.{FlushIsAt, LeftIn, MayBreak, Owes, kept_in, outcome_in, reads_in, phase_after, refused_by, stored_in}
+use Rattle.git_server.specs.AnsweredRequest.{IsAnswerFrom, answer_to, kept_with, stored_with, references_from, sizes_from}
 use Rattle.git_server.specs.Brought.{Brings, IsBrought, IsCovered, IsWithin}
 use Rattle.git_server.specs.Server.{IsPackLost, Running, Serves, StandsBy, outcome_of, wants_input}
 use Rattle.git_server.specs.ServerCalls.{Goes, ReadsFor, StopsInTime}
@@ -47,35 +46,25 @@ use Rattle.git_server.proofs.Readers.{stopped_by}
 use Rattle.git_server.proofs.Outcomes.{failures_as, failures_end, other_lost}
 use Rattle.git_server.proofs.FetchPackets.{some_fetch, whole_fetch}
 use Rattle.git_server.proofs.Sent.{all_sent, one_more_asked}
-use Rattle.git_server.proofs.Skipped.{alike_refs}
-use Rattle.git_msg.specs.Kept.{Kept}
-use Rattle.git_msg.specs.Prefixes.{OrdersPrefixes}
-
--- an answer for references with the prefixes in order is the answer
-alike_answer : (repo : Repository) (old new : Kept LsRefsAsked) → OrdersPrefixes old new → references_from new.asked repo.refs 0 ≡ ls_refs_answer old.asked repo.refs
-alike_answer repo old new orders =
-    rw (orders.symrefs, orders.peel, ← alike_refs old.asked.ref_prefixes new.asked.ref_prefixes repo.refs orders.alike) refl
 
 -- an answer of which nothing was given is the answer
-whole_answer : {A : Type 0} (manner : Manner) (repo : Repository) (request : Request A) (answer : Answer A) (later : List Pkt) → IsAnswerTo request answer
-    → IsAnswerFrom manner repo answer later → IsAnswerAs manner repo (asked_of request) later
-whole_answer {A} whole repo (OfLsRefs request) answer later (listing, orders, is) h =
-    subst (λ (a : Answer A). IsAnswerFrom whole repo a later) is h ∙ alike_answer repo request listing orders
-whole_answer {A} broken repo (OfLsRefs request) answer later (listing, orders, is) h = absurd (subst (λ (a : Answer A). IsAnswerFrom broken repo a later) is h)
-whole_answer {A} whole repo (OfObjectInfo request) answer later is h = subst (λ (a : Answer A). IsAnswerFrom whole repo a later) is h
-whole_answer {A} broken repo (OfObjectInfo request) answer later is h = absurd (subst (λ (a : Answer A). IsAnswerFrom broken repo a later) is h)
-whole_answer {A} manner repo (OfFetch request) answer later is h =
-    whole_fetch manner repo request.asked (negotiates request.asked) later (subst (λ (a : Answer A). IsAnswerFrom manner repo a later) is h)
+whole_answer : {A : Type 0} (manner : Manner) (repo : Repository) (request : Request A) (later : List Pkt)
+    → IsAnswerFrom manner repo (answer_to request) later → IsAnswerAs manner repo (asked_of request) later
+whole_answer whole repo (OfLsRefs request) later h = h
+whole_answer broken repo (OfLsRefs request) later h = h
+whole_answer whole repo (OfObjectInfo request) later h = h
+whole_answer broken repo (OfObjectInfo request) later h = h
+whole_answer manner repo (OfFetch request) later h = whole_fetch manner repo request.asked (negotiates request.asked) later h
 
-kept_to_answer : {A : Type 0} (request : Request A) (answer : Answer A) → IsAnswerTo request answer → kept_with answer ≡ kept_of request
-kept_to_answer (OfLsRefs request) answer (listing, orders, is) = ap kept_with is ∙ orders.kept
-kept_to_answer (OfFetch request) answer is = ap kept_with is
-kept_to_answer (OfObjectInfo request) answer is = ap kept_with is
+kept_to_answer : {A : Type 0} (request : Request A) → kept_with (answer_to request) ≡ kept_of request
+kept_to_answer (OfLsRefs request) = refl
+kept_to_answer (OfFetch request) = refl
+kept_to_answer (OfObjectInfo request) = refl
 
-stored_to_answer : {A : Type 0} (request : Request A) (answer : Answer A) → IsAnswerTo request answer → stored_with answer ≤ stored_of request
-stored_to_answer (OfLsRefs request) answer (listing, orders, is) = omega (arith, ap stored_with is, orders.stored)
-stored_to_answer (OfFetch request) answer is = omega (arith, ap stored_with is)
-stored_to_answer (OfObjectInfo request) answer is = omega (arith, ap stored_with is)
+stored_to_answer : {A : Type 0} (request : Request A) → stored_with (answer_to request) ≡ stored_of request
+stored_to_answer (OfLsRefs request) = refl
+stored_to_answer (OfFetch request) = refl
+stored_to_answer (OfObjectInfo request) = refl
 
 pub refused_outcome_by : (A : Type 0) (kind : Kind) (fault : Fault) → outcome_in {A = A} (refused_by kind fault) ≡ Some (Refused fault)
 refused_outcome_by A RemoteError fault = refl
@@ -136,22 +125,21 @@ module _ {A : Type 0} where
   none_stored_at_end (Ended outcome) _ h = refl
 
   -- after a packet no more is stored of what is answered than is kept of it
-  covered_behind : (offset : ℕ) (brought : Brought A) (phase : Phase A) → IsAfter offset brought phase → IsCovered brought → stored_in phase ≤ kept_in phase
-  covered_behind offset Part phase is h = omega (arith, ap stored_in is)
-  covered_behind offset (Whole request) phase (answer, to, is) h =
-      omega (arith, h, ap stored_in is, ap kept_in is, kept_to_answer request answer to, stored_to_answer request answer to)
-  covered_behind offset Stop phase is h = omega (arith, ap stored_in is)
-  covered_behind offset (RefusedPacket fault) phase is h =
-      omega (arith, ap stored_in is, none_stored_at_end (refused_by fault.kind fault) (Refused fault) (refused_outcome_by A fault.kind fault))
+  covered_after : (offset : ℕ) (brought : Brought A) → IsCovered brought → stored_in (phase_after offset brought) ≤ kept_in (phase_after offset brought)
+  covered_after offset Part h = omega arith
+  covered_after offset (Whole request) h = omega (arith, h, kept_to_answer request, stored_to_answer request)
+  covered_after offset Stop h = omega arith
+  covered_after offset (RefusedPacket fault) h =
+      omega (arith, none_stored_at_end (refused_by fault.kind fault) (Refused fault) (refused_outcome_by A fault.kind fault))
 
   -- after a packet the request is kept by the reader of requests, or by what answers it
-  kept_behind : (offset : ℕ) (brought : Brought A) (phase : Phase A) (requests : RequestReader A) → IsAfter offset brought phase → IsWithin brought requests
-      → kept_so_far requests + kept_in phase ≤ limit_in requests
-  kept_behind offset Part phase requests is h = omega (arith, h, ap kept_in is)
-  kept_behind offset (Whole request) phase requests (answer, to, is) h = omega (arith, h.0, h.1, ap kept_in is, kept_to_answer request answer to)
-  kept_behind offset Stop phase requests is h = omega (arith, h, ap kept_in is)
-  kept_behind offset (RefusedPacket fault) phase requests is h =
-      omega (arith, h, ap kept_in is, none_kept_at_end (refused_by fault.kind fault) (Refused fault) (refused_outcome_by A fault.kind fault))
+  kept_behind : (offset : ℕ) (brought : Brought A) (requests : RequestReader A) → IsWithin brought requests
+      → kept_so_far requests + kept_in (phase_after offset brought) ≤ limit_in requests
+  kept_behind offset Part requests h = omega (arith, h)
+  kept_behind offset (Whole request) requests h = omega (arith, h.0, h.1, kept_to_answer request)
+  kept_behind offset Stop requests h = omega (arith, h)
+  kept_behind offset (RefusedPacket fault) requests h =
+      omega (arith, h, none_kept_at_end (refused_by fault.kind fault) (Refused fault) (refused_outcome_by A fault.kind fault))
 
 -- in each phase some packets make an end
 pub owes_some : {A : Type 0} (offer : Offer) (repo : Repository) (phase : Phase A) → (owed : List Pkt) × Owes offer repo phase owed
@@ -170,13 +158,13 @@ one_more (y ∷ ys) x e = cc
 
 -- a packet of a request is not told as what neither a packet nor a repository is refused for
 not_told : {A : Type 0} (kind : Kind) (strange : NotOfPackets kind) → NotOfRepository kind → (offset : ℕ) (packets : List Given) (brought : Brought A)
-    (phase : Phase A) (requests : RequestReader A) (repo : Repository) → IsAfter offset brought phase → IsBrought repo packets brought requests
-    → (fault : Fault) → outcome_in phase ≡ Some (Refused fault) → fault.kind ≡ kind → ⊥
-not_told kind strange other offset packets Part phase requests repo after h fault ended is = let none = ap outcome_in after in cc
-not_told kind strange other offset packets (Whole request) phase requests repo (answer, to, after) h fault ended is = let none = ap outcome_in after in cc
-not_told kind strange other offset packets Stop phase requests repo after h fault ended is = let none = ap outcome_in after in cc
-not_told {A = A} kind strange other offset packets (RefusedPacket f) phase requests repo after h fault ended is =
-    let same : Some (Refused f) ≡ Some (Refused fault) = sym (refused_outcome_by A f.kind f) ∙ sym (ap outcome_in after) ∙ ended in
+    (requests : RequestReader A) (repo : Repository) → IsBrought repo packets brought requests
+    → (fault : Fault) → outcome_in (phase_after offset brought) ≡ Some (Refused fault) → fault.kind ≡ kind → ⊥
+not_told kind strange other offset packets Part requests repo h fault ended is = cc
+not_told kind strange other offset packets (Whole request) requests repo h fault ended is = cc
+not_told kind strange other offset packets Stop requests repo h fault ended is = cc
+not_told {A = A} kind strange other offset packets (RefusedPacket f) requests repo h fault ended is =
+    let same : Some (Refused f) ≡ Some (Refused fault) = sym (refused_outcome_by A f.kind f) ∙ ended in
     let one : f ≡ fault = cc in
     not_told_for (offer_of requests) (limit_in requests) repo packets f kind strange other h (ap (λ (x : Fault). x.kind) one ∙ is)
 
@@ -323,45 +311,42 @@ module _ {R A : Type 0} (state : R → RepoState) (old new : Server R A) (u : Li
   packet_stands : (s : Setting) (so_far : List ℕ) (over : Bool) (before : List ℕ) (g : Given) (brought : Brought A)
       → wants_input old ≡ true → over ≡ false → (h : Serves s so_far before old) → (rest : List ℕ) → Reads new.reader 0 (so_far ++ u) (h.packets ++ g ∷ []) rest
       → fault_of new.reader ≡ None → is_open new.reader ≡ false → offer_of new.requests ≡ s.offer → limit_in new.requests ≡ s.limit
-      → Brings s.repo old.requests g brought new.requests → IsAfter g.offset brought new.phase
-      → StandsBy (outcome_of new) s (so_far ++ u) over (before ++ []) new
+      → Brings s.repo old.requests g brought new.requests → new.phase ≡ phase_after g.offset brought
+      → StandsBy (outcome_in (phase_after g.offset brought)) s (so_far ++ u) over (before ++ []) new
   packet_stands s so_far over before g Part wants not_over h rest stream sound shut offer limit brings phase_is =
       let (takes, unbarred) = brings.brings h.left h.takes in
-      let begun = begins_more s h.left g new.requests offer limit (brings.sound refl) (brings.ready refl) h.begins takes unbarred in
-      subst (λ (o : Option Outcome). StandsBy o s (so_far ++ u) over (before ++ []) new) (sym (ap outcome_in phase_is)) (
+      let begun = begins_more s h.left g new.requests offer limit (brings.sound refl) (brings.ready refl) h.begins takes unbarred in (
         not_over,
         packet_serves s so_far before h.asked (h.packets ++ g ∷ []) (h.left ++ g ∷ []) rest h.sent Within stream sound
             (with_packet s so_far before h g) takes begun phase_is (one_more h.left g) tt
             (λ owed owes. subst (λ (l : List Pkt). IsSent s h.asked h.sent l) (sym owes) (all_sent_of s so_far before wants h))
             (λ owed breaks. absurd breaks) h.given_is h.fit,
       )
-  packet_stands s so_far over before g (Whole request) wants not_over h rest stream sound shut offer limit brings (answer, to, phase_is) =
+  packet_stands s so_far over before g (Whole request) wants not_over h rest stream sound shut offer limit brings phase_is =
       let (takes, asks) = brings.brings h.left h.takes in
       let asks_here : Asks s.offer s.limit (h.left ++ g ∷ []) (asked_of request) (kept_of request) =
       subst (λ (n : ℕ). Asks s.offer n (h.left ++ g ∷ []) (asked_of request) (kept_of request)) limit
       (subst (λ (o : Offer). Asks o (limit_in new.requests) (h.left ++ g ∷ []) (asked_of request) (kept_of request)) offer asks) in
-      let had = request_had s.offer s.limit s.repo h.left g h.begins.lines (asked_of request) (kept_of request) h.begins.taken h.begins.admitted asks_here in
-      subst (λ (o : Option Outcome). StandsBy o s (so_far ++ u) over (before ++ []) new) (sym (ap outcome_in phase_is)) (
+      let had = request_had s.offer s.limit s.repo h.left g h.begins.lines (asked_of request) (kept_of request) h.begins.taken h.begins.admitted asks_here in (
         not_over,
         packet_serves s so_far before (h.asked ++ asked_of request ∷ [])
-            (h.packets ++ g ∷ []) [] rest h.sent (Answering answer g.offset) stream sound
+            (h.packets ++ g ∷ []) [] rest h.sent (Answering (answer_to request) g.offset) stream sound
             (one_more_request (IsRequest s) (h.packets ++ g ∷ []) h.asked (h.left ++ g ∷ []) (asked_of request) (with_packet s so_far before h g)
             (kept_of request, asks_here, had)) takes (nothing_begins s) phase_is refl (h.packets, g, refl, refl)
             (λ owed owes. inr (one_more_asked whole s h.asked h.sent owed (asked_of request) (all_sent_of s so_far before wants h)
-            (whole_answer whole s.repo request answer owed to owes)))
+            (whole_answer whole s.repo request owed owes)))
             (λ owed breaks. one_more_asked broken s h.asked h.sent owed (asked_of request) (all_sent_of s so_far before wants h)
-            (whole_answer broken s.repo request answer owed to breaks)) h.given_is h.fit,
+            (whole_answer broken s.repo request owed breaks)) h.given_is h.fit,
       )
   packet_stands s so_far over before g Stop wants not_over h rest stream sound shut offer limit brings phase_is =
-      subst (λ (o : Option Outcome). StandsBy o s (so_far ++ u) over (before ++ []) new) (sym (ap outcome_in phase_is)) 
-      (λ owed owes. ended_at s so_far over before (h.left ++ g ∷ []) (h.packets ++ g ∷ []) rest Flush wants h stream
+      λ owed owes. ended_at s so_far over before (h.left ++ g ∷ []) (h.packets ++ g ∷ []) rest Flush wants h stream
       (with_packet s so_far before h g)
-      (brings.brings h.left h.takes, no_rest _ _ rest sound shut stream) owed (sym (owes_at s (Ended Flush) owed phase_is owes)))
+      (brings.brings h.left h.takes, no_rest _ _ rest sound shut stream) owed (sym (owes_at s (Ended Flush) owed phase_is owes))
   packet_stands s so_far over before g (RefusedPacket fault) wants not_over h rest stream sound shut offer limit brings phase_is =
       let told : IsToldFor s.offer s.limit s.repo (h.left ++ g ∷ []) fault =
       subst (λ (n : ℕ). IsToldFor s.offer n s.repo (h.left ++ g ∷ []) fault) limit
       (subst (λ (o : Offer). IsToldFor o (limit_in new.requests) s.repo (h.left ++ g ∷ []) fault) offer (brings.brings h.left h.takes)) in
-      subst (λ (o : Option Outcome). StandsBy o s (so_far ++ u) over (before ++ []) new) (sym (ap outcome_in phase_is ∙ refused_outcome_by A fault.kind fault))
+      subst (λ (o : Option Outcome). StandsBy o s (so_far ++ u) over (before ++ []) new) (sym (refused_outcome_by A fault.kind fault))
       (λ owed owes. ended_at s so_far over before (h.left ++ g ∷ []) (h.packets ++ g ∷ []) rest (Refused fault) wants h stream
       (with_packet s so_far before h g)
       (inl (inl (record { front = h.left; last = g; whole = refl; begins = h.begins; told = told; no_rest = no_rest _ _ rest sound shut stream }))) owed
@@ -371,7 +356,7 @@ module _ {R A : Type 0} (state : R → RepoState) (old new : Server R A) (u : Li
 
   -- a packet came of the bytes
   pub goes_packet : (g : Given) (brought : Brought A) → IsCovered brought → wants_input old ≡ true → ReadsFor state old u (g ∷ []) new
-      → Brings (state old.repo).answers old.requests g brought new.requests → IsAfter g.offset brought new.phase
+      → Brings (state old.repo).answers old.requests g brought new.requests → new.phase ≡ phase_after g.offset brought
       → fault_of new.reader ≡ None → is_open new.reader ≡ false → Goes state u [] old new
   goes_packet g brought covered wants reads brings phase_is sound shut s so_far over before r =
       let (not_over, h) = stands_of s so_far over before wants r in
@@ -387,12 +372,13 @@ module _ {R A : Type 0} (state : R → RepoState) (old new : Server R A) (u : Li
         limit = limit;
         repo = ap (λ (x : RepoState). x.answers) reads.repo ∙ r.repo;
         failures = failures_end (outcome_of old) (outcome_of new) s.failures _ _ open_ended (ap (λ (x : RepoState). x.failures) reads.repo)
-            (λ (fault, is, name). not_told PackSource tt pack_source_other g.offset (h.left ++ g ∷ []) brought new.phase new.requests (state old.repo).answers phase_is
-            (brings.brings h.left h.takes) fault is name) r.failures;
-        within = omega (arith, kept_behind g.offset brought new.phase new.requests phase_is (brings.within kept), limit);
-        covered = omega (arith, covered_behind g.offset brought new.phase phase_is covered);
+            (λ (fault, is, name). not_told PackSource tt pack_source_other g.offset (h.left ++ g ∷ []) brought new.requests (state old.repo).answers
+            (brings.brings h.left h.takes) fault (sym (ap outcome_in phase_is) ∙ is) name) r.failures;
+        within = omega (arith, kept_behind g.offset brought new.requests (brings.within kept), limit, ap kept_in phase_is);
+        covered = omega (arith, covered_after g.offset brought covered, ap stored_in phase_is, ap kept_in phase_is);
         fits = stream.fits;
-        stands = packet_stands s so_far over before g brought wants not_over h rest stream sound shut offer limit brings_here phase_is;
+        stands = subst (λ (o : Option Outcome). StandsBy o s (so_far ++ u) over (before ++ []) new) (sym (ap outcome_in phase_is))
+            (packet_stands s so_far over before g brought wants not_over h rest stream sound shut offer limit brings_here phase_is);
       }
 
   -- the session ends with this fault, of which nothing was given yet
@@ -452,12 +438,12 @@ module _ {R A : Type 0} (state : R → RepoState) (old : Server R A) (used : ℕ
 
   -- a packet was judged
   pub packet_in_time : (g : Given) (brought : Brought A) (requests : RequestReader A) (phase : Phase A)
-      → Brings (state old.repo).answers old.requests g brought requests → IsAfter g.offset brought phase
+      → Brings (state old.repo).answers old.requests g brought requests → phase ≡ phase_after g.offset brought
       → StopsInTime state old used piece (outcome_in phase)
   packet_in_time g brought requests phase brings phase_is s so_far over before r wants fault ended too_long =
       let h = serves_of state old old [] s so_far over before wants r in
-      absurd (not_told StreamTooLong tt too_long_other g.offset (h.left ++ g ∷ []) brought phase requests (state old.repo).answers phase_is (brings.brings h.left h.takes)
-      fault ended too_long)
+      absurd (not_told StreamTooLong tt too_long_other g.offset (h.left ++ g ∷ []) brought requests (state old.repo).answers (brings.brings h.left h.takes)
+      fault (sym (ap outcome_in phase_is) ∙ ended) too_long)
 
   -- the bytes were refused
   pub fault_in_time : (fault : Fault) (phase : Phase A) → phase ≡ refused_by fault.kind fault → (fault_of old.reader ≡ None → ShownByFeed fault used piece)

@@ -9,8 +9,11 @@ use Rattle.std.proofs.lemmas.List.{get_or_default}
 use Rattle.std.proofs.lemmas.List.Folds.{list_any_at, list_any_none}
 use Rattle.std.proofs.lemmas.Option.{get_or_from_slice_get, slice_get_cases}
 use Rattle.std.proofs.lemmas.List.Sorted.{ranks_by, sorted_far}
-use Rattle.git_msg.specs.Prefixes.{IsOrdered, SplitsAt, ShowAlike, goes_before, begins, is_shown, text_cmp}
+use Rattle.git_msg.specs.Asked.{LsRefsAsked}
+use Rattle.git_msg.specs.Kept.{Kept}
+use Rattle.git_msg.specs.Prefixes.{IsOrdered, OrdersPrefixes, SplitsAt, ShowAlike, goes_before, begins, is_shown, text_cmp}
 use Rattle.git_server.specs.Repository.{Entry, IsRising, comes_before}
+use Rattle.git_server.specs.AnsweredRequest.{references_from}
 use Rattle.git_server.specs.Answers.{shown_refs}
 use Rattle.git_msg.proofs.TextOrder.{between, le_itself, le_from_no_lt, no_le_from_lt, no_lt_back, lt_from_le_lt, lt_from_lt_le}
 use Rattle.git_msg.proofs.PrefixOrder.{no_begin}
@@ -100,3 +103,9 @@ none_next ps i none inside =
 pub alike_refs : (ps qs : List (List ℕ)) (refs : List Entry) → ShowAlike ps qs → shown_refs ps refs ≡ shown_refs qs refs
 alike_refs ps qs [] alike = refl
 alike_refs ps qs (e ∷ refs) alike = rw (alike e.name, alike_refs ps qs refs alike) refl
+
+-- a request whose prefixes were put in order is answered as it was
+pub alike_answers : (old new : Kept LsRefsAsked) (refs : List Entry) (next : ℕ) → OrdersPrefixes old new
+    → references_from new.asked refs next ≡ references_from old.asked refs next
+alike_answers old new refs next orders =
+    rw (orders.symrefs, orders.peel, ← alike_refs old.asked.ref_prefixes new.asked.ref_prefixes (drop next refs) orders.alike) refl

@@ -5,8 +5,6 @@ use Rattle.git_pkt.specs.declared.reader.PacketReader.{PacketReader}
 use Rattle.git_msg.specs.Asked.{FetchAsked, LsRefsAsked, ObjectInfoAsked}
 use Rattle.git_msg.specs.declared.requests.Request.{Request}
 use Rattle.git_msg.specs.declared.requests.Request.TheVariants.{LsRefs as OfLsRefs, Fetch as OfFetch, ObjectInfo as OfObjectInfo}
-use Rattle.git_msg.specs.Kept.{Kept}
-use Rattle.git_msg.specs.Prefixes.{OrdersPrefixes}
 use Rattle.git_server.specs.Repository.{Entry, Repository, RepoState}
 use Rattle.git_server.specs.Answers.{info_packet, object_info_answer, reference_packet, shown_refs}
 use Rattle.git_server.specs.Packs.{Manner, whole, broken}
@@ -53,11 +51,11 @@ module _ {A : Type 0} where
   stored_with (Fetching request place) = request.stored
   stored_with (Sizes request place) = request.stored
 
-  -- the answer to a request, of which nothing was given: one for references has its prefixes in order
-  abbrev pub IsAnswerTo : Request A → Answer A → Type 0
-  IsAnswerTo (OfLsRefs request) answer = (listing : Kept LsRefsAsked) × OrdersPrefixes request listing × (answer ≡ References listing 0)
-  IsAnswerTo (OfFetch request) answer = answer ≡ Fetching request (first_place request.asked)
-  IsAnswerTo (OfObjectInfo request) answer = answer ≡ Sizes request SizesHeader
+  -- the answer to a request, of which nothing was given
+  abbrev pub answer_to : Request A → Answer A
+  answer_to (OfLsRefs request) = References request 0
+  answer_to (OfFetch request) = Fetching request (first_place request.asked)
+  answer_to (OfObjectInfo request) = Sizes request SizesHeader
 
   -- from its place on, the packets end the answer
   abbrev pub IsAnswerFrom : Manner → Repository → Answer A → List Pkt → Type 0

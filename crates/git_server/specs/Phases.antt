@@ -10,7 +10,7 @@ use Rattle.git_server.specs.Repository.{Repository}
 use Rattle.git_server.specs.Answers.{error_packet}
 use Rattle.git_server.specs.Packs.{whole, broken}
 use Rattle.git_server.specs.Sessions.{IsLastAt}
-use Rattle.git_server.specs.AnsweredRequest.{IsAnswerFrom, IsAnswerTo, kept_with, most_from, stored_with}
+use Rattle.git_server.specs.AnsweredRequest.{IsAnswerFrom, answer_to, kept_with, most_from, stored_with}
 use Rattle.git_server.specs.AdvertisementLines.{advertisement_from}
 use Rattle.git_server.specs.declared.advertisement.AdvertisementLine.{AdvertisementLine}
 use Rattle.git_server.specs.declared.outcome.Outcome.{Outcome}
@@ -19,7 +19,6 @@ use Rattle.git_server.specs.declared.requests.Brought.{Brought}
 use Rattle.git_server.specs.declared.requests.Brought.TheVariants.{Part, Whole, Stop, Refused as RefusedPacket}
 use Rattle.git_server.specs.declared.server.Turn.{Turn}
 use Rattle.git_server.specs.declared.server.Turn.TheVariants.{NeedInput, Finished, Packet as OwesPacket}
-use Rattle.git_server.specs.declared.answer.Answer.{Answer}
 use Rattle.git_server.specs.declared.server.Phase.{Phase}
 use Rattle.git_server.specs.declared.server.Phase.TheVariants.{Advertising, Between, Within, Answering, Refusing, Ended}
 
@@ -101,12 +100,12 @@ module _ {A : Type 0} where
   refused_by RemoteError fault = Ended (Refused fault)
   refused_by _ fault = Refusing fault
 
-  -- the phase is the one after a packet at this offset
-  abbrev pub IsAfter : ℕ → Brought A → Phase A → Type 0
-  IsAfter offset Part phase = phase ≡ Within
-  IsAfter offset (Whole request) phase = (answer : Answer A) × IsAnswerTo request answer × (phase ≡ Answering answer offset)
-  IsAfter offset Stop phase = phase ≡ Ended Flush
-  IsAfter offset (RefusedPacket fault) phase = phase ≡ refused_by fault.kind fault
+  -- the phase after a packet at this offset
+  abbrev pub phase_after : ℕ → Brought A → Phase A
+  phase_after offset Part = Within
+  phase_after offset (Whole request) = Answering (answer_to request) offset
+  phase_after offset Stop = Ended Flush
+  phase_after offset (RefusedPacket fault) = refused_by fault.kind fault
 
   -- the phase after a line of the advertisement
   abbrev pub advertising_phase : Option AdvertisementLine → Phase A

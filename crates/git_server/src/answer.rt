@@ -1,11 +1,12 @@
 //! Answers to requests, a packet at a time.
 
-ghost use Rattle.std.specs.Prelude.{◌≡◌, ℕ, List, Some, None, false, if◌then◌else◌};
+ghost use Rattle.std.specs.Prelude.{◌≡◌, ◌≤◌, ℕ, List, Some, None, false, if◌then◌else◌};
 ghost use Rattle.std.specs.Option.{option_copied};
 ghost use Rattle.git_names.specs.RefName.{IsRefName};
 ghost use Rattle.git_pkt.specs.PacketReader.{is_open};
+ghost use Rattle.git_msg.specs.Prefixes.{IsOrdered};
 ghost use Rattle.git_msg.specs.References.{IsWritable, shown_reference};
-ghost use Rattle.git_server.specs.AnsweredRequest.{AnswersOne, IsAnswerTo, WritesAnswer, kept_with, stored_with};
+ghost use Rattle.git_server.specs.AnsweredRequest.{AnswersOne, WritesAnswer, answer_to, kept_with, stored_with};
 ghost use Rattle.git_server.specs.Answers.{reference_packet, shown_line};
 ghost use Rattle.git_server.specs.WrittenPackets.{Writes};
 ghost use Rattle.git_server.specs.Repository.{HasOneFormat};
@@ -46,7 +47,7 @@ pub(crate) enum Answered {
 impl<A: Allocator + Copy> Answer<A> {
     /// The answer to a request, of which nothing was given.
     pub(crate) fn new(request: Request<A>) -> Answer<A>
-        ensures { IsAnswerTo request result }
+        ensures { result ≡ answer_to request }
     {
         match request {
             Request::LsRefs(request) => Answer::References(Listing::new(request), 0),
@@ -63,16 +64,19 @@ impl<A: Allocator + Copy> Answer<A> {
         requires { is_open reader.old ≡ false }
         ensures writes { WritesAnswer (R.state repo.old) self.old reader.old result (R.state repo.new) self.new reader.new }
         ensures kept { kept_with self.new ≡ kept_with self.old }
-        ensures stored { stored_with self.new ≡ stored_with self.old }
+        ensures stored { stored_with self.new ≤ stored_with self.old }
     {
         match self {
-            Answer::References(request, next) => match answer_one(repo, request, *next, reader) {
-                Some(after) => {
-                    *next = after;
-                    Answered::Part
+            Answer::References(listing, next) => {
+                listing.put_in_order();
+                match answer_one(repo, listing, *next, reader) {
+                    Some(after) => {
+                        *next = after;
+                        Answered::Part
+                    }
+                    None => Answered::Whole,
                 }
-                None => Answered::Whole,
-            },
+            }
             Answer::Fetching(request, place) => write_fetch(repo, request, place, reader),
             Answer::Sizes(request, place) => match write_sizes(repo, request, *place, reader) {
                 Some(after) => {
@@ -89,17 +93,18 @@ impl<A: Allocator + Copy> Answer<A> {
 /// packet after it begins. There is none after the flush that ends the answer.
 pub(crate) fn answer_one<R: Repo, A: Allocator + Copy>(
     repo: &R,
-    request: &Listing<A>,
+    listing: &Listing<A>,
     next: usize,
     reader: &mut PacketReader,
 ) -> Option<usize>
-    requires { is_open reader.old ≡ false }
-    ensures { AnswersOne request.now.asked (R.state repo.now).answers.refs next reader.old result reader.new }
+    requires between { is_open reader.old ≡ false }
+    requires ordered { IsOrdered listing.now.asked.ref_prefixes }
+    ensures { AnswersOne listing.now.asked (R.state repo.now).answers.refs next reader.old result reader.new }
 {
     let refs = repo.refs();
-    match next_shown(refs, request, next) {
+    match next_shown(refs, listing, next) {
         Some(at) => {
-            write_entry(reader, &refs[at], request);
+            write_entry(reader, &refs[at], listing);
             Some(at + 1)
         }
         None => {
@@ -113,27 +118,27 @@ pub(crate) fn answer_one<R: Repo, A: Allocator + Copy>(
 fn write_entry<A: Allocator + Copy>(
     reader: &mut PacketReader,
     entry: &RefEntry,
-    request: &Listing<A>,
+    listing: &Listing<A>,
 )
     requires between { is_open reader.old ≡ false }
     requires format { HasOneFormat entry.now }
-    ensures { Writes reader.old (reference_packet request.now.asked.symrefs request.now.asked.peel entry.now) reader.new }
+    ensures { Writes reader.old (reference_packet listing.now.asked.symrefs listing.now.asked.peel entry.now) reader.new }
 {
-    put_reference(reader.lend(), shown(entry, request));
+    put_reference(reader.lend(), shown(entry, listing));
     let _ = reader.hold();
 }
 
 // What the request asks for of a reference.
-fn shown<'a, A: Allocator + Copy>(entry: &'a RefEntry, request: &Listing<A>) -> Reference<'a>
+fn shown<'a, A: Allocator + Copy>(entry: &'a RefEntry, listing: &Listing<A>) -> Reference<'a>
     requires { HasOneFormat entry.now }
-    ensures shown { shown_reference result ≡ shown_line request.now.asked.symrefs request.now.asked.peel entry.now }
+    ensures shown { shown_reference result ≡ shown_line listing.now.asked.symrefs listing.now.asked.peel entry.now }
     ensures writable { IsWritable (shown_reference result) }
 {
     Reference {
         id: entry.id(),
         name: entry.name(),
-        target: shown_target(entry, request.symrefs()),
-        peeled: shown_peeled(entry, request.peel()),
+        target: shown_target(entry, listing.symrefs()),
+        peeled: shown_peeled(entry, listing.peel()),
     }
 }
 

@@ -3,7 +3,7 @@
 ghost use Rattle.std.specs.Prelude.{◌≡◌, true, false, None};
 ghost use Rattle.git_pkt.specs.PacketReader.{is_open};
 ghost use Rattle.git_msg.specs.RequestReader.{fault_of, is_waiting};
-ghost use Rattle.git_server.specs.Phases.{advertising_phase, lost_pack, IsAfter, outcome_in, owes_in, refusal_in, refused_by, turn_in};
+ghost use Rattle.git_server.specs.Phases.{advertising_phase, lost_pack, outcome_in, owes_in, phase_after, refusal_in, refused_by, turn_in};
 
 use crate::advertisement::AdvertisementLine;
 use crate::answer::{Answer, Answered};
@@ -287,7 +287,7 @@ impl<R: Repo, A: Allocator + Copy> Server<R, A> {
 
 // The phase after a packet at this offset.
 fn following<A: Allocator + Copy>(brought: Brought<A>, offset: u64) -> Phase<A>
-    ensures { IsAfter offset brought result }
+    ensures { result ≡ phase_after offset brought }
 {
     match brought {
         Brought::Part => Phase::Within,

@@ -13,20 +13,21 @@ use std::alloc::Allocator;
 /// Where the first reference at `from` or after it stands that the request asks for.
 pub(crate) fn next_shown<A: Allocator + Copy>(
     refs: &[RefEntry],
-    request: &Listing<A>,
+    listing: &Listing<A>,
     from: usize,
 ) -> Option<usize>
-    requires { IsRising refs.now }
-    ensures { NextShown request.now.asked.ref_prefixes refs.now from result }
+    requires rising { IsRising refs.now }
+    requires ordered { IsOrdered listing.now.asked.ref_prefixes }
+    ensures { NextShown listing.now.asked.ref_prefixes refs.now from result }
 {
     let mut at = from;
     while at < refs.len() {
         let name = refs[at].name();
-        let split = request.split(name);
-        if request.shows_at(split, name) {
+        let split = listing.split(name);
+        if listing.shows_at(split, name) {
             return Some(at);
         }
-        at = past_hidden(refs, request, at, split);
+        at = past_hidden(refs, listing, at, split);
     }
     None
 }
@@ -34,20 +35,20 @@ pub(crate) fn next_shown<A: Allocator + Copy>(
 // Past a reference that is not shown, and past those after it that come before the next prefix: none of them is shown.
 fn past_hidden<A: Allocator + Copy>(
     refs: &[RefEntry],
-    request: &Listing<A>,
+    listing: &Listing<A>,
     at: usize,
     split: usize,
 ) -> usize
     requires rising { IsRising refs.now }
-    requires ordered { IsOrdered request.now.asked.ref_prefixes }
+    requires ordered { IsOrdered listing.now.asked.ref_prefixes }
     requires within { at < length refs.now }
-    requires split { (d : Entry) → SplitsAt request.now.asked.ref_prefixes (slice_index_or refs.now at d).name split }
-    requires hidden { (d : Entry) → is_shown request.now.asked.ref_prefixes (slice_index_or refs.now at d).name ≡ false }
+    requires split { (d : Entry) → SplitsAt listing.now.asked.ref_prefixes (slice_index_or refs.now at d).name split }
+    requires hidden { (d : Entry) → is_shown listing.now.asked.ref_prefixes (slice_index_or refs.now at d).name ≡ false }
     ensures onward { at < result }
     ensures within { result ≤ length refs.now }
-    ensures same { shown_refs request.now.asked.ref_prefixes (drop result refs.now) ≡ shown_refs request.now.asked.ref_prefixes (drop at refs.now) }
+    ensures same { shown_refs listing.now.asked.ref_prefixes (drop result refs.now) ≡ shown_refs listing.now.asked.ref_prefixes (drop at refs.now) }
 {
-    match request.ref_prefix(split) {
+    match listing.ref_prefix(split) {
         Some(next) => first_from(refs, next, at + 1),
         None => refs.len(),
     }

@@ -8,4 +8,5 @@ returns g c = record {
   fetch = λ request. refl;
   object_info = λ request. refl;
   reader = λ reader. refl;
+  stream = λ stream. refl;
 }

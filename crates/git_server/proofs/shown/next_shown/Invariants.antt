@@ -6,7 +6,7 @@ use Rattle.git_server.proofs.shown.next_shown.Given as goal
 abbrev pub invariant-loop-at : goal.invariant-loop-at
 invariant-loop-at g l = record {
   onward : l.fn.from ≤ l.at;
-  same : shown_refs l.request.asked.ref_prefixes (drop l.at l.refs) ≡ shown_refs l.request.asked.ref_prefixes (drop l.fn.from l.refs);
+  same : shown_refs l.listing.asked.ref_prefixes (drop l.at l.refs) ≡ shown_refs l.listing.asked.ref_prefixes (drop l.fn.from l.refs);
 }
 
 abbrev pub decreases-loop-at : goal.decreases-loop-at

@@ -1,6 +1,6 @@
-use Rattle.std.proofs.Common.{◌≡◌, ◌≤◌, ap, subst, Bool}
-use Rattle.std.specs.Coded.{le_prop}
-use Rattle.git_msg.specs.HeldRequest.{kept_of, stored_of}
+use Rattle.std.proofs.Common.{◌≡◌, ap, subst, Bool}
+use Rattle.git_msg.specs.HeldRequest.{IsBounded}
+use Rattle.git_msg.proofs.BoundedRequests.{one_bound}
 use Rattle.std.proofs.lemmas.Result.{err_from_is_err_and}
 use Rattle.git_msg.specs.Checks.{Refuses}
 use Rattle.git_msg.specs.Lines.{capability_checks}
@@ -18,4 +18,4 @@ returns-in_err-command-clause-err g c =
 pub returns-in_err-command-clause-unchanged : goal.returns-in_err-command-clause-unchanged
 returns-in_err-command-clause-unchanged g c =
     let p = err_from_is_err_and c.from_residual.result c.from_residual.ensures.1 in
-    rw p.1 (ap (λ (h : stored_of c.args.self.now.request ≤ kept_of c.args.self.now.request). record c.args.self.now { covered = h }) (le_prop _ _))
+    rw p.1 (ap (λ (h : IsBounded c.args.self.now.request). record c.args.self.now { bounded = h }) (one_bound _ _ _))

@@ -2,7 +2,7 @@ use Rattle.std.proofs.Common.{◌≡◌, ◌∙◌, ℕ, ap, length, max, subst}
 use Rattle.git_msg.specs.Arguments.{shown, written_text}
 use Rattle.git_msg.specs.Checks.{Passes}
 use Rattle.git_msg.specs.HeldRequest.{Keeps, IsRefused, keep_checks}
-use Rattle.git_msg.proofs.KeptArguments.{keeps_ok, keeps_err, still_covered}
+use Rattle.git_msg.proofs.KeptArguments.{keeps_ok, keeps_err, still_bounded}
 use Rattle.git_msg.proofs.reader.RequestReader.settle.Goals as goal
 
 pub returns-in-Ok-clause-keeps : goal.returns-in-Ok-clause-keeps
@@ -28,7 +28,7 @@ invariant_of-self g c =
     let same : c.max-length.result ≡ max c.in-Waiting.length (length (written_text (shown c.args.argument.now))) =
     c.max-length.ensures ∙ ap (λ (n : ℕ). max c.in-Waiting.length n) c.written_length.ensures in
     record {
-      covered = still_covered c.args.self.now.request c.keep.new.self (shown c.args.argument.now) c.in-Waiting.length c.args.self.now.covered
-          c.in-Ok.ensures.passes.0.1
+      bounded = still_bounded c.args.self.now.request c.keep.new.self (shown c.args.argument.now) c.in-Waiting.length c.args.self.now.bounded
+          (subst (λ (n : ℕ). Passes (keep_checks c.args.self.now.request (shown c.args.argument.now) n)) same c.in-Ok.ensures.passes)
           (subst (λ (n : ℕ). Keeps c.args.self.now.request (shown c.args.argument.now) n c.keep.new.self) same c.in-Ok.ensures.kept);
     }
