@@ -31,3 +31,4 @@ pub mod TooLong
 pub mod RunLemmas
 pub mod OneOutcome
 pub mod AtRest
+pub mod Calls

@@ -2,7 +2,7 @@
 use Rattle.std.proofs.Common.{arith, ◌≡◌, ◌≢◌, ◌⊎◌, ℕ, ◌-◌, Bool, true, false, List, [], ◌∷◌, ◌++◌, length, refl, sym, ap, ◌∙◌, append-nil, subst, inl, inr}
 use Rattle.git_pkt.specs.Packets.{Pkt, flush}
 use Rattle.git_pkt.specs.Splits.{Given}
-use Rattle.git_pkt.specs.Faults.{StopsBy}
+use Rattle.git_pkt.specs.Faults.{IsOpen, StopsBy}
 use Rattle.git_pkt.specs.declared.fault.Fault.{Fault}
 use Rattle.git_pkt.specs.declared.fault.Kind.{Kind}
 use Rattle.git_pkt.specs.declared.fault.Kind.TheVariants.{StreamTooLong, Truncated}
@@ -16,7 +16,7 @@ use Rattle.git_msg.specs.WholeRequests.{AreRequests}
 use Rattle.git_msg.proofs.WholeRequests.{NoFlush, NoRequest, flush_inside, flush_is_no_line, last_same, whole_then}
 use Rattle.git_msg.proofs.FaultLaws.{no_fault_in_lines, no_fault_in_request, one_first_fault}
 use Rattle.git_server.specs.Admission.{IsToldFor}
-use Rattle.git_server.specs.Sessions.{Setting, Begins, IsRequest, EndsBy, IsOfTheBytes, IsRefusedAsRead, IsRefusedAtPacket, IsSession}
+use Rattle.git_server.specs.Sessions.{Setting, Begins, FirstMalformed, GoesOn, IsRequest, EndsBy, IsOfTheBytes, IsRefusedAsRead, IsRefusedAtPacket, IsSession, Stream}
 use Rattle.git_server.specs.Sessions.{WantsMemory, WantsPack}
 use Rattle.git_server.specs.declared.outcome.Outcome.{Outcome}
 use Rattle.git_server.specs.declared.outcome.Outcome.TheVariants.{Flush, Closed, Refused}
@@ -195,16 +195,45 @@ module _ (s : Setting) where
   ends_once over left rest end (Refused f) (Refused g) a b (inr h) k = absurd (a.by_pack h.name)
   ends_once over left rest end (Refused f) (Refused g) a b (inl h) (inr k) = absurd (b.by_pack k.name)
 
+  -- what is left after the whole requests of some bytes, if it has none, is one thing
+  one_left : (used : List ℕ) (asked others : List Asked) (left more : List Given) (rest end : List ℕ) → Stream s used asked left rest → Stream s used others more end
+      → NoRequest (IsRequest s) left → NoRequest (IsRequest s) more → (left ≡ more) × (rest ≡ end)
+  one_left used asked others left more rest end h k none clear =
+      let split = one_split 0 used h.packets k.packets rest end h.splits.spelled k.splits.spelled h.splits.ends k.splits.ends in (
+        (one_list s k.packets asked others left more none clear
+            (subst (λ (gs : List Given). AreRequests (IsRequest s) gs asked left) split.packets h.requests) k.requests).1,
+        split.rest_is,
+      )
+
+  -- the same bytes end in one way
+  pub one_end : (used : List ℕ) (over : Bool) (asked others : List Asked) (left more : List Given) (rest end : List ℕ) (o p : Outcome)
+      → Stream s used asked left rest → Stream s used others more end → EndsBy s over left rest (length used) o → EndsBy s over more end (length used) p
+      → IsOfTheBytes o → IsOfTheBytes p → o ≡ p
+  one_end used over asked others left more rest end o p h k ends also a b =
+      let same = one_left used asked others left more rest end h k (none_at_end over left rest (length used) o a.by_pack ends)
+      (none_at_end over more end (length used) p b.by_pack also) in
+      ends_once over more end (length used) o p a b
+      (subst (λ (gs : List Given). EndsBy s over gs end (length used) o) same.0
+      (subst (λ (l : List ℕ). EndsBy s over left l (length used) o) same.1 ends)) also
+
   pub one_outcome : (used : List ℕ) (over : Bool) (given others : List ℕ) (o p : Outcome) → IsSession s used over given o → IsSession s used over others p
       → IsOfTheBytes o → IsOfTheBytes p → o ≡ p
-  one_outcome used over given others o p h k a b =
-      let split = one_split 0 used h.stream.packets k.stream.packets h.rest k.rest
-      h.stream.splits.spelled k.stream.splits.spelled h.stream.splits.ends k.stream.splits.ends in
-      let none = none_at_end over h.left h.rest (length used) o a.by_pack h.ends in
-      let clear = none_at_end over k.left k.rest (length used) p b.by_pack k.ends in
-      let left : h.left ≡ k.left =
-      (one_list s k.stream.packets h.asked k.asked h.left k.left none clear
-      (subst (λ (gs : List Given). AreRequests (IsRequest s) gs h.asked h.left) split.packets h.stream.requests) k.stream.requests).1 in
-      ends_once over k.left k.rest (length used) o p a b
-      (subst (λ (gs : List Given). EndsBy s over gs k.rest (length used) o) left
-      (subst (λ (l : List ℕ). EndsBy s over h.left l (length used) o) split.rest_is h.ends)) k.ends
+  one_outcome used over given others o p h k a b = one_end used over h.asked k.asked h.left k.left h.rest k.rest o p h.stream k.stream h.ends k.ends a b
+
+  -- what begins a request, and may become more of it, is not refused while the input goes on; that the stream is too long shows with a
+  -- further byte
+  refused_later : (left : List Given) (rest : List ℕ) (end : ℕ) (fault : Fault) → Begins s left → IsOpen rest → ¬ WantsMemory (Refused fault)
+      → IsRefusedAsRead s false left rest end fault → fault.kind ≢ StreamTooLong → ⊥
+  refused_later left rest end fault begins unrefused memory (inl h) other = told_in_lines left fault memory h.told begins
+  refused_later left rest end fault begins unrefused memory (inr (inl h)) other =
+      not_open (end - length rest) end rest fault.kind fault.offset h.not_the_end other h.stops unrefused
+  refused_later left rest end fault begins unrefused memory (inr (inr h)) other = over_or_not false h.ended refl
+
+  -- bytes with which a session goes on have no malformed packet
+  pub clean_so_far : (used given : List ℕ) (fault : Fault) → GoesOn s used given → FirstMalformed s used false fault → fault.kind ≢ StreamTooLong → ⊥
+  clean_so_far used given fault h k other =
+      let same = one_left used h.asked k.asked h.left k.left h.rest k.rest h.stream k.stream (no_request s h.left (begun_has_no_flush s h.left h.begins))
+      (none_at_end false k.left k.rest (length used) (Refused fault) k.of_the_bytes.by_pack (inl k.refused)) in
+      refused_later h.left h.rest (length used) fault h.begins h.unrefused k.of_the_bytes.by_memory
+      (subst (λ (gs : List Given). IsRefusedAsRead s false gs h.rest (length used) fault) (sym same.0)
+      (subst (λ (l : List ℕ). IsRefusedAsRead s false k.left l (length used) fault) (sym same.1) k.refused)) other

@@ -22,3 +22,4 @@ pub mod Phases
 pub mod Server
 pub mod ServerCalls
 pub mod Runs
+pub mod Calls

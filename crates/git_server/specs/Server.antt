@@ -50,10 +50,17 @@ module _ {R A : Type 0} where
   abbrev pub kept_by : Server R A → ℕ
   kept_by server = kept_so_far server.requests + kept_in server.phase
 
-  -- how many bytes the server has: those of the hold of its packet reader, and those stored of the request that it reads and of the one that
-  -- it answers. Each field is named, so that none can be added without being counted.
+  -- how many bytes are stored of their values
+  abbrev pub stored_by : Server R A → ℕ
+  stored_by server = stored_so_far server.requests + stored_in server.phase
+
+  -- how many bytes the server has: those of the hold of its packet reader, and those stored of both requests
   abbrev pub bytes_held : Server R A → ℕ
-  bytes_held server =
+  bytes_held server = held_in_packet server.reader + stored_by server
+
+  -- the same with each field named, so that none can be added without being counted
+  abbrev pub bytes_held_by_fields : Server R A → ℕ
+  bytes_held_by_fields server =
       let record {
         reader = reader;
         requests = requests;

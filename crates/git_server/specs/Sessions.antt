@@ -124,6 +124,16 @@ pub record IsOfTheBytes (outcome : Outcome) : Type 0 where
   pub by_memory : ¬ WantsMemory outcome
   pub by_pack : ¬ WantsPack outcome
 
+-- the first malformed packet of the bytes: after the whole requests a packet is refused, or bytes that no packet begins, or the input
+-- ended inside a request
+pub record FirstMalformed (s : Setting) (used : List ℕ) (over : Bool) (fault : Fault) : Type 0 where
+  pub asked : List Asked
+  pub left : List Given
+  pub rest : List ℕ
+  pub stream : Stream s used asked left rest
+  pub refused : IsRefusedAsRead s over left rest (length used) fault
+  pub of_the_bytes : IsOfTheBytes (Refused fault)
+
 -- the packets are the beginning of an answer to the request that is left, which broke off
 pub record IsBrokenOff (s : Setting) (left : List Given) (tail : List Pkt) : Type 0 where
   pub asked : Asked

@@ -1,10 +1,11 @@
 //! What a server's contract says of the bytes alone: each function does nothing, and its contract is the law.
 
-ghost use Rattle.std.specs.Prelude.{◌≡◌, ◌+◌, ◌*◌, ◌<◌, ◌≤◌, ◌↔◌, ℕ, Bool, true, None, List};
-ghost use Rattle.git_pkt.specs.Credit.{Call, ArePaid, bytes_of, feeds_of};
+ghost use Rattle.std.specs.Prelude.{◌≡◌, ◌+◌, ◌<◌, ◌≤◌, ◌↔◌, ℕ, Bool, true, false, None, List, []};
+ghost use Rattle.git_pkt.specs.Credit.{MakesAll, credit_of};
 ghost use Rattle.git_server.specs.Sessions.{IsAnswered, IsOfTheBytes, IsRunning, IsSession, Setting};
 ghost use Rattle.git_server.specs.declared.outcome.Outcome.{Outcome};
-ghost use Rattle.git_server.specs.Server.{IsPackLost, Running, bytes_held, kept_by, outcome_of, repo_of, wants_input};
+ghost use Rattle.git_server.specs.Calls.{Call, Headline, Makes};
+ghost use Rattle.git_server.specs.Server.{IsPackLost, Running, bytes_held, bytes_held_by_fields, kept_by, outcome_of, reader_of, repo_of, wants_input};
 
 use crate::repo::Repo;
 use crate::server::Server;
@@ -46,8 +47,16 @@ pub fn session_has_one_outcome()
         → IsOfTheBytes outcome → IsOfTheBytes other → outcome ≡ other }
 {}
 
-/// All calls of a server together take at most 64 steps for each byte that was used and for each call of `feed`.
-pub fn server_steps_are_bounded()
-    ensures { (calls : List Call) (before after left : ℕ) → ArePaid calls before after 0 left
-        → after ≤ before + 64 * (bytes_of calls + feeds_of calls) }
+/// What is counted of a server is all that its fields have.
+pub fn all_fields_are_counted<R: Repo, A: Allocator + Copy>()
+    ensures { (server : Server R A) → bytes_held_by_fields server ≡ bytes_held server }
+{}
+
+/// However the input is cut, after any calls of a server that was new before them it holds at most 65,520 buffered bytes and its limit
+/// of kept arguments, and has taken at most 64 steps for each byte used and each call of `feed`; its output stands in the answer
+/// relation to its whole input, and the first malformed packet is refused at its offset by name.
+pub fn headline<R: Repo, A: Allocator + Copy>(server: &Server<R, A>)
+    ensures { (s : Setting) (calls : List Call) (before after : ℕ) (first : Server R A) → Running R.state s [] false [] first
+        → credit_of (reader_of first) ≡ 0 → MakesAll (Makes R.state) calls before first after server.now
+        → Headline R.state s calls before after server.now }
 {}

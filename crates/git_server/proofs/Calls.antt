@@ -1,0 +1,129 @@
+-- Calls of a server, one after the other.
+use Rattle.std.proofs.Common.{arith, ◌≡◌, ◌≢◌, ℕ, ◌+◌, ◌≤◌, Bool, true, false, List, [], ◌∷◌, ◌++◌, length, take, Option, Some, None, refl, sym, ap, ◌∙◌, subst, inl, inr}
+use Rattle.std.proofs.Common.{append_assoc, append-nil}
+use Rattle.std.proofs.lemmas.List.{length-take-le}
+use Rattle.git_pkt.specs.Credit.{ArePaid, MakesAll, credit_of}
+use Rattle.git_pkt.proofs.Credits.{all_paid}
+use Rattle.git_pkt.specs.Packets.{Pkt}
+use Rattle.git_pkt.specs.declared.fault.Fault.{Fault}
+use Rattle.git_pkt.specs.declared.fault.Kind.TheVariants.{StreamTooLong}
+use Rattle.git_server.specs.Repository.{Repository, RepoState}
+use Rattle.git_server.specs.Sessions.{EndsBy, FirstMalformed, IsEnding, IsOfTheBytes, IsRefused, Setting}
+use Rattle.git_server.specs.Phases.{Owes}
+use Rattle.git_server.specs.Server.{Running, StandsBy, outcome_of, reader_of}
+use Rattle.git_server.specs.Calls.{Call, fed, pulled, closed, Headline, Makes, closes, feeds_by, feeds_in, given_in, used_by, used_in}
+use Rattle.git_server.specs.ServerCalls.{given_by}
+use Rattle.git_server.specs.declared.outcome.Outcome.{Outcome}
+use Rattle.git_server.specs.declared.outcome.Outcome.TheVariants.{Refused}
+use Rattle.git_server.specs.declared.server.Server.{Server}
+use Rattle.git_server.proofs.Going.{owes_some}
+use Rattle.git_server.proofs.OneOutcome.{clean_so_far, one_end}
+use Rattle.git_server.proofs.SessionLaws.{every_moment, going, its_end}
+
+-- whether the input ended, where it had or not before the calls
+ended : Bool → List Call → Bool
+ended over [] = over
+ended over (fed piece used ∷ calls) = ended over calls
+ended over (pulled answer ∷ calls) = ended over calls
+ended over (closed ∷ calls) = ended true calls
+
+stays_ended : (calls : List Call) → ended true calls ≡ true
+unfolding ended
+stays_ended [] = refl
+stays_ended (fed piece used ∷ calls) = stays_ended calls
+stays_ended (pulled answer ∷ calls) = stays_ended calls
+stays_ended (closed ∷ calls) = stays_ended calls
+
+ended_by : (calls : List Call) → ended false calls ≡ closes calls
+unfolding ended
+ended_by [] = refl
+ended_by (fed piece used ∷ calls) = ended_by calls
+ended_by (pulled answer ∷ calls) = ended_by calls
+ended_by (closed ∷ calls) = stays_ended calls
+
+-- what is refused as it was read is malformed
+malformed_by : (s : Setting) (used : List ℕ) (over : Bool) (given : List ℕ) (owed : List Pkt) (fault : Fault) → IsOfTheBytes (Refused fault)
+    → (h : IsEnding s used over given (Refused fault) owed) → IsRefused s over h.left h.rest (length used) fault → FirstMalformed s used over fault
+malformed_by s used over given owed fault of_bytes h (inl refused) =
+    record { asked = h.asked; left = h.left; rest = h.rest; stream = h.stream; refused = refused; of_the_bytes = of_bytes }
+malformed_by s used over given owed fault of_bytes h (inr lost) = absurd (of_bytes.by_pack lost.name)
+
+module _ {R A : Type 0} (state : R → RepoState) where
+  regroup : (s : Setting) (a b c : List ℕ) (over : Bool) (d e f : List ℕ) (server : Server R A) → Running state s ((a ++ b) ++ c) over ((d ++ e) ++ f) server
+      → Running state s (a ++ (b ++ c)) over (d ++ (e ++ f)) server
+  regroup s a b c over d e f server r =
+      subst (λ (u : List ℕ). Running state s u over (d ++ (e ++ f)) server) (append_assoc a b c)
+      (subst (λ (w : List ℕ). Running state s ((a ++ b) ++ c) over w server) (append_assoc d e f) r)
+
+  -- the calls go on from what stood before them
+  goes_by : (s : Setting) (calls : List Call) (before : ℕ) (old : Server R A) (after : ℕ) (new : Server R A) → MakesAll (Makes state) calls before old after new
+      → (so_far : List ℕ) (over : Bool) (given : List ℕ) → Running state s so_far over given old
+      → Running state s (so_far ++ used_in calls) (ended over calls) (given ++ given_in calls) new
+  unfolding ended
+  goes_by s [] before old after new (counter, same) so_far over given r =
+      subst (λ (u : List ℕ). Running state s u over (given ++ []) new) (sym (append-nil so_far))
+      (subst (λ (w : List ℕ). Running state s so_far over w new) (sym (append-nil given)) (subst (Running state s so_far over given) (sym same) r))
+  goes_by s (fed piece used ∷ calls) before old after new (next, between, made, more) so_far over given r =
+      regroup s so_far (take used piece) (used_in calls) (ended over calls) given [] (given_in calls) new
+      (goes_by s calls next between after new more (so_far ++ take used piece) over (given ++ []) (made.goes s so_far over given r))
+  goes_by s (pulled answer ∷ calls) before old after new (next, between, made, more) so_far over given r =
+      regroup s so_far [] (used_in calls) (ended over calls) given (given_by answer) (given_in calls) new
+      (goes_by s calls next between after new more (so_far ++ []) over (given ++ given_by answer) (made.0.goes s so_far over given r))
+  goes_by s (closed ∷ calls) before old after new (next, between, made, more) so_far over given r =
+      goes_by s calls next between after new more so_far true given (made.0.closes s so_far over given r).0
+
+  -- each call is paid
+  paid_by : (call : Call) (before : ℕ) (old : Server R A) (after : ℕ) (new : Server R A) → Makes state call before old after new
+      → ArePaid (length (used_by call)) (feeds_by call) before after (credit_of (reader_of old)) (credit_of (reader_of new))
+  paid_by (fed piece used) before old after new made =
+      record { rises = made.pays.rises; within = omega (arith, made.pays.within, length-take-le used piece made.within) }
+  paid_by (pulled answer) before old after new made = record { rises = omega (arith, made.1); within = omega (arith, made.0.credit, made.1) }
+  paid_by closed before old after new made = record { rises = omega (arith, made.1); within = omega (arith, made.0.credit, made.1) }
+
+  module _ (s : Setting) (used : List ℕ) (over : Bool) (given : List ℕ) (server : Server R A) (r : Running state s used over given server) where
+    -- a server that has this outcome stands by it
+    ending : (outcome : Outcome) → outcome_of server ≡ Some outcome → (owed : List Pkt) × IsEnding s used over given outcome owed
+    ending outcome some =
+        let stands : StandsBy (Some outcome) s used over given server = subst (λ (o : Option Outcome). StandsBy o s used over given server) some r.stands in
+        let (owed, owes) = owes_some server.offer s.repo server.phase in
+        (owed, stands owed owes)
+
+    refused_first : (fault : Fault) → outcome_of server ≡ Some (Refused fault) → IsOfTheBytes (Refused fault) → FirstMalformed s used over fault
+    refused_first fault some of_bytes =
+        let (owed, h) = ending (Refused fault) some in
+        malformed_by s used over given owed fault of_bytes h h.ends
+
+    malformed_ends : (fault : Fault) (outcome : Outcome) → FirstMalformed s used over fault → outcome_of server ≡ Some outcome → IsOfTheBytes outcome
+        → outcome ≡ Refused fault
+    malformed_ends fault outcome k some of_bytes =
+        let (owed, h) = ending outcome some in
+        one_end s used over h.asked k.asked h.left k.left h.rest k.rest outcome (Refused fault) h.stream k.stream h.ends (inl k.refused) of_bytes k.of_the_bytes
+
+    clean : (fault : Fault) → outcome_of server ≡ None → fault.kind ≢ StreamTooLong → FirstMalformed s used over fault → ⊥
+    clean fault none other k =
+        let stands : StandsBy None s used over given server = subst (λ (o : Option Outcome). StandsBy o s used over given server) none r.stands in
+        let (not_over, goes_on) = going state server s used over given r stands in
+        clean_so_far s used given fault goes_on (subst (λ (b : Bool). FirstMalformed s used b fault) not_over k) other
+
+  -- what is promised after any calls
+  pub after_any_calls : (s : Setting) (calls : List Call) (before after : ℕ) (first last : Server R A) → Running state s [] false [] first
+      → credit_of (reader_of first) ≡ 0 → MakesAll (Makes state) calls before first after last → Headline state s calls before after last
+  after_any_calls s calls before after first last new no_credit made =
+      let used = used_in calls in
+      let over = closes calls in
+      let given = given_in calls in
+      let r : Running state s used over given last =
+      subst (λ (b : Bool). Running state s used b given last) (ended_by calls) (goes_by s calls before first after last made [] false [] new) in
+      let paid = all_paid (Makes state) (λ server. credit_of (reader_of server)) used_by feeds_by paid_by calls before first after last made in
+      record {
+        buffer = r.fits;
+        stored = omega (arith, r.covered, last.requests.bounded.covered);
+        kept = r.within;
+        held = omega (arith, r.fits, r.within, r.covered, last.requests.bounded.covered);
+        steps = omega (arith, paid.within, no_credit);
+        running = every_moment state last s used over given r;
+        session = λ outcome some none. its_end state last s used over given r outcome some none;
+        refused = refused_first s used over given last r;
+        malformed = malformed_ends s used over given last r;
+        clean = clean s used over given last r;
+      }
