@@ -31,3 +31,4 @@ pub mod Notes
 pub mod AskedInTurn
 pub mod ClientRuns
 pub mod HandedBack
+pub mod Calls

@@ -15,7 +15,7 @@ use Rattle.git_pkt.specs.declared.reader.PacketReader.{PacketReader}
 use Rattle.git_msg.specs.Advertisement.{noted_of, noted_offer, offers_command}
 use Rattle.git_msg.specs.Asked.{Asked, command_asked, AreOffered}
 use Rattle.git_msg.specs.Checks.{Check, check, Refuses as RefusesBy, Passes}
-use Rattle.git_msg.specs.HeldRequest.{asked_of, format_of as request_format, limit_of as request_limit, stored_of}
+use Rattle.git_msg.specs.HeldRequest.{asked_of, format_of as request_format, kept_of, limit_of as request_limit, stored_of}
 use Rattle.git_msg.specs.Lines.{end_checks}
 use Rattle.git_msg.specs.Texts.{IsErrorOf}
 use Rattle.git_msg.specs.WrittenRequest.{lines_written, written_of}
@@ -134,7 +134,12 @@ module _ {A : Type 0} where
   stored_in None = 0
   stored_in (Some request) = stored_of request
 
-  -- how many bytes its argument lines may have
+  -- how many bytes its argument lines have
+  abbrev pub kept_in : Option (Request A) → ℕ
+  kept_in None = 0
+  kept_in (Some request) = kept_of request
+
+  -- how many bytes they may have
   abbrev pub limit_in : Option (Request A) → ℕ
   limit_in None = 0
   limit_in (Some request) = request_limit request
@@ -190,10 +195,13 @@ module _ {A : Type 0} where
   abbrev pub left_to_say : Client A → List Pkt
   left_to_say client = left_in client.phase client.request
 
-  -- how many bytes the client has: those of the hold of its packet reader, and those stored of the request that it asks. Each field is
-  -- named, so that none can be added without being counted.
+  -- how many bytes the client has: those of the hold of its packet reader, and those stored of the request that it asks
   abbrev pub bytes_held : Client A → ℕ
-  bytes_held client =
+  bytes_held client = held_in_packet client.reader + stored_in client.request
+
+  -- the same with each field named, so that none can be added without being counted
+  abbrev pub bytes_held_by_fields : Client A → ℕ
+  bytes_held_by_fields client =
       let record {
         reader = reader;
         format = format;
@@ -208,8 +216,13 @@ module _ {A : Type 0} where
         freed = freed;
         formats = formats;
         covered = covered;
+        within = within;
       } = client in
       held_in_packet reader + stored_in request
+
+  -- how many bytes the argument lines of that request have, or 0 where none is asked
+  abbrev pub kept_by : Client A → ℕ
+  kept_by client = kept_in client.request
 
   -- the limit of that request, or 0 where none is asked
   abbrev pub limit_of : Client A → ℕ

@@ -9,3 +9,4 @@ pub mod Client
 pub mod Transcript
 pub mod Runs
 pub mod RunSteps
+pub mod Calls

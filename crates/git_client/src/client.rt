@@ -3,7 +3,7 @@
 ghost use Rattle.std.specs.Prelude.{◌≡◌, ◌≢◌, ◌+◌, ◌-◌, ◌≤◌, ◌<◌, ◌↔◌, IsTrue, ℕ, suc, List, [], ◌∷◌, None, Err, true, false, length, take, drop, MatchOption, ◌*◌};
 ghost use Rattle.std.specs.Option.{ForSome};
 ghost use Rattle.std.specs.Borrow.{sem};
-ghost use Rattle.git_msg.specs.HeldRequest.{format_of as request_format, limit_of, stored_of};
+ghost use Rattle.git_msg.specs.HeldRequest.{format_of as request_format, kept_of, limit_of, stored_of};
 ghost use Rattle.std.specs.Io.BufRead.{Rests};
 ghost use Rattle.git_names.specs.declared.object_format.Format.{Format};
 ghost use Rattle.git_pkt.specs.Credit.{Pays, credit_of};
@@ -65,7 +65,8 @@ pub struct Client<A: Allocator + Copy> {
     ghost owes: { is_asking phase ≡ true → left_in phase request ≢ [] },
     ghost freed: { is_asking phase ≡ false → request ≡ None },
     ghost formats: { ForSome request (λ q. request_format q ≡ format) },
-    ghost covered: { ForSome request (λ q. stored_of q ≤ limit_of q) },
+    ghost covered: { ForSome request (λ q. stored_of q ≤ kept_of q) },
+    ghost within: { ForSome request (λ q. kept_of q ≤ limit_of q) },
 }
 
 impl<A: Allocator + Copy> Client<A> {

@@ -1,7 +1,7 @@
 //! What follows from the definitions alone: each law is the contract of a function without parameters.
 
-ghost use Rattle.std.specs.Prelude.{◌≡◌, ◌≢◌, ◌+◌, ◌*◌, ◌≤◌, ℕ, List, [], ◌++◌, Some, None, true};
-ghost use Rattle.git_pkt.specs.Credit.{Call, ArePaid, bytes_of, feeds_of};
+ghost use Rattle.std.specs.Prelude.{◌≡◌, ◌≢◌, ◌+◌, ◌≤◌, ℕ, List, [], ◌++◌, Some, None, true};
+ghost use Rattle.git_pkt.specs.Credit.{MakesAll, credit_of};
 ghost use Rattle.git_pkt.specs.Packets.{Pkt};
 ghost use Rattle.git_pkt.specs.Splits.{Given};
 ghost use Rattle.git_pkt.specs.declared.fault.Fault.{Fault};
@@ -14,6 +14,8 @@ ghost use Rattle.git_client.specs.Events.{EventValue, pack_bytes};
 ghost use Rattle.git_client.specs.Packs.{HasPack};
 ghost use Rattle.git_client.specs.Conversation.{GivesAt, RefusesAt, FirstFault, HasEvents, HasNoted, FirstMalformed, GoesWell, IsConversation};
 ghost use Rattle.git_client.specs.Client.{Converses, History, bytes_held, limit_of, fault_of, can_ask, left_to_say, said_of, spelled, caps_of};
+ghost use Rattle.git_client.specs.Client.{bytes_held_by_fields, nothing_yet, reader_of};
+ghost use Rattle.git_client.specs.Calls.{Call, Headline, Makes, feeds_in, history_after};
 ghost use Rattle.git_client.specs.declared.client.Client.{Client};
 
 use std::alloc::Allocator;
@@ -118,8 +120,17 @@ pub fn client_holds_within_its_limit<A: Allocator + Copy>()
     ensures { (t : Terms) (h : History) (client : Client A) → Converses t h client → bytes_held client ≤ 65520 + limit_of client }
 {}
 
-/// All calls of a client together take at most 64 steps for each byte that was used and for each call of `feed`.
-pub fn client_steps_are_bounded()
-    ensures { (calls : List Call) (before after left : ℕ) → ArePaid calls before after 0 left
-        → after ≤ before + 64 * (bytes_of calls + feeds_of calls) }
+/// What is counted of a client is all that its fields have.
+pub fn all_fields_are_counted<A: Allocator + Copy>()
+    ensures { (client : Client A) → bytes_held_by_fields client ≡ bytes_held client }
+{}
+
+/// After any calls of a client, one after the other, with the bytes received cut into pieces of any size: it holds no more
+/// than the longest packet and the limit of its one request, it took at most 64 steps for each byte used and for each call of
+/// `feed`, its events are those of the bytes, the pack bytes are a front of the pack, and what refused is the first malformed
+/// packet.
+pub fn headline<A: Allocator + Copy>()
+    ensures { (t : Terms) (calls : List (Call A)) (before after : ℕ) (first last : Client A)
+        → Converses t nothing_yet first → credit_of (reader_of first) ≡ 0 → MakesAll Makes calls before first after last
+        → Headline t (history_after nothing_yet calls) (feeds_in calls) before after last }
 {}

@@ -1,0 +1,117 @@
+-- What holds of a client after any calls, one after the other.
+use Rattle.std.proofs.Common.{arith, ◌≡◌, ℕ, ◌+◌, ◌≤◌, List, [], ◌∷◌, ◌++◌, Option, Some, None, length, take, refl, sym, ◌∙◌, ap, subst}
+use Rattle.std.proofs.Common.{length-append, append-nil}
+use Rattle.std.specs.Prelude.{flat_map}
+use Rattle.std.proofs.lemmas.List.{length-take-le}
+use Rattle.git_pkt.specs.Credit.{ArePaid, MakesAll, credit_of}
+use Rattle.git_pkt.proofs.Credits.{all_paid}
+use Rattle.git_msg.specs.HeldRequest.{kept_of, limit_of as request_limit, stored_of}
+use Rattle.git_msg.specs.declared.requests.Request.{Request}
+use Rattle.git_client.specs.Parts.{Terms}
+use Rattle.git_client.specs.Events.{EventValue}
+use Rattle.git_client.specs.Client.{History, Converses, nothing_yet, reader_of, stored_in, kept_in, limit_in}
+use Rattle.git_client.specs.Calls.{Call, ask, ask_refused, leave, pull, feed, close, Makes, Headline, after_call, history_after, feeds_by, feeds_in}
+use Rattle.git_client.specs.declared.client.Client.{Client}
+use Rattle.git_client.proofs.EventsHeard.{has_events, has_noted, goes_well, is_whole, all_is_said}
+use Rattle.git_client.proofs.Faults.{first_fault}
+use Rattle.git_client.proofs.OneFault.{one_shown, one_by_name}
+use Rattle.git_client.proofs.Packs.{heard_front, heard_whole}
+
+-- of a request that is asked no more is stored than is kept, and no more is kept than its limit
+pub stored_within : {A : Type 0} (request : Option (Request A)) → ((q : Request A) → request ≡ Some q → stored_of q ≤ kept_of q)
+    → stored_in request ≤ kept_in request
+stored_within None h = omega arith
+stored_within (Some q) h = h q refl
+
+pub kept_within : {A : Type 0} (request : Option (Request A)) → ((q : Request A) → request ≡ Some q → kept_of q ≤ request_limit q)
+    → kept_in request ≤ limit_in request
+kept_within None h = omega arith
+kept_within (Some q) h = h q refl
+
+-- a history to which nothing is added
+nothing_more : (h : History) → record h { used = h.used ++ []; events = h.events ++ [] } ≡ h
+nothing_more h =
+    ap (λ (used : List ℕ). record h { used = used; events = h.events ++ [] }) (append-nil h.used)
+    ∙ ap (λ (events : List EventValue). record h { events = events }) (append-nil h.events)
+
+module _ {A : Type 0} where
+  -- whatever the history was, it goes on by what a call adds
+  goes_on : (t : Terms) (call : Call A) (h : History) (before : ℕ) (old : Client A) (after : ℕ) (new : Client A) → Makes call before old after new
+      → Converses t h old → Converses t (after_call h call) new
+  goes_on t (ask request) h before old after new made c = made.0.asks t h c
+  goes_on t (ask_refused request handed_back fault) h before old after new made c =
+      subst (λ (client : Client A). Converses t h client) (sym made.0.stays) c
+  goes_on t leave h before old after new made c = made.0.leaves t h c
+  goes_on t (pull sent) h before old after new made c = made.0.says t h c
+  goes_on t (feed piece answer) h before old after new made c = made.0.hears t h c
+  goes_on t (close fault) h before old after new made c =
+      subst (λ (now : History). Converses t now new) (nothing_more h) (made.0.carries t h c)
+
+  all_go_on : (t : Terms) (calls : List (Call A)) (h : History) (before : ℕ) (old : Client A) (after : ℕ) (new : Client A)
+      → MakesAll Makes calls before old after new → Converses t h old → Converses t (history_after h calls) new
+  all_go_on t [] h before old after new (counter, same) c = subst (λ (client : Client A). Converses t h client) (sym same) c
+  all_go_on t (call ∷ calls) h before old after new (next, between, made, more) c =
+      all_go_on t calls (after_call h call) next between after new more (goes_on t call h before old next between made c)
+
+  -- the bytes that a call uses
+  abbrev used_by : Call A → List ℕ
+  used_by (feed piece answer) = take answer.used piece
+  used_by call = []
+
+  -- they are what it adds to those of the history
+  adds_used : (call : Call A) (h : History) → length (after_call h call).used ≡ length h.used + length (used_by call)
+  adds_used (feed piece answer) h = length-append h.used (take answer.used piece)
+  adds_used call h = omega arith
+
+  all_used : (calls : List (Call A)) (h : History) → length (history_after h calls).used ≡ length h.used + length (flat_map used_by calls)
+  all_used [] h = omega arith
+  all_used (call ∷ calls) h =
+      omega (arith, all_used calls (after_call h call), adds_used call h, length-append (used_by call) (flat_map used_by calls))
+
+  abbrev credit : Client A → ℕ
+  credit client = credit_of (reader_of client)
+
+  -- each call is paid
+  each_paid : (call : Call A) (before : ℕ) (old : Client A) (after : ℕ) (new : Client A) → Makes call before old after new
+      → ArePaid (length (used_by call)) (feeds_by call) before after (credit old) (credit new)
+  each_paid (ask request) before old after new (asks, same) =
+      record { rises = omega (arith, same); within = omega (arith, same, asks.credit) }
+  each_paid (ask_refused request handed_back fault) before old after new (refuses, same) =
+      record { rises = omega (arith, same); within = omega (arith, same, ap credit refuses.stays) }
+  each_paid leave before old after new (leaves, same) =
+      record { rises = omega (arith, same); within = omega (arith, same, leaves.credit) }
+  each_paid (pull sent) before old after new (pulls, same) =
+      record { rises = omega (arith, same); within = omega (arith, same, pulls.credit) }
+  each_paid (feed piece answer) before old after new (feeds, fits, pays) =
+      record { rises = pays.rises; within = omega (arith, pays.within, length-take-le answer.used piece fits) }
+  each_paid (close fault) before old after new (closes, same) =
+      record { rises = omega (arith, same); within = omega (arith, same, closes.credit) }
+
+  pub headline : (t : Terms) (calls : List (Call A)) (before after : ℕ) (first last : Client A) → Converses t nothing_yet first
+      → credit first ≡ 0 → MakesAll Makes calls before first after last
+      → Headline t (history_after nothing_yet calls) (feeds_in calls) before after last
+  headline t calls before after first last begun none made =
+      let h = history_after nothing_yet calls in
+      let c = all_go_on t calls nothing_yet before first after last made begun in
+      let paid = all_paid Makes credit used_by feeds_by each_paid calls before first after last made in
+      let events = has_events t h last c in
+      let stored = stored_within last.request last.covered in
+      let kept = kept_within last.request last.within in
+      record {
+        held = omega (arith, c.reads.fits, stored, kept);
+        hold = c.reads.fits;
+        stored = stored;
+        kept = kept;
+        rises = paid.rises;
+        steps = omega (arith, paid.within, none, all_used calls nothing_yet);
+        events = events;
+        noted = has_noted t h last c;
+        given = all_is_said t h last c;
+        pack = λ bytes pack. heard_front t h.asked h.used h.events bytes events pack;
+        whole = is_whole t h last c;
+        whole_pack = λ ready bytes pack. heard_whole t h.asked h.used h.events bytes (is_whole t h last c ready) pack;
+        refused = λ fault is. first_fault t h last fault c is;
+        unrefused = goes_well t h last c;
+        one_refusal = λ fault other is first. one_shown t h.asked h.used fault other (first_fault t h last fault c is) first;
+        one_by_name = λ fault other is first. one_by_name t h.asked h.used fault other (first_fault t h last fault c is) first;
+      }
