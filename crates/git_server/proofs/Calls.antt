@@ -11,7 +11,7 @@ use Rattle.git_server.specs.Repository.{Repository, RepoState}
 use Rattle.git_server.specs.Sessions.{EndsBy, FirstMalformed, IsEnding, IsOfTheBytes, IsRefused, Setting}
 use Rattle.git_server.specs.Phases.{Owes}
 use Rattle.git_server.specs.Server.{Running, StandsBy, outcome_of, reader_of}
-use Rattle.git_server.specs.Calls.{Call, fed, pulled, closed, Headline, Makes, closes, feeds_by, feeds_in, given_in, used_by, used_in}
+use Rattle.git_server.specs.Calls.{Call, feed, pull, close, Headline, Makes, closes, feeds_by, feeds_in, given_in, used_by, used_in}
 use Rattle.git_server.specs.ServerCalls.{given_by}
 use Rattle.git_server.specs.declared.outcome.Outcome.{Outcome}
 use Rattle.git_server.specs.declared.outcome.Outcome.TheVariants.{Refused}
@@ -23,23 +23,23 @@ use Rattle.git_server.proofs.SessionLaws.{every_moment, going, its_end}
 -- whether the input ended, where it had or not before the calls
 ended : Bool → List Call → Bool
 ended over [] = over
-ended over (fed piece used ∷ calls) = ended over calls
-ended over (pulled answer ∷ calls) = ended over calls
-ended over (closed ∷ calls) = ended true calls
+ended over (feed piece used ∷ calls) = ended over calls
+ended over (pull answer ∷ calls) = ended over calls
+ended over (close ∷ calls) = ended true calls
 
 stays_ended : (calls : List Call) → ended true calls ≡ true
 unfolding ended
 stays_ended [] = refl
-stays_ended (fed piece used ∷ calls) = stays_ended calls
-stays_ended (pulled answer ∷ calls) = stays_ended calls
-stays_ended (closed ∷ calls) = stays_ended calls
+stays_ended (feed piece used ∷ calls) = stays_ended calls
+stays_ended (pull answer ∷ calls) = stays_ended calls
+stays_ended (close ∷ calls) = stays_ended calls
 
 ended_by : (calls : List Call) → ended false calls ≡ closes calls
 unfolding ended
 ended_by [] = refl
-ended_by (fed piece used ∷ calls) = ended_by calls
-ended_by (pulled answer ∷ calls) = ended_by calls
-ended_by (closed ∷ calls) = stays_ended calls
+ended_by (feed piece used ∷ calls) = ended_by calls
+ended_by (pull answer ∷ calls) = ended_by calls
+ended_by (close ∷ calls) = stays_ended calls
 
 -- what is refused as it was read is malformed
 malformed_by : (s : Setting) (used : List ℕ) (over : Bool) (given : List ℕ) (owed : List Pkt) (fault : Fault) → IsOfTheBytes (Refused fault)
@@ -63,22 +63,22 @@ module _ {R A : Type 0} (state : R → RepoState) where
   goes_by s [] before old after new (counter, same) so_far over given r =
       subst (λ (u : List ℕ). Running state s u over (given ++ []) new) (sym (append-nil so_far))
       (subst (λ (w : List ℕ). Running state s so_far over w new) (sym (append-nil given)) (subst (Running state s so_far over given) (sym same) r))
-  goes_by s (fed piece used ∷ calls) before old after new (next, between, made, more) so_far over given r =
+  goes_by s (feed piece used ∷ calls) before old after new (next, between, made, more) so_far over given r =
       regroup s so_far (take used piece) (used_in calls) (ended over calls) given [] (given_in calls) new
       (goes_by s calls next between after new more (so_far ++ take used piece) over (given ++ []) (made.goes s so_far over given r))
-  goes_by s (pulled answer ∷ calls) before old after new (next, between, made, more) so_far over given r =
+  goes_by s (pull answer ∷ calls) before old after new (next, between, made, more) so_far over given r =
       regroup s so_far [] (used_in calls) (ended over calls) given (given_by answer) (given_in calls) new
       (goes_by s calls next between after new more (so_far ++ []) over (given ++ given_by answer) (made.0.goes s so_far over given r))
-  goes_by s (closed ∷ calls) before old after new (next, between, made, more) so_far over given r =
+  goes_by s (close ∷ calls) before old after new (next, between, made, more) so_far over given r =
       goes_by s calls next between after new more so_far true given (made.0.closes s so_far over given r).0
 
   -- each call is paid
   paid_by : (call : Call) (before : ℕ) (old : Server R A) (after : ℕ) (new : Server R A) → Makes state call before old after new
       → ArePaid (length (used_by call)) (feeds_by call) before after (credit_of (reader_of old)) (credit_of (reader_of new))
-  paid_by (fed piece used) before old after new made =
+  paid_by (feed piece used) before old after new made =
       record { rises = made.pays.rises; within = omega (arith, made.pays.within, length-take-le used piece made.within) }
-  paid_by (pulled answer) before old after new made = record { rises = omega (arith, made.1); within = omega (arith, made.0.credit, made.1) }
-  paid_by closed before old after new made = record { rises = omega (arith, made.1); within = omega (arith, made.0.credit, made.1) }
+  paid_by (pull answer) before old after new made = record { rises = omega (arith, made.1); within = omega (arith, made.0.credit, made.1) }
+  paid_by close before old after new made = record { rises = omega (arith, made.1); within = omega (arith, made.0.credit, made.1) }
 
   module _ (s : Setting) (used : List ℕ) (over : Bool) (given : List ℕ) (server : Server R A) (r : Running state s used over given server) where
     -- a server that has this outcome stands by it
@@ -116,10 +116,11 @@ module _ {R A : Type 0} (state : R → RepoState) where
       subst (λ (b : Bool). Running state s used b given last) (ended_by calls) (goes_by s calls before first after last made [] false [] new) in
       let paid = all_paid (Makes state) (λ server. credit_of (reader_of server)) used_by feeds_by paid_by calls before first after last made in
       record {
-        buffer = r.fits;
+        hold = r.fits;
         stored = omega (arith, r.covered, last.requests.bounded.covered);
         kept = r.within;
         held = omega (arith, r.fits, r.within, r.covered, last.requests.bounded.covered);
+        rises = paid.rises;
         steps = omega (arith, paid.within, no_credit);
         running = every_moment state last s used over given r;
         session = λ outcome some none. its_end state last s used over given r outcome some none;

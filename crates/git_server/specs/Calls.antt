@@ -15,27 +15,27 @@ use Rattle.git_server.specs.declared.server.Server.{Server}
 
 -- a call that may change a server: `feed` of a piece, of which so many bytes were used, `pull` with its answer, or `close`
 pub data Call : Type 0 where
-  fed : List ℕ → ℕ → Call
-  pulled : Pulled → Call
-  closed : Call
+  feed : List ℕ → ℕ → Call
+  pull : Pulled → Call
+  close : Call
 
 -- the bytes that the call used
 abbrev pub used_by : Call → List ℕ
-used_by (fed piece used) = take used piece
-used_by (pulled answer) = []
-used_by closed = []
+used_by (feed piece used) = take used piece
+used_by (pull answer) = []
+used_by close = []
 
 -- the bytes that it gave
 abbrev pub given_with : Call → List ℕ
-given_with (fed piece used) = []
-given_with (pulled answer) = given_by answer
-given_with closed = []
+given_with (feed piece used) = []
+given_with (pull answer) = given_by answer
+given_with close = []
 
 -- 1 for a call of `feed`
 abbrev pub feeds_by : Call → ℕ
-feeds_by (fed piece used) = 1
-feeds_by (pulled answer) = 0
-feeds_by closed = 0
+feeds_by (feed piece used) = 1
+feeds_by (pull answer) = 0
+feeds_by close = 0
 
 -- all bytes that the calls used, joined
 abbrev pub used_in : List Call → List ℕ
@@ -52,7 +52,7 @@ feeds_in = sum_by feeds_by
 -- whether one of them is `close`: the input ended with the bytes used
 abbrev pub closes : List Call → Bool
 closes [] = false
-closes (closed ∷ calls) = true
+closes (close ∷ calls) = true
 closes (call ∷ calls) = closes calls
 
 module _ {R A : Type 0} (state : R → RepoState) where
@@ -70,20 +70,21 @@ module _ {R A : Type 0} (state : R → RepoState) where
 
   -- what the contract of the call says of the counter and the server, before it and after it
   abbrev pub Makes : Call → ℕ → Server R A → ℕ → Server R A → Type 0
-  Makes (fed piece used) before old after new = Feeds piece used before old after new
-  Makes (pulled answer) before old after new = Pulls state old answer new × (after ≡ before)
-  Makes closed before old after new = Ends old new × (after ≡ before)
+  Makes (feed piece used) before old after new = Feeds piece used before old after new
+  Makes (pull answer) before old after new = Pulls state old answer new × (after ≡ before)
+  Makes close before old after new = Ends old new × (after ≡ before)
 
   -- what holds of a server that was new before these calls, while they raised the counter from `before` to `after`
   pub record Headline (s : Setting) (calls : List Call) (before after : ℕ) (server : Server R A) : Type 0 where
-    -- its one buffer has no more bytes than the longest packet
-    pub buffer : held_in_packet (reader_of server) ≤ 65520
+    -- its one buffer, the hold of its packet reader, has no more bytes than the longest packet
+    pub hold : held_in_packet (reader_of server) ≤ 65520
     -- no more is stored of argument lines than is kept of them, and no more is kept than the limit has
     pub stored : stored_by server ≤ kept_by server
     pub kept : kept_by server ≤ s.limit
     -- all its bytes are no more than the longest packet and the limit have together
     pub held : bytes_held server ≤ 65520 + s.limit
-    -- the calls took no more than 64 steps for each byte used and for each call of `feed`
+    -- the calls took no more than 64 steps for each byte used and for each call of `feed`, and none set the counter back
+    pub rises : before ≤ after
     pub steps : after ≤ before + 64 * (length (used_in calls) + feeds_in calls)
     -- what was given is what a session gives for the bytes used, as far as it has come
     pub running : IsRunning s (used_in calls) (closes calls) (given_in calls)
