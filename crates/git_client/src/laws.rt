@@ -125,10 +125,10 @@ pub fn all_fields_are_counted<A: Allocator + Copy>()
     ensures { (client : Client A) → bytes_held_by_fields client ≡ bytes_held client }
 {}
 
-/// After any calls of a client, one after the other, with the bytes received cut into pieces of any size: it holds no more
-/// than the longest packet and the limit of its one request, it took at most 64 steps for each byte used and for each call of
-/// `feed`, its events are those of the bytes, the pack bytes are a front of the pack, and what refused is the first malformed
-/// packet.
+/// After any calls of a client that was new before them, with the bytes received cut into pieces of any size: it has no more
+/// bytes than the longest packet and the limit of the request that it asks, it took at most 64 steps for each byte used and for
+/// each call of `feed`, its events are those of the bytes, its pack bytes are a front of the pack, and where it refused, it did
+/// so at the first malformed packet.
 pub fn headline<A: Allocator + Copy>()
     ensures { (t : Terms) (calls : List (Call A)) (before after : ℕ) (first last : Client A)
         → Converses t nothing_yet first → credit_of (reader_of first) ≡ 0 → MakesAll Makes calls before first after last
