@@ -125,7 +125,8 @@ counted packets offset long arg r w =
 
 pub keeps_ok : {A : Type 0} (r : RequestReader A) (offset long : ℕ) (arg : Arg) (q : Request A) (bounded : IsBounded q)
     → r.part ≡ Waiting offset long → Keeps r.request arg (max long (length (written_text arg))) q
-    → Passes (keep_checks r.request arg (max long (length (written_text arg)))) → KeepsOn r arg (Ok tt) (record r { part = Arguments; request = q; bounded = bounded })
+    → Passes (keep_checks r.request arg (max long (length (written_text arg))))
+    → KeepsOn r arg (Ok tt) (record r { part = Arguments; request = q; bounded = bounded })
 keeps_ok {A} r offset long arg q bounded part k passes = record {
   settles = λ packets w.
       let waits : WaitsBehind packets offset long arg r = subst (λ (p : Part). WaitsIn p packets arg r) part w.waits in
@@ -232,7 +233,8 @@ told packets offset long arg r kind w (inr h) =
 
 pub keeps_err : {A : Type 0} (r : RequestReader A) (offset long : ℕ) (arg : Arg) (q : Request A) (kind : Kind) (bounded : IsBounded q)
     → r.part ≡ Waiting offset long → q ≡ r.request → IsRefused (keep_checks r.request arg (max long (length (written_text arg)))) arg kind
-    → KeepsOn r arg (Err (record { kind = kind; offset = offset })) (record r { part = Failed (record { kind = kind; offset = offset }); request = q; bounded = bounded })
+    → KeepsOn r arg (Err (record { kind = kind; offset = offset }))
+    (record r { part = Failed (record { kind = kind; offset = offset }); request = q; bounded = bounded })
 keeps_err {A} r offset long arg q kind bounded part same refused =
     subst (λ (x : Request A). (h : IsBounded x) → KeepsOn r arg (Err (record { kind = kind; offset = offset }))
     (record r { part = Failed (record { kind = kind; offset = offset }); request = x; bounded = h })) (sym same) (λ still. record {

@@ -40,5 +40,12 @@ pub texts_more : (bytes text ends : List ℕ) (low high : ℕ) → All (IsEnd by
 texts_more bytes text ends low high sound says =
     let joined : ((bytes ++ text) ++ low ∷ []) ++ high ∷ [] ≡ (bytes ++ text) ++ (low ∷ high ∷ []) = append_assoc (bytes ++ text) (low ∷ []) (high ∷ []) in
     let onward : (bytes ++ text) ++ (low ∷ high ∷ []) ≡ bytes ++ (text ++ (low ∷ high ∷ [])) = append_assoc bytes text (low ∷ high ∷ []) in
-    let before : map (text_at ((bytes ++ text) ++ (low ∷ high ∷ []))) ends ≡ map (text_at bytes) ends = rw onward (texts_stay bytes (text ++ (low ∷ high ∷ [])) ends sound) in
-    rw (joined, map-append (text_at ((bytes ++ text) ++ (low ∷ high ∷ []))) ends ((length bytes + length text) ∷ []), before, last_text bytes text low high says) refl
+    let before : map (text_at ((bytes ++ text) ++ (low ∷ high ∷ []))) ends
+    ≡ map (text_at bytes) ends = rw onward (texts_stay bytes (text ++ (low ∷ high ∷ [])) ends sound) in
+    rw (
+      joined,
+      map-append (text_at ((bytes ++ text) ++ (low ∷ high ∷ []))) ends
+          ((length bytes + length text) ∷ []),
+      before,
+      last_text bytes text low high says,
+    ) refl

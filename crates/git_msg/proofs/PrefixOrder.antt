@@ -1,5 +1,6 @@
 -- Lists of texts that are put in order, and what they show.
-use Rattle.std.proofs.Common.{◌≡◌, ℕ, zero, suc, ◌-◌, ◌==◌, ◌<◌, ◌≤◌, Bool, true, false, ◌||◌, if◌then◌else◌, inl, inr, List, [], ◌∷◌, All, length, map, nat_eq, slice_index_or, refl, sym, ap, ◌∙◌, subst, arith}
+use Rattle.std.proofs.Common.{◌≡◌, ℕ, zero, suc, ◌-◌, ◌==◌, ◌<◌, ◌≤◌, Bool, true, false, ◌||◌, if◌then◌else◌, inl, inr, List, [], ◌∷◌, All, length}
+use Rattle.std.proofs.Common.{map, nat_eq, slice_index_or, refl, sym, ap, ◌∙◌, subst, arith}
 use Rattle.std.specs.List.{list_any, starts_with, AllPairs, dedup, dedup_from}
 use Rattle.std.specs.List.Sorted.{IsPermutation, IsSortedBy, IsPartitionedBy, IsPartitionPoint}
 use Rattle.std.specs.Ordering.{is_lt}
@@ -45,7 +46,8 @@ module _ {X : Type 0} (f : X → List ℕ) where
   kept_step : (name : List ℕ) (k x : X) (xs : List X) (b : Bool) → same x k ≡ b
       → shows name (dedup_from same k xs) ≡ (starts_with nat_eq name (f k) || shows name xs)
       → shows name (dedup_from same x xs) ≡ (starts_with nat_eq name (f x) || shows name xs)
-      → shows name (if b then dedup_from same k xs else k ∷ dedup_from same x xs) ≡ (starts_with nat_eq name (f k) || (starts_with nat_eq name (f x) || shows name xs))
+      → shows name (if b then dedup_from same k xs else k ∷ dedup_from same x xs)
+      ≡ (starts_with nat_eq name (f k) || (starts_with nat_eq name (f x) || shows name xs))
   kept_step name k x xs true e past next =
       past ∙ or_less (starts_with nat_eq name (f k)) (starts_with nat_eq name (f x)) (shows name xs) (λ h. begins_trans name (f x) (f k) h e)
   kept_step name k x xs false e past next = ap (λ (b : Bool). starts_with nat_eq name (f k) || b) next
@@ -103,7 +105,8 @@ module _ {X : Type 0} (f : X → List ℕ) where
       let next = first_before x xs (rest_before k (x ∷ xs) h) j d (omega (arith, below)) in
       (low (suc j) d below, begun_no_more (f k) (f x) _ (low 0 d (omega arith)) next none)
 
-  pruned_step : (k x : X) (xs : List X) → AllPairs Before (k ∷ x ∷ xs) → (b : Bool) → same x k ≡ b → AllPairs Prec (dedup_from same k xs) → AllPairs Prec (dedup_from same x xs)
+  pruned_step : (k x : X) (xs : List X) → AllPairs Before (k ∷ x ∷ xs) → (b : Bool) → same x k ≡ b → AllPairs Prec (dedup_from same k xs)
+      → AllPairs Prec (dedup_from same x xs)
       → AllPairs Prec (if b then dedup_from same k xs else k ∷ dedup_from same x xs)
   pruned_step k x xs h true e past next = past
   pruned_step k x xs h false e past next =
@@ -219,7 +222,7 @@ none_counted (p ∷ ps) = grind (arith, common_steps)
 dedup_step : {X : Type 0} (f : X → List ℕ) (k x : X) (xs : List X) (b : Bool)
     → map f (dedup_from (same f) k xs) ≡ dedup_from begins (f k) (map f xs) → map f (dedup_from (same f) x xs) ≡ dedup_from begins (f x) (map f xs)
     → map f (if b then dedup_from (same f) k xs else k ∷ dedup_from (same f) x xs)
-      ≡ (if b then dedup_from begins (f k) (map f xs) else f k ∷ dedup_from begins (f x) (map f xs))
+    ≡ (if b then dedup_from begins (f k) (map f xs) else f k ∷ dedup_from begins (f x) (map f xs))
 dedup_step f k x xs true past next = past
 dedup_step f k x xs false past next = ap (λ (ps : List (List ℕ)). f k ∷ ps) next
 

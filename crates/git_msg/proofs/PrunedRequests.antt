@@ -22,7 +22,8 @@ module _ (P : Arg → Type 0) (make : List ℕ → Arg) where
   less_step : (k x : List ℕ) (xs : List (List ℕ)) (b : Bool)
       → sum_by weight (map make (dedup_from begins k xs)) ≤ weight (make k) + sum_by weight (map make xs)
       → sum_by weight (map make (dedup_from begins x xs)) ≤ weight (make x) + sum_by weight (map make xs)
-      → sum_by weight (map make (if b then dedup_from begins k xs else k ∷ dedup_from begins x xs)) ≤ weight (make k) + (weight (make x) + sum_by weight (map make xs))
+      → sum_by weight (map make (if b then dedup_from begins k xs else k ∷ dedup_from begins x xs)) ≤ weight (make k) +
+      (weight (make x) + sum_by weight (map make xs))
   less_step k x xs true past next = omega (arith, past)
   less_step k x xs false past next = omega (arith, next, sum_by-cons weight (make k) (map make (dedup_from begins x xs)))
 
@@ -88,5 +89,6 @@ counted_pruned format q ps kept prunes counted =
     let others : List Arg = where_asked q.symrefs symrefs in
     rw prunes.kept (record {
       values = values_pruned P ref_prefix front others q.ref_prefixes prunes.moved prunes.same counted.values;
-      written = let less = bytes_pruned P ref_prefix front others q.ref_prefixes prunes.moved prunes.same in let written = counted.written in omega (arith, less, written);
+      written = let less = bytes_pruned P ref_prefix front others q.ref_prefixes prunes.moved prunes.same in let written = counted.written in omega
+          (arith, less, written);
     })

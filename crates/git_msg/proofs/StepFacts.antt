@@ -39,8 +39,8 @@ same_reader {A} r other h =
     ∙ ap (λ (x : Option Command). record r { alloc = other.alloc; offer = other.offer; part = other.part; begun = other.begun; command = x }) h.command
     ∙ ap (λ (x : Bool). record other { has_format = x; request = r.request; bounded = r.bounded }) h.has_format
     ∙ subst (λ (q : Request A). (p : IsBounded q)
-      → record other { request = r.request; bounded = r.bounded } ≡ record other { request = q; bounded = p }) h.request
-      (λ p. ap (λ (x : IsBounded r.request). record other { request = r.request; bounded = x }) (one_bound r.request r.bounded p)) other.bounded
+    → record other { request = r.request; bounded = r.bounded } ≡ record other { request = q; bounded = p }) h.request
+    (λ p. ap (λ (x : IsBounded r.request). record other { request = r.request; bounded = x }) (one_bound r.request r.bounded p)) other.bounded
 
 -- no command came, by both words
 pub first_by : (o : Option Command) (b : Bool) → is_some o ≡ not b → b ≡ is_none (option_to_list o)
@@ -211,7 +211,8 @@ module _ {A : Type 0} where
   pub noted : (r new : RequestReader A) (bytes : List ℕ) (offset : ℕ)
       → r.part ≡ Capabilities → Notes r (text_of bytes) new → StepsOn r (payload bytes) offset (Ok More) new
   noted r new bytes offset part h =
-      subst (λ (n : RequestReader A). StepsOn r (payload bytes) offset (Ok More) n) (sym (same_reader _ _ h.new_is)) (noted_plain r bytes offset h.line part h.is_line)
+      subst (λ (n : RequestReader A). StepsOn r (payload bytes) offset (Ok More) n) (sym (same_reader _ _ h.new_is))
+      (noted_plain r bytes offset h.line part h.is_line)
 
   refused_plain : (r : RequestReader A) (bytes : List ℕ) (offset : ℕ) (kind : Kind)
       → r.part ≡ Capabilities → Refuses (capability_checks r.offer (is_first r) (text_of bytes)) kind → StepsOn r (payload bytes) offset (Err kind) r

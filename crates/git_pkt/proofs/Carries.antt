@@ -56,7 +56,8 @@ carry_whole old new u g fits sound m spells at start bytes given rest r =
       },
     )
 
-pub carry_failed : (old new : PacketReader) (u : List ℕ) (f : Fault) → bytes_held new ≤ 65520 → fault_of old ≡ None → Moves old u (Failed f) new → ReadsOn old u [] new
+pub carry_failed : (old new : PacketReader) (u : List ℕ) (f : Fault) → bytes_held new ≤ 65520 → fault_of old ≡ None → Moves old u (Failed f) new
+    → ReadsOn old u [] new
 carry_failed old new u f fits sound m start bytes given rest r =
     let was = (sound_rest old start bytes given rest sound r).0.all in
     let same : rest_of old ++ u ≡ rest ++ u = ap (λ (l : List ℕ). l ++ u) was in

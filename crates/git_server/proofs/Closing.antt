@@ -31,7 +31,8 @@ some_is_left {A = A} phase left is h = subst (λ (p : Phase A). LeftIn p left) i
 
 module _ {R A : Type 0} (state : R → RepoState) (old new : Server R A) where
   ends_here : (s : Setting) (so_far : List ℕ) (over : Bool) (before : List ℕ) (outcome : Outcome) → wants_input old ≡ true → Keeps state old new
-      → (r : Running state s so_far over before old) → (h : Serves s so_far before old) → bytes_held new.reader ≤ 65520 → EndsBy s true h.left h.rest (length so_far) outcome
+      → (r : Running state s so_far over before old) → (h : Serves s so_far before old) → bytes_held new.reader ≤ 65520
+      → EndsBy s true h.left h.rest (length so_far) outcome
       → outcome_of new ≡ Some outcome → ((owed : List Pkt) → Owes new.offer s.repo new.phase owed → IsTail s h.left outcome owed)
       → ¬ IsPackLost (Some outcome)
       → Running state s so_far true before new

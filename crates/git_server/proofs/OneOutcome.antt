@@ -16,7 +16,8 @@ use Rattle.git_msg.specs.WholeRequests.{AreRequests}
 use Rattle.git_msg.proofs.WholeRequests.{NoFlush, NoRequest, flush_inside, flush_is_no_line, last_same, whole_then}
 use Rattle.git_msg.proofs.FaultLaws.{no_fault_in_lines, no_fault_in_request, one_first_fault}
 use Rattle.git_server.specs.Admission.{IsToldFor}
-use Rattle.git_server.specs.Sessions.{Setting, Begins, FirstMalformed, GoesOn, IsRequest, EndsBy, IsOfTheBytes, IsRefusedAsRead, IsRefusedAtPacket, IsSession, Stream}
+use Rattle.git_server.specs.Sessions.{Setting, Begins, FirstMalformed, GoesOn, IsRequest, EndsBy, IsOfTheBytes, IsRefusedAsRead, IsRefusedAtPacket}
+use Rattle.git_server.specs.Sessions.{IsSession, Stream}
 use Rattle.git_server.specs.Sessions.{WantsMemory, WantsPack}
 use Rattle.git_server.specs.declared.outcome.Outcome.{Outcome}
 use Rattle.git_server.specs.declared.outcome.Outcome.TheVariants.{Flush, Closed, Refused}
@@ -196,7 +197,8 @@ module _ (s : Setting) where
   ends_once over left rest end (Refused f) (Refused g) a b (inl h) (inr k) = absurd (b.by_pack k.name)
 
   -- what is left after the whole requests of some bytes, if it has none, is one thing
-  one_left : (used : List ℕ) (asked others : List Asked) (left more : List Given) (rest end : List ℕ) → Stream s used asked left rest → Stream s used others more end
+  one_left : (used : List ℕ) (asked others : List Asked) (left more : List Given) (rest end : List ℕ) → Stream s used asked left rest
+      → Stream s used others more end
       → NoRequest (IsRequest s) left → NoRequest (IsRequest s) more → (left ≡ more) × (rest ≡ end)
   one_left used asked others left more rest end h k none clear =
       let split = one_split 0 used h.packets k.packets rest end h.splits.spelled k.splits.spelled h.splits.ends k.splits.ends in (

@@ -1,5 +1,6 @@
 -- References that are passed over: none of them is shown.
-use Rattle.std.proofs.Common.{◌≡◌, ℕ, zero, suc, ◌+◌, ◌<◌, ◌≤◌, Bool, true, false, inl, inr, List, [], ◌∷◌, length, drop, nat_eq, slice_index_or, Some, None, slice_get, refl, sym, ◌∙◌, subst, arith}
+use Rattle.std.proofs.Common.{◌≡◌, ℕ, zero, suc, ◌+◌, ◌<◌, ◌≤◌, Bool, true, false, inl, inr, List, [], ◌∷◌, length, drop, nat_eq, slice_index_or}
+use Rattle.std.proofs.Common.{Some, None, slice_get, refl, sym, ◌∙◌, subst, arith}
 use Rattle.std.specs.List.{starts_with}
 use Rattle.std.specs.List.Sorted.{IsSortedBy}
 use Rattle.std.specs.Ordering.{is_lt}
@@ -29,7 +30,8 @@ names_rise refs rising i j d low below =
     (sorted_far _ (ranks_by nat_list_cmp_total name) refs sorted i j d low below)
 
 -- what comes before the name at a place comes before the names after it
-pub before_up_to : (refs : List Entry) (text : List ℕ) → IsRising refs → (j : ℕ) (e : Entry) → j < length refs → comes_before (slice_index_or refs j e).name text ≡ true
+pub before_up_to : (refs : List Entry) (text : List ℕ) → IsRising refs → (j : ℕ) (e : Entry) → j < length refs
+    → comes_before (slice_index_or refs j e).name text ≡ true
     → (k : ℕ) (d : Entry) → k ≤ j → comes_before (slice_index_or refs k d).name text ≡ true
 before_up_to refs text rising j e inside less k d low =
     let here = subst (λ (x : Entry). comes_before x.name text ≡ true) (get_or_default refs j e d inside) less in
@@ -39,7 +41,8 @@ before_up_to refs text rising j e inside less k d low =
 pub hidden : (ps : List (List ℕ)) (a n : List ℕ) (i : ℕ) → IsOrdered ps → SplitsAt ps a i → is_shown ps a ≡ false → goes_before a n ≡ true
     → ((d : List ℕ) → i < length ps → comes_before n (slice_index_or ps i d) ≡ true) → is_shown ps n ≡ false
 hidden [] a n i ordered split none low next = absurd (cc)
-hidden (p ∷ ps) a n i ordered split none low next = list_any_none (starts_with nat_eq n) (p ∷ ps) (λ k d below. by_test k d below (begins n (slice_index_or (p ∷ ps) k d)) refl)
+hidden (p ∷ ps) a n i ordered split none low next = list_any_none (starts_with nat_eq n) (p ∷ ps)
+    (λ k d below. by_test k d below (begins n (slice_index_or (p ∷ ps) k d)) refl)
   where
     after : (k : ℕ) (d : List ℕ) → i ≤ k → k < length (p ∷ ps) → goes_before (slice_index_or (p ∷ ps) i d) (slice_index_or (p ∷ ps) k d) ≡ true
     after k d high below = elim (cases_lt i k) [
@@ -56,7 +59,8 @@ hidden (p ∷ ps) a n i ordered split none low next = list_any_none (starts_with
           let high : i ≤ k = omega (arith, late) in
           let less = next d (omega (arith, high, below)) in
           no_begin (slice_index_or (p ∷ ps) k d) n
-          (no_le_from_lt n (slice_index_or (p ∷ ps) k d) (lt_from_lt_le n (slice_index_or (p ∷ ps) i d) (slice_index_or (p ∷ ps) k d) less (after k d high below)))
+          (no_le_from_lt n (slice_index_or (p ∷ ps) k d)
+          (lt_from_lt_le n (slice_index_or (p ∷ ps) i d) (slice_index_or (p ∷ ps) k d) less (after k d high below)))
     ]
 
     by_test : (k : ℕ) (d : List ℕ) → k < length (p ∷ ps) → (b : Bool) → begins n (slice_index_or (p ∷ ps) k d) ≡ b → b ≡ false
@@ -80,7 +84,8 @@ skips ps (e ∷ refs) zero (suc to) low high none =
 -- the references from one that is not shown on, up to the first that does not come before the next prefix
 pub passes_over : (ps : List (List ℕ)) (refs : List Entry) (at to split : ℕ) → IsRising refs → IsOrdered ps → at < to → to ≤ length refs
     → ((d : Entry) → SplitsAt ps (slice_index_or refs at d).name split) → ((d : Entry) → is_shown ps (slice_index_or refs at d).name ≡ false)
-    → ((k : ℕ) (d : Entry) (e : List ℕ) → at + 1 ≤ k → k < to → split < length ps → comes_before (slice_index_or refs k d).name (slice_index_or ps split e) ≡ true)
+    → ((k : ℕ) (d : Entry) (e : List ℕ) → at + 1 ≤ k → k < to → split < length ps
+    → comes_before (slice_index_or refs k d).name (slice_index_or ps split e) ≡ true)
     → shown_refs ps (drop to refs) ≡ shown_refs ps (drop at refs)
 passes_over ps refs at to split rising ordered low high splits none before =
     skips ps refs at to (omega (arith, low)) high (λ k d more less. by_place k d more less)

@@ -4,10 +4,12 @@ use Rattle.git_msg.specs.Arguments.{of_want, of_have, of_shallow, of_deepen, of_
 use Rattle.git_msg.proofs.arguments.read_fetch_value.Goals as goal
 
 pub returns-then-not-is_revision-clause-argument : goal.returns-then-not-is_revision-clause-argument
-returns-then-not-is_revision-clause-argument c = (inr (of_deepen_not, (record { value = c.in-Some-after-5.revision.now; spelled = search rules; holds = search rules }, refl)))
+returns-then-not-is_revision-clause-argument c =
+    (inr (of_deepen_not, (record { value = c.in-Some-after-5.revision.now; spelled = search rules; holds = search rules }, refl)))
 
 pub returns-then-not-is_ref_name-clause-argument : goal.returns-then-not-is_ref_name-clause-argument
-returns-then-not-is_ref_name-clause-argument c = (inr (of_want_ref, (record { value = c.in-Some-after-6.name.now; spelled = search rules; holds = search rules }, refl)))
+returns-then-not-is_ref_name-clause-argument c =
+    (inr (of_want_ref, (record { value = c.in-Some-after-6.name.now; spelled = search rules; holds = search rules }, refl)))
 
 pub returns-in_err-id-clause-argument : goal.returns-in_err-id-clause-argument
 returns-in_err-id-clause-argument c =

@@ -11,5 +11,6 @@ loop-low-preserved-then-is_lt c =
       within = omega arith;
       bound = c.loop-low.invariant.bound;
       before = λ k d more less. before_up_to c.args.refs.now c.args.text.now c.requires.rising middle c.index-refs-middle.result (omega arith)
-          (rw (← c.index-refs-middle.is, ← c.name.ensures.value) (ap is_lt (sym c.cmp.ensures) ∙ sym c.is_lt.ensures ∙ c.if-is_lt.true)) k d (omega (arith, less));
+          (rw (← c.index-refs-middle.is, ← c.name.ensures.value) (ap is_lt (sym c.cmp.ensures) ∙ sym c.is_lt.ensures ∙ c.if-is_lt.true)) k d
+          (omega (arith, less));
     }

@@ -33,7 +33,13 @@ loop-used-preserved g c =
       paid =
           λ more.
           let less : c.take-step.result.used < length rest =
-          omega (arith, more, ap length (left_of c.args.piece.now c.loop-used.used c.loop-used.invariant.within), length-drop c.loop-used.used c.args.piece.now) in
+          omega (
+            arith,
+            more,
+            ap length
+                (left_of c.args.piece.now c.loop-used.used c.loop-used.invariant.within),
+            length-drop c.loop-used.used c.args.piece.now,
+          ) in
           let step = c.take-step.ensures.paid c.in-More.is less in
           omega (arith, step, c.loop-used.invariant.paid c.loop-used-test.true);
     }

@@ -8,7 +8,8 @@ pub returns-then-not-is_done : goal.returns-then-not-is_done
 returns-then-not-is_done g c =
     let old = c.args.self.now in
     let was = c.in-Asking.is in
-    let reader = lent old.reader c.pull.new.hold (omega (arith, c.hold.ensures.fits, ap length c.hold.ensures.value)) (old.shut (ap fault_in was) (ap takes_packets was)) in
+    let reader = lent old.reader c.pull.new.hold (omega (arith, c.hold.ensures.fits, ap length c.hold.ensures.value))
+    (old.shut (ap fault_in was) (ap takes_packets was)) in
     asks_on old _ c.in-Some.request c.in-Asking.writer c.pull.new.self c.pull.new.hold.items (record {
       terms = record { format = refl; ending = refl; caps = refl };
       was = was;
@@ -25,7 +26,8 @@ returns g c =
     let old = c.args.self.now in
     let was = c.in-Asking.is in
     let request = c.in-Some.request in
-    let reader = lent old.reader c.pull.new.hold (omega (arith, c.hold.ensures.fits, ap length c.hold.ensures.value)) (old.shut (ap fault_in was) (ap takes_packets was)) in
+    let reader = lent old.reader c.pull.new.hold (omega (arith, c.hold.ensures.fits, ap length c.hold.ensures.value))
+    (old.shut (ap fault_in was) (ap takes_packets was)) in
     hears_now old _ request c.in-Asking.writer c.pull.new.self c.pull.new.hold.items c.response_due.result (record {
       terms = record { format = refl; ending = refl; caps = refl };
       was = was;

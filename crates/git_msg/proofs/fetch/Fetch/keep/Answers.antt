@@ -73,12 +73,14 @@ invariant_of-self-2 g c =
           let fits = rw w.in-DeepenSince.is at room in
           rw w.self-inside-is (record { counted = here; covered = omega (arith, fits) })
       | in-DeepenNot+in_ok-keep-in-DeepenNot w ↦
-          let grown : texts_of w.keep.new.self ≡ texts_of c.self.inside.deepen_nots ++ w.in-DeepenNot.revision.now ∷ [] = w.in_ok-keep-in-DeepenNot.ensures.ok in
+          let grown : texts_of w.keep.new.self
+          ≡ texts_of c.self.inside.deepen_nots ++ w.in-DeepenNot.revision.now ∷ [] = w.in_ok-keep-in-DeepenNot.ensures.ok in
           let here = rw w.in-DeepenNot.is at more in
           let fits = rw w.in-DeepenNot.is at room in
           rw w.self-inside-is (record { counted = rw grown here; covered = omega (arith, fits, w.in_ok-keep-in-DeepenNot.ensures.stored) })
       | in-WantRef+in_ok-keep-in-WantRef w ↦
-          let grown : texts_of w.keep-in-WantRef.new.self ≡ texts_of c.self.inside.want_refs ++ w.in-WantRef.name.now ∷ [] = w.in_ok-keep-in-WantRef.ensures.ok in
+          let grown : texts_of w.keep-in-WantRef.new.self
+          ≡ texts_of c.self.inside.want_refs ++ w.in-WantRef.name.now ∷ [] = w.in_ok-keep-in-WantRef.ensures.ok in
           let here = rw w.in-WantRef.is at more in
           let fits = rw w.in-WantRef.is at room in
           rw w.self-inside-is (record { counted = rw grown here; covered = omega (arith, fits, w.in_ok-keep-in-WantRef.ensures.stored) })

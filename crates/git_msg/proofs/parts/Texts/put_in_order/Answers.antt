@@ -15,8 +15,12 @@ returns-clause-ordered g c =
 
 pub returns-clause-alike : goal.returns-clause-alike
 returns-clause-alike g c =
-    subst (λ (bytes : List ℕ). ShowAlike (map (text_at bytes) c.args.self.now.ends.items) (map (text_at bytes) c.order.new.ends.items)) c.deref.ensures.value c.order.ensures.alike
+    subst
+    (λ (bytes : List ℕ). ShowAlike (map (text_at bytes) c.args.self.now.ends.items)
+    (map (text_at bytes) c.order.new.ends.items)) c.deref.ensures.value c.order.ensures.alike
 
 pub returns-clause-prunes : goal.returns-clause-prunes
 returns-clause-prunes g c =
-    subst (λ (bytes : List ℕ). Prunes (map (text_at bytes) c.args.self.now.ends.items) (map (text_at bytes) c.order.new.ends.items)) c.deref.ensures.value c.order.ensures.prunes
+    subst
+    (λ (bytes : List ℕ). Prunes (map (text_at bytes) c.args.self.now.ends.items)
+    (map (text_at bytes) c.order.new.ends.items)) c.deref.ensures.value c.order.ensures.prunes

@@ -73,7 +73,8 @@ returns-in-Whole c =
         refl,
         (λ _. tt),
         record {
-          reads = carry_whole _ _ _ _ (omega (arith, c.len.ensures.value, c.len.ensures.fits)) c.in_default.is moves c.packet.ensures.spells (omega (arith, behind, c.len.ensures.value));
+          reads = carry_whole _ _ _ _ (omega (arith, c.len.ensures.value, c.len.ensures.fits)) c.in_default.is moves c.packet.ensures.spells
+              (omega (arith, behind, c.len.ensures.value));
           tells = (
             omega (arith, uses, length-take-le c.step-step.result.used c.args.piece.now c.step-step.ensures.used),
             moves.arrives.no_fault,

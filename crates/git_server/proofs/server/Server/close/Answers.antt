@@ -10,7 +10,8 @@ use Rattle.git_server.proofs.server.Server.close.Goals as goal
 pub returns-in-Err-clause-closes : goal.returns-in-Err-clause-closes
 returns-in-Err-clause-closes g c =
     let old = c.args.self.now in
-    closes_open g.R.Repo.state old _ c.in-Err.fault (omega (arith, c.hold.ensures.fits, ap length c.hold.ensures.value)) c.requires (record { offer = refl; repo = refl; requests = refl }) c.refusal.ensures
+    closes_open g.R.Repo.state old _ c.in-Err.fault (omega (arith, c.hold.ensures.fits, ap length c.hold.ensures.value)) c.requires
+    (record { offer = refl; repo = refl; requests = refl }) c.refusal.ensures
     c.in-Err.ensures.truncated
 
 pub returns-in-Between-clause-closes : goal.returns-in-Between-clause-closes
@@ -23,7 +24,8 @@ pub returns-clause-closes : goal.returns-clause-closes
 returns-clause-closes g c =
     let old = c.args.self.now in
     let between = c.in_default.ensures.between in
-    closes_within g.R.Repo.state old _ (record { kind = Truncated; offset = c.position.result }) (omega (arith, c.hold.ensures.fits, ap length c.hold.ensures.value)) c.requires
+    closes_within g.R.Repo.state old _ (record { kind = Truncated; offset = c.position.result })
+    (omega (arith, c.hold.ensures.fits, ap length c.hold.ensures.value)) c.requires
     (record { offer = refl; repo = refl; requests = refl })
     (is_within old.phase c.requires c.in_default-phase.not-Between) (search rules) between.1 between.2 refl
     (c.position.ensures ∙ ap position_of between.0)

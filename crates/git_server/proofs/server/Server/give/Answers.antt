@@ -7,7 +7,8 @@ use Rattle.git_server.proofs.Giving.{gives}
 use Rattle.git_server.proofs.Outcomes.{same_state}
 use Rattle.git_server.proofs.Owing.{line_behind, fewer_lines, flush_stays, flush_unasked, is_advertising, is_advertised, is_answering, is_between}
 use Rattle.git_server.proofs.Owing.{last_less, last_owes, part_breaks, part_less, part_owes, whole_advertising}
-use Rattle.git_server.proofs.Owing.{same_outcome, left_stays, refusal_behind, refusal_outcome, refusal_left, none_kept_in_advertising, none_stored_in_advertising}
+use Rattle.git_server.proofs.Owing.{same_outcome, left_stays, refusal_behind, refusal_outcome, refusal_left, none_kept_in_advertising}
+use Rattle.git_server.proofs.Owing.{none_stored_in_advertising}
 use Rattle.git_server.proofs.server.Server.give.Goals as goal
 
 pub returns-in-Advertising : goal.returns-in-Advertising

@@ -10,7 +10,8 @@ returns-in-Packet-clause-goes g c =
     let piece = c.args.piece.now in
     let fed = c.feed-fed.result in
     let feeds = feeds_with old.reader c.feed-fed.follows.lender-at-none piece fed _ c.in-Packet.is c.feed-fed.follows.holds-at-none in
-    goes_packet g.R.Repo.state old _ (take fed.used piece) (record { packet = seen c.in-Packet.packet; offset = c.in-Packet.offset }) _ c.take_packet-brought.ensures.covered c.requires.wants
+    goes_packet g.R.Repo.state old _ (take fed.used piece)
+    (record { packet = seen c.in-Packet.packet; offset = c.in-Packet.offset }) _ c.take_packet-brought.ensures.covered c.requires.wants
     (record { offer = refl; repo = refl; reads = feeds.reads }) c.take_packet-brought.ensures.brings c.following.ensures feeds.tells.1 feeds.tells.2
 
 pub returns-in-Failed-clause-goes : goal.returns-in-Failed-clause-goes
