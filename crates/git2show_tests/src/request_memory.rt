@@ -41,19 +41,23 @@ fn kept_within(rt: &impl Abort, alloc: Global, size: usize) -> Result<u32, Alloc
     Ok(kept)
 }
 
+/// How many of the two prefixes a heap of this size keeps. It gives blocks of 16 bytes and multiples of them. The first prefix takes
+/// two: one for the places of four texts, of four bytes each, and one for its bytes, 13 with those of its length. The second has a
+/// place there already, and makes the bytes move to a block of 32, twice 13 and what fills it up, while the old block is still taken.
+fn due_within(size: usize) -> u32 {
+    match size {
+        0..=16 => 0,
+        17..=48 => 1,
+        _ => 2,
+    }
+}
+
 #[test]
 fn each_growth_of_a_request_is_refused_in_turn(rt: HostRuntime) -> Result<(), AllocError> {
-    let mut most = 0;
-    let mut kept_one = false;
-    for size in 16..1024 {
+    for size in 0..256 {
         let kept = kept_within(&rt, rt.alloc(), size)?;
-        assert!(&rt; most <= kept);
-        most = kept;
-        kept_one = kept_one | (kept == 1);
+        assert_eq!(&rt; kept, due_within(size), "with {size} bytes");
     }
-    assert_eq!(&rt; kept_within(&rt, rt.alloc(), 16)?, 0);
-    assert!(&rt; kept_one, "the second growth is never refused alone");
-    assert_eq!(&rt; most, 2);
     Ok(())
 }
 
@@ -117,7 +121,8 @@ fn hear<A: Allocator + Copy>(
 
 #[test]
 fn a_reader_without_memory_refuses_the_first_prefix(rt: HostRuntime) -> Result<(), AllocError> {
-    let heap = LocalHeap::new(rt.alloc(), 32)?;
+    // The places of four texts take all of it, and their bytes find none.
+    let heap = LocalHeap::new(rt.alloc(), 16)?;
     let mut reader = RequestReader::new(&heap, OFFER, Limits { args: 1000 });
     let refused = Err(Fault {
         kind: Kind::OutOfMemory,

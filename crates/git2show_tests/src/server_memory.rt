@@ -31,34 +31,39 @@ fn serve_with(
     Ok((written, run))
 }
 
+/// The answer to it.
+const ANSWER: &[u8] = b"003daaaaaaaaaaaaaaaaaaaaaaaaaaaaaaaaaaaaaaaa refs/heads/main\n\
+006abbbbbbbbbbbbbbbbbbbbbbbbbbbbbbbbbbbbbbbb refs/tags/v1 peeled:aaaaaaaaaaaaaaaaaaaaaaaaaaaaaaaaaaaaaaaa\n0000";
+
+// What is given for it with a heap of this size, and how the session ends. The first prefix takes two blocks of 16 bytes, for the
+// places of four texts and for its bytes; the second makes the bytes move to a block of 32, while the old one is still taken.
+fn due_with(size: usize) -> (&'static [u8], Outcome) {
+    match size {
+        0..=16 => (
+            b"001aERR OutOfMemory at 33\n",
+            refusal(Kind::OutOfMemory, 33),
+        ),
+        17..=48 => (
+            b"001aERR OutOfMemory at 60\n",
+            refusal(Kind::OutOfMemory, 60),
+        ),
+        _ => (ANSWER, Outcome::Closed),
+    }
+}
+
 #[test]
 fn each_growth_is_refused_in_turn(rt: HostRuntime) -> Result<(), Fail> {
-    let mut answered = 0;
-    let mut refusals = [0; 2];
-    for size in (32..1024).step_by(8) {
+    for size in 0..256 {
         let heap = LocalHeap::new(rt.alloc(), size)?;
         let mut server = new_server(&rt, &heap, usual())?;
         let (given, ended) = converse(&mut server, rt.alloc(), &[REQUEST])?;
         let (written, run) = serve_with(&rt, REQUEST, size)?;
-        assert_eq!(rt; written.as_slice(), given.as_slice(), "with {size} bytes");
-        assert_eq!(rt; run.ok(), ended, "with {size} bytes");
-        if ended == Some(Outcome::Closed) {
-            answered = size;
-            continue;
-        }
-        assert_eq!(rt; answered, 0, "with {size} bytes");
-        if ended == Some(refusal(Kind::OutOfMemory, 33)) {
-            let told = b"001aERR OutOfMemory at 33\n";
-            assert_eq!(rt; given.as_slice(), told.as_slice());
-            refusals[0] = size;
-        } else {
-            let told = b"001aERR OutOfMemory at 60\n";
-            assert_eq!(rt; given.as_slice(), told.as_slice());
-            assert_eq!(rt; ended, Some(refusal(Kind::OutOfMemory, 60)));
-            refusals[1] = size;
-        }
+        let (due, outcome) = due_with(size);
+        assert_eq!(rt; given.as_slice(), due, "with {size} bytes");
+        assert_eq!(rt; ended, Some(outcome), "with {size} bytes");
+        assert_eq!(rt; written.as_slice(), due, "with {size} bytes");
+        assert_eq!(rt; run, Ok(outcome), "with {size} bytes");
     }
-    assert!(rt; 0 < refusals[0] && refusals[0] < refusals[1] && refusals[1] < answered);
     Ok(())
 }
 
@@ -114,9 +119,12 @@ const LATE_TEXT: &[u8] = b"0014command=ls-refs\n0016object-format=sha10001\
 /// What is told of it without memory.
 const LATE_TEXT_REFUSED: &[u8] = b"001aERR OutOfMemory at 67\n";
 
+/// Less than a text takes: the places of four texts fit, and their bytes do not.
+const NO_ROOM: usize = 16;
+
 #[test]
 fn without_memory_the_first_text_is_refused(rt: HostRuntime) -> Result<(), Fail> {
-    let heap = LocalHeap::new(rt.alloc(), 32)?;
+    let heap = LocalHeap::new(rt.alloc(), NO_ROOM)?;
     let mut server = new_server(&rt, &heap, usual())?;
     let (given, ended) = converse(&mut server, rt.alloc(), &[LATE_TEXT])?;
     assert_eq!(rt; given.as_slice(), LATE_TEXT_REFUSED);
@@ -126,7 +134,7 @@ fn without_memory_the_first_text_is_refused(rt: HostRuntime) -> Result<(), Fail>
 
 #[test]
 fn without_memory_a_run_ends_at_the_first_text(rt: HostRuntime) -> Result<(), Fail> {
-    let (written, run) = serve_with(&rt, LATE_TEXT, 32)?;
+    let (written, run) = serve_with(&rt, LATE_TEXT, NO_ROOM)?;
     assert_eq!(rt; written.as_slice(), LATE_TEXT_REFUSED);
     assert_eq!(rt; run, Ok(refusal(Kind::OutOfMemory, 67)));
     Ok(())
