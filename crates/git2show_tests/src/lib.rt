@@ -1,5 +1,6 @@
 //! Tests that need code: memory that is refused, packs that come in parts or fail, readers and writers that fail or are
-//! asked when they were flushed, and the names and texts of faults. What a text can tell is a case of `worked_conversations`.
+//! asked when they were flushed, many packets and prefixes at once, and the names and texts of faults. What a text can tell is a
+//! case of `worked_conversations`.
 #![tactic(auto)]
 
 #[cfg(test)]
@@ -10,6 +11,10 @@ mod conversing;
 mod escapes;
 #[cfg(test)]
 mod faults;
+#[cfg(test)]
+mod many_packets;
+#[cfg(test)]
+mod many_prefixes;
 #[cfg(test)]
 mod meeting;
 #[cfg(test)]
@@ -26,6 +31,8 @@ mod server_memory;
 mod servers;
 #[cfg(test)]
 mod serving;
+#[cfg(test)]
+mod short_texts;
 #[cfg(test)]
 mod showing;
 #[cfg(test)]

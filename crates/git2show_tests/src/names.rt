@@ -71,8 +71,16 @@ fn tick_twice(steps: &mut Steps)
 
 #[test]
 fn object_names_in_order(rt: HostRuntime) -> Result<(), Fail> {
-    let low = Oid::read(Format::Sha1, b"0ffffffffffffffffffffffffffffffffffffff0", &mut Steps::new())?;
-    let high = Oid::read(Format::Sha1, b"1000000000000000000000000000000000000000", &mut Steps::new())?;
+    let low = Oid::read(
+        Format::Sha1,
+        b"0ffffffffffffffffffffffffffffffffffffff0",
+        &mut Steps::new(),
+    )?;
+    let high = Oid::read(
+        Format::Sha1,
+        b"1000000000000000000000000000000000000000",
+        &mut Steps::new(),
+    )?;
     let long = Oid::read(
         Format::Sha256,
         b"0ffffffffffffffffffffffffffffffffffffff0000000000000000000000000",

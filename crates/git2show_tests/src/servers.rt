@@ -38,9 +38,12 @@ pub fn advertising(format: Format) -> Setup {
     }
 }
 
-// The object name that has this digit throughout.
-fn object(rt: &impl Abort, format: Format, digit: u8) -> Oid {
-    Oid::read(format, &[digit; 64][..format.digits()], &mut Steps::new()).expect(rt, "an object name")
+/// The object name that has this digit throughout.
+pub fn object(rt: &impl Abort, format: Format, digit: u8) -> Oid {
+    Oid::read(format, &[digit; 64][..format.digits()], &mut Steps::new()).expect(
+        rt,
+        "an object name",
+    )
 }
 
 fn entry(

@@ -1,0 +1,77 @@
+//! Many short texts: they stand in one vector with the places where they end, and none has a block of its own.
+use git_msg::{Argument, Command, Limits, Request};
+use git_names::Format;
+use linked_list_allocator::LocalHeap;
+use std::alloc::Global;
+use std::process::Abort;
+use std::test::Fail;
+
+/// A text, and what is compared of it.
+#[derive(Clone, Copy)]
+struct Text {
+    command: Command,
+    bytes: &'static [u8],
+    /// What the limit counts of it: the bytes of its line.
+    counted: usize,
+    /// How many halves of that it may take. Both vectors have room for twice what they hold at the most, and while one of them
+    /// moves the old block is still taken.
+    halves: usize,
+}
+
+/// Prefixes of no byte and of one, and the shortest name of a reference.
+const TEXTS: [Text; 3] = [
+    Text {
+        command: Command::LsRefs,
+        bytes: b"",
+        counted: 11,
+        halves: 4,
+    },
+    Text {
+        command: Command::LsRefs,
+        bytes: b"a",
+        counted: 12,
+        halves: 4,
+    },
+    Text {
+        command: Command::Fetch,
+        bytes: b"HEAD",
+        counted: 13,
+        halves: 5,
+    },
+];
+
+fn argument_of(text: &Text) -> Argument<'_> {
+    match text.command {
+        Command::Fetch => Argument::WantRef(text.bytes),
+        _ => Argument::RefPrefix(text.bytes),
+    }
+}
+
+// That so many of a text are kept where no more memory is left than it may take.
+fn check_kept(rt: &impl Abort, alloc: Global, text: &Text, times: usize) -> Result<(), Fail> {
+    let counted = text.counted.saturating_mul(times);
+    let heap = LocalHeap::new(alloc, counted.saturating_mul(text.halves) / 2)?;
+    let limits = Limits {
+        args: Limits::USUAL,
+    };
+    let mut request = Request::new(&heap, text.command, Format::Sha1, limits);
+    for _ in 0..times {
+        assert_eq!(rt; request.add(argument_of(text)), Ok(()), "{times} texts");
+    }
+    assert_eq!(rt; request.kept() as usize, counted);
+    Ok(())
+}
+
+#[test]
+fn short_texts_take_little_more_than_they_are_counted_for(rt: HostRuntime) -> Result<(), Fail> {
+    for text in &TEXTS {
+        for times in 1..=500 {
+            check_kept(&rt, rt.alloc(), text, times)?;
+        }
+        // Just more than fit before the last move of the one vector or the other.
+        for times in [8_193, 10_923, 16_385, 43_691] {
+            check_kept(&rt, rt.alloc(), text, times)?;
+        }
+    }
+    Ok(())
+}
