@@ -20,7 +20,9 @@ fn object(text: &str) -> Result<Oid, Trouble> {
         40 => Format::Sha1,
         _ => Format::Sha256,
     };
-    Oid::read(format, text.as_bytes(), &mut Steps::new()).map_err(|_| Trouble::BadCase("no object name"))
+    Oid::read(format, text.as_bytes(), &mut Steps::new()).map_err(|_| Trouble::BadCase(
+        "no object name",
+    ))
 }
 
 // The reference that the words after `ref` tell, or how its names are refused.

@@ -41,7 +41,12 @@ impl Question {
         let offer = offer(self.format, true);
         let mut request = Request::new(alloc, self.command, self.format, limits(MOST_KEPT));
         for text in self.arguments.as_slice() {
-            let Ok(argument) = read_argument(self.command, &offer, text.as_slice(), &mut Steps::new()) else {
+            let Ok(argument) = read_argument(
+                self.command,
+                &offer,
+                text.as_slice(),
+                &mut Steps::new(),
+            ) else {
                 return Err(Trouble::BadCase("no argument"));
             };
             if request.add(argument).is_err() {

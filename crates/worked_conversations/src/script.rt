@@ -104,6 +104,7 @@ impl Script {
             ("?", Given::Talk) => self.take_sent(alloc, text),
             ("?", _) => self.take_asked(text),
             ("+", _) => self.take_more(text, form),
+            ("again", _) => self.take_again(alloc, text),
             ("ask", Given::Talk) => self.take_question(alloc, text),
             ("with", Given::Talk) => self.take_argument(alloc, text),
             ("leave", Given::Talk) => {
@@ -273,6 +274,26 @@ impl Script {
             self.asked_read = self.asked.len();
             self.mark();
         }
+        Ok(())
+    }
+
+    // The packet before comes so many times more, each a step for which nothing is given.
+    fn take_again(&mut self, alloc: Global, count: &str) -> Result<(), Trouble> {
+        let count = count
+            .parse::<u32>()
+            .map_err(|_| Trouble::BadCase("no count after again"))?;
+        let Some((last, before)) = self.steps.as_slice().split_last() else {
+            return Err(Trouble::BadCase("nothing before again"));
+        };
+        let start = before.last().copied().unwrap_or_default().input;
+        let packet = self.input.as_slice().get(start..last.input);
+        let packet = Vec::from_slice(alloc, packet.unwrap_or(&[]))?;
+        for _ in 0..count {
+            self.input.extend_from_slice(packet.as_slice())?;
+            let step = self.reached();
+            self.steps.push(step).map_err(|_| Trouble::OutOfMemory)?;
+        }
+        self.last = Last::Nothing;
         Ok(())
     }
 
