@@ -24,3 +24,4 @@ pub mod StreamStages
 pub mod RequestStreams
 pub mod RequestStreamSteps
 pub mod Prefixes
+pub mod Listings

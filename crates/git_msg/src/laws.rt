@@ -30,6 +30,9 @@ ghost use Rattle.git_msg.specs.declared.fetch.Fetch.TheInside.{Inside as FetchIn
 ghost use Rattle.git_msg.specs.declared.ls_refs.LsRefs.TheInside.{Inside as LsRefsInside};
 ghost use Rattle.git_msg.specs.declared.object_info.ObjectInfo.TheInside.{Inside as ObjectInfoInside};
 ghost use Rattle.git_msg.specs.declared.parts.Texts.{Texts};
+ghost use Rattle.git_msg.specs.declared.limits.Budget.{Budget};
+ghost use Rattle.git_msg.specs.declared.listing.Listing.TheInside.{Inside as ListingInside};
+ghost use Rattle.git_msg.specs.Listings.{budget_stored_by_fields, listing_stored, listing_stored_by_fields};
 ghost use Rattle.git_msg.specs.RequestStreams.{HasRead, bytes_held, bytes_held_by_fields, limit_of};
 ghost use Rattle.git_msg.specs.declared.reader.RequestReader.{RequestReader};
 ghost use Rattle.git_msg.specs.declared.streams.RequestStream.{RequestStream};
@@ -247,6 +250,8 @@ pub fn all_fields_are_counted<A: Allocator + Copy>()
     ensures ls_refs { (request : LsRefsInside A) → ls_refs_stored_by_fields request ≡ ls_refs_stored request }
     ensures fetch { (request : FetchInside A) → fetch_stored_by_fields request ≡ fetch_stored request }
     ensures object_info { (request : ObjectInfoInside A) → object_info_stored_by_fields request ≡ object_info_stored request }
+    ensures listing { (listing : ListingInside A) → listing_stored_by_fields listing ≡ listing_stored listing }
+    ensures budget { (budget : Budget) → budget_stored_by_fields budget ≡ 0 }
     ensures reader { (reader : RequestReader A) → stored_by_fields reader ≡ stored_so_far reader }
     ensures stream { (stream : RequestStream A) → bytes_held_by_fields stream ≡ bytes_held stream }
 {}

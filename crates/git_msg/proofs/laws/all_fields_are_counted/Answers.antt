@@ -7,6 +7,8 @@ returns g c = record {
   ls_refs = λ request. refl;
   fetch = λ request. refl;
   object_info = λ request. refl;
+  listing = λ listing. refl;
+  budget = λ budget. refl;
   reader = λ reader. refl;
   stream = λ stream. refl;
 }
