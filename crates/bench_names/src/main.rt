@@ -79,7 +79,11 @@ fn run_object_names(texts: &[Vec<u8>], start: u64) -> u64 {
         return sum;
     }
     for turn in 0..TURNS {
-        if let Ok(id) = Oid::read(Format::Sha1, texts[turn % texts.len()].as_slice(), &mut Steps::new()) {
+        if let Ok(id) = Oid::read(
+            Format::Sha1,
+            texts[turn % texts.len()].as_slice(),
+            &mut Steps::new(),
+        ) {
             let mut out = [0; 64];
             let count = id.write(&mut out);
             sum = sum

@@ -40,7 +40,7 @@ pub none_read : (r : PacketReader) → ReadsOn r [] [] r
 none_read r start bytes given rest h = (
   rest,
   subst (λ (l : List ℕ). Reads r start l (given ++ []) rest) (sym (append-nil bytes))
-  (subst (λ (l : List Given). Reads r start bytes l rest) (sym (append-nil given)) h),
+      (subst (λ (l : List Given). Reads r start bytes l rest) (sym (append-nil given)) h),
 )
 
 pub reads_on_then : (a b c : PacketReader) (u v : List ℕ) (gs hs : List Given) → ReadsOn a u gs b → ReadsOn b v hs c → ReadsOn a (u ++ v) (gs ++ hs) c

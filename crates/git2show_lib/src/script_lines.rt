@@ -75,7 +75,8 @@ impl Script {
         let Some(request) = self.requests.last_mut() else {
             return Err(LineFault::Refused);
         };
-        let Ok(argument) = read_argument(request.command(), &self.offer, text, &mut Steps::new()) else {
+        let Ok(argument) = read_argument(request.command(), &self.offer, text, &mut Steps::new())
+        else {
             return Err(LineFault::Refused);
         };
         match request.add(argument) {
