@@ -17,4 +17,5 @@ returns g c =
     let some : 0 < c.args.split = omega (arith, c.if-split-eq0.false) in
     c.starts_with.ensures.value ∙ rw (c.text.ensures, c.deref.ensures.value)
     (last_held
-    (text_at c.args.self.now.bytes.items) c.args.self.now.ends.items c.args.name.now c.args.split c.index.result.now some c.index.ensures c.requires.ordered c.requires.split)
+    (text_at c.args.self.now.bytes.items) c.args.self.now.ends.items c.args.name.now c.args.split
+    c.index.result.now some c.index.ensures c.requires.ordered c.requires.split)
