@@ -7,12 +7,13 @@ use Rattle.std.proofs.lemmas.List.{append-nil, flat_map_more}
 use Rattle.git_names.specs.declared.object_format.Format.{Format}
 use Rattle.git_pkt.specs.Packets.{Pkt, spelling_of, flushes}
 use Rattle.git_pkt.specs.Splits.{Given}
-use Rattle.git_pkt.specs.PacketReader.{bytes_held, Reads, StandsAt, is_open, held_of, fault_of as reader_fault_of}
+use Rattle.git_pkt.specs.PacketReader.{bytes_held, Reads, is_open, held_of, fault_of as reader_fault_of}
 use Rattle.git_pkt.specs.LentHold.{with_hold, with_hold_by}
+use Rattle.git_pkt.specs.ReaderState.{is_open_in}
 use Rattle.git_pkt.specs.declared.fault.Fault.{Fault}
 use Rattle.git_pkt.specs.declared.reader.PacketReader.{PacketReader}
 use Rattle.git_pkt.proofs.OpenLengths.{shut_counts_none}
-use Rattle.git_pkt.proofs.ReaderMoves.{rest_of_shut}
+use Rattle.git_pkt.proofs.LentHolds.{lent_reads}
 use Rattle.git_msg.specs.Asked.{Asked, ls_refs, fetch, object_info}
 use Rattle.git_msg.specs.HeldRequest.{asked_of, format_of as request_format}
 use Rattle.git_msg.specs.WrittenRequest.{lines_written, written_of, left_to_write, PutsFirst}
@@ -94,32 +95,25 @@ pub record IsLent (old new : PacketReader) : Type 0 where
   pub fault : reader_fault_of new ≡ reader_fault_of old
   pub reads : (start : ℕ) (bytes : List ℕ) (given : List Given) (rest : List ℕ) → Reads old start bytes given rest → Reads new start bytes given rest
 
-stands_lent : (fault : Option Fault) (p end : ℕ) (rest : List ℕ) (old new : PacketReader) → is_open old ≡ false → is_open new ≡ false
-    → StandsAt fault p end rest old → StandsAt fault p end rest new
-stands_lent None p end rest old new shut still h = (record { all = rest_of_shut new still ∙ sym (rest_of_shut old shut) ∙ h.0.all }, h.1)
-stands_lent (Some fault) p end rest old new shut still h = (still, h.1)
+fault_lent : (r : PacketReader) (hold : _) (b : Bool) (e : is_open_in r.state ≡ b) → reader_fault_of (with_hold_by r hold b e) ≡ reader_fault_of r
+fault_lent r hold true e = refl
+fault_lent r hold false e = refl
 
-lent_by : (r : PacketReader) (hold : _) (begun : Bool) (e : r.begun ≡ begun) → bytes_held (with_hold_by r hold begun e) ≤ 65520 → begun ≡ false
-    → IsLent r (with_hold_by r hold begun e) × (held_of (with_hold_by r hold begun e) ≡ hold.items) × (is_open (with_hold_by r hold begun e) ≡ false)
-lent_by r hold true e fits shut = absurd (cc)
-lent_by r hold false e fits shut = (
-  record {
-    fault = refl;
-    reads = λ start bytes given rest h. record {
-      position = h.position;
-      within = h.within;
-      fits = fits;
-      splits = h.splits;
-      state = stands_lent (reader_fault_of r) _ _ rest r (with_hold_by r hold false e) e e h.state;
-    };
-  },
-  refl,
-  e,
-)
+held_lent : (r : PacketReader) (hold : _) (b : Bool) (e : is_open_in r.state ≡ b) → b ≡ false → held_of (with_hold_by r hold b e) ≡ hold.items
+held_lent r hold true e shut = absurd (cc)
+held_lent r hold false e shut = refl
+
+shut_lent : (r : PacketReader) (hold : _) (b : Bool) (e : is_open_in r.state ≡ b) → b ≡ false → is_open (with_hold_by r hold b e) ≡ false
+shut_lent r hold true e shut = absurd (cc)
+shut_lent r hold false e shut = e
 
 pub lent : (r : PacketReader) (hold : _) → bytes_held (with_hold r hold) ≤ 65520 → is_open r ≡ false
     → IsLent r (with_hold r hold) × (held_of (with_hold r hold) ≡ hold.items) × (is_open (with_hold r hold) ≡ false)
-lent r hold fits shut = lent_by r hold r.begun refl fits shut
+lent r hold fits shut = (
+  record { fault = fault_lent r hold (is_open_in r.state) refl; reads = lent_reads r hold fits shut },
+  held_lent r hold (is_open_in r.state) refl shut,
+  shut_lent r hold (is_open_in r.state) refl shut,
+)
 
 -- a phase without a fault
 stands_in : (phase : Phase) (t : Terms) (asked : List Asked) (clean given : List Given) (rest : List ℕ) (end : ℕ) (question : Option Asked)

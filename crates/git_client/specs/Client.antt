@@ -212,6 +212,7 @@ module _ {A : Type 0} where
         said = said;
         sound = sound;
         shut = shut;
+        gathers = gathers;
         owes = owes;
         freed = freed;
         formats = formats;

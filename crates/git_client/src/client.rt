@@ -9,7 +9,7 @@ ghost use Rattle.git_names.specs.declared.object_format.Format.{Format};
 ghost use Rattle.git_pkt.specs.Credit.{Pays, credit_of};
 ghost use Rattle.git_pkt.specs.Packets.{longest_payload};
 ghost use Rattle.git_pkt.specs.Splits.{Given, Splits};
-ghost use Rattle.git_pkt.specs.PacketReader.{fault_of as reader_fault_of, held_of, is_open};
+ghost use Rattle.git_pkt.specs.PacketReader.{fault_of as reader_fault_of, held_of, is_open, passes_of};
 ghost use Rattle.git_client.specs.Parts.{Terms, terms_of};
 ghost use Rattle.git_client.specs.Turns.{takes_packets, fault_in, is_asking, left_in, Fits, LiesIn, events_at, value_at, values_of, capability_value};
 ghost use Rattle.git_client.specs.Turns.{turn_on, wanted_at};
@@ -62,6 +62,7 @@ pub struct Client<A: Allocator + Copy> {
     pub(crate) said: Said,
     ghost sound: { fault_in phase ≡ None → reader_fault_of reader ≡ None },
     ghost shut: { fault_in phase ≡ None → takes_packets phase ≡ false → is_open reader ≡ false },
+    ghost gathers: { passes_of reader ≡ false },
     ghost owes: { is_asking phase ≡ true → left_in phase request ≢ [] },
     ghost freed: { is_asking phase ≡ false → request ≡ None },
     ghost formats: { ForSome request (λ q. request_format q ≡ format) },

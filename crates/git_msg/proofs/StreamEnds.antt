@@ -1,43 +1,52 @@
 -- A reader of requests from bytes whose input ends.
-use Rattle.std.proofs.Common.{◌≡◌, ℕ, ◌≤◌, true, false, List, [], length, None, sym, ap, ◌∙◌, subst}
+use Rattle.std.proofs.Common.{arith, ◌≡◌, ◌≢◌, ◌⊎◌, inl, inr, ℕ, ◌+◌, ◌≤◌, true, false, List, [], ◌++◌, length, None, refl, sym, ap, ◌∙◌, subst, append-nil}
 use Rattle.std.proofs.Props.{props}
 use Rattle.git_pkt.specs.Splits.{Given, Splits}
-use Rattle.git_pkt.specs.PacketReader.{fault_of as packet_fault, is_open}
+use Rattle.git_pkt.specs.PacketReader.{ReadsOn, fault_of as packet_fault, is_open, open_length, passes_of, position_of}
+use Rattle.git_pkt.specs.declared.fault.Fault.{Fault}
+use Rattle.git_pkt.specs.declared.fault.Kind.TheVariants.{Truncated}
 use Rattle.git_pkt.specs.declared.reader.PacketReader.{PacketReader}
+use Rattle.git_pkt.proofs.KnownRest.{rest_length, some_inside, sound_rest}
+use Rattle.git_msg.specs.declared.offers.Offer.{Offer}
 use Rattle.git_msg.specs.Asked.{Asked}
 use Rattle.git_msg.specs.RequestReader.{fault_of as reader_fault, is_waiting, kept_so_far, limit_in}
 use Rattle.git_msg.specs.StreamStages.{HasTaken, takes_bytes}
 use Rattle.git_msg.specs.WholeRequests.{AreRequests}
-use Rattle.git_msg.specs.RequestStreams.{AreAsked, HasRead, IsLeftIn, IsOne, limit_of, offer_of}
+use Rattle.git_msg.specs.RequestStreams.{AreAsked, HasRead, IsLeftIn, IsOne, limit_of, offer_of, wants_input}
 use Rattle.git_msg.specs.declared.streams.RequestStream.{RequestStream}
 use Rattle.git_msg.specs.declared.streams.Stage.{Stage}
-use Rattle.git_msg.specs.declared.streams.Stage.TheVariants.{Between}
-use Rattle.git_msg.proofs.StreamSteps.{rest_behind}
+use Rattle.git_msg.specs.declared.streams.Stage.TheVariants.{Between, Failed, Stopped, Within}
+use Rattle.git_msg.proofs.StreamSteps.{cut_read, rest_behind}
 
 module _ {A : Type 0} (s : RequestStream A)
     (open_ended : takes_bytes s.stage ≡ true → reader_fault s.requests ≡ None) (ready : takes_bytes s.stage ≡ true → is_waiting s.requests ≡ false)
     (taken : takes_bytes s.stage ≡ true → ∥ HasTaken s.requests ∥₁) (within : kept_so_far s.requests ≤ limit_in s.requests) where
   -- a reader whose packet reader is what it was
-  abbrev pub with_packets : (p : PacketReader) → (takes_bytes s.stage ≡ true → packet_fault p ≡ None) → RequestStream A
-  with_packets p sound = record {
+  abbrev pub with_packets : (p : PacketReader) → (takes_bytes s.stage ≡ true → packet_fault p ≡ None) → passes_of p ≡ false → RequestStream A
+  with_packets p sound gathers = record {
     packets = p;
     requests = s.requests;
     stage = s.stage;
     sound = sound;
+    gathers = gathers;
     open_ended = open_ended;
     ready = ready;
     taken = taken;
     within = within;
   }
 
-  same_facts : (sound : takes_bytes s.stage ≡ true → packet_fault s.packets ≡ None) → with_packets s.packets sound ≡ s
-  same_facts sound =
+  same_facts : (sound : takes_bytes s.stage ≡ true → packet_fault s.packets ≡ None) (gathers : passes_of s.packets ≡ false)
+      → with_packets s.packets sound gathers ≡ s
+  same_facts sound gathers =
       let sound_prop : IsProp (takes_bytes s.stage ≡ true → packet_fault s.packets ≡ None) = hlevel props in
+      let gathers_prop : IsProp (passes_of s.packets ≡ false) = hlevel props in
       let open_prop : IsProp (takes_bytes s.stage ≡ true → reader_fault s.requests ≡ None) = hlevel props in
       let ready_prop : IsProp (takes_bytes s.stage ≡ true → is_waiting s.requests ≡ false) = hlevel props in
       let taken_prop : IsProp (takes_bytes s.stage ≡ true → ∥ HasTaken s.requests ∥₁) = hlevel props in
       let within_prop : IsProp (kept_so_far s.requests ≤ limit_in s.requests) = hlevel props in
-      ap (λ (x : takes_bytes s.stage ≡ true → packet_fault s.packets ≡ None). with_packets s.packets x) (sound_prop sound s.sound)
+      ap (λ (x : takes_bytes s.stage ≡ true → packet_fault s.packets ≡ None). with_packets s.packets x gathers) (sound_prop sound s.sound)
+      ∙ ap (λ (x : passes_of s.packets ≡ false).
+      record s { gathers = x; open_ended = open_ended; ready = ready; taken = taken; within = within }) (gathers_prop gathers s.gathers)
       ∙ ap (λ (x : takes_bytes s.stage ≡ true → reader_fault s.requests ≡ None).
       record s { open_ended = x; ready = ready; taken = taken; within = within }) (open_prop open_ended s.open_ended)
       ∙ ap (λ (x : takes_bytes s.stage ≡ true → is_waiting s.requests ≡ false). record s { ready = x; taken = taken; within = within })
@@ -46,9 +55,45 @@ module _ {A : Type 0} (s : RequestStream A)
       ∙ ap (λ (x : kept_so_far s.requests ≤ limit_in s.requests). record s { within = x }) (within_prop within s.within)
 
   -- is the reader that it was
-  pub same_reader : (p : PacketReader) (sound : takes_bytes s.stage ≡ true → packet_fault p ≡ None) → p ≡ s.packets → with_packets p sound ≡ s
-  same_reader p sound same =
-      subst (λ (x : PacketReader). (h : takes_bytes s.stage ≡ true → packet_fault x ≡ None) → with_packets x h ≡ s) (sym same) same_facts sound
+  pub same_reader : (p : PacketReader) (sound : takes_bytes s.stage ≡ true → packet_fault p ≡ None) (gathers : passes_of p ≡ false)
+      → p ≡ s.packets → with_packets p sound gathers ≡ s
+  same_reader p sound gathers same =
+      subst (λ (x : PacketReader). (h : takes_bytes s.stage ≡ true → packet_fault x ≡ None) (k : passes_of x ≡ false) → with_packets x h k ≡ s)
+      (sym same) same_facts sound gathers
+
+-- inside a request something is left
+some_begun : (offer : Offer) (limit : ℕ) (left : List Given) (rest : List ℕ) (end : ℕ) (stage : Stage) → takes_bytes stage ≡ true → (stage ≡ Between → ⊥)
+    → IsLeftIn stage offer limit left rest end → left ≢ []
+some_begun offer limit left rest end Between on inside h = absurd (inside refl)
+some_begun offer limit left rest end Within on inside (some, begun) = some
+some_begun offer limit left rest end Stopped on inside h = absurd (cc)
+some_begun offer limit left rest end (Failed fault) on inside h = absurd (cc)
+
+-- the input ends inside a request
+module _ {A : Type 0} (old new : RequestStream A) (fault : Fault) (wants : wants_input old ≡ true)
+    (offer : offer_of new ≡ offer_of old) (limit : limit_of new ≡ limit_of old) (is : new.stage ≡ Failed fault) (name : fault.kind ≡ Truncated)
+    (sound : packet_fault old.packets ≡ None) (reads : ReadsOn old.packets [] [] new.packets) where
+  closed_read : (used : List ℕ) (asked : List Asked) (h : HasRead used asked old) → fault.offset + length h.rest ≡ position_of old.packets
+      → (h.left ≢ []) ⊎ (h.rest ≢ []) → HasRead used asked new
+  closed_read used asked h at inside =
+      subst (λ (l : List ℕ). HasRead l asked new) (append-nil used)
+      (subst (λ (qs : List Asked). HasRead (used ++ []) qs new) (append-nil asked)
+      (cut_read old new [] wants offer limit used asked h fault is name sound at inside refl reads))
+
+  -- and inside a packet
+  pub closed_open : is_open old.packets ≡ true → fault.offset + open_length old.packets ≡ position_of old.packets
+      → (used : List ℕ) (asked : List Asked) → HasRead used asked old → HasRead used asked new
+  closed_open opened at used asked h =
+      let holds = (sound_rest old.packets 0 used h.packets h.rest sound h.reads).0 in
+      closed_read used asked h (omega (arith, at, rest_length old.packets h.rest holds)) (inr (some_inside old.packets h.rest holds opened))
+
+  -- or between two
+  pub closed_within : is_open old.packets ≡ false → (old.stage ≡ Between → ⊥) → fault.offset ≡ position_of old.packets
+      → (used : List ℕ) (asked : List Asked) → HasRead used asked old → HasRead used asked new
+  closed_within shut within at used asked h =
+      let none = rest_behind old.packets used h.packets h.rest sound shut h.reads in
+      closed_read used asked h (omega (arith, at, ap length none))
+      (inl (some_begun (offer_of old) (limit_of old) h.left h.rest (length used) old.stage wants within h.left_is))
 
 -- between two requests, with no packet open, nothing is left
 pub nothing_left : {A : Type 0} (s : RequestStream A) → s.stage ≡ Between → packet_fault s.packets ≡ None → is_open s.packets ≡ false

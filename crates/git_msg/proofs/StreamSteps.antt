@@ -1,11 +1,11 @@
 -- A reader of requests from bytes, a packet at a time.
 use Rattle.std.proofs.Common.{◌≡◌, ◌≢◌, ℕ, ◌+◌, ◌-◌, ◌<◌, ◌≤◌, true, false, List, [], ◌∷◌, ◌++◌, length, take, drop, length-drop, Some, None}
-use Rattle.std.proofs.Common.{refl, sym, ap, ◌∙◌, subst, append-nil, append_assoc, zero-add, inl, inr, arith}
+use Rattle.std.proofs.Common.{refl, sym, ap, ◌⊎◌, ◌∙◌, subst, append-nil, append_assoc, zero-add, inl, inr, arith}
 use Rattle.std.proofs.Props.{props}
 use Rattle.std.proofs.Math.Logic.{∥∥₁_elim, ∥∥₁_prop}
 use Rattle.git_pkt.specs.Faults.{StopsBy}
-use Rattle.git_pkt.specs.Splits.{Given, Splits}
-use Rattle.git_pkt.specs.PacketReader.{Feeds, Reads, ReadsOn, ShownByFeed, Tells, fault_of as packet_fault, given_by, is_open}
+use Rattle.git_pkt.specs.Splits.{Given, SpellsAll, Splits}
+use Rattle.git_pkt.specs.PacketReader.{Feeds, Reads, ReadsOn, ShownByFeed, Tells, fault_of as packet_fault, given_by, is_open, position_of}
 use Rattle.git_pkt.specs.declared.fault.Fault.{Fault}
 use Rattle.git_pkt.specs.declared.fault.Kind.{Kind}
 use Rattle.git_pkt.specs.declared.fault.Kind.TheVariants.{StreamTooLong, Truncated}
@@ -15,6 +15,7 @@ use Rattle.git_pkt.specs.declared.reader.PacketReader.{PacketReader}
 use Rattle.git_pkt.proofs.Cuttings.{stopped}
 use Rattle.git_pkt.proofs.KnownRest.{sound_rest, none_between}
 use Rattle.git_pkt.proofs.Pieces.{joined, left_of}
+use Rattle.git_pkt.proofs.Streams.{one_split}
 use Rattle.git_msg.specs.declared.offers.Offer.{Offer}
 use Rattle.git_msg.specs.Asked.{Asked}
 use Rattle.git_msg.specs.HeldRequest.{asked_of, kept_of}
@@ -218,6 +219,26 @@ module _ {A : Type 0} (old new : RequestStream A) (u : List ℕ) (wants : wants_
         begun = begun_before;
         stops = stopped_by new.packets (used ++ u) (h.packets ++ []) rest fault told stream;
         not_the_end = other;
+      })))
+      (λ on. absurd (cc))
+
+  -- there are none, and the input ends
+  pub cut_read : (fault : Fault) → new.stage ≡ FailedStage fault → fault.kind ≡ Truncated → packet_fault old.packets ≡ None
+      → fault.offset + length h.rest ≡ position_of old.packets → (h.left ≢ []) ⊎ (h.rest ≢ []) → u ≡ [] → ReadsOn old.packets u [] new.packets
+      → HasRead (used ++ u) (asked ++ []) new
+  cut_read fault is name sound at inside none reads =
+      let (rest, stream) = reads 0 used h.packets h.rest h.reads in
+      let all : used ++ u ≡ used = ap (λ (l : List ℕ). used ++ l) none ∙ append-nil used in
+      let same = one_split 0 used (h.packets ++ []) h.packets rest h.rest
+          (subst (λ (l : List ℕ). SpellsAll 0 l (h.packets ++ []) rest) all stream.splits.spelled) h.reads.splits.spelled
+          stream.splits.ends h.reads.splits.ends in
+      bytes_read h.rest (FailedStage fault) is (subst (λ (l : List ℕ). Reads new.packets 0 (used ++ u) (h.packets ++ []) l) same.rest_is stream)
+      (inr (inr (record {
+        begun = begun_before;
+        still_open = (sound_rest old.packets 0 used h.packets h.rest sound h.reads).1;
+        inside = inside;
+        kind = name;
+        at = omega (arith, at, h.reads.position, ap length all);
       })))
       (λ on. absurd (cc))
 

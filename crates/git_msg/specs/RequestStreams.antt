@@ -88,6 +88,7 @@ module _ {A : Type 0} where
         sound = sound;
         open_ended = open_ended;
         ready = ready;
+        gathers = gathers;
         taken = taken;
         within = within;
       } = s in

@@ -2,7 +2,7 @@
 
 ghost use Rattle.std.specs.Prelude.{◌≡◌, ◌<◌, ◌≤◌, [], None, true, false, length};
 ghost use Rattle.git_pkt.specs.Packets.{seen};
-ghost use Rattle.git_pkt.specs.PacketReader.{fault_of as packet_fault};
+ghost use Rattle.git_pkt.specs.PacketReader.{passes_of, fault_of as packet_fault};
 ghost use Rattle.git_msg.specs.RequestReader.{fault_of as reader_fault, is_waiting, kept_so_far, limit_in};
 ghost use Rattle.git_msg.specs.StreamStages.{Brings, HasTaken, stage_brought, takes_bytes};
 
@@ -58,6 +58,7 @@ pub struct RequestStream<A: Allocator + Copy> {
     ghost sound: { takes_bytes stage ≡ true → packet_fault packets ≡ None },
     ghost open_ended: { takes_bytes stage ≡ true → reader_fault requests ≡ None },
     ghost ready: { takes_bytes stage ≡ true → is_waiting requests ≡ false },
+    ghost gathers: { passes_of packets ≡ false },
     ghost taken: { takes_bytes stage ≡ true → ∥ HasTaken requests ∥₁ },
     ghost within: { kept_so_far requests ≤ limit_in requests },
 }

@@ -11,7 +11,7 @@ use Rattle.git_pkt.specs.Faults.{IsOpen, IsRefused}
 use Rattle.git_pkt.specs.HeldPacket.{IsWhole, IsLengthField}
 use Rattle.git_pkt.specs.declared.fault.Kind.{Kind}
 use Rattle.git_pkt.specs.declared.fault.Kind.TheVariants.{BadDigit, BadLength, TooLong}
-use Rattle.git_pkt.proofs.Spelling.{digits_value-append, HasDigits-append, none_begins_bad, none_begins_refused, none_begins_partial, none_begins_short}
+use Rattle.git_pkt.proofs.Spelling.{no_bytes, digits_value-append, HasDigits-append, none_begins_bad, none_begins_refused, none_begins_partial, none_begins_short}
 use Rattle.git_pkt.proofs.Gathered.{begun_whole}
 use Rattle.git_pkt.proofs.Rests.{open_or_faulty}
 
@@ -21,10 +21,6 @@ pub record Begins (rest : List ℕ) : Type 0 where
   pub more : List ℕ
   pub is : rest ≡ spelling ++ more
   pub spells : Spells packet spelling
-
-no_bytes : (l : List ℕ) → length l ≡ 0 → l ≡ []
-no_bytes [] e = refl
-no_bytes (b ∷ l) e = absurd (omega arith)
 
 -- four digits and as many bytes as they say are a packet
 pub whole_spells : (s : List ℕ) (field : ℕ) → IsWhole s field → (p : Pkt) × Spells p s

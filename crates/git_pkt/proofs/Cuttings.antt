@@ -7,7 +7,7 @@ use Rattle.git_pkt.specs.declared.fault.Fault.{Fault}
 use Rattle.git_pkt.specs.declared.fault.Kind.{Kind}
 use Rattle.git_pkt.specs.declared.fault.Kind.TheVariants.{Truncated, StreamTooLong}
 use Rattle.git_pkt.specs.declared.reader.PacketReader.{PacketReader}
-use Rattle.git_pkt.proofs.KnownRest.{sound_rest}
+use Rattle.git_pkt.proofs.KnownRest.{sound_rest, whole_rest}
 use Rattle.git_pkt.proofs.Streams.{one_split, SameSplit}
 use Rattle.git_pkt.proofs.Rests.{not_open_and_faulty, one_fault, same_fault}
 
@@ -95,4 +95,6 @@ pub one_rest : (r s : PacketReader) (start : ℕ) (bytes : List ℕ) (given othe
     → Reads s start bytes others other_rest → fault_of r ≡ None → fault_of s ≡ None → HoldsAll r → HoldsAll s → rest_of r ≡ rest_of s
 one_rest r s start bytes given others rest other_rest h k sound well all others_all =
     let same = (same_split r s start bytes given others rest other_rest h k).rest_is in
-    (sound_rest r start bytes given rest sound h).0.all ∙ same ∙ sym (sound_rest s start bytes others other_rest well k).0.all
+    whole_rest r rest all (sound_rest r start bytes given rest sound h).0
+    ∙ same
+    ∙ sym (whole_rest s other_rest others_all (sound_rest s start bytes others other_rest well k).0)

@@ -1,8 +1,11 @@
 -- What a step of the reader comes to, from what its parts do.
 use Rattle.std.proofs.Common.{take, arith, ◌≡◌, ℕ, ◌+◌, ◌-◌, ◌≤◌, ◌<◌, List, [], ◌∷◌, ◌++◌, length, false}
-use Rattle.std.proofs.Common.{true, Bool, cond, ap, sym, ◌∙◌, refl, subst, append_assoc, length-append}
-use Rattle.std.proofs.lemmas.List.{append-nil, length-take}
-use Rattle.git_pkt.specs.PacketReader.{position_of, is_open, held_of, rest_of}
+use Rattle.std.proofs.Common.{ap, sym, ◌∙◌, refl, subst, append_assoc, length-append}
+use Rattle.std.proofs.lemmas.List.{append-nil, length-take, take_all}
+use Rattle.git_pkt.specs.ReaderState.{held_in, is_open_in, passes_in}
+use Rattle.git_pkt.specs.PacketReader.{position_of, is_open, passes_of, held_of, rest_of}
+use Rattle.git_pkt.specs.declared.reader.State.{State}
+use Rattle.git_pkt.specs.declared.reader.State.TheVariants.{Between, Gathering, Passing, Failed}
 use Rattle.git_pkt.specs.PacketReaderSteps.{Moves, Arrives, IsStopped}
 use Rattle.git_pkt.specs.declared.fault.Kind.{Kind}
 use Rattle.git_pkt.specs.declared.reader.PacketReader.{PacketReader}
@@ -12,24 +15,28 @@ use Rattle.git_pkt.specs.declared.fault.Kind.TheVariants.{StreamTooLong}
 use Rattle.git_pkt.specs.Packets.{Pkt, Spells}
 use Rattle.git_pkt.specs.Splits.{NoneBegins}
 use Rattle.git_pkt.specs.Faults.{IsOpen, last_position}
-use Rattle.git_pkt.specs.HeldPacket.{IsGathering}
+use Rattle.git_pkt.proofs.Kept.{Keeps, kept}
 use Rattle.git_pkt.proofs.Spelling.{none_begins_nothing}
 use Rattle.git_pkt.proofs.Gathered.{EndsWith, open_nothing, none_in_gathering}
 
-chosen_first : (b : Bool) (xs ys : List ℕ) → b ≡ true → cond b xs ys ≡ xs
-chosen_first true xs ys e = refl
-chosen_first false xs ys e = absurd (cc)
+held_shut : (s : State) → is_open_in s ≡ false → held_in s ≡ 0
+held_shut Between e = refl
+held_shut (Gathering count) e = absurd (cc)
+held_shut (Passing left) e = absurd (cc)
+held_shut (Failed fault) e = refl
 
-chosen_second : (b : Bool) (xs ys : List ℕ) → b ≡ false → cond b xs ys ≡ ys
-chosen_second true xs ys e = absurd (cc)
-chosen_second false xs ys e = refl
-
--- what has come of the open packet, where one is open and where none is
-pub rest_of_open : (r : PacketReader) → is_open r ≡ true → rest_of r ≡ take r.count (held_of r)
-rest_of_open r e = chosen_first r.begun (take r.count r.hold.items) [] e
-
+-- between packets the hold has nothing of one
 pub rest_of_shut : (r : PacketReader) → is_open r ≡ false → rest_of r ≡ []
-rest_of_shut r e = chosen_second r.begun (take r.count r.hold.items) [] e
+rest_of_shut r e = ap (λ (n : ℕ). take n (held_of r)) (held_shut r.state e)
+
+passes_shut : (s : State) → is_open_in s ≡ false → passes_in s ≡ false
+passes_shut Between e = refl
+passes_shut (Gathering count) e = refl
+passes_shut (Passing left) e = absurd (cc)
+passes_shut (Failed fault) e = refl
+
+pub gathers_between : (r : PacketReader) → is_open r ≡ false → passes_of r ≡ false
+gathers_between r e = passes_shut r.state e
 
 pub moves_from : (old new : PacketReader) (before u : List ℕ) (progress : Progress)
     → rest_of old ≡ before → position_of new ≡ position_of old + length u → Arrives progress (before ++ u) new → Moves old u progress new
@@ -68,20 +75,26 @@ moves_on a b c u v progress h k = record {
       subst (λ (r : List ℕ). Arrives progress r c) same k.arrives;
 }
 
--- what has come of an open packet is open, and is no packet yet
-gathered_is_open : (b : Bool) (xs : List ℕ) (field : ℕ) → (b ≡ true → IsGathering xs field) → IsOpen (cond b xs [])
-gathered_is_open true xs field h = (h refl).is_open
-gathered_is_open false xs field h = open_nothing
+-- what the hold has of an open packet is open, and is no packet yet
+kept_is_open : (s : State) (held : List ℕ) (field position : ℕ) → Keeps s held field position → IsOpen (take (held_in s) held)
+kept_is_open Between held field position k = open_nothing
+kept_is_open (Gathering count) held field position k = k.gathering.is_open
+kept_is_open (Passing left) held field position k =
+    subst (λ (l : List ℕ). IsOpen l) (sym (take_all 5 held (omega (arith, k.five)))) k.gathering.is_open
+kept_is_open (Failed fault) held field position k = open_nothing
 
-gathered_is_partial : (b : Bool) (xs : List ℕ) (field : ℕ) → (b ≡ true → IsGathering xs field) → NoneBegins (cond b xs [])
-gathered_is_partial true xs field h = none_in_gathering xs field (h refl)
-gathered_is_partial false xs field h = none_begins_nothing
+kept_is_partial : (s : State) (held : List ℕ) (field position : ℕ) → Keeps s held field position → NoneBegins (take (held_in s) held)
+kept_is_partial Between held field position k = none_begins_nothing
+kept_is_partial (Gathering count) held field position k = none_in_gathering (take count held) field k.gathering
+kept_is_partial (Passing left) held field position k =
+    subst (λ (l : List ℕ). NoneBegins l) (sym (take_all 5 held (omega (arith, k.five)))) (none_in_gathering held field k.gathering)
+kept_is_partial (Failed fault) held field position k = none_begins_nothing
 
 pub rest_is_open : (r : PacketReader) → IsOpen (rest_of r)
-rest_is_open r = gathered_is_open r.begun (take r.count r.hold.items) r.field r.gathers
+rest_is_open r = kept_is_open r.state r.hold.items r.field r.position (kept r)
 
 pub rest_is_partial : (r : PacketReader) → NoneBegins (rest_of r)
-rest_is_partial r = gathered_is_partial r.begun (take r.count r.hold.items) r.field r.gathers
+rest_is_partial r = kept_is_partial r.state r.hold.items r.field r.position (kept r)
 
 -- the reader is at the stream's last position, and a byte is offered
 pub stopped_at_last : (old mid new : PacketReader) (u : List ℕ) (progress : Progress)
@@ -101,12 +114,13 @@ whole_uses old new [] p m spells =
 whole_uses old new (b ∷ u) p m spells = omega arith
 
 -- it begins at or after the stream's start
-rest_behind : (b : Bool) (xs : List ℕ) (position : ℕ) → (b ≡ true → length xs ≤ position) → length (cond b xs []) ≤ position
-rest_behind true xs position h = h refl
-rest_behind false xs position h = omega arith
+kept_behind : (s : State) (held : List ℕ) (field position : ℕ) → Keeps s held field position → length (take (held_in s) held) ≤ position
+kept_behind Between held field position k = omega arith
+kept_behind (Gathering count) held field position k = omega (arith, length-take count held, k.behind)
+kept_behind (Passing left) held field position k = omega (arith, length-take 5 held, k.five, k.fits, k.behind)
+kept_behind (Failed fault) held field position k = omega arith
 
 pub whole_behind : (old new : PacketReader) (u : List ℕ) → Moves old u Whole new → length (held_of new) ≤ position_of new
 whole_behind old new u m =
-    let begins : length (rest_of old) ≤ old.position =
-    rest_behind old.begun (take old.count old.hold.items) old.position (λ e. omega (arith, length-take old.count old.hold.items, old.behind e)) in
+    let begins : length (rest_of old) ≤ old.position = kept_behind old.state old.hold.items old.field old.position (kept old) in
     omega (arith, begins, m.position, ap length m.arrives.held, length-append (rest_of old) u)

@@ -8,6 +8,10 @@ use Rattle.git_pkt.specs.Packets.{Pkt, flush, delim, resp_end, payload, Spells, 
 use Rattle.git_pkt.specs.Splits.{NoneBegins}
 use Rattle.git_pkt.specs.Faults.{FirstBadDigit}
 
+pub no_bytes : (l : List ℕ) → length l ≡ 0 → l ≡ []
+no_bytes [] e = refl
+no_bytes (b ∷ l) e = absurd (omega arith)
+
 -- the number of the first four bytes is the same, whatever follows them
 pub digits_value-append : (s t : List ℕ) → 4 ≤ length s → digits_value (s ++ t) ≡ digits_value s
 unfolding digits_value

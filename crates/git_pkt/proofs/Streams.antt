@@ -18,6 +18,13 @@ spells_all_length p bytes [] rest h = omega (arith, ap length h)
 spells_all_length p bytes (g ∷ gs) rest (s, later, e, o, spells, tail) =
     omega (arith, spells_all_length (p + length s) later gs rest tail, ap length e, length-append s later)
 
+pub spells_all_front : (p : ℕ) (bytes : List ℕ) (given : List Given) (rest : List ℕ) → SpellsAll p bytes given rest
+    → (front : List ℕ) × (bytes ≡ front ++ rest)
+spells_all_front p bytes [] rest h = ([], h)
+spells_all_front p bytes (g ∷ gs) rest (s, later, e, o, spells, tail) =
+    let front = spells_all_front (p + length s) later gs rest tail in
+    (s ++ front.0, e ∙ ap (λ (l : List ℕ). s ++ l) front.1 ∙ sym (append_assoc s front.0 rest))
+
 -- a rest that spells a packet is one more packet
 pub spells_all_whole : (p : ℕ) (bytes : List ℕ) (given : List Given) (rest : List ℕ) (g : Given)
     → SpellsAll p bytes given rest → Spells g.packet rest → g.offset + length rest ≡ p + length bytes → SpellsAll p bytes (given ++ g ∷ []) []

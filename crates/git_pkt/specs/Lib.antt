@@ -4,9 +4,15 @@ pub mod Packets
 pub mod Splits
 pub mod Faults
 pub mod HeldPacket
+pub mod Bands
+pub mod Passed
+pub mod ReaderState
 pub mod PacketReader
 pub mod Credit
 pub mod PacketReaderSteps
+pub mod BandReader
+pub mod BandCalls
+pub mod PassedOut
 pub mod LentHold
 pub mod Escape
 pub mod FaultNames
@@ -14,4 +20,3 @@ pub mod NameFaults
 pub mod Told
 pub mod Engine
 pub mod Streams
-pub mod Bands

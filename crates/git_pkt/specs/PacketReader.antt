@@ -1,8 +1,9 @@
 -- What a packet reader stands for: the stream so far, its packets, and the rest.
-use Rattle.std.specs.Prelude.{◌≡◌, ◌≢◌, ℕ, ◌+◌, ◌-◌, ◌<◌, ◌≤◌, Bool, false, List, [], ◌∷◌, ◌++◌, length, take, Option, Some, None, if◌then◌else◌}
+use Rattle.std.specs.Prelude.{◌≡◌, ◌≢◌, ℕ, ◌+◌, ◌-◌, ◌<◌, ◌≤◌, Bool, false, List, [], ◌∷◌, ◌++◌, length, take, Option, Some, None}
 use Rattle.git_pkt.specs.Packets.{Spells, body_of, seen}
 use Rattle.git_pkt.specs.Splits.{Given, Splits}
 use Rattle.git_pkt.specs.Faults.{IsOpen, StopsBy, last_position}
+use Rattle.git_pkt.specs.ReaderState.{held_in, come_in, passed_length_in, fault_in, is_open_in, passes_in}
 use Rattle.git_pkt.specs.declared.fault.Fault.{Fault}
 use Rattle.git_pkt.specs.declared.fault.Kind.TheVariants.{Truncated, StreamTooLong}
 use Rattle.git_pkt.specs.declared.reader.PacketReader.{PacketReader}
@@ -16,7 +17,11 @@ position_of r = r.position
 
 -- a packet has begun and is not whole
 abbrev pub is_open : PacketReader → Bool
-is_open r = r.begun
+is_open r = is_open_in r.state
+
+-- the bytes of the open packet pass: the hold has the first five of them alone
+abbrev pub passes_of : PacketReader → Bool
+passes_of r = passes_in r.state
 
 -- the hold, as it is
 abbrev pub held_of : PacketReader → List ℕ
@@ -24,37 +29,35 @@ held_of r = r.hold.items
 
 -- how many bytes the reader has in its hold, its one field with bytes
 abbrev pub bytes_held : PacketReader → ℕ
-bytes_held r = length r.hold.items
+bytes_held r = length (held_of r)
 
--- the same with each field named, so that none can be added without being counted
+-- the same, with each field named, so that none can be added without being counted
 abbrev pub bytes_held_by_fields : PacketReader → ℕ
 bytes_held_by_fields r =
     let record {
       hold = hold;
-      count = count;
       position = position;
       field = field;
-      begun = begun;
-      fault = fault;
+      state = state;
       within = within;
-      counted = counted;
-      gathers = gathers;
-      behind = behind;
-      failed = failed;
+      gathered = gathered;
+      passing = passing;
     } = r in
     length hold.items
 
 -- what the hold has of the open packet
 abbrev pub rest_of : PacketReader → List ℕ
-rest_of r = if is_open r then take r.count (held_of r) else []
+rest_of r = take (held_in r.state) (held_of r)
 
 -- how many bytes of the open packet have come
 abbrev pub open_length : PacketReader → ℕ
-open_length r = if is_open r then r.count else 0
+open_length r = come_in r.state r.field
 
--- what the reader holds of the rest of a stream: all of it
+-- what the reader holds of the rest of a stream: its beginning, and after that no more than was handed out
 pub record Holds (r : PacketReader) (rest : List ℕ) : Type 0 where
-  pub all : rest_of r ≡ rest
+  pub passed : List ℕ
+  pub all : rest_of r ++ passed ≡ rest
+  pub long : length passed ≡ passed_length_in r.state r.field
 
 -- the hold has each byte of the open packet that has come
 abbrev pub HoldsAll : PacketReader → Type 0
@@ -62,7 +65,7 @@ HoldsAll r = length (rest_of r) ≡ open_length r
 
 -- the fault that ended the reading
 abbrev pub fault_of : PacketReader → Option Fault
-fault_of r = r.fault
+fault_of r = fault_in r.state
 
 -- how the rest of the stream, at p, stands: open, or with the fault that was told
 abbrev pub StandsAt : Option Fault → ℕ → ℕ → List ℕ → PacketReader → Type 0
@@ -131,3 +134,4 @@ pub record Feeds (old : PacketReader) (piece : List ℕ) (fed : Fed) (new : Pack
   pub keeps : fed.used ≡ 0 → held_of new ≡ held_of old
   pub held : HoldsAsItCame old (take fed.used piece) fed.got new
   pub counts : Counts old fed.used fed.got new
+  pub gathers : passes_of new ≡ false

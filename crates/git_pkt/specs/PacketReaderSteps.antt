@@ -4,7 +4,7 @@ use Rattle.git_pkt.specs.Splits.{NoneBegins}
 use Rattle.git_pkt.specs.Faults.{StopsBy}
 use Rattle.git_pkt.specs.HeldPacket.{IsWhole}
 use Rattle.git_pkt.specs.declared.fault.Kind.TheVariants.{Truncated, StreamTooLong}
-use Rattle.git_pkt.specs.PacketReader.{ShownByFeed, position_of, is_open, held_of, rest_of, fault_of}
+use Rattle.git_pkt.specs.PacketReader.{ShownByFeed, position_of, is_open, passes_of, held_of, rest_of, fault_of}
 use Rattle.git_pkt.specs.declared.fault.Fault.{Fault}
 use Rattle.git_pkt.specs.declared.fault.Kind.{Kind}
 use Rattle.git_pkt.specs.declared.reader.PacketReader.{PacketReader}
@@ -14,6 +14,7 @@ use Rattle.git_pkt.specs.declared.reader.Progress.TheVariants.{Open, Whole, Fail
 -- the rest goes on
 pub record StaysOpen (rest : List ℕ) (new : PacketReader) : Type 0 where
   pub no_fault : fault_of new ≡ None
+  pub gathers : passes_of new ≡ false
   pub rest_is : rest_of new ≡ rest
 
 -- the rest is a packet, which lies in the hold

@@ -5,7 +5,8 @@ ghost use Rattle.git_pkt.specs.Bands.{IsNoBand, byte_of};
 ghost use Rattle.git_pkt.specs.Packets.{Pkt, Spells, body_of, spelling_of, text_of, longest_payload};
 ghost use Rattle.git_pkt.specs.Splits.{Given, NoneBegins, Splits};
 ghost use Rattle.git_pkt.specs.Faults.{IsOpen, RestFault, ShowsAtEnd};
-ghost use Rattle.git_pkt.specs.PacketReader.{Holds, HoldsAll, Reads, bytes_held, bytes_held_by_fields, fault_of, is_open, open_length, position_of, rest_of};
+ghost use Rattle.git_pkt.specs.PacketReader.{Holds, HoldsAll, Reads, bytes_held, bytes_held_by_fields, fault_of, is_open, open_length, passes_of, position_of, rest_of};
+ghost use Rattle.git_pkt.specs.BandCalls.{AllGoes, AreFed, BandCall};
 ghost use Rattle.git_pkt.specs.declared.band.Band.{Band};
 ghost use Rattle.git_pkt.specs.declared.fault.Fault.{Fault};
 ghost use Rattle.git_pkt.specs.declared.fault.Kind.{Kind};
@@ -69,18 +70,26 @@ pub fn fault_shows_with_one_byte()
         → RestFault p shown fault → ShowsAtEnd shown → RestFault q other next → ShowsAtEnd other → shown ≡ other }
 {}
 
-/// A reader knows of the rest that it holds whether there is any, and how long it is; and it holds all that has come of
-/// an open packet.
+/// A reader knows of the rest whether there is any, and how long it is; and it holds all that has come of an open packet
+/// whose bytes do not pass.
 pub fn reader_knows_its_rest()
     ensures between { (r : PacketReader) (rest : List ℕ) → Holds r rest → is_open r ≡ false → rest ≡ [] }
     ensures inside { (r : PacketReader) (rest : List ℕ) → Holds r rest → is_open r ≡ true → rest ≢ [] }
     ensures long { (r : PacketReader) (rest : List ℕ) → Holds r rest → open_length r ≡ length rest }
-    ensures all { (r : PacketReader) → HoldsAll r }
+    ensures all { (r : PacketReader) → passes_of r ≡ false → HoldsAll r }
 {}
 
 /// What is counted of a reader is all that its fields have.
 pub fn all_fields_are_counted()
     ensures { (r : PacketReader) → bytes_held_by_fields r ≡ bytes_held r }
+{}
+
+/// Whatever calls of `feed_band` there were since: the parts that they handed out, joined, are what passes of the packets that have
+/// become whole and of the rest, and they told the packets of which nothing passes. From the start of a stream, or from between two
+/// packets, where the rest was empty, these are all parts so far.
+pub fn parts_join_to_what_passes()
+    ensures { (calls : List BandCall) (old new : PacketReader) (start : ℕ) (bytes : List ℕ) (given : List Given) (rest : List ℕ)
+        → AreFed old calls new → Reads old start bytes given rest → AllGoes start bytes given rest calls new }
 {}
 
 /// Readers of the same bytes gave the same packets and have the same rest, however the bytes came; those that hold all

@@ -20,5 +20,5 @@ pub use fault::{Fault, Kind, RunFault};
 pub use hold::{Hold, LONGEST_PACKET, append};
 pub use output::{Discard, Output};
 pub use packet::{Packet, begin, put, text};
-pub use reader::{Fed, Got, PacketReader};
+pub use reader::{BandFed, BandGot, Fed, Got, PacketReader};
 pub use told::Told;

@@ -1,6 +1,6 @@
 //! Packets out of pieces of any size.
 
-ghost use Rattle.std.specs.Prelude.{◌≡◌, ◌≢◌, ◌+◌, ◌-◌, ◌*◌, ◌≤◌, ◌<◌, ◌∷◌, [], length, take, true, false, Some, None, Err, IfErr, OnOk, IsTrue, ◌↔◌, ℕ, List};
+ghost use Rattle.std.specs.Prelude.{◌≡◌, ◌≢◌, ◌+◌, ◌-◌, ◌*◌, ◌≤◌, ◌<◌, ◌∷◌, [], drop, length, take, true, false, Some, None, Err, IfErr, IfSome, MatchOption, OnOk, IsTrue, ◌↔◌, ℕ, List};
 ghost use Rattle.std.specs.Borrow.{sem};
 ghost use Rattle.std.specs.Io.BufRead.{Rests};
 ghost use Rattle.git_names.specs.Steps.{TakesAtMost};
@@ -8,12 +8,16 @@ ghost use Rattle.git_pkt.specs.Packets.{Spells, seen};
 ghost use Rattle.git_pkt.specs.Splits.{Given};
 ghost use Rattle.git_pkt.specs.declared.fault.Fault.{Fault};
 ghost use Rattle.git_pkt.specs.Faults.{last_position};
-ghost use Rattle.git_pkt.specs.HeldPacket.{IsGathering, IsWhole, TellsField};
+ghost use Rattle.git_pkt.specs.Passed.{band_in, begins_band};
+ghost use Rattle.git_pkt.specs.PassedOut.{HandsOut, HasPart};
+ghost use Rattle.git_pkt.specs.HeldPacket.{IsWhole, TellsField};
+ghost use Rattle.git_pkt.specs.ReaderState.{IsGathered, IsPassing, gathers_in, held_in, left_in, passes_in};
 ghost use Rattle.git_pkt.specs.declared.fault.Kind.TheVariants.{Truncated};
 
+use crate::band::Band;
 use crate::digits::{Digits, read_digits};
 use crate::fault::{Fault, Kind};
-use crate::hold::{Hold, place};
+use crate::hold::{Hold, LONGEST_PACKET, place};
 use crate::packet::Packet;
 use git_names::{Steps, digit_value};
 
@@ -55,29 +59,106 @@ pub(crate) struct Step {
     pub(crate) progress: Progress,
 }
 
+/// What one call of [`PacketReader::feed_band`] did.
+#[derive(Clone, Copy, Debug)]
+pub struct BandFed<'a> {
+    /// How many bytes of the piece were used.
+    pub used: usize,
+    /// What they came to.
+    pub got: BandGot<'a>,
+}
+
+/// What came of the bytes used, in a section of side bands.
+#[derive(Clone, Copy, Debug)]
+pub enum BandGot<'a> {
+    /// The piece was used up.
+    More,
+    /// Bytes of the pack or of the progress, as they lie in the piece: one at least, and all that it has of their packet
+    /// from there on.
+    Part(Band, &'a [u8]),
+    /// Any other packet, and the offset of its first byte.
+    Packet(Packet<'a>, u64),
+    /// The stream is refused; the reader stays at this fault.
+    Failed(Fault),
+}
+
+/// So many bytes on a band.
+#[derive(Clone, Copy, Debug)]
+pub(crate) struct Passed {
+    pub(crate) band: Band,
+    pub(crate) count: usize,
+}
+
+/// How far one step came in a section of side bands.
+#[derive(Clone, Copy, Debug)]
+pub(crate) enum BandProgress {
+    Open,
+    /// A packet without a byte after that of its band.
+    Empty,
+    /// Bytes that passed: the last of those used.
+    Part(Passed),
+    Whole,
+    Failed(Fault),
+}
+
+/// What one step over a piece did there.
+#[derive(Clone, Copy, Debug)]
+pub(crate) struct BandStep {
+    pub(crate) used: usize,
+    pub(crate) progress: BandProgress,
+}
+
+impl BandStep {
+    /// The answer of a call that came to this over the piece, where no packet lies in the hold.
+    fn fed<'a>(self, piece: &'a [u8]) -> BandFed<'a>
+        requires part { HasPart self.progress self.used }
+        requires all { self.used ≤ length piece.now }
+        ensures used { result.used ≡ self.used }
+        ensures got { HandsOut self.progress self.used piece.now result.got }
+    {
+        let used = self.used;
+        let got = match self.progress {
+            BandProgress::Part(part) => BandGot::Part(part.band, &piece[used - part.count..used]),
+            BandProgress::Failed(fault) => BandGot::Failed(fault),
+            _ => BandGot::More,
+        };
+        BandFed { used, got }
+    }
+}
+
+/// How a reader stands.
+#[derive(Clone, Copy, Debug)]
+pub(crate) enum State {
+    /// No packet is open.
+    Between,
+    /// So many bytes of the open packet have come, and all of them stand at the hold's front. What stands after them is
+    /// of an earlier packet.
+    Gathering(usize),
+    /// A packet is open whose bytes pass: its first five bytes are the hold, those that came after them were handed out,
+    /// and so many are still to come.
+    Passing(usize),
+    /// The stream is refused.
+    Failed(Fault),
+}
+
 /// Reads the packets of a stream that comes in pieces. It has one buffer, for one packet, and takes no
 /// memory beside it.
 #[derive(Drop)]
 pub struct PacketReader {
     hold: Hold,
-    /// How many bytes of the open packet the hold has, at its front. What stands after them is of an earlier packet.
-    count: usize,
     /// The offset of the next byte.
     position: u64,
     /// The number in the four digits of the packet in the hold, once they are there.
     field: usize,
-    /// Whether the hold has some of a packet's bytes, and not all.
-    begun: bool,
-    fault: Option<Fault>,
+    state: State,
     ghost within: { position ≤ last_position },
-    ghost counted: { begun ≡ true → count ≤ length hold.items },
-    ghost gathers: { begun ≡ true → IsGathering (take count hold.items) field },
-    ghost behind: { begun ≡ true → count ≤ position },
-    ghost failed: { begun ≡ true → fault ≡ None },
+    ghost gathered: { gathers_in state ≡ true → IsGathered (held_in state) hold.items field position },
+    ghost passing: { passes_in state ≡ true → IsPassing (left_in state) hold.items field position },
 }
 
 impl PacketReader {
-    ghost use Rattle.git_pkt.specs.PacketReader.{Reads, ReadsOn, Feeds, Holds, position_of, fault_of, rest_of, open_length, held_of, is_open};
+    ghost use Rattle.git_pkt.specs.PacketReader.{Reads, ReadsOn, Feeds, Holds, position_of, fault_of, rest_of, open_length, held_of, is_open, passes_of};
+    ghost use Rattle.git_pkt.specs.BandReader.{BandMoves, FeedsBand, MayPass, ReadsBandsOn};
     ghost use Rattle.git_pkt.specs.contracts.reader.PacketReader.{the_row};
     ghost use Rattle.git_pkt.specs.LentHold.{LendsHold};
     ghost use Rattle.git_pkt.specs.PacketReaderSteps.{Moves, IsStopped, IsOfPacket, IsShown};
@@ -86,6 +167,8 @@ impl PacketReader {
     pub fn new() -> Self
         ensures reads { Reads result 0 [] [] [] }
         ensures sound { fault_of result ≡ None }
+        ensures gathers { passes_of result ≡ false }
+        ensures passes { MayPass result }
     {
         Self::at(0)
     }
@@ -95,14 +178,14 @@ impl PacketReader {
         requires { offset ≤ last_position }
         ensures reads { Reads result offset [] [] [] }
         ensures sound { fault_of result ≡ None }
+        ensures gathers { passes_of result ≡ false }
+        ensures passes { MayPass result }
     {
         PacketReader {
             hold: Hold::new(),
-            count: 0,
             position: offset,
             field: 0,
-            begun: false,
-            fault: None,
+            state: State::Between,
         }
     }
 
@@ -116,11 +199,12 @@ impl PacketReader {
     /// Reads on. It returns after one packet, or with the whole piece used, or at the first fault, which is told
     /// with the byte that shows it. Call it again with the bytes that it did not use.
     pub fn feed<'a>(&'a mut self, piece: &'a [u8], steps: &mut Steps) -> Fed<'a>
+        requires gathers { passes_of self.old ≡ false }
         ensures* after { sem 𝓛 (Rests the_row self.entry (λ new. Feeds self.old piece.now result new)) }
         ensures used { result.used ≤ length piece.now }
         ensures cost { TakesAtMost (8 * (result.used + 1)) steps.old steps.new }
     {
-        if let Some(fault) = self.fault {
+        if let State::Failed(fault) = self.state {
             return Fed {
                 used: 0,
                 got: Got::Failed(fault),
@@ -147,28 +231,57 @@ impl PacketReader {
         }
     }
 
+    /// Reads on in a section of side bands, as [`feed`](PacketReader::feed) does, but for bytes of the pack and of the progress:
+    /// these pass as they come, and the hold has no more of their packets than the first five bytes. Such a packet without a
+    /// byte on its band gives nothing. A packet that is open is read on by the call that began it.
+    pub fn feed_band<'a>(&'a mut self, piece: &'a [u8], steps: &mut Steps) -> BandFed<'a>
+        requires passes { MayPass self.old }
+        ensures* after { sem 𝓛 (Rests the_row self.entry (λ new. FeedsBand self.old piece.now result new)) }
+        ensures used { result.used ≤ length piece.now }
+        ensures cost { TakesAtMost (8 * (result.used + 1)) steps.old steps.new }
+    {
+        if let State::Failed(fault) = self.state {
+            return BandFed {
+                used: 0,
+                got: BandGot::Failed(fault),
+            };
+        }
+        let step = self.band_steps(piece, steps);
+        match step.progress {
+            BandProgress::Whole => {
+                let offset = self.position - self.hold.len() as u64;
+                BandFed {
+                    used: step.used,
+                    got: BandGot::Packet(self.packet(), offset),
+                }
+            }
+            _ => step.fed(piece),
+        }
+    }
+
     /// Tells that the stream ends here. Between packets that is well, and changes nothing; where a packet is open
     /// the stream is refused as truncated, at the end of its last whole packet.
     pub fn close(&mut self) -> Result<(), Fault>
         ensures carries { ReadsOn self.old [] [] self.new }
+        ensures gathers { passes_of self.new ≡ false }
+        ensures passes { MayPass self.new }
         ensures between { OnOk result ((self.new ≡ self.old) × (fault_of self.old ≡ None) × (is_open self.old ≡ false)) }
         ensures told { IfErr result (λ f. fault_of self.new ≡ Some f) }
         ensures repeats { (f : Fault) → fault_of self.old ≡ Some f → (result ≡ Err f) × (self.new ≡ self.old) }
         ensures truncated { fault_of self.old ≡ None → IfErr result (λ f.
             (is_open self.old ≡ true) × (f.kind ≡ Truncated) × (f.offset + open_length self.old ≡ position_of self.old)) }
     {
-        if let Some(fault) = self.fault {
+        if let State::Failed(fault) = self.state {
             return Err(fault);
         }
-        if !self.begun {
+        if !self.is_open() {
             return Ok(());
         }
         let fault = Fault {
             kind: Kind::Truncated,
-            offset: self.position - self.count as u64,
+            offset: self.position - self.come() as u64,
         };
-        self.begun = false;
-        self.fault = Some(fault);
+        self.state = State::Failed(fault);
         Err(fault)
     }
 
@@ -179,7 +292,11 @@ impl PacketReader {
         ensures stream { (start : ℕ) (bytes : List ℕ) (given : List Given) (rest : List ℕ) → Reads self.now start bytes given rest
             → IsTrue result ↔ ((fault_of self.now ≡ None) × (rest ≢ [])) }
     {
-        self.begun
+        match self.state {
+            State::Gathering(_) => true,
+            State::Passing(_) => true,
+            _ => false,
+        }
     }
 
     /// The hold: after a packet that packet's bytes as they came, until the next byte is read or `lend` is called.
@@ -214,10 +331,239 @@ impl PacketReader {
         }
     }
 
+    /// Steps over the piece, up to the first that gives something.
+    fn band_steps(&mut self, piece: &[u8], steps: &mut Steps) -> BandStep
+        requires sound { fault_of self.old ≡ None }
+        requires passes { MayPass self.old }
+        ensures used { result.used ≤ length piece.now }
+        ensures some { result.progress ≢ BandProgress.Empty }
+        ensures moves { BandMoves self.old piece.now result.used result.progress self.new }
+        ensures keeps { result.used ≡ 0 → held_of self.new ≡ held_of self.old }
+        ensures cost { TakesAtMost (8 * (result.used + 1)) steps.old steps.new }
+    {
+        let mut used = 0;
+        while used < piece.len() {
+            steps.tick(1);
+            let step = self.next_band(&piece[used..], steps);
+            used += step.used;
+            match step.progress {
+                BandProgress::Empty => {}
+                progress => return BandStep { used, progress },
+            }
+        }
+        BandStep {
+            used,
+            progress: BandProgress::Open,
+        }
+    }
+
+    /// One step: at once, where the piece has all of a packet whose bytes pass.
+    fn next_band(&mut self, piece: &[u8], steps: &mut Steps) -> BandStep
+        requires sound { fault_of self.old ≡ None }
+        requires passes { MayPass self.old }
+        ensures used { result.used ≤ length piece.now }
+        ensures moves { BandMoves self.old piece.now result.used result.progress self.new }
+        ensures keeps { result.used ≡ 0 → held_of self.new ≡ held_of self.old }
+        ensures cost { TakesAtMost (6 * result.used + 1) steps.old steps.new }
+    {
+        if !self.is_open() {
+            if let Some(part) = self.pass_at_once(piece, steps) {
+                return BandStep {
+                    used: part.count + 5,
+                    progress: BandProgress::Part(part),
+                };
+            }
+        }
+        self.band_step(piece, steps)
+    }
+
+    /// The bytes of a packet that pass, where the piece begins with all of one that has some.
+    fn pass_at_once(&mut self, piece: &[u8], steps: &mut Steps) -> Option<Passed>
+        requires sound { fault_of self.old ≡ None }
+        requires between { is_open self.old ≡ false }
+        ensures within { IfSome result (λ part. part.count + 5 ≤ length piece.now) }
+        ensures moves { MatchOption result (self.new ≡ self.old)
+            (λ part. BandMoves self.old piece.now (part.count + 5) (BandProgress.Part part) self.new) }
+        ensures cost { MatchOption result (steps.new ≡ steps.old) (λ part. TakesAtMost 1 steps.old steps.new) }
+    {
+        if piece.len() < 6 {
+            return None;
+        }
+        let Some(band) = band_of(piece) else {
+            return None;
+        };
+        let Digits::Number(field) = read_digits(piece) else {
+            return None;
+        };
+        let most = piece
+            .len()
+            .min((LAST_POSITION - self.position) as usize)
+            .min(LONGEST_PACKET);
+        if field < 6 || field > most {
+            return None;
+        }
+        steps.tick(1);
+        self.hold.truncate(5);
+        self.position += field as u64;
+        Some(Passed {
+            band,
+            count: field - 5,
+        })
+    }
+
+    /// One packet, or bytes of one that pass, or all of the piece, or all of it up to the stream's last position. Of a packet
+    /// that begins the first five bytes are gathered, which tell whether its bytes pass.
+    fn band_step(&mut self, piece: &[u8], steps: &mut Steps) -> BandStep
+        requires sound { fault_of self.old ≡ None }
+        requires passes { MayPass self.old }
+        ensures used { result.used ≤ length piece.now }
+        ensures moves { BandMoves self.old piece.now result.used result.progress self.new }
+        ensures keeps { result.used ≡ 0 → held_of self.new ≡ held_of self.old }
+        ensures cost { TakesAtMost (6 * result.used + 1) steps.old steps.new }
+    {
+        if let State::Passing(left) = self.state {
+            return self.pass(left, piece);
+        }
+        let lacks = 5 - self.gathered().min(5);
+        let front = lacks.min(piece.len());
+        let first = self.step(&piece[..front], steps);
+        let _ = self.hold.len();
+        match first.progress {
+            Progress::Failed(fault) => BandStep {
+                used: first.used,
+                progress: BandProgress::Failed(fault),
+            },
+            Progress::Whole => {
+                if self.band().is_some() {
+                    return BandStep {
+                        used: first.used,
+                        progress: BandProgress::Empty,
+                    };
+                }
+                BandStep {
+                    used: first.used,
+                    progress: BandProgress::Whole,
+                }
+            }
+            Progress::Open => {
+                if self.gathered() < 5 {
+                    return BandStep {
+                        used: front,
+                        progress: BandProgress::Open,
+                    };
+                }
+                let next = self.after_five(&piece[front..], steps);
+                BandStep {
+                    used: front + next.used,
+                    progress: next.progress,
+                }
+            }
+        }
+    }
+
+    /// Goes on after the first five bytes of a packet.
+    fn after_five(&mut self, piece: &[u8], steps: &mut Steps) -> BandStep
+        requires sound { fault_of self.old ≡ None }
+        requires gathers { passes_of self.old ≡ false }
+        requires five { 5 ≤ held_in self.old.state }
+        requires first { begins_band (drop 4 (rest_of self.old)) ≡ true → held_in self.old.state ≡ 5 }
+        ensures used { result.used ≤ length piece.now }
+        ensures moves { BandMoves self.old piece.now result.used result.progress self.new }
+        ensures keeps { begins_band (drop 4 (rest_of self.old)) ≡ false → result.used ≡ 0 → held_of self.new ≡ held_of self.old }
+        ensures cost { TakesAtMost (6 * result.used + 1) steps.old steps.new }
+    {
+        if self.band().is_some() {
+            let left = self.begin_passing(steps);
+            return self.pass(left, piece);
+        }
+        let step = self.step(piece, steps);
+        let _ = self.hold.len();
+        match step.progress {
+            Progress::Open => BandStep {
+                used: step.used,
+                progress: BandProgress::Open,
+            },
+            Progress::Whole => BandStep {
+                used: step.used,
+                progress: BandProgress::Whole,
+            },
+            Progress::Failed(fault) => BandStep {
+                used: step.used,
+                progress: BandProgress::Failed(fault),
+            },
+        }
+    }
+
+    /// The five bytes that the hold has of the open packet are all that it will have of it. Answers how many are still to come.
+    fn begin_passing(&mut self, steps: &mut Steps) -> usize
+        requires gathers { passes_of self.old ≡ false }
+        requires five { held_in self.old.state ≡ 5 }
+        requires on_band { begins_band (drop 4 (rest_of self.old)) ≡ true }
+        ensures state { self.new.state ≡ State.Passing result }
+        ensures goes { ReadsBandsOn self.old [] [] [] self.new }
+        ensures rises { open_length self.new ≤ open_length self.old }
+        ensures cost { TakesAtMost 1 steps.old steps.new }
+    {
+        let left = self.field - 5;
+        self.state = State::Between;
+        steps.tick(1);
+        self.hold.truncate(5);
+        self.state = State::Passing(left);
+        left
+    }
+
+    /// The band of the packet in the hold, where its bytes pass.
+    fn band(&self) -> Option<Band>
+        ensures value { result ≡ band_in (drop 4 (held_of self.now)) }
+    {
+        band_of(self.hold.as_slice())
+    }
+
+    /// Bytes of the open packet that pass: as many as are still to come, or the piece or the stream has.
+    fn pass(&mut self, left: usize, piece: &[u8]) -> BandStep
+        requires passing { self.old.state ≡ State.Passing left }
+        ensures used { result.used ≤ length piece.now }
+        ensures moves { BandMoves self.old piece.now result.used result.progress self.new }
+        ensures held { held_of self.new ≡ held_of self.old }
+    {
+        let Some(band) = self.band() else {
+            unreachable!()
+        };
+        let most = left.min(piece.len());
+        if most == 0 {
+            return BandStep {
+                used: 0,
+                progress: BandProgress::Open,
+            };
+        }
+        let used = most.min((LAST_POSITION - self.position) as usize);
+        if used == 0 {
+            let fault = self.stop(Kind::StreamTooLong, LAST_POSITION);
+            return BandStep {
+                used: 0,
+                progress: BandProgress::Failed(fault),
+            };
+        }
+        self.position += used as u64;
+        if used < left {
+            self.state = State::Passing(left - used);
+            return BandStep {
+                used,
+                progress: BandProgress::Part(Passed { band, count: used }),
+            };
+        }
+        self.state = State::Between;
+        BandStep {
+            used,
+            progress: BandProgress::Part(Passed { band, count: used }),
+        }
+    }
+
     /// One packet, or all of the piece, or all of it up to the stream's last position.
     fn step(&mut self, piece: &[u8], steps: &mut Steps) -> Step
         requires sound { fault_of self.old ≡ None }
-        ensures cost { TakesAtMost (8 * (result.used + 1)) steps.old steps.new }
+        requires gathers { passes_of self.old ≡ false }
+        ensures cost { TakesAtMost (6 * result.used) steps.old steps.new }
         ensures used { result.used ≤ length piece.now }
         ensures all { result.progress ≡ Progress.Open → result.used ≡ length piece.now }
         ensures moves { Moves self.old (take result.used piece.now) result.progress self.new }
@@ -231,10 +577,10 @@ impl PacketReader {
         let step = self.gather(&piece[..room], steps);
         match step.progress {
             Progress::Open => {
-                let progress = self.stop(Kind::StreamTooLong, LAST_POSITION);
+                let fault = self.stop(Kind::StreamTooLong, LAST_POSITION);
                 Step {
                     used: step.used,
-                    progress,
+                    progress: Progress::Failed(fault),
                 }
             }
             _ => step,
@@ -244,20 +590,21 @@ impl PacketReader {
     /// One packet, or all of the piece, for which the stream has room.
     fn gather(&mut self, piece: &[u8], steps: &mut Steps) -> Step
         requires sound { fault_of self.old ≡ None }
+        requires gathers { passes_of self.old ≡ false }
         requires room { position_of self.old + length piece.now ≤ last_position }
-        ensures cost { TakesAtMost (8 * (result.used + 1)) steps.old steps.new }
+        ensures cost { TakesAtMost (6 * result.used) steps.old steps.new }
         ensures used { result.used ≤ length piece.now }
         ensures all { result.progress ≡ Progress.Open → result.used ≡ length piece.now }
         ensures moves { Moves self.old (take result.used piece.now) result.progress self.new }
         ensures kind { IsOfPacket result.progress }
         ensures keeps { result.used ≡ 0 → held_of self.new ≡ held_of self.old }
     {
-        if !self.begun && piece.len() >= 4 {
+        if piece.len() >= 4 && !self.is_open() {
             return self.begin(piece, steps);
         }
         for (used, byte) in piece.iter().enumerate() {
             steps.tick(1);
-            if self.begun && self.count >= 4 {
+            if self.gathered() >= 4 {
                 let step = self.gather_body(&piece[used..], steps);
                 return Step {
                     used: used + step.used,
@@ -281,59 +628,81 @@ impl PacketReader {
     }
 
     /// Ends the reading with a fault at this offset.
-    fn stop(&mut self, kind: Kind, offset: u64) -> Progress
-        ensures told { IsStopped self.old kind offset result self.new }
+    fn stop(&mut self, kind: Kind, offset: u64) -> Fault
+        ensures told { IsStopped self.old kind offset (Progress.Failed result) self.new }
         ensures held { held_of self.new ≡ held_of self.old }
     {
         let fault = Fault { kind, offset };
-        self.begun = false;
-        self.fault = Some(fault);
-        Progress::Failed(fault)
+        self.state = State::Failed(fault);
+        fault
+    }
+
+    /// How many bytes of the open packet have come.
+    fn come(&self) -> usize
+        ensures value { result ≡ open_length self.now }
+        ensures behind { result ≤ position_of self.now }
+    {
+        match self.state {
+            State::Gathering(count) => count,
+            State::Passing(left) => self.field - left,
+            _ => 0,
+        }
+    }
+
+    /// How many bytes of the open packet the hold has, where all that has come of it is there.
+    fn gathered(&self) -> usize
+        requires gathers { passes_of self.now ≡ false }
+        ensures value { result ≡ held_in self.now.state }
+        ensures within { result ≤ length (held_of self.now) }
+        ensures kept { 0 < result → IsGathered result (held_of self.now) self.now.field (position_of self.now) }
+    {
+        match self.state {
+            State::Gathering(count) => count,
+            _ => 0,
+        }
     }
 
     /// One byte of the four digits.
     fn gather_digit(&mut self, byte: u8, steps: &mut Steps) -> Progress
         requires sound { fault_of self.old ≡ None }
-        requires digits { length (rest_of self.old) < 4 }
+        requires gathers { passes_of self.old ≡ false }
+        requires digits { held_in self.old.state < 4 }
         requires room { position_of self.old < last_position }
         ensures cost { TakesAtMost 5 steps.old steps.new }
         ensures moves { Moves self.old (byte ∷ []) result self.new }
         ensures kind { IsOfPacket result }
     {
-        if !self.begun {
-            self.count = 0;
-        }
-        self.begun = false;
-        place(&mut self.hold, self.count, &[byte], steps);
-        self.count += 1;
+        let count = self.gathered();
+        self.state = State::Between;
+        place(&mut self.hold, count, &[byte], steps);
         self.position += 1;
         if digit_value(byte) > 15 {
-            return self.stop(Kind::BadDigit, self.position - 1);
+            return Progress::Failed(self.stop(Kind::BadDigit, self.position - 1));
         }
-        if self.count < 4 {
-            self.begun = true;
+        if count < 3 {
+            self.state = State::Gathering(count + 1);
             return Progress::Open;
         }
-        let Digits::Number(field) = read_digits(&self.hold.as_slice()[..self.count]) else {
+        let Digits::Number(field) = read_digits(&self.hold.as_slice()[..count + 1]) else {
             unreachable!()
         };
         if let Some(kind) = field_fault(field) {
-            return self.stop(kind, self.position - 4);
+            return Progress::Failed(self.stop(kind, self.position - 4));
         }
         self.field = field;
         if field <= 4 {
             steps.tick(1);
-            self.hold.truncate(self.count);
+            self.hold.truncate(count + 1);
             return Progress::Whole;
         }
-        self.begun = true;
+        self.state = State::Gathering(count + 1);
         Progress::Open
     }
 
     /// Bytes after the four digits, as many as the packet lacks or the piece has.
     fn gather_body(&mut self, piece: &[u8], steps: &mut Steps) -> Step
-        requires begun { is_open self.old ≡ true }
-        requires digits { 4 ≤ length (rest_of self.old) }
+        requires gathers { passes_of self.old ≡ false }
+        requires digits { 4 ≤ held_in self.old.state }
         requires room { position_of self.old + length piece.now ≤ last_position }
         ensures cost { TakesAtMost (2 * result.used + 3) steps.old steps.new }
         ensures used { result.used ≤ length piece.now }
@@ -342,19 +711,20 @@ impl PacketReader {
         ensures kind { IsOfPacket result.progress }
         ensures some { 0 < length piece.now → 0 < result.used }
     {
-        let used = (self.field - self.count).min(piece.len());
-        place(&mut self.hold, self.count, &piece[..used], steps);
-        self.count += used;
+        let count = self.gathered();
+        let used = (self.field - count).min(piece.len());
+        self.state = State::Between;
+        place(&mut self.hold, count, &piece[..used], steps);
         self.position += used as u64;
-        if self.count < self.field {
+        if count + used < self.field {
+            self.state = State::Gathering(count + used);
             return Step {
                 used,
                 progress: Progress::Open,
             };
         }
-        self.begun = false;
         steps.tick(1);
-        self.hold.truncate(self.count);
+        self.hold.truncate(count + used);
         Step {
             used,
             progress: Progress::Whole,
@@ -379,25 +749,27 @@ impl PacketReader {
             Digits::Number(field) => field,
             Digits::Bad(at) => {
                 self.position += at as u64 + 1;
-                let progress = self.stop(Kind::BadDigit, start + at as u64);
+                let fault = self.stop(Kind::BadDigit, start + at as u64);
                 return Step {
                     used: at + 1,
-                    progress,
+                    progress: Progress::Failed(fault),
                 };
             }
         };
         if let Some(kind) = field_fault(field) {
             self.position += 4;
-            let progress = self.stop(kind, start);
-            return Step { used: 4, progress };
+            let fault = self.stop(kind, start);
+            return Step {
+                used: 4,
+                progress: Progress::Failed(fault),
+            };
         }
         let used = field.max(4).min(piece.len());
         place(&mut self.hold, 0, &piece[..used], steps);
-        self.count = used;
         self.position += used as u64;
         self.field = field;
         if used < field {
-            self.begun = true;
+            self.state = State::Gathering(used);
             return Step {
                 used,
                 progress: Progress::Open,
@@ -420,5 +792,16 @@ fn field_fault(field: usize) -> Option<Kind>
         3 => Some(Kind::BadLength),
         0..=65_520 => None,
         _ => Some(Kind::TooLong),
+    }
+}
+
+/// The band of a packet that begins so, where its bytes pass.
+fn band_of(bytes: &[u8]) -> Option<Band>
+    ensures { result ≡ band_in (drop 4 bytes.now) }
+{
+    match bytes {
+        [_, _, _, _, 1, ..] => Some(Band::Pack),
+        [_, _, _, _, 2, ..] => Some(Band::Progress),
+        _ => None,
     }
 }

@@ -70,6 +70,7 @@ module _ {R A : Type 0} where
         sound = sound;
         ready = ready;
         between = between;
+        gathers = gathers;
       } = server in
       held_in_packet reader + (stored_so_far requests + stored_in phase)
 

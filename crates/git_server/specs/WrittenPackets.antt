@@ -2,7 +2,7 @@
 use Rattle.std.specs.Prelude.{◌≡◌, ◌≤◌, ℕ, false, List, ◌∷◌, length}
 use Rattle.git_pkt.specs.Packets.{Pkt, spelling_of, body_of, longest_payload}
 use Rattle.git_pkt.specs.Splits.{Given}
-use Rattle.git_pkt.specs.PacketReader.{Reads, bytes_held, held_of, fault_of, is_open, position_of}
+use Rattle.git_pkt.specs.PacketReader.{Reads, bytes_held, held_of, fault_of, is_open, passes_of, position_of}
 use Rattle.git_pkt.specs.declared.reader.PacketReader.{PacketReader}
 
 -- the packet's spelling is in the hold, and the reader reads on as before
@@ -10,6 +10,7 @@ pub record Writes (old : PacketReader) (packet : Pkt) (new : PacketReader) : Typ
   pub held : held_of new ≡ spelling_of packet
   pub fits : length (body_of packet) ≤ longest_payload
   pub between : is_open new ≡ false
+  pub gathers : passes_of new ≡ false
   pub fault : fault_of new ≡ fault_of old
   pub position : position_of new ≡ position_of old
   pub holds : bytes_held new ≤ 65520

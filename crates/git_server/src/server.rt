@@ -1,7 +1,7 @@
 //! The server's end of a conversation, as a machine that takes bytes in pieces and gives packets.
 
 ghost use Rattle.std.specs.Prelude.{◌≡◌, true, false, None};
-ghost use Rattle.git_pkt.specs.PacketReader.{is_open};
+ghost use Rattle.git_pkt.specs.PacketReader.{is_open, passes_of};
 ghost use Rattle.git_msg.specs.RequestReader.{fault_of, is_waiting};
 ghost use Rattle.git_server.specs.Phases.{advertising_phase, lost_pack, outcome_in, owes_in, phase_after, refusal_in, refused_by, turn_in};
 
@@ -43,6 +43,7 @@ pub struct Server<R, A: Allocator + Copy> {
     ghost sound: { outcome_in phase ≡ None → fault_of requests ≡ None },
     ghost ready: { outcome_in phase ≡ None → is_waiting requests ≡ false },
     ghost between: { owes_in phase ≡ true → is_open reader ≡ false },
+    ghost gathers: { passes_of reader ≡ false },
 }
 
 /// What is pulled from a server.

@@ -6,5 +6,5 @@ returns c = record {
   between = λ r rest h shut. none_between r rest h shut;
   inside = λ r rest h begun. some_inside r rest h begun;
   long = λ r rest h. rest_length r rest h;
-  all = λ r. all_is_held r;
+  all = λ r gathers. all_is_held r gathers;
 }

@@ -19,6 +19,7 @@ invariant_of-self-in-Packet g c =
       sound = λ on. feeds.tells.1;
       open_ended = sound_behind old new given got stage c.requires.waits c.take_packet-got.ensures c.stage_after-self.ensures;
       ready = ready_behind old new given got stage c.requires.waits c.take_packet-got.ensures c.stage_after-self.ensures;
+      gathers = c.feed-fed.follows.holds-at-none.gathers;
       taken = some_taken_behind old new given got stage c.requires.waits c.take_packet-got.ensures c.stage_after-self.ensures;
       within = within_behind old new given got stage c.requires.waits c.take_packet-got.ensures c.stage_after-self.ensures;
     }

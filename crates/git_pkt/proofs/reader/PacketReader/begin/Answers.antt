@@ -13,14 +13,14 @@ returns-in-Bad-clause-moves c =
     let bad : FirstBadDigit c.args.piece.now c.in-Bad.at = c.in-Bad.ensures.digits in
     let within : c.in-Bad.at + 1 ≤ length c.args.piece.now = omega (arith, bad.there) in
     let taken : length (take (c.in-Bad.at + 1) c.args.piece.now) ≡ c.in-Bad.at + 1 = length-take-le _ _ within in
-    stopped_between _ _ _ _ _ _ _ c.requires.between c.stop-progress.ensures.told (omega arith)
+    stopped_between _ _ _ _ _ _ _ c.requires.between c.stop-fault.ensures.told (omega arith)
     (bad_digit_ends _ c.in-Bad.at _ _ _ (bad_digit_of_take _ _ bad) taken refl)
 
 pub returns-in-Some-clause-moves : goal.returns-in-Some-clause-moves
 returns-in-Some-clause-moves c =
     let head : TellsDigits c.args.piece.now (Number c.in-Number.field) = c.in-Number.ensures.digits in
     let taken : length (take 4 c.args.piece.now) ≡ 4 = length-take-le _ _ c.requires.digits in
-    stopped_between _ _ _ _ _ _ _ c.requires.between c.stop-progress-in-Some.ensures.told (omega arith)
+    stopped_between _ _ _ _ _ _ _ c.requires.between c.stop-fault-in-Some.ensures.told (omega arith)
     (field_ends _ c.in-Number.field _ _ _ _ (digits_of_take _ 4 (omega arith) c.requires.digits head.0)
     (number_of_take _ 4 (omega arith) c.requires.digits ∙ head.1) c.in-Some.ensures.field taken refl)
 

@@ -4,8 +4,8 @@ use Rattle.git_pkt.proofs.ReaderMoves.{moves_on}
 use Rattle.git_pkt.proofs.Pieces.{take_joined}
 use Rattle.git_pkt.proofs.reader.PacketReader.gather.Goals as goal
 
-pub returns-then-self-ge4-clause-moves : goal.returns-then-self-ge4-clause-moves
-returns-then-self-ge4-clause-moves c =
+pub returns-then-gathered-ge4-clause-moves : goal.returns-then-gathered-ge4-clause-moves
+returns-then-gathered-ge4-clause-moves c =
     let u : List ℕ = take c.loop-used.used c.args.piece.now in
     let moves = moves_on c.args.self.now _ _ u _ _ c.loop-used.invariant.moves c.gather_body-step.ensures.moves in
     subst (λ (l : List ℕ). Moves c.args.self.now l c.gather_body-step.result.progress c.gather_body-step.new.self)

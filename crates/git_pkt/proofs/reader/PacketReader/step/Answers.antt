@@ -22,4 +22,4 @@ returns-in-Open-clause-moves c =
     c.in-Open.is c.gather-step.ensures.moves) in
     let long : length (take c.gather-step.result.used c.args.piece.now) ≡ c.gather-step.result.used = length-take-le _ _ (omega arith) in
     let last : position_of c.gather-step.new.self ≡ last_position = omega (arith, moves.position, c.args.self.now.within) in
-    stopped_at_last c.args.self.now c.gather-step.new.self _ _ _ moves c.stop-progress.ensures.told last
+    stopped_at_last c.args.self.now c.gather-step.new.self _ _ _ moves c.stop-fault.ensures.told last

@@ -1,0 +1,145 @@
+-- What a call of `feed_band` does, from what its steps do.
+use Rattle.std.proofs.Common.{arith, ◌≡◌, ℕ, ◌+◌, ◌-◌, ◌≤◌, Bool, true, false, List, [], ◌++◌, length, take, drop, map, Bor}
+use Rattle.std.proofs.Common.{Some, None, ap, sym, ◌∙◌, refl, subst, append_assoc, length-append}
+use Rattle.std.proofs.lemmas.List.{length-take-le, take-append-drop}
+use Rattle.std.proofs.Math.Seq.{take-append_seam, drop-append_seam}
+use Rattle.git_pkt.specs.Packets.{Spells, seen}
+use Rattle.git_pkt.specs.Passed.{begins_band, on}
+use Rattle.git_pkt.specs.PacketReader.{ShownByFeed, fault_of, held_of, passes_of, position_of}
+use Rattle.git_pkt.specs.PassedOut.{HandsOut, HasPart}
+use Rattle.git_pkt.specs.BandReader.{BandMoves, FeedsBand, HoldsFew, IsPart, MayPass, ReadsBandsOn}
+use Rattle.git_pkt.specs.declared.band.Band.{Band}
+use Rattle.git_pkt.specs.declared.fault.Fault.{Fault}
+use Rattle.git_pkt.specs.declared.packet.Packet.{Packet}
+use Rattle.git_pkt.specs.declared.reader.BandFed.{BandFed}
+use Rattle.git_pkt.specs.declared.reader.BandGot.{BandGot}
+use Rattle.git_pkt.specs.declared.reader.BandGot.TheVariants.{More, Part as PartGot, Packet as PacketGot, Failed}
+use Rattle.git_pkt.specs.declared.reader.BandProgress.{BandProgress}
+use Rattle.git_pkt.specs.declared.reader.BandProgress.TheVariants.{Open, Empty, Part, Whole, Failed as FailedStep}
+use Rattle.git_pkt.specs.declared.reader.Passed.{Passed}
+use Rattle.git_pkt.specs.declared.reader.PacketReader.{PacketReader}
+use Rattle.git_pkt.proofs.KnownRest.{gathered_rest}
+use Rattle.git_pkt.proofs.OpenLengths.{failed_counts_none, shut_counts_none, spelled_counts}
+use Rattle.git_pkt.proofs.BandCarries.{bands_stay}
+
+few_by : (r : PacketReader) (b : Bool) → passes_of r ≡ b → MayPass r → HoldsFew r
+few_by r true e may rest holds banded = omega (arith, (r.passing e).five)
+few_by r false e may rest holds banded =
+    let free = sym (ap (λ (l : List ℕ). begins_band (drop 4 l)) (gathered_rest r rest e holds)) ∙ may e in absurd (cc)
+
+pub holds_few : (r : PacketReader) → MayPass r → HoldsFew r
+holds_few r may = few_by r (passes_of r) refl may
+
+-- the last bytes of those used, as a slice shows them
+front_and_back : (piece front bytes : List ℕ) (used : ℕ) → take used piece ≡ front ++ bytes → piece ≡ front ++ (bytes ++ drop used piece)
+front_and_back piece front bytes used e =
+    sym (take-append-drop used piece) ∙ ap (λ (l : List ℕ). l ++ drop used piece) e ∙ append_assoc front bytes (drop used piece)
+
+pub last_of_used : (piece front bytes : List ℕ) (used count : ℕ) → take used piece ≡ front ++ bytes → length bytes ≡ count → used ≤ length piece
+    → take (used - (used - count)) (drop (used - count) piece) ≡ bytes
+last_of_used piece front bytes used count e long within =
+    let all : used ≡ length front + length bytes =
+    sym (length-take-le used piece within) ∙ ap length e ∙ length-append front bytes in
+    let first : used - count ≡ length front = omega (arith, all, long) in
+    let last : used - (used - count) ≡ length bytes = omega (arith, all, long) in
+    ap (λ (n : ℕ). take n (drop (used - count) piece)) last
+    ∙ ap (λ (n : ℕ). take (length bytes) (drop n piece)) first
+    ∙ ap (λ (l : List ℕ). take (length bytes) (drop (length front) l)) (front_and_back piece front bytes used e)
+    ∙ ap (λ (l : List ℕ). take (length bytes) l) (drop-append_seam front (bytes ++ drop used piece))
+    ∙ take-append_seam bytes (drop used piece)
+
+module _ (old new : PacketReader) (piece : List ℕ) (used : ℕ) (sound : fault_of old ≡ None) (keeps : used ≡ 0 → held_of new ≡ held_of old) where
+  feeds_more : BandMoves old piece used Open new → FeedsBand old piece (record { used = used; got = More }) new
+  feeds_more m = record {
+    reads = m.comes.goes;
+    tells = (m.comes.all, m.comes.no_fault);
+    news = λ f was is. absurd (cc);
+    stays = λ f is. absurd (cc);
+    keeps = keeps;
+    counts = m.rises;
+    passes = m.passes;
+    few = holds_few new m.passes;
+  }
+
+  feeds_part : (part : Passed) (band : Band) (bytes : Bor (List ℕ)) → BandMoves old piece used (Part part) new → used ≤ length piece
+      → HandsOut (Part part) used piece (PartGot band bytes) → FeedsBand old piece (record { used = used; got = PartGot band bytes }) new
+  feeds_part part band bytes m within (same_band, lies) =
+      let p = m.comes.is_part in
+      let same : m.comes.bytes ≡ bytes.now = sym (lies ∙ last_of_used piece p.front m.comes.bytes used part.count p.lies m.comes.long within) in
+      record {
+        reads = subst (λ (b : Band). ReadsBandsOn old (take used piece) [] (map (on b) bytes.now) new) (sym same_band)
+            (subst (λ (l : List ℕ). ReadsBandsOn old (take used piece) [] (map (on part.band) l) new) same m.comes.goes);
+        tells = subst (λ (l : List ℕ). IsPart l used piece new) same p;
+        news = λ f was is. absurd (cc);
+        stays = λ f is. absurd (cc);
+        keeps = keeps;
+        counts = m.rises;
+        passes = m.passes;
+        few = holds_few new m.passes;
+      }
+
+  pub has_part : (progress : BandProgress) → BandMoves old piece used progress new → used ≤ length piece → HasPart progress used
+  has_part (Part part) m within =
+      let p = m.comes.is_part in
+      omega (arith, m.comes.long, length-take-le used piece within, ap length p.lies, length-append p.front m.comes.bytes)
+  has_part Open m within = tt
+  has_part Empty m within = tt
+  has_part Whole m within = tt
+  has_part (FailedStep f) m within = tt
+
+  pub feeds_packet : (packet : Packet) (offset : ℕ) → BandMoves old piece used Whole new → Spells (seen packet) (held_of new)
+      → offset ≡ position_of new - length (held_of new) → FeedsBand old piece (record { used = used; got = PacketGot packet offset }) new
+  feeds_packet packet offset m spells at =
+      let after : offset + length (held_of new) ≡ position_of new = omega (arith, at, m.comes.behind) in
+      record {
+        reads = m.comes.goes (seen packet) offset spells after;
+        tells = (m.comes.some, m.comes.no_fault, m.comes.closed, spells, after);
+        news = λ f was is. absurd (cc);
+        stays = λ f is. absurd (cc);
+        keeps = keeps;
+        counts = (omega (arith, m.comes.counts, spelled_counts (seen packet) (held_of new) spells), shut_counts_none new m.comes.closed);
+        passes = m.passes;
+        few = holds_few new m.passes;
+      }
+
+  feeds_failed : (f : Fault) → BandMoves old piece used (FailedStep f) new → FeedsBand old piece (record { used = used; got = Failed f }) new
+  feeds_failed f m = record {
+    reads = m.comes.goes;
+    tells = m.comes.told;
+    news = λ g was is. let same : f ≡ g = cc in subst (λ (x : Fault). ShownByFeed x used piece) same m.comes.shown;
+    stays = λ g is. absurd (cc);
+    keeps = keeps;
+    counts = failed_counts_none new f m.comes.told;
+    passes = m.passes;
+    few = holds_few new m.passes;
+  }
+
+  -- all but a packet that lies in the hold
+  hands_out : (progress : BandProgress) (got : BandGot) → BandMoves old piece used progress new → used ≤ length piece → (progress ≡ Whole → ⊥)
+      → (progress ≡ Empty → ⊥) → HandsOut progress used piece got → FeedsBand old piece (record { used = used; got = got }) new
+  hands_out (Part part) (PartGot band bytes) m within whole empty h = feeds_part part band bytes m within h
+  hands_out (FailedStep f) (Failed g) m within whole empty h =
+      subst (λ (x : Fault). FeedsBand old piece (record { used = used; got = Failed x }) new) h (feeds_failed f m)
+  hands_out Open More m within whole empty h = feeds_more m
+  hands_out Empty got m within whole empty h = absurd (empty refl)
+  hands_out Whole got m within whole empty h = absurd (whole refl)
+  hands_out progress got m within whole empty h = absurd h
+
+  pub feeds_step : (progress : BandProgress) (fed : BandFed) → BandMoves old piece used progress new → used ≤ length piece → (progress ≡ Whole → ⊥)
+      → (progress ≡ Empty → ⊥) → fed.used ≡ used → HandsOut progress used piece fed.got → FeedsBand old piece fed new
+  feeds_step progress fed m within whole empty same h =
+      subst (λ (n : ℕ). FeedsBand old piece (record { used = n; got = fed.got }) new) (sym same) (hands_out progress fed.got m within whole empty h)
+
+-- a reader with a fault
+pub feeds_again : (old : PacketReader) (piece : List ℕ) (f : Fault) → fault_of old ≡ Some f → MayPass old
+    → FeedsBand old piece (record { used = 0; got = Failed f }) old
+feeds_again old piece f told may = record {
+  reads = bands_stay old;
+  tells = told;
+  news = λ g none is. absurd (cc);
+  stays = λ g is. (refl, ap (λ (x : Fault). Failed x) (cc), refl);
+  keeps = λ none. refl;
+  counts = failed_counts_none old f told;
+  passes = may;
+  few = holds_few old may;
+}

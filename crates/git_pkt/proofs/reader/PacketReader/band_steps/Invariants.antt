@@ -1,0 +1,20 @@
+use Rattle.std.proofs.Common.{◌≡◌, ◌≤◌, ◌+◌, ◌-◌, ◌*◌, [], length, take, None}
+use Rattle.git_names.specs.Steps.{TakesAtMost}
+use Rattle.git_pkt.specs.PacketReader.{fault_of, held_of, open_length}
+use Rattle.git_pkt.specs.BandReader.{MayPass, ReadsBandsOn}
+use Rattle.git_pkt.proofs.reader.PacketReader.band_steps.Given as goal
+
+-- packets so far came that give nothing
+abbrev pub invariant-loop-used : goal.invariant-loop-used
+invariant-loop-used l = record {
+  within : l.used ≤ length l.piece;
+  sound : fault_of l.self ≡ None;
+  passes : MayPass l.self;
+  rises : open_length l.self ≤ open_length l.fn.self + l.used;
+  keeps : l.used ≡ 0 → held_of l.self ≡ held_of l.fn.self;
+  goes : ReadsBandsOn l.fn.self (take l.used l.piece) [] [] l.self;
+  cost : TakesAtMost (8 * l.used) l.fn.steps l.steps;
+}
+
+abbrev pub decreases-loop-used : goal.decreases-loop-used
+decreases-loop-used l = length l.piece - l.used

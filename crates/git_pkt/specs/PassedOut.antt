@@ -1,0 +1,21 @@
+-- Bytes that passed, as they are handed out.
+use Rattle.std.specs.Prelude.{◌≡◌, ℕ, ◌-◌, ◌≤◌, List, take, drop}
+use Rattle.git_pkt.specs.declared.reader.BandGot.{BandGot}
+use Rattle.git_pkt.specs.declared.reader.BandGot.TheVariants.{More, Part as PartGot, Failed as FailedGot}
+use Rattle.git_pkt.specs.declared.reader.BandProgress.{BandProgress}
+use Rattle.git_pkt.specs.declared.reader.BandProgress.TheVariants.{Open, Empty, Part, Whole, Failed}
+
+-- the bytes that passed are among those used
+abbrev pub HasPart : BandProgress → ℕ → Type 0
+HasPart (Part part) used = part.count ≤ used
+HasPart progress used = Unit {0}
+
+-- what a step came to is handed out: of bytes that passed the last of those used of the piece
+abbrev pub HandsOut : BandProgress → ℕ → List ℕ → BandGot → Type 0
+HandsOut (Part part) used piece (PartGot band bytes) =
+    (band ≡ part.band) × (bytes.now ≡ take (used - (used - part.count)) (drop (used - part.count) piece))
+HandsOut (Failed f) used piece (FailedGot g) = f ≡ g
+HandsOut Open used piece More = Unit {0}
+HandsOut Empty used piece More = Unit {0}
+HandsOut Whole used piece More = Unit {0}
+HandsOut progress used piece got = ⊥

@@ -1,0 +1,15 @@
+use Rattle.std.proofs.Common.{rules, arith, ap, length}
+use Rattle.git_pkt.proofs.LentHolds.{lent_reads}
+use Rattle.git_server.proofs.bounding.write_boundary.Goals as goal
+
+pub returns : goal.returns
+returns c = record {
+  held = search rules;
+  fits = search rules;
+  between = search rules;
+  gathers = search rules;
+  fault = search rules;
+  position = search rules;
+  holds = search rules;
+  reads = lent_reads c.args.reader.now c.put_boundary.new.hold (omega (arith, c.hold.ensures.fits, ap length c.hold.ensures.value)) c.requires;
+}
