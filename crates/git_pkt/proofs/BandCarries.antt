@@ -1,5 +1,5 @@
 -- A step of the reader in a section of side bands carries what it stands for.
-use Rattle.std.proofs.Common.{arith, ◌≡◌, ℕ, ◌+◌, ◌<◌, ◌≤◌, Bool, true, false, cond, List, [], ◌∷◌, ◌++◌, length, take, drop, map}
+use Rattle.std.proofs.Common.{arith, ◌≡◌, ◌≢◌, ℕ, ◌+◌, ◌<◌, ◌≤◌, ◌==◌, Bool, true, false, cond, List, [], ◌∷◌, ◌++◌, length, take, drop, map}
 use Rattle.std.proofs.Common.{Option, Some, None, is_some, ap, sym, ◌∙◌, refl, subst, append_assoc}
 use Rattle.std.proofs.lemmas.List.{append-nil, length-take-le, take-append-drop}
 use Rattle.git_pkt.specs.Packets.{Pkt, flush, delim, resp_end, payload, Spells}
@@ -10,6 +10,7 @@ use Rattle.git_pkt.specs.PacketReader.{Reads, bytes_held, fault_of, held_of, is_
 use Rattle.git_pkt.specs.PacketReaderSteps.{Moves}
 use Rattle.git_pkt.specs.BandReader.{MayPass, ReadsBandsOn}
 use Rattle.git_pkt.specs.declared.band.Band.{Band}
+use Rattle.git_pkt.specs.declared.band.Band.TheVariants.{Pack, Progress, Fatal}
 use Rattle.git_pkt.specs.declared.fault.Fault.{Fault}
 use Rattle.git_pkt.specs.declared.reader.PacketReader.{PacketReader}
 use Rattle.git_pkt.specs.declared.reader.Progress.TheVariants.{Open, Whole, Failed}
@@ -35,6 +36,16 @@ passes_short (a ∷ b ∷ c ∷ []) h = refl
 passes_short (a ∷ b ∷ c ∷ d ∷ []) h = refl
 passes_short (a ∷ b ∷ c ∷ d ∷ e ∷ []) h = one_on (band_in (e ∷ []))
 passes_short (a ∷ b ∷ c ∷ d ∷ e ∷ f ∷ l) h = absurd (omega arith)
+
+-- the bytes of a fatal error do not pass
+fatal_by : (first second : Bool) → cond first (Some Pack) (cond second (Some Progress) None) ≡ Some Fatal → ⊥
+fatal_by true second e = cc
+fatal_by false true e = cc
+fatal_by false false e = cc
+
+pub never_fatal : (bytes : List ℕ) (band : Band) → band_in bytes ≡ Some band → band ≢ Fatal
+never_fatal [] band is e = cc
+never_fatal (byte ∷ bytes) band is e = fatal_by (byte == 1) (byte == 2) (is ∙ ap Some e)
 
 pub none_in_payload : (bytes : List ℕ) → begins_band bytes ≡ false → passed_in bytes ≡ []
 none_in_payload [] e = refl

@@ -1,5 +1,5 @@
 -- What a call of `feed_band` does, from what its steps do.
-use Rattle.std.proofs.Common.{arith, ◌≡◌, ℕ, ◌+◌, ◌-◌, ◌≤◌, Bool, true, false, List, [], ◌++◌, length, take, drop, map, Bor}
+use Rattle.std.proofs.Common.{arith, ◌≡◌, ◌≢◌, ℕ, ◌+◌, ◌-◌, ◌≤◌, Bool, true, false, List, [], ◌++◌, length, take, drop, map, Bor}
 use Rattle.std.proofs.Common.{Some, None, ap, sym, ◌∙◌, refl, subst, append_assoc, length-append}
 use Rattle.std.proofs.lemmas.List.{length-take-le, take-append-drop}
 use Rattle.std.proofs.Math.Seq.{take-append_seam, drop-append_seam}
@@ -9,6 +9,7 @@ use Rattle.git_pkt.specs.PacketReader.{ShownByFeed, fault_of, held_of, passes_of
 use Rattle.git_pkt.specs.PassedOut.{HandsOut, HasPart}
 use Rattle.git_pkt.specs.BandReader.{BandMoves, FeedsBand, HoldsFew, IsPart, MayPass, ReadsBandsOn}
 use Rattle.git_pkt.specs.declared.band.Band.{Band}
+use Rattle.git_pkt.specs.declared.band.Band.TheVariants.{Fatal}
 use Rattle.git_pkt.specs.declared.fault.Fault.{Fault}
 use Rattle.git_pkt.specs.declared.packet.Packet.{Packet}
 use Rattle.git_pkt.specs.declared.reader.BandFed.{BandFed}
@@ -20,7 +21,7 @@ use Rattle.git_pkt.specs.declared.reader.Passed.{Passed}
 use Rattle.git_pkt.specs.declared.reader.PacketReader.{PacketReader}
 use Rattle.git_pkt.proofs.KnownRest.{gathered_rest}
 use Rattle.git_pkt.proofs.OpenLengths.{failed_counts_none, shut_counts_none, spelled_counts}
-use Rattle.git_pkt.proofs.BandCarries.{bands_stay}
+use Rattle.git_pkt.proofs.BandCarries.{banded_body, bands_stay}
 
 few_by : (r : PacketReader) (b : Bool) → passes_of r ≡ b → MayPass r → HoldsFew r
 few_by r true e may rest holds banded = omega (arith, (r.passing e).five)
@@ -69,7 +70,10 @@ module _ (old new : PacketReader) (piece : List ℕ) (used : ℕ) (sound : fault
       record {
         reads = subst (λ (b : Band). ReadsBandsOn old (take used piece) [] (map (on b) bytes.now) new) (sym same_band)
             (subst (λ (l : List ℕ). ReadsBandsOn old (take used piece) [] (map (on part.band) l) new) same m.comes.goes);
-        tells = subst (λ (l : List ℕ). IsPart l used piece new) same p;
+        tells = (
+          subst (λ (b : Band). b ≢ Fatal) (sym same_band) m.comes.not_fatal,
+          subst (λ (l : List ℕ). IsPart l used piece new) same p,
+        );
         news = λ f was is. absurd (cc);
         stays = λ f is. absurd (cc);
         keeps = keeps;
@@ -93,7 +97,14 @@ module _ (old new : PacketReader) (piece : List ℕ) (used : ℕ) (sound : fault
       let after : offset + length (held_of new) ≡ position_of new = omega (arith, at, m.comes.behind) in
       record {
         reads = m.comes.goes (seen packet) offset spells after;
-        tells = (m.comes.some, m.comes.no_fault, m.comes.closed, spells, after);
+        tells = (
+          m.comes.some,
+          m.comes.no_fault,
+          m.comes.closed,
+          spells,
+          after,
+          banded_body (seen packet) (held_of new) spells ∙ m.comes.on_no_band,
+        );
         news = λ f was is. absurd (cc);
         stays = λ f is. absurd (cc);
         keeps = keeps;

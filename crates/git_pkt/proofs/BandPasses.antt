@@ -29,7 +29,7 @@ use Rattle.git_pkt.proofs.KnownRest.{none_between, sound_rest}
 use Rattle.git_pkt.proofs.ReaderMoves.{gathers_between, rest_of_shut}
 use Rattle.git_pkt.proofs.OpenLengths.{shut_rises}
 use Rattle.git_pkt.proofs.Carries.{stands_open, was_held}
-use Rattle.git_pkt.proofs.BandCarries.{band_longer, band_of_take, may_pass_shut, not_told_banded, passed_after_five}
+use Rattle.git_pkt.proofs.BandCarries.{band_longer, band_of_take, may_pass_shut, not_told_banded, passed_after_five, never_fatal}
 
 abbrev fault_in_progress : Progress → Option Fault
 fault_in_progress Open = None
@@ -295,6 +295,7 @@ at_once_moves old new piece field band sound shut within whole six e same at few
       rises = shut_rises new _ closed;
       comes = record {
         bytes = drop 5 u;
+        not_fatal = never_fatal (drop 4 u) band e;
         long = last;
         is_part = record {
           uses = omega arith;

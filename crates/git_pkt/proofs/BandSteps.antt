@@ -60,6 +60,7 @@ module _ (a b c : PacketReader) (front piece whole : List ℕ) (used total : ℕ
   comes_after Empty h = record { some = omega (arith, h.some, sum); no_fault = h.no_fault; goes = goes_after [] [] h.goes }
   comes_after (Part part) h = record {
     bytes = h.bytes;
+    not_fatal = h.not_fatal;
     long = h.long;
     is_part = part_after h.bytes h.is_part;
     goes = goes_after [] (map (on part.band) h.bytes) h.goes;
@@ -69,6 +70,7 @@ module _ (a b c : PacketReader) (front piece whole : List ℕ) (used total : ℕ
     no_fault = h.no_fault;
     closed = h.closed;
     whole = h.whole;
+    on_no_band = h.on_no_band;
     behind = h.behind;
     counts = omega (arith, h.counts, risen, sum);
     goes = λ p offset spells at. goes_after ((record { packet = p; offset = offset }) ∷ []) [] (h.goes p offset spells at);
@@ -135,6 +137,7 @@ module _ (old new : PacketReader) (u : List ℕ) (fits : bytes_held new ≤ 6552
     no_fault = m.arrives.no_fault;
     closed = m.arrives.closed;
     whole = whole_held m;
+    on_no_band = free;
     behind = whole_behind old new u m;
     counts = omega (arith, held_counts old new u used gathers (ap length e ∙ length-take-le used piece within) m);
     goes = λ p offset spells at.

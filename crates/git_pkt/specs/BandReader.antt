@@ -1,12 +1,13 @@
 -- What a packet reader does in a section of side bands, where bytes of the pack and of the progress pass as they come.
-use Rattle.std.specs.Prelude.{◌≡◌, ◌⊎◌, ℕ, ◌+◌, ◌<◌, ◌≤◌, true, false, List, [], ◌∷◌, ◌++◌, length, take, drop, map, Some, None}
+use Rattle.std.specs.Prelude.{◌≡◌, ◌≢◌, ◌⊎◌, ℕ, ◌+◌, ◌<◌, ◌≤◌, true, false, List, [], ◌∷◌, ◌++◌, length, take, drop, map, Some, None}
 use Rattle.git_pkt.specs.Packets.{Pkt, Spells, body_of, seen, longest_payload}
-use Rattle.git_pkt.specs.Passed.{OnBand, begins_band, on, others, passed_by_all, passed_by_rest}
+use Rattle.git_pkt.specs.Passed.{OnBand, begins_band, is_on_band, on, others, passed_by_all, passed_by_rest}
 use Rattle.git_pkt.specs.Splits.{Given}
 use Rattle.git_pkt.specs.Faults.{last_position}
 use Rattle.git_pkt.specs.HeldPacket.{IsWhole}
 use Rattle.git_pkt.specs.PacketReader.{Holds, Reads, ShownByFeed, fault_of, held_of, is_open, open_length, passes_of, position_of, rest_of}
 use Rattle.git_pkt.specs.declared.band.Band.{Band}
+use Rattle.git_pkt.specs.declared.band.Band.TheVariants.{Fatal}
 use Rattle.git_pkt.specs.declared.fault.Fault.{Fault}
 use Rattle.git_pkt.specs.declared.reader.PacketReader.{PacketReader}
 use Rattle.git_pkt.specs.declared.reader.BandFed.{BandFed}
@@ -62,13 +63,13 @@ pub record IsPart (bytes : List ℕ) (used : ℕ) (piece : List ℕ) (new : Pack
   pub all : is_open new ≡ true → (used ≡ length piece) ⊎ (position_of new ≡ last_position)
   pub few : length (held_of new) ≤ 5
 
--- what each answer says of the reader
+-- what each answer says of the reader: no packet is told whose bytes pass, and of a fatal error none do
 abbrev pub TellsBand : BandGot → ℕ → List ℕ → PacketReader → Type 0
 TellsBand More used piece new = (used ≡ length piece) × (fault_of new ≡ None)
-TellsBand (Part band bytes) used piece new = IsPart bytes.now used piece new
+TellsBand (Part band bytes) used piece new = (band ≢ Fatal) × IsPart bytes.now used piece new
 TellsBand (Packet p offset) used piece new =
     (0 < used) × (fault_of new ≡ None) × (is_open new ≡ false) × Spells (seen p) (held_of new)
-    × (offset + length (held_of new) ≡ position_of new)
+    × (offset + length (held_of new) ≡ position_of new) × (is_on_band (seen p) ≡ false)
 TellsBand (Failed f) used piece new = fault_of new ≡ Some f
 
 -- a reader that had no fault tells only what the piece shows
@@ -117,6 +118,7 @@ pub record PassesOver (old : PacketReader) (piece : List ℕ) (used : ℕ) (new 
 -- so many bytes passed, the last of those used
 pub record Passes (band : Band) (count : ℕ) (old : PacketReader) (piece : List ℕ) (used : ℕ) (new : PacketReader) : Type 0 where
   pub bytes : List ℕ
+  pub not_fatal : band ≢ Fatal
   pub long : length bytes ≡ count
   pub is_part : IsPart bytes used piece new
   pub goes : ReadsBandsOn old (take used piece) [] (map (on band) bytes) new
@@ -127,6 +129,7 @@ pub record IsHeldWhole (old : PacketReader) (piece : List ℕ) (used : ℕ) (new
   pub no_fault : fault_of new ≡ None
   pub closed : is_open new ≡ false
   pub whole : IsWhole (held_of new) new.field
+  pub on_no_band : begins_band (drop 4 (held_of new)) ≡ false
   pub behind : length (held_of new) ≤ position_of new
   pub counts : length (held_of new) ≤ open_length old + used
   pub goes : (p : Pkt) (offset : ℕ) → Spells p (held_of new) → offset + length (held_of new) ≡ position_of new

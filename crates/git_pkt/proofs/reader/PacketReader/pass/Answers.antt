@@ -1,12 +1,13 @@
-use Rattle.std.proofs.Common.{arith, ◌≡◌, inl, inr, ◌-◌, [], length, take, ap, sym, ◌∙◌, refl}
+use Rattle.std.proofs.Common.{arith, ◌≡◌, inl, inr, ◌-◌, [], drop, length, take, ap, sym, ◌∙◌, refl}
 use Rattle.std.proofs.lemmas.Bool.{cases_lt}
 use Rattle.std.proofs.lemmas.List.{length-take-le}
+use Rattle.git_pkt.specs.PacketReader.{held_of}
 use Rattle.git_pkt.specs.ReaderState.{come_in, fault_in}
 use Rattle.git_pkt.specs.declared.reader.State.{State}
 use Rattle.git_pkt.specs.declared.reader.State.TheVariants.{Passing}
 use Rattle.git_pkt.proofs.Kept.{kept_in}
 use Rattle.git_pkt.proofs.OpenLengths.{shut_rises}
-use Rattle.git_pkt.proofs.BandCarries.{bands_stay, may_pass_passing, may_pass_shut}
+use Rattle.git_pkt.proofs.BandCarries.{bands_stay, may_pass_passing, may_pass_shut, never_fatal}
 use Rattle.git_pkt.proofs.BandPasses.{bands_pass_open, bands_pass_whole, bands_stop, shown_at_last, stopped_fault}
 use Rattle.git_pkt.proofs.reader.PacketReader.pass.Goals as goal
 
@@ -45,6 +46,7 @@ returns-then-used-left-clause-moves c =
       rises = omega (arith, kept.fits, ap (λ (s : State). come_in s c.args.self.now.field) c.requires.passing);
       comes = record {
         bytes = take used c.args.piece.now;
+        not_fatal = never_fatal (drop 4 (held_of c.args.self.now)) c.in-Some.band (sym c.band.ensures.value ∙ c.in-Some.is);
         long = taken;
         is_part = record {
           uses = omega (arith, kept.some);
@@ -79,6 +81,7 @@ returns-clause-moves c =
       rises = omega arith;
       comes = record {
         bytes = take used c.args.piece.now;
+        not_fatal = never_fatal (drop 4 (held_of c.args.self.now)) c.in-Some.band (sym c.band.ensures.value ∙ c.in-Some.is);
         long = taken;
         is_part = record {
           uses = omega (arith, kept.some);
