@@ -15,7 +15,7 @@ use Rattle.git_client.specs.declared.client.Client.{Client}
 use Rattle.git_client.proofs.EventsHeard.{has_events, has_noted, goes_well, is_whole, all_is_said}
 use Rattle.git_client.proofs.Faults.{first_fault}
 use Rattle.git_client.proofs.OneFault.{one_shown, one_by_name}
-use Rattle.git_client.proofs.Packs.{heard_front, heard_whole}
+use Rattle.git_client.proofs.Packs.{heard_pack}
 
 -- of a request that is asked no more is stored than is kept, and no more is kept than its limit
 pub stored_within : {A : Type 0} (request : Option (Request A)) → ((q : Request A) → request ≡ Some q → stored_of q ≤ kept_of q)
@@ -107,9 +107,8 @@ module _ {A : Type 0} where
         events = events;
         noted = has_noted t h last c;
         given = all_is_said t h last c;
-        pack = λ bytes pack. heard_front t h.asked h.used h.events bytes events pack;
+        pack = λ bytes pack. heard_pack t h.asked h.used h.events bytes events pack;
         whole = is_whole t h last c;
-        whole_pack = λ ready bytes pack. heard_whole t h.asked h.used h.events bytes (is_whole t h last c ready) pack;
         refused = λ fault is. first_fault t h last fault c is;
         unrefused = goes_well t h last c;
         one_refusal = λ fault other is first. one_shown t h.asked h.used fault other (first_fault t h last fault c is) first;

@@ -6,8 +6,9 @@ use Rattle.git_pkt.specs.declared.reader.PacketReader.{PacketReader}
 use Rattle.git_msg.specs.Advertisement.{noted_of}
 use Rattle.git_msg.specs.Asked.{Asked}
 use Rattle.git_client.specs.Parts.{Terms, nearest, advertisement_of, is_end_due}
-use Rattle.git_client.specs.Places.{response_end}
+use Rattle.git_client.specs.Places.{response_end, place_after}
 use Rattle.git_client.specs.Events.{EventValue, turns_of}
+use Rattle.git_client.specs.Opened.{opened_in}
 use Rattle.git_client.specs.Conversation.{GiveAll}
 use Rattle.git_client.specs.Turns.{fault_in, is_ready, has_left_in}
 use Rattle.git_client.specs.Client.{History, Converses, StandsIn, IsDue, fault_of, can_ask, phase_of}
@@ -17,7 +18,8 @@ use Rattle.git_client.specs.declared.client.Client.{Client}
 use Rattle.git_client.specs.declared.phase.Due.{Due}
 use Rattle.git_client.specs.declared.phase.Due.TheVariants.{ResponseEnd}
 use Rattle.git_client.proofs.PlacePackets.{comes_after, one_if}
-use Rattle.git_client.proofs.Sequences.{turns_are_messages}
+use Rattle.git_client.proofs.Opened.{no_turns_opened}
+use Rattle.git_client.proofs.Sequences.{turns-append, turns_are_messages}
 use Rattle.git_client.proofs.Judged.{place_is}
 
 turns_before : (t : Terms) (asked : List Asked) (clean : List Given) (events : List EventValue) (n : ℕ) → is_end_due t.ending (nearest clean []) ≡ false
@@ -60,7 +62,10 @@ turn_is (Failed fault) t asked clean given rest end question reader events h g =
 pub can_ask_tells : {A : Type 0} (client : Client A) (answer : Bool) → can_ask client ≡ answer → (t : Terms) (h : History) → Converses t h client
     → (answer ≡ true) ↔ ((fault_of client ≡ None) × (h.left ≡ false) × (turns_of h.events ≡ suc (length h.asked)))
 can_ask_tells client answer is t h c =
-    let turn = turn_is (phase_of client) t h.asked _ _ _ _ _ _ h.events c.stands c.gives in (
-      (λ yes. let found = turn.0 (is ∙ yes) in (found.0, c.left ∙ found.1, found.2)),
-      (λ found. sym is ∙ turn.1 (found.0, sym c.left ∙ found.1, found.2)),
+    let turn = turn_is (phase_of client) t h.asked _ _ _ _ _ _ c.whole c.stands c.gives in
+    let opened = opened_in (place_after t h.asked (nearest c.clean [])) c.rest in
+    let same : turns_of h.events ≡ turns_of c.whole =
+    omega (arith, ap turns_of c.events_are, turns-append c.whole opened, no_turns_opened (place_after t h.asked (nearest c.clean [])) c.rest) in (
+      (λ yes. let found = turn.0 (is ∙ yes) in (found.0, c.left ∙ found.1, same ∙ found.2)),
+      (λ found. sym is ∙ turn.1 (found.0, sym c.left ∙ found.1, sym same ∙ found.2)),
     )

@@ -6,7 +6,7 @@ use Rattle.git_names.specs.declared.object_format.Format.{Format}
 use Rattle.git_pkt.specs.Packets.{Pkt, payload, Spells, body_of}
 use Rattle.git_pkt.specs.Splits.{Given}
 use Rattle.git_pkt.specs.Faults.{StopsBy}
-use Rattle.git_pkt.specs.PacketReader.{Reads, ReadsOn, StandsAt, position_of, is_open, held_of, fault_of as reader_fault_of}
+use Rattle.git_pkt.specs.PacketReader.{Reads, StandsAt, position_of, is_open, held_of, fault_of as reader_fault_of}
 use Rattle.git_pkt.specs.declared.fault.Fault.{Fault}
 use Rattle.git_pkt.specs.declared.fault.Kind.{Kind}
 use Rattle.git_pkt.specs.declared.fault.Kind.TheVariants.{Truncated}
@@ -17,7 +17,9 @@ use Rattle.git_msg.specs.Asked.{Asked}
 use Rattle.git_msg.specs.declared.offers.Caps.{Caps}
 use Rattle.git_msg.specs.declared.requests.Request.{Request}
 use Rattle.git_client.specs.Parts.{Terms, nearest, advertisement_of}
+use Rattle.git_client.specs.Places.{Place, place_after}
 use Rattle.git_client.specs.Events.{EventValue, Refuses}
+use Rattle.git_client.specs.Opened.{opened_in}
 use Rattle.git_client.specs.Conversation.{GiveAll, HasDue}
 use Rattle.git_client.specs.Turns.{has_left_in, left_in, question_in, events_at, place_due, NotesAfter, IsTurn}
 use Rattle.git_client.specs.Client.{History, Converses, HearsOn, StandsIn, Goes, Behind, IsDue, spelled}
@@ -32,6 +34,8 @@ use Rattle.git_client.specs.declared.client.Client.{Client}
 use Rattle.git_client.proofs.Sequences.{nearest_push, give_all_push}
 use Rattle.git_client.proofs.PartSteps.{stands, no_flush}
 use Rattle.git_client.proofs.Judged.{place_is, judged_well, judged_badly}
+use Rattle.git_client.proofs.Opened.{nothing_opened}
+use Rattle.git_client.proofs.Reached.{Reached, Reaches}
 
 -- the server is heard, or can be asked
 abbrev pub goes_on : Phase → Bool
@@ -95,43 +99,42 @@ same_questions t asked before Capabilities caps after (payload line) d notes =
 same_questions t asked before due caps after p d notes = ap (λ (a : Caps). questions_of t.format a asked) notes
 
 module _ {A : Type 0} where
-  -- the client has read these packets of these bytes
-  pub record HearsBytes (old new : Client A) (due : Due) (u : List ℕ) (more : List Given) : Type 0 where
+  -- the client has read these bytes, after which these packets are told, and these events were handed out of what passed
+  pub record HearsBytes (old new : Client A) (due : Due) (u : List ℕ) (told : List Given) (parts : List EventValue) : Type 0 where
     pub hearing : phase_of old ≡ Hearing due
-    pub reads : ReadsOn (reader_of old) u more (reader_of new)
+    pub reaches : Reaches old due u told parts (reader_of new)
     pub format : format_of new ≡ format_of old
     pub ending : ending_of new ≡ ending_of old
 
   -- where the conversation stands after it
   pub record Continues (t : Terms) (h : History) (old new : Client A) (now : List EventValue) (given : List Given) (rest : List ℕ) (end : ℕ) : Type 0 where
     pub clean : List Given
-    pub gives : GiveAll t h.asked [] clean (h.events ++ now)
+    pub whole : List EventValue
+    pub gives : GiveAll t h.asked [] clean whole
+    pub events_are : h.events ++ now ≡ whole ++ opened_in (place_after t h.asked (nearest clean [])) rest
     pub notes : caps_of new ≡ noted_of (advertisement_of (nearest clean []))
     pub stands : StandsIn (phase_of new) t h.asked clean given rest end (question_in (request_of new)) (reader_of new)
     pub same_questions : questions_of t.format (caps_of new) h.asked ≡ questions_of t.format (caps_of old) h.asked
 
   -- it goes on by these bytes, whatever they are
-  hears_bytes : (old new : Client A) (due : Due) (u : List ℕ) (more : List Given) (now : List EventValue) → HearsBytes old new due u more
+  hears_bytes : (old new : Client A) (due : Due) (u : List ℕ) (told : List Given) (parts now : List EventValue) → HearsBytes old new due u told parts
       → is_quiet (phase_of new) ≡ true
-      → ((t : Terms) (h : History) (c : Converses t h old) (rest : List ℕ)
-      → Goes t h.asked c.clean c.given c.rest None (Hearing due) (reader_of old)
-      → Reads (reader_of new) 0 (h.used ++ u) (c.given ++ more) rest
-      → Continues t h old new now (c.given ++ more) rest (length (h.used ++ u))) → HearsOn old u now new
-  hears_bytes old new due u more now b quiet after t h c =
-      let goes : StandsIn (Hearing due) t h.asked c.clean c.given c.rest (length h.used) (question_in (request_of old)) (reader_of old) =
-      subst (λ (phase : Phase). StandsIn phase t h.asked c.clean c.given c.rest (length h.used) (question_in (request_of old)) (reader_of old))
-      b.hearing c.stands in
-      let on = b.reads 0 h.used c.given c.rest c.reads in
-      let a = after t h c on.0 (record { cut = goes.cut; sound = goes.sound; behind = goes.behind; shut = goes.shut }) on.1 in
+      → ((t : Terms) (h : History) (c : Converses t h old) (r : Reached t h old due u told parts (reader_of new))
+      → Continues t h old new now (r.clean ++ told) r.rest (length (h.used ++ u))) → HearsOn old u now new
+  hears_bytes old new due u told parts now b quiet after t h c =
+      let r = b.reaches t h c in
+      let a = after t h c r in
       let was : is_quiet (phase_of old) ≡ true = ap is_quiet b.hearing in
       record {
-        given = c.given ++ more;
-        rest = on.0;
+        given = r.clean ++ told;
+        rest = r.rest;
         clean = a.clean;
         format_is = b.format ∙ c.format_is;
         ending_is = b.ending ∙ c.ending_is;
-        reads = on.1;
+        reads = r.reads;
+        whole = a.whole;
         gives = a.gives;
+        events_are = a.events_are;
         notes = a.notes;
         stands = a.stands;
         left = c.left ∙ not_left (phase_of old) was ∙ sym (not_left (phase_of new) quiet);
@@ -141,9 +144,29 @@ module _ {A : Type 0} where
             ∙ c.spoken ∙ ap (λ (l : List Pkt). spelled (l ++ farewell h.left)) (sym a.same_questions);
       }
 
+  -- no packet is told: the same is due as before
+  pub hears_parts : (old new : Client A) (due : Due) (u : List ℕ) (parts : List EventValue) → HearsBytes old new due u [] parts
+      → reader_fault_of (reader_of new) ≡ None → phase_of new ≡ Hearing due → caps_of new ≡ caps_of old → HearsOn old u parts new
+  hears_parts old new due u parts b sound now caps =
+      hears_bytes old new due u [] parts parts b (ap is_quiet now) (λ t h c r.
+      let next : Goes t h.asked r.clean (r.clean ++ []) r.rest None (Hearing due) (reader_of new) =
+      record { cut = append-nil r.clean; sound = sound; behind = r.is_due; shut = λ e. absurd (cc) } in
+      record {
+        clean = r.clean;
+        whole = r.whole;
+        gives = r.gives;
+        events_are = r.events_are;
+        notes = caps ∙ r.notes;
+        stands =
+            subst (λ (phase : Phase). StandsIn phase t h.asked r.clean (r.clean ++ []) r.rest (length (h.used ++ u))
+            (question_in (request_of new)) (reader_of new)) (sym now) (stands_on (Hearing due) t h.asked r.clean (r.clean ++ []) r.rest (length (h.used ++ u))
+            (question_in (request_of new)) (reader_of new) refl next);
+        same_questions = ap (λ (a : Caps). questions_of t.format a h.asked) caps;
+      })
+
   -- one packet, which lies in the hold
   pub record HearsPacket (old new : Client A) (due : Due) (u : List ℕ) (g : Given) : Type 0 where
-    pub bytes : HearsBytes old new due u (g ∷ [])
+    pub bytes : HearsBytes old new due u (g ∷ []) []
     pub sound : reader_fault_of (reader_of new) ≡ None
     pub shut : is_open (reader_of new) ≡ false
     pub held : Spells g.packet (held_of (reader_of new))
@@ -153,39 +176,53 @@ module _ {A : Type 0} where
       → IsTurn (format_of old) (ending_of old) due (caps_of old) g.packet turn → goes_on turn.next ≡ true → phase_of new ≡ turn.next
       → caps_of new ≡ turn.caps → HearsOn old u (events_at turn.said (body_of g.packet)) new
   hears_packet old new due u g turn b judged goes_after now caps =
-      hears_bytes old new due u (g ∷ []) (events_at turn.said (body_of g.packet)) b.bytes
-      (ap is_quiet now ∙ goes_quietly turn.next goes_after) (λ t h c rest goes reads.
+      let said = events_at turn.said (body_of g.packet) in
+      hears_bytes old new due u (g ∷ []) [] said b.bytes
+      (ap is_quiet now ∙ goes_quietly turn.next goes_after) (λ t h c r.
       let of_terms =
       on_terms (λ format ending. IsTurn format ending due (caps_of old) g.packet turn) _ _ t c.format_is c.ending_is judged in
-      let says = judged_well t h.asked (nearest c.clean []) due (caps_of old) g.packet turn goes.behind c.notes of_terms in
-      let push = nearest_push c.clean g [] in
-      let next : Goes t h.asked (c.clean ++ g ∷ []) (c.given ++ g ∷ []) rest None turn.next (reader_of new) = record {
-        cut = ap (λ (l : List Given). l ++ g ∷ []) goes.cut;
+      let says = judged_well t h.asked (nearest r.clean []) due (caps_of old) g.packet turn r.is_due r.notes of_terms in
+      let push = nearest_push r.clean g [] in
+      let nothing = nothing_left (reader_of new) (h.used ++ u) (r.clean ++ g ∷ []) r.rest b.sound b.shut r.reads in
+      let next : Goes t h.asked (r.clean ++ g ∷ []) (r.clean ++ g ∷ []) r.rest None turn.next (reader_of new) = record {
+        cut = refl;
         sound = b.sound;
         behind = subst (λ (l : List Pkt). Behind t h.asked l None turn.next) (sym push) says.2;
-        shut = λ _. nothing_left (reader_of new) (h.used ++ u) (c.given ++ g ∷ []) rest b.sound b.shut reads;
+        shut = λ _. nothing;
       } in
+      let none : (place : Option Place) → opened_in place r.rest ≡ [] =
+      λ place. ap (λ (rest : List ℕ). opened_in place rest) nothing ∙ nothing_opened place in
       record {
-        clean = c.clean ++ g ∷ [];
-        gives = give_all_push t h.asked [] c.clean g h.events (events_at turn.said (body_of g.packet)) c.gives says.0;
+        clean = r.clean ++ g ∷ [];
+        whole = r.whole ++ said;
+        gives = give_all_push t h.asked [] r.clean g r.whole said r.gives says.0;
+        events_are =
+            ap (λ (l : List EventValue). l ++ said)
+            (sym (append-nil h.events) ∙ r.events_are ∙ ap (λ (l : List EventValue). r.whole ++ l) (none _) ∙ append-nil r.whole)
+            ∙ sym (append-nil (r.whole ++ said))
+            ∙ ap (λ (l : List EventValue). (r.whole ++ said) ++ l) (sym (none _));
         notes = caps ∙ says.1 ∙ ap (λ (l : List Pkt). noted_of (advertisement_of l)) (sym push);
         stands =
-            subst (λ (phase : Phase). StandsIn phase t h.asked (c.clean ++ g ∷ []) (c.given ++ g ∷ []) rest (length (h.used ++ u))
+            subst (λ (phase : Phase). StandsIn phase t h.asked (r.clean ++ g ∷ []) (r.clean ++ g ∷ []) r.rest (length (h.used ++ u))
             (question_in (request_of new)) (reader_of new)) (sym now) (stands_on turn.next t h.asked _ _ _ _ _ _ goes_after next);
         same_questions =
             ap (λ (a : Caps). questions_of t.format a h.asked) caps
-            ∙ same_questions t h.asked (nearest c.clean []) due (caps_of old) turn.caps g.packet goes.behind of_terms.notes;
+            ∙ same_questions t h.asked (nearest r.clean []) due (caps_of old) turn.caps g.packet r.is_due of_terms.notes;
       })
 
   -- where the client fails nothing was given, and all else stays
-  fails : (t : Terms) (h : History) (old new : Client A) (c : Converses t h old) (f : Fault) (given : List Given) (rest : List ℕ) (end : ℕ)
-      → phase_of new ≡ Failed f → caps_of new ≡ caps_of old
-      → StandsIn (Failed f) t h.asked c.clean given rest end (question_in (request_of new)) (reader_of new) → Continues t h old new [] given rest end
-  fails t h old new c f given rest end failed caps stands = record {
-    clean = c.clean;
-    gives = subst (GiveAll t h.asked [] c.clean) (sym (append-nil h.events)) c.gives;
-    notes = caps ∙ c.notes;
-    stands = subst (λ (phase : Phase). StandsIn phase t h.asked c.clean given rest end (question_in (request_of new)) (reader_of new)) (sym failed) stands;
+  fails : (t : Terms) (h : History) (old new : Client A) (due : Due) (u : List ℕ) (told : List Given) (f : Fault)
+      → (r : Reached t h old due u told [] (reader_of new)) → phase_of new ≡ Failed f → caps_of new ≡ caps_of old
+      → StandsIn (Failed f) t h.asked r.clean (r.clean ++ told) r.rest (length (h.used ++ u)) (question_in (request_of new)) (reader_of new)
+      → Continues t h old new [] (r.clean ++ told) r.rest (length (h.used ++ u))
+  fails t h old new due u told f r failed caps stands = record {
+    clean = r.clean;
+    whole = r.whole;
+    gives = r.gives;
+    events_are = r.events_are;
+    notes = caps ∙ r.notes;
+    stands = subst (λ (phase : Phase). StandsIn phase t h.asked r.clean (r.clean ++ told) r.rest (length (h.used ++ u)) (question_in (request_of new))
+        (reader_of new)) (sym failed) stands;
     same_questions = ap (λ (a : Caps). questions_of t.format a h.asked) caps;
   }
 
@@ -194,45 +231,45 @@ module _ {A : Type 0} where
       → Refuses (format_of old) (ending_of old) (place_due (caps_of old) (format_of old) due) g.packet kind
       → phase_of new ≡ Failed (record { kind = kind; offset = g.offset }) → caps_of new ≡ caps_of old → HearsOn old u [] new
   hears_refused old new due u g kind b judged failed caps =
-      hears_bytes old new due u (g ∷ []) [] b.bytes (ap is_quiet failed) (λ t h c rest goes reads.
+      hears_bytes old new due u (g ∷ []) [] [] b.bytes (ap is_quiet failed) (λ t h c r.
       let of_terms =
       on_terms (λ format ending. Refuses format ending (place_due (caps_of old) format due) g.packet kind) _ _ t c.format_is c.ending_is judged in
-      fails t h old new c (record { kind = kind; offset = g.offset }) (c.given ++ g ∷ []) rest (length (h.used ++ u)) failed caps (inl (record {
+      fails t h old new due u (g ∷ []) (record { kind = kind; offset = g.offset }) r failed caps (inl (record {
         bad = g;
-        cut = ap (λ (l : List Given). l ++ g ∷ []) goes.cut;
-        nothing = nothing_left (reader_of new) (h.used ++ u) (c.given ++ g ∷ []) rest b.sound b.shut reads;
-        refused = judged_badly t h.asked (nearest c.clean []) due (caps_of old) g.packet kind goes.behind c.notes of_terms;
+        cut = refl;
+        nothing = nothing_left (reader_of new) (h.used ++ u) (r.clean ++ g ∷ []) r.rest b.sound b.shut r.reads;
+        refused = judged_badly t h.asked (nearest r.clean []) due (caps_of old) g.packet kind r.is_due r.notes of_terms;
         at = refl;
         held = b.held;
       })))
 
   -- bytes that the reader refuses
-  pub hears_failed : (old new : Client A) (due : Due) (u : List ℕ) (f : Fault) → HearsBytes old new due u []
+  pub hears_failed : (old new : Client A) (due : Due) (u : List ℕ) (f : Fault) → HearsBytes old new due u [] []
       → reader_fault_of (reader_of new) ≡ Some f → phase_of new ≡ Failed f → caps_of new ≡ caps_of old → HearsOn old u [] new
   hears_failed old new due u f b told failed caps =
-      hears_bytes old new due u [] [] b (ap is_quiet failed) (λ t h c rest goes reads.
+      hears_bytes old new due u [] [] [] b (ap is_quiet failed) (λ t h c r.
       let end : ℕ = length (h.used ++ u) in
       let start : 0 + end ≡ end = omega arith in
-      let stops : StandsAt (Some f) (0 + end - length rest) (0 + end) rest (reader_of new) =
-      subst (λ (o : Option Fault). StandsAt o (0 + end - length rest) (0 + end) rest (reader_of new)) told reads.state in
-      fails t h old new c f (c.given ++ []) rest end failed caps (inr (inl (record {
-        cut = append-nil c.given ∙ goes.cut;
-        due = some_place t h.asked (nearest c.clean []) due goes.behind;
-        by = subst (λ (n : ℕ). StopsBy (n - length rest) rest n f.kind f.offset) start stops.1;
+      let stops : StandsAt (Some f) (0 + end - length r.rest) (0 + end) r.rest (reader_of new) =
+      subst (λ (o : Option Fault). StandsAt o (0 + end - length r.rest) (0 + end) r.rest (reader_of new)) told r.reads.state in
+      fails t h old new due u [] f r failed caps (inr (inl (record {
+        cut = append-nil r.clean;
+        due = some_place t h.asked (nearest r.clean []) due r.is_due;
+        by = subst (λ (n : ℕ). StopsBy (n - length r.rest) r.rest n f.kind f.offset) start stops.1;
       }))))
 
   -- the input ended after a whole packet
-  pub hears_end : (old new : Client A) (due : Due) (f : Fault) → HearsBytes old new due [] [] → reader_fault_of (reader_of new) ≡ None
+  pub hears_end : (old new : Client A) (due : Due) (f : Fault) → HearsBytes old new due [] [] [] → reader_fault_of (reader_of new) ≡ None
       → is_open (reader_of new) ≡ false → f.kind ≡ Truncated → f.offset ≡ position_of (reader_of new) → phase_of new ≡ Failed f
       → caps_of new ≡ caps_of old → HearsOn old [] [] new
   hears_end old new due f b sound shut kind at failed caps =
-      hears_bytes old new due [] [] [] b (ap is_quiet failed) (λ t h c rest goes reads.
-      fails t h old new c f (c.given ++ []) rest (length (h.used ++ [])) failed caps (inr (inr (record {
-        cut = append-nil c.given ∙ goes.cut;
-        nothing = nothing_left (reader_of new) (h.used ++ []) (c.given ++ []) rest sound shut reads;
-        due = some_place t h.asked (nearest c.clean []) due goes.behind;
+      hears_bytes old new due [] [] [] [] b (ap is_quiet failed) (λ t h c r.
+      fails t h old new due [] [] f r failed caps (inr (inr (record {
+        cut = append-nil r.clean;
+        nothing = nothing_left (reader_of new) (h.used ++ []) (r.clean ++ []) r.rest sound shut r.reads;
+        due = some_place t h.asked (nearest r.clean []) due r.is_due;
         kind = kind;
-        at = at ∙ reads.position ∙ zero-add (length (h.used ++ []));
+        at = at ∙ r.reads.position ∙ zero-add (length (h.used ++ []));
       }))))
 
   -- two steps in a row

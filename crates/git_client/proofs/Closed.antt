@@ -14,6 +14,7 @@ use Rattle.git_client.specs.declared.phase.Phase.{Phase}
 use Rattle.git_client.specs.declared.phase.Phase.TheVariants.{Hearing, Failed}
 use Rattle.git_client.specs.declared.phase.Due.{Due}
 use Rattle.git_client.specs.declared.client.Client.{Client}
+use Rattle.git_client.proofs.Reached.{reach_end}
 use Rattle.git_client.proofs.Carries.{HearsBytes, hears_end, hears_failed}
 
 hearing_in : (phase : Phase) → takes_packets phase ≡ true → (due : Due) × (phase ≡ Hearing due)
@@ -41,9 +42,9 @@ pub closes : {A : Type 0} (old new : Client A) (reader : PacketReader) (f : Faul
     → EndsBy reader f → Keeps old new reader → phase_of new ≡ Failed f → HearsOn old [] [] new
 closes old new reader f wants reads by keeps failed =
     let (due, hearing) = hearing_in (phase_of old) wants in
-    let bytes : HearsBytes old new due [] [] = record {
+    let bytes : HearsBytes old new due [] [] [] = record {
       hearing = hearing;
-      reads = subst (ReadsOn (reader_of old) [] []) (sym keeps.reader) reads;
+      reaches = reach_end old due (reader_of new) hearing (subst (ReadsOn (reader_of old) [] []) (sym keeps.reader) reads);
       format = keeps.format;
       ending = keeps.ending;
     } in

@@ -1,5 +1,5 @@
 -- The events and the faults of packets are determined by the packets and by what was asked.
-use Rattle.std.proofs.Common.{◌≡◌, inl, inr, ℕ, List, [], ◌∷◌, ◌++◌, Some, Result, Ok, Err, ap, sym, ◌∙◌, refl, subst}
+use Rattle.std.proofs.Common.{◌≡◌, inl, inr, ℕ, List, [], ◌∷◌, ◌++◌, Option, Some, Result, Ok, Err, ap, sym, ◌∙◌, refl, subst}
 use Rattle.git_names.specs.declared.object_format.Format.{Format}
 use Rattle.git_pkt.specs.Packets.{Pkt, flush, delim, resp_end, payload, text_of}
 use Rattle.git_pkt.specs.Splits.{Given}
@@ -12,6 +12,7 @@ use Rattle.git_client.specs.declared.events.Ending.{Ending}
 use Rattle.git_client.specs.Parts.{Terms, nearest, advertisement_of}
 use Rattle.git_client.specs.Places.{Place, packfile, response_end, place_after}
 use Rattle.git_client.specs.Events.{EventValue, GivesLine, RefusesLine, Gives, Refuses}
+use Rattle.git_client.specs.Opened.{IsOfRest, opened_in, unless_refused}
 use Rattle.git_client.specs.Conversation.{GivesAt, RefusesAt, GiveAll, IsStop, FirstFault, Sounds, HasEvents, HasNoted}
 use Rattle.git_client.proofs.PlaceLines.{one_line, line_or_fault, one_line_fault}
 
@@ -131,9 +132,37 @@ same_sounds t asked bytes clean others events later a b =
     let same = one_split 0 bytes a.given b.given a.rest b.rest a.splits.spelled b.splits.spelled a.splits.ends b.splits.ends in
     same_cut t asked [] clean others a.more b.more events later (sym a.cut ∙ same.packets ∙ b.cut) a.gives b.gives a.stops b.stops
 
+-- of a rest one part is open
+pub one_opened : {X : Type 0} (rest : List ℕ) (part a b : List X) → IsOfRest rest part a → IsOfRest rest part b → a ≡ b
+one_opened rest part a b h k =
+    elim h [
+      | inl x ↦ elim k [ inl y ↦ x.1 ∙ sym y.1 | inr y ↦ absurd (y.0 x.0) ]
+      | inr x ↦ elim k [ inl y ↦ absurd (x.0 y.0) | inr y ↦ x.1 ∙ sym y.1 ]
+    ]
+
+-- what is open is so by the one cut of the bytes
+pub moved_rest : {X : Type 0} (t : Terms) (asked : List Asked) (bytes : List ℕ) (clean others : List Given) (whole later : List EventValue)
+    (a : Sounds t asked bytes clean whole) (b : Sounds t asked bytes others later) (part : Option Place → List ℕ → List X) (opened : List X)
+    → IsOfRest a.rest (unless_refused a.more (part (place_after t asked (nearest clean [])) a.rest)) opened
+    → IsOfRest b.rest (unless_refused b.more (part (place_after t asked (nearest others [])) b.rest)) opened
+moved_rest t asked bytes clean others whole later a b part opened h =
+    let same = same_sounds t asked bytes clean others whole later a b in
+    let rest : a.rest ≡ b.rest =
+    (one_split 0 bytes a.given b.given a.rest b.rest a.splits.spelled b.splits.spelled a.splits.ends b.splits.ends).rest_is in
+    subst (λ (l : List ℕ). IsOfRest l (unless_refused b.more (part (place_after t asked (nearest others [])) l)) opened) rest
+    (subst (λ (l : List Given). IsOfRest a.rest (unless_refused b.more (part (place_after t asked (nearest l [])) a.rest)) opened) same.clean_is
+    (subst (λ (l : List Given). IsOfRest a.rest (unless_refused l (part (place_after t asked (nearest clean [])) a.rest)) opened) same.more_is h))
+
 pub one_event_list : (t : Terms) (asked : List Asked) (bytes : List ℕ) (events others : List EventValue) → HasEvents t asked bytes events
     → HasEvents t asked bytes others → events ≡ others
-one_event_list t asked bytes events others h k = (same_sounds t asked bytes h.0 k.0 events others h.1 k.1).events_are
+one_event_list t asked bytes events others h k =
+    let opened : h.opened ≡ k.opened =
+    one_opened k.sounds.rest _ h.opened k.opened
+    (moved_rest t asked bytes h.clean k.clean h.whole k.whole h.sounds k.sounds opened_in h.opened h.of_rest) k.of_rest in
+    h.events_are
+    ∙ ap (λ (l : List EventValue). l ++ h.opened) (same_sounds t asked bytes h.clean k.clean h.whole k.whole h.sounds k.sounds).events_are
+    ∙ ap (λ (l : List EventValue). k.whole ++ l) opened
+    ∙ sym k.events_are
 
 pub one_note : (t : Terms) (asked : List Asked) (bytes : List ℕ) (caps others : Caps) → HasNoted t asked bytes caps
     → HasNoted t asked bytes others → caps ≡ others

@@ -1,6 +1,6 @@
 -- A client hands out no more events than it has used bytes.
 use Rattle.std.proofs.Common.{arith, ◌≡◌, ℕ, ◌+◌, ◌≤◌, ◌==◌, Bool, true, false, List, [], ◌∷◌, ◌++◌, length, map, cond}
-use Rattle.std.proofs.Common.{Result, Ok, Err, inl, inr, ap, subst, length-append}
+use Rattle.std.proofs.Common.{Option, Result, Ok, Err, inl, inr, ap, subst, length-append}
 use Rattle.std.proofs.lemmas.List.{length-map}
 use Rattle.git_names.specs.declared.object_format.Format.{Format}
 use Rattle.git_pkt.specs.Packets.{Pkt, flush, delim, resp_end, payload, body_of, text_of}
@@ -12,14 +12,16 @@ use Rattle.git_pkt.proofs.Spelling.{spelled_length}
 use Rattle.git_msg.specs.Asked.{Asked}
 use Rattle.git_client.specs.declared.events.Ending.{Ending}
 use Rattle.git_client.specs.declared.events.Ending.TheVariants.{FlushOnly, ResponseEnd}
-use Rattle.git_client.specs.Parts.{Terms}
+use Rattle.git_client.specs.Parts.{Terms, nearest}
 use Rattle.git_client.specs.Places.{Place, version, capabilities, references, header, acknowledgments, shallow_info, wanted_refs, packfile}
-use Rattle.git_client.specs.Places.{size_line, sizes, response_end}
+use Rattle.git_client.specs.Places.{size_line, sizes, response_end, place_after}
 use Rattle.git_client.specs.Events.{EventValue, pack, progress, Gives, ended_by, band_says, flush_says, delimiter_says, response_end_says}
+use Rattle.git_client.specs.Opened.{IsOfRest, opened_in, unless_refused}
 use Rattle.git_client.specs.Conversation.{GiveAll, HasEvents}
 use Rattle.git_client.specs.Client.{History, Converses}
 use Rattle.git_client.specs.declared.client.Client.{Client}
 use Rattle.git_client.proofs.PlaceLines.{ReadsLine, boundary_event, line_read}
+use Rattle.git_client.proofs.Opened.{few_opened}
 use Rattle.git_client.proofs.EventsHeard.{has_events}
 
 -- ---- the events of a packet: one at most, but of a band one for each of its bytes
@@ -107,9 +109,14 @@ packet_gives format ending place resp_end events gives = subst (HasAtMost 1) giv
 
 -- ---- the events of all packets
 
+rest_within : (p : ℕ) (bytes : List ℕ) (gs : List Given) (rest : List ℕ) → SpellsAll p bytes gs rest → length rest ≤ length bytes
+rest_within p bytes [] rest same = omega (arith, ap length same)
+rest_within p bytes (g ∷ gs) rest (s, after, cut, at, spells, tail) =
+    omega (arith, rest_within (p + length s) after gs rest tail, ap length cut, length-append s after)
+
 packets_give : (t : Terms) (asked : List Asked) (before : List Pkt) (gs more : List Given) (p : ℕ) (bytes rest : List ℕ) (events : List EventValue)
-    → SpellsAll p bytes (gs ++ more) rest → GiveAll t asked before gs events → length events ≤ length bytes
-packets_give t asked before [] more p bytes rest events spelled none = omega (arith, ap length none)
+    → SpellsAll p bytes (gs ++ more) rest → GiveAll t asked before gs events → length events + length rest ≤ length bytes
+packets_give t asked before [] more p bytes rest events spelled none = omega (arith, ap length none, rest_within p bytes more rest spelled)
 packets_give t asked before (g ∷ gs) more p bytes rest events (s, after, cut, at, spells, tail) (now, later, e, here, others) =
     omega (
       arith,
@@ -122,11 +129,27 @@ packets_give t asked before (g ∷ gs) more p bytes rest events (s, after, cut, 
       length-append s after,
     )
 
+-- an open packet gives no more events than it has bytes
+few_unless : (more : List Given) (place : Option Place) (rest : List ℕ) → length (unless_refused more (opened_in place rest)) ≤ length rest
+few_unless [] place rest = few_opened place rest
+few_unless (g ∷ more) place rest = omega arith
+
+few_of_rest : (rest : List ℕ) (part opened : List EventValue) → IsOfRest rest part opened → length part ≤ length rest → length opened ≤ length rest
+few_of_rest rest part opened (inl x) few = omega (arith, few, ap length x.1)
+few_of_rest rest part opened (inr x) few = omega (arith, ap length x.1)
+
 events_of_bytes : (t : Terms) (asked : List Asked) (bytes : List ℕ) (events : List EventValue) → HasEvents t asked bytes events
     → length events ≤ length bytes
-events_of_bytes t asked bytes events (clean, h) =
-    let spelled : SpellsAll 0 bytes (clean ++ h.more) h.rest = subst (λ (gs : List Given). SpellsAll 0 bytes gs h.rest) h.cut h.splits.spelled in
-    packets_give t asked [] clean h.more 0 bytes h.rest events spelled h.gives
+events_of_bytes t asked bytes events e =
+    let h = e.sounds in
+    let spelled : SpellsAll 0 bytes (e.clean ++ h.more) h.rest = subst (λ (gs : List Given). SpellsAll 0 bytes gs h.rest) h.cut h.splits.spelled in
+    omega (
+      arith,
+      packets_give t asked [] e.clean h.more 0 bytes h.rest e.whole spelled h.gives,
+      few_of_rest h.rest _ e.opened e.of_rest (few_unless h.more (place_after t asked (nearest e.clean [])) h.rest),
+      ap length e.events_are,
+      length-append e.whole e.opened,
+    )
 
 module _ {A : Type 0} (t : Terms) (h : History) (client : Client A) (c : Converses t h client) where
   pub events_fit : length h.events ≤ length h.used

@@ -11,6 +11,9 @@ use Rattle.git_names.specs.ObjectName.{ObjectName}
 use Rattle.git_names.specs.declared.object_format.Format.{Format}
 use Rattle.git_names.specs.declared.object_format.Format.TheVariants.{Sha1, Sha256}
 use Rattle.git_pkt.specs.Packets.{Pkt, flush, delim, resp_end, payload, text_of, body_of, longest_payload}
+use Rattle.git_pkt.specs.Passed.{on}
+use Rattle.git_pkt.specs.declared.band.Band.{Band}
+use Rattle.git_pkt.specs.declared.band.Band.TheVariants.{Pack, Progress, Fatal}
 use Rattle.git_msg.specs.Capability.{IsCapability}
 use Rattle.git_msg.specs.ResponseLines.{Wanted, IsWantedLine}
 use Rattle.git_msg.specs.declared.response_lines.Boundary.{Boundary}
@@ -22,9 +25,11 @@ use Rattle.git_client.specs.Places.{Place, version, capabilities, references, he
 use Rattle.git_client.specs.Places.{size_line, sizes, response_end}
 use Rattle.git_client.specs.Events.{EventValue, capability, reference, ack, nak, ready, shallow, unshallow, wanted_ref, pack, progress, info}
 use Rattle.git_client.specs.Events.{ended, offered, Gives, band_says, delimiter_says, ended_by, flush_says, response_end_says, parts_length, all_parts_length}
+use Rattle.git_client.specs.Opened.{events_on}
 use Rattle.git_client.specs.Packs.{on_first_band}
 use Rattle.git_client.specs.declared.events.Ending.{Ending}
 use Rattle.git_client.specs.declared.events.Ending.TheVariants.{FlushOnly, ResponseEnd}
+use Rattle.git_client.proofs.Opened.{on_fatal, on_pack, on_progress}
 use Rattle.git_client.proofs.PlaceLines.{IsOfBand, ReadsLine, band_of, boundary_event, line_read}
 use Rattle.git_client.proofs.PlacePackets.{said_by, said_if, said_unless}
 
@@ -200,6 +205,11 @@ each_one event (byte ∷ bytes) one =
     let more : all_parts_length (map event (byte ∷ bytes)) ≡ parts_length (event byte) + all_parts_length (map event bytes) =
     sum_by-cons parts_length (event byte) (map event bytes) in
     omega (arith, more, one byte, each_one event bytes one)
+
+pub parts_on : (band : Band) (bytes : List ℕ) → all_parts_length (events_on (map (on band) bytes)) ≤ length bytes
+parts_on Pack bytes = omega (arith, ap all_parts_length (on_pack bytes), each_one pack bytes (λ byte. refl))
+parts_on Progress bytes = omega (arith, ap all_parts_length (on_progress bytes), each_one progress bytes (λ byte. refl))
+parts_on Fatal bytes = omega (arith, ap all_parts_length (on_fatal bytes))
 
 of_band_fits : (first bytes : List ℕ) (events : List EventValue) → IsOfBand first bytes events → length first ≤ longest_payload
     → length bytes ≤ longest_payload → Fits events

@@ -72,5 +72,5 @@ module _ {A : Type 0} where
   pub first_fault : (t : Terms) (h : History) (client : Client A) (fault : Fault) → Converses t h client → fault_of client ≡ Some fault
       → FirstMalformed t h.asked h.used fault
   first_fault t h client fault c told =
-      in_phase t h.asked h.used c.clean c.given c.rest h.events c.reads.splits c.gives fault (phase_of client) (question_in (request_of client))
+      in_phase t h.asked h.used c.clean c.given c.rest c.whole c.reads.splits c.gives fault (phase_of client) (question_in (request_of client))
       (reader_of client) told c.stands

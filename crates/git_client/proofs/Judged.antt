@@ -190,17 +190,27 @@ notes_after t asked before due caps after (payload line) events s gives same not
     same ∙ notes ∙ ap (λ (b : Bool). noted_of (cond b (payload line ∷ advertisement_of before) (advertisement_of before))) (sym late)
 notes_after t asked before due caps after p events s gives same notes = same ∙ notes ∙ sym (nothing_noted p before refl)
 
+-- a packet that gives events where this is due: then what comes after it is due
+pub gives_well : (t : Terms) (asked : List Asked) (before : List Pkt) (due : Due) (caps after : Caps) (p : Pkt) (events : List EventValue)
+    → IsDue t asked before due → caps ≡ noted_of (advertisement_of before) → Gives t.format t.ending (place_due caps t.format due) p events
+    → NotesAfter due caps p after
+    → GivesAt t asked before p events × (after ≡ noted_of (advertisement_of (p ∷ before))) × Behind t asked (p ∷ before) None (phase_after t.ending due p)
+gives_well t asked before due caps after p events is notes gives adds =
+    let s = stands t asked before due is in (
+      record { place = place_due caps t.format due; is_place = place_is t asked before due caps is notes; gives = gives },
+      notes_after t asked before due caps after p _ s gives adds notes,
+      behind_after t asked before due caps p _ is s gives,
+    )
+
 -- a packet in which no fault was found gives what was found of it, and then what was found to be due is due
 pub judged_well : (t : Terms) (asked : List Asked) (before : List Pkt) (due : Due) (caps : Caps) (p : Pkt) (turn : Turn) → IsDue t asked before due
     → caps ≡ noted_of (advertisement_of before) → IsTurn t.format t.ending due caps p turn
     → GivesAt t asked before p (events_at turn.said (body_of p)) × (turn.caps ≡ noted_of (advertisement_of (p ∷ before)))
     × Behind t asked (p ∷ before) None turn.next
 judged_well t asked before due caps p turn is notes judged =
-    let s = stands t asked before due is in (
-      record { place = place_due caps t.format due; is_place = place_is t asked before due caps is notes; gives = judged.gives },
-      notes_after t asked before due caps turn.caps p _ s judged.gives judged.notes notes,
-      subst (Behind t asked (p ∷ before) None) (sym judged.next) (behind_after t asked before due caps p _ is s judged.gives),
-    )
+    let (gives, noted, behind) =
+    gives_well t asked before due caps turn.caps p (events_at turn.said (body_of p)) is notes judged.gives judged.notes in
+    (gives, noted, subst (Behind t asked (p ∷ before) None) (sym judged.next) behind)
 
 -- a packet in which one was found is refused for it
 pub judged_badly : (t : Terms) (asked : List Asked) (before : List Pkt) (due : Due) (caps : Caps) (p : Pkt) (kind : Kind) → IsDue t asked before due

@@ -6,10 +6,13 @@ pub mod Judged
 pub mod Refusals
 pub mod Sequences
 pub mod Questions
+pub mod Opened
+pub mod Reached
 pub mod Carries
 pub mod CanAsk
 pub mod EventSizes
 pub mod Taken
+pub mod HandedOut
 pub mod Twice
 pub mod Held
 pub mod Closed

@@ -11,7 +11,7 @@ use Rattle.git_client.specs.Conversation.{GiveAll, GivesAt, HasNoted, IsConversa
 use Rattle.git_client.specs.Events.{EventValue}
 use Rattle.git_client.specs.Parts.{Terms, advertisement_of, is_zero, nearest}
 use Rattle.git_client.proofs.Determined.{excluded}
-use Rattle.git_client.proofs.Sequences.{gives_more}
+use Rattle.git_client.proofs.Sequences.{gives_more, nearest-append}
 
 same_given : (g h : Given) → g.packet ≡ h.packet → g.offset ≡ h.offset → g ≡ h
 same_given g h packet offset =
@@ -50,10 +50,6 @@ first_of_cut t asked before (g ∷ gs) (h ∷ clean) x more events e a stop =
     subst (λ (k : Given). IsStop t asked (nearest clean (k.packet ∷ before)) more) head stop in
     let (tail, is) = first_of_cut t asked (g.packet ∷ before) gs clean x more a.1 rest a.4 moved in
     (tail, ap (λ (k : Given). k ∷ clean) head ∙ ap (λ (l : List Given). g ∷ l) is)
-
-nearest-append : (gs hs : List Given) (before : List Pkt) → nearest (gs ++ hs) before ≡ nearest hs (nearest gs before)
-nearest-append [] hs before = refl
-nearest-append (g ∷ gs) hs before = nearest-append gs hs (g.packet ∷ before)
 
 some_more : (p : Pkt) (before : List Pkt) → 0 < flushes before → 0 < flushes (p ∷ before)
 some_more flush before some = omega arith

@@ -5,7 +5,8 @@ use Rattle.std.specs.Bool.{OnTrue, OnFalse}
 use Rattle.std.proofs.lemmas.Grind.{flat_map-append}
 use Rattle.std.proofs.lemmas.List.{append-nil, flat_map_more}
 use Rattle.git_names.specs.declared.object_format.Format.{Format}
-use Rattle.git_pkt.specs.Packets.{Pkt, spelling_of, flushes}
+use Rattle.git_pkt.specs.Credit.{credit_of}
+use Rattle.git_pkt.specs.Packets.{Pkt, flush, spelling_of, flushes}
 use Rattle.git_pkt.specs.Splits.{Given}
 use Rattle.git_pkt.specs.PacketReader.{bytes_held, Reads, is_open, held_of, fault_of as reader_fault_of}
 use Rattle.git_pkt.specs.LentHold.{with_hold, with_hold_by}
@@ -22,13 +23,17 @@ use Rattle.git_msg.specs.declared.requests.Request.{Request}
 use Rattle.git_msg.specs.declared.writer.RequestWriter.{RequestWriter}
 use Rattle.git_client.specs.Parts.{Terms, listing, sections, informing, closing, nearest, answer_to, part_after, part_of}
 use Rattle.git_client.specs.Sections.{is_empty, is_header_due, allowed_after}
+use Rattle.git_client.specs.Places.{place_after}
+use Rattle.git_client.specs.Events.{EventValue}
+use Rattle.git_client.specs.Opened.{opened_in}
 use Rattle.git_client.specs.Turns.{fault_in, is_ready, has_left_in, left_in, question_in, first_due}
-use Rattle.git_client.specs.Client.{History, Converses, AsksOn, SaysOn, GivesOne, Puts, StandsIn, Goes, Behind, AreWhole, IsAsked, IsDue}
+use Rattle.git_client.specs.Client.{History, Converses, AsksOn, SaysOn, GivesOne, Leaves, Puts, StandsIn, Goes, Behind, AreWhole, IsAsked, IsDue}
 use Rattle.git_client.specs.Client.{questions_of, said_of, spelled, format_of, ending_of, caps_of, phase_of, reader_of, request_of, has_left, left_to_say}
 use Rattle.git_client.specs.declared.phase.Phase.{Phase}
 use Rattle.git_client.specs.declared.phase.Phase.TheVariants.{Hearing, Ready, Asking, Leaving, Left, Failed}
 use Rattle.git_client.specs.declared.phase.Due.{Due}
 use Rattle.git_client.specs.declared.client.Client.{Client}
+use Rattle.git_client.proofs.Opened.{nothing_opened}
 use Rattle.git_client.proofs.Sequences.{gives_more}
 
 slice_get_last : {X : Type 0} (xs : List X) (x : X) → slice_get (xs ++ x ∷ []) (length xs) ≡ Some x
@@ -134,6 +139,14 @@ ready_phase Leaving e = absurd (cc)
 ready_phase Left e = absurd (cc)
 ready_phase (Failed fault) e = absurd (cc)
 
+-- where no packet is open, nothing of one was handed out, whatever is asked
+opened_stays : (t : Terms) (asked others : List Asked) (clean : List Given) (events whole : List EventValue) (rest : List ℕ) → rest ≡ []
+    → events ≡ whole ++ opened_in (place_after t asked (nearest clean [])) rest → events ≡ whole ++ opened_in (place_after t others (nearest clean [])) rest
+opened_stays t asked others clean events whole rest none are =
+    let nothing : (place : _) → opened_in place rest ≡ [] =
+    λ place. ap (λ (l : List ℕ). opened_in place l) none ∙ nothing_opened place in
+    are ∙ ap (λ (l : List EventValue). whole ++ l) (nothing (place_after t asked (nearest clean [])) ∙ sym (nothing (place_after t others (nearest clean []))))
+
 module _ {A : Type 0} where
   -- the terms and what is noted are as they were
   pub record SameTerms (old new : Client A) : Type 0 where
@@ -171,6 +184,13 @@ module _ {A : Type 0} where
       (subst (λ (kept : Option (Request A)). StandsIn (Asking writer) t asked c.clean c.given c.rest (length h.used) (question_in kept) (reader_of old))
       (sym b.keeps) stands))
 
+  nothing_where_ready : (t : Terms) (h : History) (old : Client A) (c : Converses t h old) → phase_of old ≡ Ready → c.rest ≡ []
+  nothing_where_ready t h old c was =
+      let goes : Goes t h.asked c.clean c.given c.rest (question_in (request_of old)) Ready (reader_of old) =
+      subst (λ (phase : Phase). StandsIn phase t h.asked c.clean c.given c.rest (length h.used) (question_in (request_of old)) (reader_of old))
+      was c.stands in
+      goes.shut refl
+
   pub asks : (old new : Client A) (request : Request A) (writer : RequestWriter) → BeginsToAsk old request writer new → AsksOn old (asked_of request) new
   asks old new request writer b t h c =
       let caps = caps_of old in
@@ -189,7 +209,9 @@ module _ {A : Type 0} where
         format_is = b.terms.format ∙ c.format_is;
         ending_is = b.terms.ending ∙ c.ending_is;
         reads = subst (λ (reader : PacketReader). Reads reader 0 h.used c.given c.rest) (sym b.reader) c.reads;
-        gives = gives_more t h.asked (asked_of request ∷ []) [] c.clean h.events c.gives;
+        whole = c.whole;
+        gives = gives_more t h.asked (asked_of request ∷ []) [] c.clean c.whole c.gives;
+        events_are = opened_stays t h.asked asked c.clean h.events c.whole c.rest (nothing_where_ready t h old c b.was) c.events_are;
         notes = b.terms.caps ∙ c.notes;
         stands = stands_asking t h old new request writer c b;
         left = stays ∙ sym (ap has_left_in b.now);
@@ -232,7 +254,9 @@ module _ {A : Type 0} where
         format_is = b.terms.format ∙ c.format_is;
         ending_is = b.terms.ending ∙ c.ending_is;
         reads = b.reader.reads 0 h.used c.given c.rest c.reads;
+        whole = c.whole;
         gives = c.gives;
+        events_are = c.events_are;
         notes = b.terms.caps ∙ c.notes;
         stands = stands_in (phase_of new) t h.asked c.clean c.given c.rest (length h.used) (question_in (request_of new)) (reader_of new) sound (record {
           cut = goes.cut;
@@ -298,3 +322,50 @@ module _ {A : Type 0} where
       → OnFalse pulled ((left_to_write writer request ≡ []) × P × Q) → PutsFirst (left_to_write writer request) (left_to_write next request) held
   puts_next old request writer next held true P Q was kept some put none = put
   puts_next old request writer next held false P Q was kept some put none = absurd (some (left_of old request writer was kept ∙ none.0))
+
+  -- a client that could ask leaves
+  pub leaves : (old new : Client A) → is_ready (phase_of old) ≡ true → SameTerms old new → phase_of new ≡ Leaving → reader_of new ≡ reader_of old
+      → Leaves old new
+  leaves old new ready terms now reader =
+      let was = ready_phase (phase_of old) ready in
+      record {
+        leaves = λ t h c.
+            let goes : Goes t h.asked c.clean c.given c.rest (question_in (request_of old)) Ready (reader_of old) =
+            subst (λ (phase : Phase). StandsIn phase t h.asked c.clean c.given c.rest (length h.used) (question_in (request_of old)) (reader_of old))
+            was c.stands in
+            let questions = questions_of t.format (caps_of old) h.asked in
+            let asked : h.given ≡ spelled questions =
+            sym (append-nil h.given)
+            ∙ ap (λ (phase : Phase). h.given ++ spelled (left_in phase (request_of old))) (sym was)
+            ∙ c.spoken
+            ∙ ap (λ (left : Bool). spelled (said_of t.format (caps_of old) h.asked left)) (c.left ∙ ap has_left_in was)
+            ∙ ap spelled (append-nil questions) in
+            record {
+              given = c.given;
+              rest = c.rest;
+              clean = c.clean;
+              format_is = terms.format ∙ c.format_is;
+              ending_is = terms.ending ∙ c.ending_is;
+              reads = subst (λ (r : PacketReader). Reads r 0 h.used c.given c.rest) (sym reader) c.reads;
+              whole = c.whole;
+              gives = c.gives;
+              events_are = c.events_are;
+              notes = terms.caps ∙ c.notes;
+              stands =
+                  subst (λ (phase : Phase). StandsIn phase t h.asked c.clean c.given c.rest (length h.used) (question_in (request_of new)) (reader_of new))
+                  (sym now) (record {
+                    cut = goes.cut;
+                    sound = ap reader_fault_of reader ∙ goes.sound;
+                    behind = goes.behind;
+                    shut = λ _. goes.shut refl;
+                  });
+              left = sym (ap has_left_in now);
+              spoken = ap (λ (phase : Phase). h.given ++ spelled (left_in phase (request_of new))) now
+                  ∙ ap (λ (l : List ℕ). l ++ spelled (flush ∷ [])) asked
+                  ∙ sym (flat_map-append spelling_of questions (flush ∷ []))
+                  ∙ ap (λ (noted : Caps). spelled (said_of t.format noted h.asked true)) (sym terms.caps);
+            };
+        owes = ap (λ (phase : Phase). left_in phase (request_of new)) now;
+        no_more = ap has_left_in now;
+        credit = omega (arith, ap credit_of reader);
+      }

@@ -1,6 +1,6 @@
 -- One packet more, after those before it, and questions that come later.
 use Rattle.std.proofs.Common.{arith, ◌≡◌, ◌⊎◌, inl, inr, ℕ, zero, suc, ◌+◌, Bool, true, false, List, [], ◌∷◌, ◌++◌}
-use Rattle.std.proofs.Common.{Option, Some, None, refl, sym, ap, ◌∙◌, append_assoc, cond, slice_get}
+use Rattle.std.proofs.Common.{Option, Some, None, refl, sym, ap, ◌∙◌, subst, append_assoc, cond, slice_get}
 use Rattle.std.proofs.lemmas.List.{append-nil}
 use Rattle.git_pkt.specs.Packets.{Pkt, flushes}
 use Rattle.git_pkt.specs.Splits.{Given}
@@ -16,6 +16,22 @@ use Rattle.git_client.proofs.PlacePackets.{nothing_due, comes_after, one_if, pac
 pub nearest_push : (gs : List Given) (g : Given) (before : List Pkt) → nearest (gs ++ g ∷ []) before ≡ g.packet ∷ nearest gs before
 nearest_push [] g before = refl
 nearest_push (h ∷ gs) g before = nearest_push gs g (h.packet ∷ before)
+
+pub nearest-append : (gs hs : List Given) (before : List Pkt) → nearest (gs ++ hs) before ≡ nearest hs (nearest gs before)
+nearest-append [] hs before = refl
+nearest-append (g ∷ gs) hs before = nearest-append gs hs (g.packet ∷ before)
+
+pub give_all_append : (t : Terms) (asked : List Asked) (before : List Pkt) (gs hs : List Given) (events more : List EventValue)
+    → GiveAll t asked before gs events → GiveAll t asked (nearest gs before) hs more → GiveAll t asked before (gs ++ hs) (events ++ more)
+give_all_append t asked before [] hs events more none h =
+    subst (λ (l : List EventValue). GiveAll t asked before hs (l ++ more)) (sym none) h
+give_all_append t asked before (g ∷ gs) hs events more (first, later, e, at, rest) h = (
+  first,
+  later ++ more,
+  ap (λ (l : List EventValue). l ++ more) e ∙ append_assoc first later more,
+  at,
+  give_all_append t asked (g.packet ∷ before) gs hs later more rest h,
+)
 
 pub give_all_push : (t : Terms) (asked : List Asked) (before : List Pkt) (gs : List Given) (g : Given) (events now : List EventValue)
     → GiveAll t asked before gs events → GivesAt t asked (nearest gs before) g.packet now → GiveAll t asked before (gs ++ g ∷ []) (events ++ now)

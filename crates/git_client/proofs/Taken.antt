@@ -1,13 +1,21 @@
 -- What the client has done once a packet is settled.
-use Rattle.std.proofs.Common.{arith, ◌≡◌, ◌⊎◌, inl, inr, ℕ, ◌<◌, true, false, List, [], ◌∷◌, take, drop, map}
+use Rattle.std.proofs.Common.{arith, ◌≡◌, ◌≢◌, ◌⊎◌, inl, inr, ℕ, ◌<◌, ◌≤◌, true, false, List, [], ◌∷◌, length, take, drop, map}
 use Rattle.std.proofs.Common.{Some, None, Result, Ok, Err, MatchResult, refl, ap, sym, ◌∙◌, subst}
+use Rattle.std.proofs.lemmas.List.{length-take-le}
 use Rattle.git_names.specs.declared.object_format.Format.{Format}
 use Rattle.git_pkt.specs.Packets.{Pkt, Spells, flush, delim, resp_end, payload, seen, text_of, body_of}
 use Rattle.git_pkt.specs.Splits.{Given}
 use Rattle.git_pkt.specs.PacketReader.{Feeds, ReadsOn, ShownByFeed, Tells, given_by, held_of, is_open, fault_of as reader_fault_of}
+use Rattle.git_pkt.specs.BandReader.{FeedsBand, IsPart, ReadsBandsOn, TellsBand, part_of, told_by}
+use Rattle.git_pkt.specs.Passed.{on}
+use Rattle.git_pkt.specs.declared.band.Band.{Band}
+use Rattle.git_pkt.specs.declared.band.Band.TheVariants.{Fatal}
 use Rattle.git_pkt.specs.declared.fault.Fault.{Fault}
 use Rattle.git_pkt.specs.declared.fault.Kind.{Kind}
 use Rattle.git_pkt.specs.declared.packet.Packet.{Packet}
+use Rattle.git_pkt.specs.declared.reader.BandFed.{BandFed}
+use Rattle.git_pkt.specs.declared.reader.BandGot.{BandGot}
+use Rattle.git_pkt.specs.declared.reader.BandGot.TheVariants.{Packet as BandPacketGot}
 use Rattle.git_pkt.specs.declared.reader.Fed.{Fed}
 use Rattle.git_pkt.specs.declared.reader.Got.{Got}
 use Rattle.git_pkt.specs.declared.reader.Got.TheVariants.{Packet as PacketGot}
@@ -15,8 +23,9 @@ use Rattle.git_pkt.specs.declared.reader.PacketReader.{PacketReader}
 use Rattle.git_msg.specs.Advertisement.{is_spoken}
 use Rattle.git_msg.specs.declared.offers.Caps.{Caps}
 use Rattle.git_client.specs.Places.{Place, acknowledgments, shallow_info, wanted_refs, packfile, response_end}
-use Rattle.git_client.specs.Events.{EventValue, pack, progress, Gives, Refuses, turns_of, band_says, ended_by, delimiter_says, response_end_says}
-use Rattle.git_client.specs.Turns.{fault_in, is_ready, takes_packets, place_due, phase_after, phase_after_response, events_at, turn_on, Fits, IsOnBand, IsTurn}
+use Rattle.git_client.specs.Events.{EventValue, Gives, Refuses, turns_of, ended_by, delimiter_says, response_end_says}
+use Rattle.git_client.specs.Opened.{events_on}
+use Rattle.git_client.specs.Turns.{fault_in, is_ready, takes_packets, place_due, phase_after, phase_after_response, events_at, Fits, IsTurn}
 use Rattle.git_client.specs.Client.{Comes, Takes, LeavesStep, StandsAfter, phase_judged, caps_judged, said_judged, outcome_judged, outcome_said, IsMessage}
 use Rattle.git_client.specs.Client.{Settles, format_of, ending_of, caps_of, phase_of, reader_of, said_last}
 use Rattle.git_client.specs.declared.events.Ending.{Ending}
@@ -25,18 +34,18 @@ use Rattle.git_client.specs.declared.phase.Phase.{Phase}
 use Rattle.git_client.specs.declared.phase.Phase.TheVariants.{Hearing, Ready, Failed}
 use Rattle.git_client.specs.declared.phase.Due.{Due}
 use Rattle.git_client.specs.declared.phase.Due.TheVariants.{Capabilities, References, Acknowledgments, Packfile, SizeLine, Sizes}
-use Rattle.git_client.specs.declared.phase.BandSaid.{BandSaid}
 use Rattle.git_client.specs.declared.phase.Said.{Said}
-use Rattle.git_client.specs.declared.phase.Said.TheVariants.{Nothing, Pack, Progress, Offered, Ended}
+use Rattle.git_client.specs.declared.phase.Said.TheVariants.{Nothing, Offered, Ended}
 use Rattle.git_client.specs.declared.phase.Turn.{Turn}
 use Rattle.git_client.specs.declared.client.Client.{Client}
 use Rattle.git_client.specs.declared.client.Outcome.{Outcome}
-use Rattle.git_client.specs.declared.client.Outcome.TheVariants.{Failed as FailedNow}
-use Rattle.git_client.proofs.EventSizes.{events_fit}
+use Rattle.git_client.specs.declared.client.Outcome.TheVariants.{More as NothingYet, Passed as PassedNow, Failed as FailedNow}
+use Rattle.git_client.proofs.EventSizes.{events_fit, parts_on}
 use Rattle.git_client.proofs.PlaceLines.{line_is, band_is}
 use Rattle.git_client.proofs.PlacePackets.{one_if, said_by, said_if, said_unless}
 use Rattle.git_client.proofs.Refusals.{TellsFault, is_own, why_refused}
-use Rattle.git_client.proofs.Carries.{goes_on, HearsPacket, HearsBytes, hears_packet, hears_refused, hears_failed}
+use Rattle.git_client.proofs.Reached.{Reaches, reach_bands, reach_lines}
+use Rattle.git_client.proofs.Carries.{goes_on, HearsPacket, HearsBytes, hears_packet, hears_parts, hears_refused, hears_failed}
 
 -- after a packet without a fault the server is heard on, or can be asked
 pub goes_after : (ending : Ending) (due : Due) (p : Pkt) → goes_on (phase_after ending due p) ≡ true
@@ -97,10 +106,6 @@ can_be_asked : (next : Phase) → one_if (is_ready next) ≡ 1 → is_ready next
 can_be_asked Ready one = refl
 can_be_asked _ one = absurd (cc)
 
--- what was said of bytes of a band is no turn
-pub no_turns : (bytes : List ℕ) → (turns_of (map pack bytes) ≡ 0) × (turns_of (map progress bytes) ≡ 0)
-no_turns bytes = ((band_is (1 ∷ bytes) (map pack bytes) refl).0, (band_is (2 ∷ bytes) (map progress bytes) refl).0)
-
 -- where the client stands after what was said of a packet
 abbrev StandsOn : Said → Phase → Type 0
 StandsOn Offered next = is_ready next ≡ true
@@ -110,8 +115,6 @@ StandsOn said next = takes_packets next ≡ true
 stands_after : (said : Said) (bytes : List ℕ) (next : Phase) → goes_on next ≡ true → IsTurnTo next (events_at said bytes) → StandsOn said next
 stands_after Offered bytes next goes turn = can_be_asked next (sym turn)
 stands_after Ended bytes next goes turn = can_be_asked next (sym turn)
-stands_after Pack bytes next goes turn = hears_on next goes (sym turn ∙ (no_turns (drop 1 bytes)).0)
-stands_after Progress bytes next goes turn = hears_on next goes (sym turn ∙ (no_turns (drop 1 bytes)).1)
 stands_after said bytes next goes turn = hears_on next goes (sym turn)
 
 -- a fault of a packet is none that the reader tells
@@ -125,19 +128,15 @@ shown_by_packet p f used piece (inr own) = record {
   one_more = λ e. let never = sym own ∙ ap is_own e in absurd (cc);
 }
 
--- what was found of a payload of the packfile section was found of the packet that has it
-pub band_judged : (format : Format) (ending : Ending) (due : Due) (caps : Caps) (p : Pkt) (bytes : List ℕ) (judged : Result BandSaid Kind)
-    → due ≡ Packfile → p ≡ payload bytes → MatchResult judged (IsOnBand bytes) (λ (kind : Kind). band_says bytes ≡ Err kind)
-    → MatchResult (turn_on caps judged) (IsTurn format ending due caps p) (Refuses format ending (place_due caps format due) p)
-band_judged format ending due caps p bytes (Ok on) is has found = rw (is, has) (record { gives = found.says; fits = found.fits; notes = refl; next = refl })
-band_judged format ending due caps p bytes (Err kind) is has found = rw (is, has) found
+some_taken : (piece : List ℕ) (used : ℕ) → 0 < used → used ≤ length piece → 0 < length (take used piece)
+some_taken piece used some within = omega (arith, some, length-take-le used piece within)
 
 module _ {A : Type 0} where
   -- what was said comes, with its bytes in the hold
-  comes : (said : Said) (body : List ℕ) (new : Client A) → said_last new ≡ said → drop 4 (held_of (reader_of new)) ≡ body → Fits said body
-      → Comes (outcome_said said) (events_at said body) new
-  comes Nothing body new is held fits = refl
-  comes said body new is held fits = (
+  comes : (said : Said) (body : List ℕ) (used : ℕ) (piece : List ℕ) (new : Client A) → said_last new ≡ said → drop 4 (held_of (reader_of new)) ≡ body
+      → Fits said body → Comes (outcome_said said) (events_at said body) used piece new
+  comes Nothing body used piece new is held fits = refl
+  comes said body used piece new is held fits = (
     ap (λ (s : Said). events_at s body) (sym is) ∙ ap (events_at (said_last new)) (sym held),
     (λ none. let e : said ≡ Nothing = sym is ∙ none in absurd (cc)),
     subst (Fits (said_last new)) (sym held) (subst (λ (s : Said). Fits s body) (sym is) fits),
@@ -161,7 +160,7 @@ module _ {A : Type 0} where
       (packet_turn (format_of old) (ending_of old) (caps_of old) due g.packet (events_at turn.said body) judged.gives) in
       record {
         events = events_at turn.said body;
-        comes = comes turn.said body new said b.held.body judged.fits;
+        comes = comes turn.said body used piece new said b.held.body judged.fits;
         hears = hears_packet old new due (take used piece) g turn b judged goes now caps;
         leaves = leaves turn.said used piece new said some b.shut
             (subst (StandsOn turn.said) (sym now) (stands_after turn.said body turn.next goes turns));
@@ -183,21 +182,67 @@ module _ {A : Type 0} where
         fits = omega arith;
       }
 
-  -- the reader has read a packet, and what was done after it left the reader alone
-  packet_read : (old new : Client A) (due : Due) (u : List ℕ) (g : Given) (reader : PacketReader) → phase_of old ≡ Hearing due
-      → ReadsOn (reader_of old) u (g ∷ []) reader → reader_fault_of reader ≡ None → is_open reader ≡ false → Spells g.packet (held_of reader)
-      → reader_of new ≡ reader → format_of new ≡ format_of old → ending_of new ≡ ending_of old → HearsPacket old new due u g
-  packet_read old new due u g reader hearing reads sound shut held same format ending = record {
+  -- a packet has come whole, which lies in the hold
+  pub record ReadsPacket (old read : Client A) (due : Due) (u : List ℕ) (g : Given) : Type 0 where
+    pub hearing : phase_of old ≡ Hearing due
+    pub reaches : Reaches old due u (g ∷ []) [] (reader_of read)
+    pub some : 0 < length u
+    pub sound : reader_fault_of (reader_of read) ≡ None
+    pub shut : is_open (reader_of read) ≡ false
+    pub held : Spells g.packet (held_of (reader_of read))
+
+  -- what was done after it left the reader alone
+  packet_read : (old read new : Client A) (due : Due) (u : List ℕ) (g : Given) → ReadsPacket old read due u g
+      → reader_of new ≡ reader_of read → format_of new ≡ format_of old → ending_of new ≡ ending_of old → HearsPacket old new due u g
+  packet_read old read new due u g r same format ending = record {
     bytes = record {
-      hearing = hearing;
-      reads = subst (ReadsOn (reader_of old) u (g ∷ [])) (sym same) reads;
+      hearing = r.hearing;
+      reaches = subst (Reaches old due u (g ∷ []) []) (sym same) r.reaches;
       format = format;
       ending = ending;
     };
-    sound = ap reader_fault_of same ∙ sound;
-    shut = ap is_open same ∙ shut;
-    held = subst (λ (r : PacketReader). Spells g.packet (held_of r)) (sym same) held;
+    sound = ap reader_fault_of same ∙ r.sound;
+    shut = ap is_open same ∙ r.shut;
+    held = subst (λ (reader : PacketReader). Spells g.packet (held_of reader)) (sym same) r.held;
   }
+
+  -- by `feed`
+  pub fed_packet : (old read : Client A) (due : Due) (piece : List ℕ) (fed : Fed) (packet : Packet) (offset : ℕ) → phase_of old ≡ Hearing due
+      → due ≢ Packfile → fed.used ≤ length piece → Feeds (reader_of old) piece fed (reader_of read) → fed.got ≡ PacketGot packet offset
+      → ReadsPacket old read due (take fed.used piece) (record { packet = seen packet; offset = offset })
+  fed_packet old read due piece fed packet offset hearing other within feeds got =
+      let u = take fed.used piece in
+      let g : Given = record { packet = seen packet; offset = offset } in
+      let tells : Tells (PacketGot packet offset) fed.used piece (reader_of read) =
+      subst (λ (got : Got). Tells got fed.used piece (reader_of read)) got feeds.tells in
+      record {
+        hearing = hearing;
+        reaches = reach_lines old due u (g ∷ []) (reader_of read) hearing other
+            (subst (λ (got : Got). ReadsOn (reader_of old) u (given_by got) (reader_of read)) got feeds.reads);
+        some = some_taken piece fed.used tells.0 within;
+        sound = tells.1;
+        shut = tells.2;
+        held = tells.3;
+      }
+
+  -- by `feed_band`
+  pub fed_band_packet : (old read : Client A) (piece : List ℕ) (fed : BandFed) (packet : Packet) (offset : ℕ) → phase_of old ≡ Hearing Packfile
+      → fed.used ≤ length piece → FeedsBand (reader_of old) piece fed (reader_of read) → fed.got ≡ BandPacketGot packet offset
+      → ReadsPacket old read Packfile (take fed.used piece) (record { packet = seen packet; offset = offset })
+  fed_band_packet old read piece fed packet offset hearing within feeds got =
+      let u = take fed.used piece in
+      let g : Given = record { packet = seen packet; offset = offset } in
+      let tells : TellsBand (BandPacketGot packet offset) fed.used piece (reader_of read) =
+      subst (λ (got : BandGot). TellsBand got fed.used piece (reader_of read)) got feeds.tells in
+      record {
+        hearing = hearing;
+        reaches = reach_bands old u (g ∷ []) [] (reader_of read) hearing
+            (subst (λ (got : BandGot). ReadsBandsOn (reader_of old) u (told_by got) (part_of got) (reader_of read)) got feeds.reads);
+        some = some_taken piece fed.used tells.0 within;
+        sound = tells.1;
+        shut = tells.2;
+        held = tells.3;
+      }
 
   -- a packet was judged and settled
   taken : (old new : Client A) (due : Due) (piece : List ℕ) (used : ℕ) (g : Given) (judged : Result Turn Kind)
@@ -209,29 +254,21 @@ module _ {A : Type 0} where
   taken old new due piece used g (Ok turn) b some judged now caps said = taken_well old new due piece used g turn b some judged now caps said
   taken old new due piece used g (Err kind) b some judged now caps said = taken_badly old new due piece used g kind b judged now caps
 
-  -- the reader gave a packet, which was judged and settled
-  pub settled : (old read new : Client A) (due : Due) (piece : List ℕ) (fed : Fed) (packet : Packet) (offset : ℕ) (judged : Result Turn Kind)
-      (outcome : Outcome) → phase_of old ≡ Hearing due → Feeds (reader_of old) piece fed (reader_of read) → fed.got ≡ PacketGot packet offset
-      → MatchResult judged (IsTurn (format_of old) (ending_of old) due (caps_of old) (seen packet))
-      (Refuses (format_of old) (ending_of old) (place_due (caps_of old) (format_of old) due) (seen packet))
+  -- a packet came whole, and was judged and settled
+  pub settled : (old read new : Client A) (due : Due) (piece : List ℕ) (used : ℕ) (g : Given) (judged : Result Turn Kind)
+      (outcome : Outcome) → ReadsPacket old read due (take used piece) g → used ≤ length piece
+      → MatchResult judged (IsTurn (format_of old) (ending_of old) due (caps_of old) g.packet)
+      (Refuses (format_of old) (ending_of old) (place_due (caps_of old) (format_of old) due) g.packet)
       → format_of read ≡ format_of old → ending_of read ≡ ending_of old → caps_of read ≡ caps_of old → said_last read ≡ said_last old
-      → Settles read judged offset outcome new → Takes old piece (record { used = fed.used; outcome = outcome }) new
-  settled old read new due piece fed packet offset judged outcome hearing feeds got found format ending caps said settles =
-      let u = take fed.used piece in
-      let g : Given = record { packet = seen packet; offset = offset } in
-      let tells : Tells (PacketGot packet offset) fed.used piece (reader_of read) =
-      subst (λ (got : Got). Tells got fed.used piece (reader_of read)) got feeds.tells in
-      let reads : ReadsOn (reader_of old) u (g ∷ []) (reader_of read) =
-      subst (λ (got : Got). ReadsOn (reader_of old) u (given_by got) (reader_of read)) got feeds.reads in
-      let hears : HearsPacket old new due u g =
-      packet_read old new due u g (reader_of read) hearing reads tells.1 tells.2 tells.3 settles.reader (settles.format ∙ format)
-      (settles.ending ∙ ending) in
-      subst (λ (outcome : Outcome). Takes old piece (record { used = fed.used; outcome = outcome }) new) (sym settles.tells)
-      (taken old new due piece fed.used g judged hears tells.0 found settles.phase (settles.caps ∙ ap (λ (c : Caps). caps_judged c judged) caps)
-      (settles.said ∙ ap (λ (s : Said). said_judged s judged) said))
+      → Settles read judged g.offset outcome new → Takes old piece (record { used = used; outcome = outcome }) new
+  settled old read new due piece used g judged outcome r within found format ending caps said settles =
+      let hears = packet_read old read new due (take used piece) g r settles.reader (settles.format ∙ format) (settles.ending ∙ ending) in
+      subst (λ (outcome : Outcome). Takes old piece (record { used = used; outcome = outcome }) new) (sym settles.tells)
+      (taken old new due piece used g judged hears (omega (arith, r.some, length-take-le used piece within)) found settles.phase
+      (settles.caps ∙ ap (λ (c : Caps). caps_judged c judged) caps) (settles.said ∙ ap (λ (s : Said). said_judged s judged) said))
 
   -- bytes that the reader refuses
-  pub taken_failed : (old new : Client A) (due : Due) (piece : List ℕ) (used : ℕ) (f : Fault) → HearsBytes old new due (take used piece) []
+  pub taken_failed : (old new : Client A) (due : Due) (piece : List ℕ) (used : ℕ) (f : Fault) → HearsBytes old new due (take used piece) [] []
       → reader_fault_of (reader_of new) ≡ Some f → ShownByFeed f used piece → phase_of new ≡ Failed f → caps_of new ≡ caps_of old
       → Takes old piece (record { used = used; outcome = FailedNow f }) new
   taken_failed old new due piece used f b told shown now caps = record {
@@ -240,4 +277,36 @@ module _ {A : Type 0} where
     hears = hears_failed old new due (take used piece) f b told now caps;
     leaves = (ap fault_in now, shown);
     fits = omega arith;
+  }
+
+  -- all bytes were used, and no packet was told
+  pub taken_all : (old new : Client A) (due : Due) (piece : List ℕ) (used : ℕ) → HearsBytes old new due (take used piece) [] []
+      → used ≡ length piece → reader_fault_of (reader_of new) ≡ None → phase_of new ≡ Hearing due → caps_of new ≡ caps_of old
+      → Takes old piece (record { used = used; outcome = NothingYet }) new
+  taken_all old new due piece used b all sound now caps = record {
+    events = [];
+    comes = refl;
+    hears = hears_parts old new due (take used piece) [] b sound now caps;
+    leaves = (ap takes_packets now, λ some. omega (arith, all, some));
+    fits = omega arith;
+  }
+
+  -- bytes passed
+  pub taken_part : (old new : Client A) (piece : List ℕ) (used : ℕ) (band : Band) (bytes : List ℕ) (count : ℕ)
+      → HearsBytes old new Packfile (take used piece) [] (events_on (map (on band) bytes)) → band ≢ Fatal → IsPart bytes used piece (reader_of new)
+      → length bytes ≡ count → phase_of new ≡ Hearing Packfile → caps_of new ≡ caps_of old
+      → Takes old piece (record { used = used; outcome = PassedNow (record { band = band; count = count }) }) new
+  taken_part old new piece used band bytes count b on_band part long now caps = record {
+    events = events_on (map (on band) bytes);
+    comes = (
+      bytes,
+      long,
+      omega (arith, part.some, long),
+      on_band,
+      record { front = part.front; lies = part.lies; all = part.all },
+      refl,
+    );
+    hears = hears_parts old new Packfile (take used piece) (events_on (map (on band) bytes)) b part.no_fault now caps;
+    leaves = (part.uses, ap takes_packets now);
+    fits = omega (arith, parts_on band bytes, part.fits);
   }

@@ -84,16 +84,16 @@ module _ {A : Type 0} where
     -- all calls together took at most 64 steps for each byte used and for each call of `feed`, and none set the counter back
     pub rises : before ≤ after
     pub steps : after ≤ before + 64 * (length h.used + feeds)
-    -- the events are those of the bytes used, up to the first packet that is refused; the same bytes gave what was noted
+    -- the events are those of the bytes used, up to the first packet that is refused and with what has come of an open one; the same
+    -- bytes gave what was noted
     pub events : HasEvents t h.asked h.used h.events
     pub noted : HasNoted t h.asked h.used (caps_of client)
     -- where no packet is owed, just what is written of the requests was given, and the flush where the client has left
     pub given : left_to_say client ≡ [] → h.given ≡ spelled (said_of t.format (caps_of client) h.asked h.left)
-    -- the pack bytes among the events are a front of the pack, at any time and after a refusal too
-    pub pack : (bytes : List ℕ) → HasPack t h.asked h.used bytes → (more : List ℕ) × (bytes ≡ pack_bytes h.events ++ more)
-    -- where the client can ask, each response is whole, and the pack bytes are the whole pack
+    -- the pack bytes among the events are the pack of the bytes used: at any time, and after a refusal too
+    pub pack : (bytes : List ℕ) → HasPack t h.asked h.used bytes → bytes ≡ pack_bytes h.events
+    -- where the client can ask, each response is whole
     pub whole : can_ask client ≡ true → IsConversation t h.asked h.used h.events
-    pub whole_pack : can_ask client ≡ true → (bytes : List ℕ) → HasPack t h.asked h.used bytes → bytes ≡ pack_bytes h.events
     -- a client that has refused did so at the first malformed packet, and one that has not received none
     pub refused : (fault : Fault) → fault_of client ≡ Some fault → FirstMalformed t h.asked h.used fault
     pub unrefused : fault_of client ≡ None → GoesWell t h.asked h.used h.events

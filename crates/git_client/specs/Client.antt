@@ -1,13 +1,15 @@
 -- What a client stands for: what it was asked to ask, the bytes that it used, the events that it handed out and the bytes
 -- that it gave.
-use Rattle.std.specs.Prelude.{◌≡◌, ◌≢◌, ◌⊎◌, ℕ, suc, ◌+◌, ◌-◌, ◌<◌, ◌≤◌, Bool, true, false, List, [], ◌∷◌, ◌++◌, length, take, drop, flat_map, Option}
+use Rattle.std.specs.Prelude.{◌≡◌, ◌≢◌, ◌⊎◌, ℕ, suc, ◌+◌, ◌-◌, ◌<◌, ◌≤◌, Bool, true, false, List, [], ◌∷◌, ◌++◌, length, map, take, drop, flat_map, Option}
 use Rattle.std.specs.Prelude.{Some, None, Result, Ok, Err}
 use Rattle.git_names.specs.declared.object_format.Format.{Format}
 use Rattle.git_pkt.specs.Packets.{Pkt, flush, payload, Spells, spelling_of, text_of, flushes, longest_payload}
 use Rattle.git_pkt.specs.Splits.{Given, Splits}
 use Rattle.git_pkt.specs.Credit.{credit_of}
-use Rattle.git_pkt.specs.Faults.{StopsBy}
+use Rattle.git_pkt.specs.Faults.{StopsBy, last_position}
+use Rattle.git_pkt.specs.Passed.{on}
 use Rattle.git_pkt.specs.PacketReader.{Reads, bytes_held as held_in_packet, position_of, ShownByFeed, is_open, held_of, fault_of as reader_fault_of}
+use Rattle.git_pkt.specs.declared.band.Band.TheVariants.{Fatal}
 use Rattle.git_pkt.specs.declared.fault.Fault.{Fault}
 use Rattle.git_pkt.specs.declared.fault.Kind.{Kind}
 use Rattle.git_pkt.specs.declared.fault.Kind.TheVariants.{RemoteError, RemoteFatal, NotAdvertised, WrongFormat, Truncated}
@@ -25,6 +27,8 @@ use Rattle.git_client.specs.Parts.{Terms, Part, opening, advertisement, listing,
 use Rattle.git_client.specs.Parts.{nearest, advertisement_of, message_of, is_end_due, part_of}
 use Rattle.git_client.specs.Sections.{is_empty, is_header_due, section_of, lines_of, allowed_after, told_by}
 use Rattle.git_client.specs.Events.{EventValue, all_parts_length}
+use Rattle.git_client.specs.Places.{place_after}
+use Rattle.git_client.specs.Opened.{events_on, opened_in}
 use Rattle.git_client.specs.Conversation.{GiveAll, RefusesAt, HasDue}
 use Rattle.git_client.specs.Turns.{takes_packets, fault_in, is_ready, has_left_in, is_asking, left_in, question_in, values_of, events_at, Fits}
 use Rattle.git_client.specs.Turns.{after_acknowledgments}
@@ -42,10 +46,10 @@ use Rattle.git_client.specs.declared.phase.Turn.{Turn}
 use Rattle.git_client.specs.declared.client.Advance.{Advance}
 use Rattle.git_client.specs.declared.client.Client.{Client}
 use Rattle.git_client.specs.declared.client.Outcome.{Outcome}
-use Rattle.git_client.specs.declared.client.Outcome.TheVariants.{More as NothingYet, Event as EventNow, Failed as FailedNow}
+use Rattle.git_client.specs.declared.client.Outcome.TheVariants.{More as NothingYet, Event as EventNow, Passed as PassedNow, Failed as FailedNow}
 use Rattle.git_client.specs.declared.events.Ending.{Ending}
 use Rattle.git_client.specs.declared.events.Event.{Event}
-use Rattle.git_client.specs.declared.events.Event.TheVariants.{Offered, Ended}
+use Rattle.git_client.specs.declared.events.Event.TheVariants.{Offered, Ended, Pack as PackEvent, Progress as ProgressEvent}
 use Rattle.git_client.specs.declared.events.Heard.{Heard}
 use Rattle.git_client.specs.declared.events.HeardGot.{HeardGot}
 use Rattle.git_client.specs.declared.events.HeardGot.TheVariants.{More, Event as EventGot, Failed}
@@ -213,6 +217,7 @@ module _ {A : Type 0} where
         sound = sound;
         shut = shut;
         gathers = gathers;
+        passes = passes;
         owes = owes;
         freed = freed;
         formats = formats;
@@ -321,7 +326,9 @@ module _ {A : Type 0} where
     pub format_is : format_of client ≡ t.format
     pub ending_is : ending_of client ≡ t.ending
     pub reads : Reads (reader_of client) 0 h.used given rest
-    pub gives : GiveAll t h.asked [] clean h.events
+    pub whole : List EventValue
+    pub gives : GiveAll t h.asked [] clean whole
+    pub events_are : h.events ≡ whole ++ opened_in (place_after t h.asked (nearest clean [])) rest
     pub notes : caps_of client ≡ noted_of (advertisement_of (nearest clean []))
     pub stands : StandsIn (phase_of client) t h.asked clean given rest (length h.used) (question_in (request_of client)) (reader_of client)
     pub left : h.left ≡ has_left client
@@ -382,11 +389,23 @@ module _ {A : Type 0} where
   LeavesAfter Ended new = can_ask new ≡ true
   LeavesAfter event new = wants_input new ≡ true
 
-  -- what each answer of `feed` says; after an event no packet is open, and there is something to it
+  -- bytes that passed: they are the last of those used, and all that the piece, or the stream, has of their packet from there on
+  pub record IsPassed (bytes : List ℕ) (used : ℕ) (piece : List ℕ) (new : Client A) : Type 0 where
+    pub front : List ℕ
+    pub lies : take used piece ≡ front ++ bytes
+    pub all : is_open (reader_of new) ≡ true → (used ≡ length piece) ⊎ (bytes_used new ≡ last_position)
+
+  -- after an event no packet is open, but after bytes of the pack or of the progress more of theirs may come
+  abbrev pub EndsAt : Event → ℕ → List ℕ → Client A → Type 0
+  EndsAt (PackEvent bytes) used piece new = IsPassed bytes.now used piece new
+  EndsAt (ProgressEvent bytes) used piece new = IsPassed bytes.now used piece new
+  EndsAt event used piece new = is_open (reader_of new) ≡ false
+
+  -- what each answer of `feed` says; there is something to each event
   abbrev pub Tells : HeardGot → ℕ → List ℕ → Client A → Client A → Type 0
   Tells More used piece old new = wants_input old ≡ true → (used ≡ length piece) × (wants_input new ≡ true)
   Tells (EventGot event) used piece old new =
-      (0 < used) × (is_open (reader_of new) ≡ false) × (values_of event ≢ []) × LeavesAfter event new
+      (0 < used) × EndsAt event used piece new × (values_of event ≢ []) × LeavesAfter event new
   Tells (Failed fault) used piece old new = fault_of new ≡ Some fault
 
   -- a client that had no fault tells only what the piece shows
@@ -468,13 +487,16 @@ module _ {A : Type 0} where
   abbrev pub EndsWithoutMessage : Client A → Type 0
   EndsWithoutMessage client = (f : Fault) → fault_of client ≡ Some f → is_told f.kind ≡ false
 
-  -- the events of an outcome, whose bytes lie in the hold
-  abbrev pub Comes : Outcome → List EventValue → Client A → Type 0
-  Comes NothingYet events new = events ≡ []
-  Comes EventNow events new =
+  -- the events of an outcome, whose bytes lie in the hold, or are the last of those used
+  abbrev pub Comes : Outcome → List EventValue → ℕ → List ℕ → Client A → Type 0
+  Comes NothingYet events used piece new = events ≡ []
+  Comes (PassedNow passed) events used piece new =
+      (bytes : List ℕ) × (length bytes ≡ passed.count) × (0 < passed.count) × (passed.band ≢ Fatal) × IsPassed bytes used piece new
+      × (events ≡ events_on (map (on passed.band) bytes))
+  Comes EventNow events used piece new =
       (events ≡ events_at (said_last new) (drop 4 (held_of (reader_of new)))) × (said_last new ≢ Nothing)
       × Fits (said_last new) (drop 4 (held_of (reader_of new)))
-  Comes (FailedNow fault) events new = events ≡ []
+  Comes (FailedNow fault) events used piece new = events ≡ []
 
   -- a packet that was judged is settled; the reader is left alone
   pub record Settles (old : Client A) (judged : Result Turn Kind) (offset : ℕ) (outcome : Outcome) (new : Client A) : Type 0 where
@@ -497,12 +519,13 @@ module _ {A : Type 0} where
   abbrev pub LeavesStep : Outcome → ℕ → List ℕ → Client A → Type 0
   LeavesStep NothingYet used piece new = (wants_input new ≡ true) × (0 < length piece → 0 < used)
   LeavesStep EventNow used piece new = (0 < used) × (is_open (reader_of new) ≡ false) × StandsAfter (said_last new) new
+  LeavesStep (PassedNow passed) used piece new = (0 < used) × (wants_input new ≡ true)
   LeavesStep (FailedNow fault) used piece new = (fault_of new ≡ Some fault) × ShownByFeed fault used piece
 
   -- a client that waits for input has used some of the piece
   pub record Takes (old : Client A) (piece : List ℕ) (step : Advance) (new : Client A) : Type 0 where
     pub events : List EventValue
-    pub comes : Comes step.outcome events new
+    pub comes : Comes step.outcome events step.used piece new
     pub hears : HearsOn old (take step.used piece) events new
     pub leaves : LeavesStep step.outcome step.used piece new
     pub fits : all_parts_length events ≤ longest_payload

@@ -12,6 +12,7 @@ use Rattle.git_msg.specs.declared.offers.Caps.{Caps}
 use Rattle.git_client.specs.Parts.{Terms, nearest, advertisement_of, is_end_due}
 use Rattle.git_client.specs.Places.{Place, place_after}
 use Rattle.git_client.specs.Events.{EventValue, Gives, Refuses}
+use Rattle.git_client.specs.Opened.{IsOfRest, opened_in, unless_refused}
 
 -- a packet after those before it has no fault and gives these events
 pub record GivesAt (t : Terms) (asked : List Asked) (before : List Pkt) (p : Pkt) (events : List EventValue) : Type 0 where
@@ -58,9 +59,14 @@ pub record Sounds (t : Terms) (asked : List Asked) (bytes : List ℕ) (clean : L
   pub gives : GiveAll t asked [] clean events
   pub stops : IsStop t asked (nearest clean []) more
 
--- the events of the bytes
-abbrev pub HasEvents : Terms → List Asked → List ℕ → List EventValue → Type 0
-HasEvents t asked bytes events = (clean : List Given) × Sounds t asked bytes clean events
+-- the events of the bytes: those of their packets up to the first that is refused, and of what has come of an open one
+pub record HasEvents (t : Terms) (asked : List Asked) (bytes : List ℕ) (events : List EventValue) : Type 0 where
+  pub clean : List Given
+  pub whole : List EventValue
+  pub opened : List EventValue
+  pub sounds : Sounds t asked bytes clean whole
+  pub of_rest : IsOfRest sounds.rest (unless_refused sounds.more (opened_in (place_after t asked (nearest clean [])) sounds.rest)) opened
+  pub events_are : events ≡ whole ++ opened
 
 -- what the advertisement notes, as far as the bytes have it
 abbrev pub HasNoted : Terms → List Asked → List ℕ → Caps → Type 0
@@ -110,18 +116,22 @@ FirstMalformed t asked bytes fault =
 pub record GoesWell (t : Terms) (asked : List Asked) (bytes : List ℕ) (events : List EventValue) : Type 0 where
   pub given : List Given
   pub rest : List ℕ
+  pub whole : List EventValue
   pub splits : Splits 0 bytes given rest
-  pub sound : GiveAll t asked [] given events
+  pub sound : GiveAll t asked [] given whole
   pub still_open : IsOpen rest
+  pub events_are : events ≡ whole ++ opened_in (place_after t asked (nearest given [])) rest
 
 -- nothing of the bytes has a fault so far, and more is due after them
 pub record GoesOn (t : Terms) (asked : List Asked) (bytes : List ℕ) (events : List EventValue) : Type 0 where
   pub given : List Given
   pub rest : List ℕ
+  pub whole : List EventValue
   pub splits : Splits 0 bytes given rest
-  pub sound : GiveAll t asked [] given events
+  pub sound : GiveAll t asked [] given whole
   pub still_open : IsOpen rest
   pub due : HasDue t asked (nearest given [])
+  pub events_are : events ≡ whole ++ opened_in (place_after t asked (nearest given [])) rest
 
 -- the bytes are just a whole advertisement and a whole response to each question, of which no packet has a fault, and
 -- these are their events

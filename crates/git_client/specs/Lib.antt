@@ -2,10 +2,12 @@ pub mod Parts
 pub mod Sections
 pub mod Places
 pub mod Events
+pub mod Opened
 pub mod Conversation
 pub mod Packs
 pub mod Turns
 pub mod Client
+pub mod HandedOut
 pub mod Transcript
 pub mod Runs
 pub mod RunSteps

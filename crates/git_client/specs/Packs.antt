@@ -1,12 +1,12 @@
 -- The pack of a conversation: what came on the first side band, joined in order.
-use Rattle.std.specs.Prelude.{◌≡◌, ◌⊎◌, ℕ, ◌==◌, List, [], ◌∷◌, ◌++◌, drop, Option, Some, if◌then◌else◌}
+use Rattle.std.specs.Prelude.{◌≡◌, ℕ, ◌==◌, List, [], ◌∷◌, ◌++◌, drop, Option, Some, if◌then◌else◌}
 use Rattle.git_pkt.specs.Packets.{Pkt, payload}
-use Rattle.git_pkt.specs.Faults.{IsOpen}
 use Rattle.git_pkt.specs.Splits.{Given, Splits}
 use Rattle.git_msg.specs.Asked.{Asked}
 use Rattle.git_client.specs.Parts.{Terms, nearest}
 use Rattle.git_client.specs.Places.{Place, packfile, place_after}
 use Rattle.git_client.specs.Events.{EventValue}
+use Rattle.git_client.specs.Opened.{IsOfRest, unless_refused}
 use Rattle.git_client.specs.Conversation.{GiveAll, IsStop}
 
 -- the bytes that a payload has on the first band
@@ -23,18 +23,10 @@ abbrev pub pack_of : Terms → List Asked → List Pkt → List Given → List �
 pack_of t asked before [] = []
 pack_of t asked before (g ∷ gs) = pack_in (place_after t asked before) g.packet ++ pack_of t asked (g.packet ∷ before) gs
 
+-- what an open packet at this place has of the pack
 abbrev pub open_pack_in : Option Place → List ℕ → List ℕ
 open_pack_in (Some packfile) rest = on_first_band (drop 4 rest)
 open_pack_in place rest = []
-
--- what an open packet after all others has of the pack
-abbrev pub open_part : List Given → Option Place → List ℕ → List ℕ
-open_part [] place rest = open_pack_in place rest
-open_part (g ∷ gs) place rest = []
-
--- what an open rest has of the pack; a rest that can become no packet has nothing of it
-abbrev pub IsOfRest : List ℕ → List ℕ → List ℕ → Type 0
-IsOfRest rest part opened = (IsOpen rest × (opened ≡ part)) ⊎ ((¬ IsOpen rest) × (opened ≡ []))
 
 -- the pack of the bytes: that of their packets up to the first that is refused, and what has come of an open one
 pub record HasPack (t : Terms) (asked : List Asked) (bytes pack : List ℕ) : Type 0 where
@@ -46,5 +38,5 @@ pub record HasPack (t : Terms) (asked : List Asked) (bytes pack : List ℕ) : Ty
   pub splits : Splits 0 bytes (clean ++ more) rest
   pub gives : GiveAll t asked [] clean events
   pub stops : IsStop t asked (nearest clean []) more
-  pub of_rest : IsOfRest rest (open_part more (place_after t asked (nearest clean [])) rest) opened
+  pub of_rest : IsOfRest rest (unless_refused more (open_pack_in (place_after t asked (nearest clean [])) rest)) opened
   pub pack_is : pack ≡ pack_of t asked [] clean ++ opened

@@ -22,7 +22,7 @@ use Rattle.git_client.specs.Sections.{section_named, next_allowed, told_with, al
 use Rattle.git_client.specs.Places.{Place, version, capabilities, references, header, acknowledgments, shallow_info, wanted_refs, packfile}
 use Rattle.git_client.specs.Places.{size_line, sizes, response_end}
 use Rattle.git_client.specs.Events.{EventValue, capability, offered, reference, ack, nak, ready, shallow, unshallow, wanted_ref, pack, progress, info, ended}
-use Rattle.git_client.specs.Events.{SaysLine, Gives, band_says}
+use Rattle.git_client.specs.Events.{SaysLine, Gives}
 use Rattle.git_client.specs.declared.events.Ending.{Ending}
 use Rattle.git_client.specs.declared.events.Ending.TheVariants.{FlushOnly, ResponseEnd as WithResponseEnd}
 use Rattle.git_client.specs.declared.events.Event.{Event}
@@ -39,11 +39,9 @@ use Rattle.git_client.specs.declared.phase.Phase.TheVariants.{Hearing, Ready as 
 use Rattle.git_client.specs.declared.phase.Due.{Due}
 use Rattle.git_client.specs.declared.phase.Due.TheVariants.{Version, Capabilities, References, Header, Acknowledgments, ShallowInfo, WantedRefs}
 use Rattle.git_client.specs.declared.phase.Due.TheVariants.{Packfile, SizeLine, Sizes, ResponseEnd}
-use Rattle.git_client.specs.declared.phase.BandSaid.{BandSaid}
-use Rattle.git_client.specs.declared.phase.BandSaid.TheVariants.{Nothing as NothingOn, Pack as PackOn, Progress as ProgressOn}
 use Rattle.git_client.specs.declared.phase.Said.{Said}
 use Rattle.git_client.specs.declared.phase.Said.TheVariants.{Nothing, Capability as SaidCapability, Offered, Reference, Ack, Nak, Ready}
-use Rattle.git_client.specs.declared.phase.Said.TheVariants.{Shallow, Unshallow, WantedRef, Info as SaidInfo, Pack, Progress, Ended}
+use Rattle.git_client.specs.declared.phase.Said.TheVariants.{Shallow, Unshallow, WantedRef, Info as SaidInfo, Ended}
 use Rattle.git_client.specs.declared.phase.CapabilityPlaces.{CapabilityPlaces}
 use Rattle.git_client.specs.declared.phase.Turn.{Turn}
 
@@ -87,14 +85,10 @@ line_events (Shallow id) text = shallow id ∷ []
 line_events (Unshallow id) text = unshallow id ∷ []
 line_events (WantedRef id) text = wanted_ref (wanted_at id text) ∷ []
 line_events (SaidInfo told) text = info told ∷ []
-line_events Pack text = []
-line_events Progress text = []
 line_events Ended text = ended ∷ []
 
 -- the events that a payload was found to say
 abbrev pub events_at : Said → List ℕ → List EventValue
-events_at Pack bytes = map pack (drop 1 bytes)
-events_at Progress bytes = map progress (drop 1 bytes)
 events_at said bytes = line_events said (text_of bytes)
 
 -- the parts of a capability line lie within it
@@ -107,14 +101,10 @@ abbrev pub FitsLine : Said → List ℕ → Type 0
 FitsLine (SaidCapability places) text = LiesIn places text
 FitsLine (Reference places) text = FitsIn places (length text)
 FitsLine (WantedRef id) text = digits_of id.format < length text
-FitsLine Pack text = ⊥
-FitsLine Progress text = ⊥
 FitsLine said text = Unit {0}
 
--- what a payload was found to say lies within it; bytes of a band are one at least
+-- what a payload was found to say lies within it
 abbrev pub Fits : Said → List ℕ → Type 0
-Fits Pack bytes = 1 < length bytes
-Fits Progress bytes = 1 < length bytes
 Fits said bytes = FitsLine said (text_of bytes)
 
 -- a text line at the place was found to say this
@@ -194,26 +184,15 @@ pub record IsLineTurn (format : Format) (due : Due) (caps : Caps) (text : List �
   pub notes : (line : List ℕ) → text_of line ≡ text → NotesAfter due caps (payload line) turn.caps
   pub next : turn.next ≡ Hearing (due_after_line due text)
 
--- what is said by a payload of the packfile section
-abbrev pub said_on : BandSaid → Said
-said_on NothingOn = Nothing
-said_on PackOn = Pack
-said_on ProgressOn = Progress
-
--- what it found of a payload of the packfile section
-pub record IsOnBand (bytes : List ℕ) (on : BandSaid) : Type 0 where
-  pub says : band_says bytes ≡ Ok (events_at (said_on on) bytes)
-  pub fits : Fits (said_on on) bytes
-
--- the turn that it makes: nothing is noted, and the section goes on
-abbrev pub turn_on : Caps → Result BandSaid Kind → Result Turn Kind
-turn_on caps (Ok on) = Ok (record { said = said_on on; caps = caps; next = Hearing Packfile })
-turn_on caps (Err kind) = Err kind
-
 -- the phase takes packets
 abbrev pub takes_packets : Phase → Bool
 takes_packets (Hearing due) = true
 takes_packets _ = false
+
+-- the phase takes bytes on bands
+abbrev pub takes_bands : Phase → Bool
+takes_bands (Hearing Packfile) = true
+takes_bands _ = false
 
 -- the fault of a phase
 abbrev pub fault_in : Phase → Option Fault

@@ -9,10 +9,12 @@ ghost use Rattle.git_names.specs.declared.object_format.Format.{Format};
 ghost use Rattle.git_pkt.specs.Credit.{Pays, credit_of};
 ghost use Rattle.git_pkt.specs.Packets.{longest_payload};
 ghost use Rattle.git_pkt.specs.Splits.{Given, Splits};
+ghost use Rattle.git_pkt.specs.BandReader.{MayPass};
 ghost use Rattle.git_pkt.specs.PacketReader.{fault_of as reader_fault_of, held_of, is_open, passes_of};
 ghost use Rattle.git_client.specs.Parts.{Terms, terms_of};
 ghost use Rattle.git_client.specs.Turns.{takes_packets, fault_in, is_asking, left_in, Fits, LiesIn, events_at, value_at, values_of, capability_value};
-ghost use Rattle.git_client.specs.Turns.{turn_on, wanted_at};
+ghost use Rattle.git_client.specs.HandedOut.{HandsOut, HasPart, IsLent, Shows};
+ghost use Rattle.git_client.specs.Turns.{takes_bands, wanted_at};
 ghost use Rattle.git_client.specs.Events.{turns_of, all_parts_length, capability, reference, wanted_ref};
 ghost use Rattle.git_names.specs.ObjectFormat.{digits_of};
 ghost use Rattle.git_msg.specs.References.{FitsIn, reference_at};
@@ -20,11 +22,11 @@ ghost use Rattle.git_client.specs.Conversation.{HasNoted};
 ghost use Rattle.git_client.specs.declared.events.Ending.{Ending};
 
 use crate::events::{Ending, Event, Heard, HeardGot};
-use crate::judge::{judge, judge_band};
-use crate::phase::{BandSaid, CapabilityPlaces, Due, Phase, Said, Turn};
+use crate::judge::judge;
+use crate::phase::{CapabilityPlaces, Due, Phase, Said, Turn};
 use git_msg::{Capability, Caps, ReferencePlaces, Request, error_message};
 use git_names::{Format, Oid, Steps};
-use git_pkt::{Fault, Got, Kind, Packet, PacketReader, text};
+use git_pkt::{Band, BandGot, Fault, Got, Kind, PacketReader, text};
 use std::alloc::Allocator;
 
 /// What some bytes of a piece came to.
@@ -34,7 +36,16 @@ pub(crate) enum Outcome {
     More,
     /// An event: what was said of it stands in the client, and its bytes in the reader's hold.
     Event,
+    /// Bytes on a band: the last of those used.
+    Passed(Passed),
     Failed(Fault),
+}
+
+/// So many bytes on a band.
+#[derive(Clone, Copy, Debug)]
+pub(crate) struct Passed {
+    pub(crate) band: Band,
+    pub(crate) count: usize,
 }
 
 /// What one step over a piece did.
@@ -42,6 +53,38 @@ pub(crate) enum Outcome {
 pub(crate) struct Advance {
     pub(crate) used: usize,
     pub(crate) outcome: Outcome,
+}
+
+impl Advance {
+    /// The answer of a call that came to this over the piece, where no event is lent of the hold.
+    fn heard<'a>(self, piece: &'a [u8]) -> Heard<'a>
+        requires part { HasPart self.outcome self.used }
+        requires all { self.used ≤ length piece.now }
+        ensures used { result.used ≡ self.used }
+        ensures got { HandsOut self.outcome self.used piece.now result.got }
+    {
+        let used = self.used;
+        let got = match self.outcome {
+            Outcome::Passed(passed) => HeardGot::Event(passed.event(&piece[used - passed.count..used])),
+            Outcome::Failed(fault) => HeardGot::Failed(fault),
+            _ => HeardGot::More,
+        };
+        Heard { used, got }
+    }
+}
+
+impl Passed {
+    /// These bytes, as many as there are on the band.
+    fn event<'a>(self, bytes: &'a [u8]) -> Event<'a>
+        requires { self.band ≢ Band.Fatal }
+        ensures { Shows self.band bytes.now result }
+    {
+        match self.band {
+            Band::Pack => Event::Pack(bytes),
+            Band::Progress => Event::Progress(bytes),
+            Band::Fatal => unreachable!(),
+        }
+    }
 }
 
 /// The fetching side of a conversation, as gitprotocol-v2(5) has it. It gives the packets of what it is asked to ask, reads
@@ -62,7 +105,8 @@ pub struct Client<A: Allocator + Copy> {
     pub(crate) said: Said,
     ghost sound: { fault_in phase ≡ None → reader_fault_of reader ≡ None },
     ghost shut: { fault_in phase ≡ None → takes_packets phase ≡ false → is_open reader ≡ false },
-    ghost gathers: { passes_of reader ≡ false },
+    ghost gathers: { takes_bands phase ≡ false → passes_of reader ≡ false },
+    ghost passes: { takes_bands phase ≡ true → MayPass reader },
     ghost owes: { is_asking phase ≡ true → left_in phase request ≢ [] },
     ghost freed: { is_asking phase ≡ false → request ≡ None },
     ghost formats: { ForSome request (λ q. request_format q ≡ format) },
@@ -151,6 +195,9 @@ impl<A: Allocator + Copy> Client<A> {
 
     /// Reads on. It returns after one event, or with the whole piece used, or at the first fault. A client that does not
     /// wait for input uses nothing. Call it again with the bytes that it did not use.
+    ///
+    /// Bytes of the pack and of the progress are lent of the piece, as it is cut: an event has all that the piece has of one
+    /// packet. Those of all other events are lent of the client.
     pub fn feed<'a>(&'a mut self, piece: &'a [u8], steps: &mut Steps) -> Heard<'a>
         ensures* after { sem 𝓛 (Rests (the_row A.row A.Allocator) self.entry (λ new. Feeds self.old piece.now result new
             × Pays result.used steps.old steps.new (credit_of (reader_of self.old)) (credit_of (reader_of new)))) }
@@ -171,18 +218,11 @@ impl<A: Allocator + Copy> Client<A> {
         }
         let step = self.advance(piece, steps);
         match step.outcome {
-            Outcome::More => Heard {
-                used: step.used,
-                got: HeardGot::More,
-            },
             Outcome::Event => Heard {
                 used: step.used,
                 got: HeardGot::Event(self.event()),
             },
-            Outcome::Failed(fault) => Heard {
-                used: step.used,
-                got: HeardGot::Failed(fault),
-            },
+            _ => step.heard(piece),
         }
     }
 
@@ -231,9 +271,7 @@ impl<A: Allocator + Copy> Client<A> {
         }
     }
 
-    /// Uses bytes up to the end of a packet, or all of them.
-    ///
-    /// A packet that is whole has been paid for by its own bytes.
+    /// Uses bytes up to the end of a packet, or all of them; in the packfile section up to the last of the piece that passes.
     fn take(&mut self, piece: &[u8], steps: &mut Steps) -> Advance
         requires { wants_input self.old ≡ true }
         ensures cost { Pays result.used steps.old steps.new (credit_of (reader_of self.old)) (credit_of (reader_of self.new)) }
@@ -245,6 +283,24 @@ impl<A: Allocator + Copy> Client<A> {
         let Phase::Hearing(due) = self.phase else {
             unreachable!()
         };
+        match due {
+            Due::Packfile => self.take_band(piece, steps),
+            _ => self.take_packet(due, piece, steps),
+        }
+    }
+
+    /// Uses bytes up to the end of a packet, or all of them.
+    ///
+    /// A packet that is whole has been paid for by its own bytes.
+    fn take_packet(&mut self, due: Due, piece: &[u8], steps: &mut Steps) -> Advance
+        requires hears { phase_of self.old ≡ Phase.Hearing due }
+        requires no_band { due ≢ Due.Packfile }
+        ensures cost { Pays result.used steps.old steps.new (credit_of (reader_of self.old)) (credit_of (reader_of self.new)) }
+        ensures paid { result.outcome ≡ Outcome.More → result.used < length piece.now
+            → steps.new + credit_of (reader_of self.new) ≤ steps.old + credit_of (reader_of self.old) + 64 * result.used }
+        ensures used { result.used ≤ length piece.now }
+        ensures takes { Takes self.old piece.now result self.new }
+    {
         steps.tick(1);
         let fed = self.reader.feed(piece, steps);
         let used = fed.used;
@@ -253,6 +309,11 @@ impl<A: Allocator + Copy> Client<A> {
                 used,
                 outcome: Outcome::More,
             },
+            Got::Packet(packet, offset) => {
+                let judged = judge(self.format, self.ending, due, self.caps, packet, steps);
+                let outcome = self.settle(judged, offset);
+                Advance { used, outcome }
+            }
             Got::Failed(fault) => {
                 self.phase = Phase::Failed(fault);
                 Advance {
@@ -260,18 +321,45 @@ impl<A: Allocator + Copy> Client<A> {
                     outcome: Outcome::Failed(fault),
                 }
             }
-            Got::Packet(packet, offset) => match (due, packet) {
-                (Due::Packfile, Packet::Payload(payload)) => {
-                    let judged = judge_band(payload);
-                    let outcome = self.settle_band(judged, offset);
-                    Advance { used, outcome }
-                }
-                _ => {
-                    let judged = judge(self.format, self.ending, due, self.caps, packet, steps);
-                    let outcome = self.settle(judged, offset);
-                    Advance { used, outcome }
-                }
+        }
+    }
+
+    /// Uses bytes of the packfile section: those that pass are handed out as they come, and what is said stays.
+    fn take_band(&mut self, piece: &[u8], steps: &mut Steps) -> Advance
+        requires hears { phase_of self.old ≡ Phase.Hearing Due.Packfile }
+        ensures cost { Pays result.used steps.old steps.new (credit_of (reader_of self.old)) (credit_of (reader_of self.new)) }
+        ensures paid { result.outcome ≡ Outcome.More → result.used < length piece.now
+            → steps.new + credit_of (reader_of self.new) ≤ steps.old + credit_of (reader_of self.old) + 64 * result.used }
+        ensures used { result.used ≤ length piece.now }
+        ensures takes { Takes self.old piece.now result self.new }
+    {
+        steps.tick(1);
+        let fed = self.reader.feed_band(piece, steps);
+        let used = fed.used;
+        match fed.got {
+            BandGot::More => Advance {
+                used,
+                outcome: Outcome::More,
             },
+            BandGot::Part(band, bytes) => {
+                let count = bytes.len();
+                Advance {
+                    used,
+                    outcome: Outcome::Passed(Passed { band, count }),
+                }
+            }
+            BandGot::Packet(packet, offset) => {
+                let judged = judge(self.format, self.ending, Due::Packfile, self.caps, packet, steps);
+                let outcome = self.settle(judged, offset);
+                Advance { used, outcome }
+            }
+            BandGot::Failed(fault) => {
+                self.phase = Phase::Failed(fault);
+                Advance {
+                    used,
+                    outcome: Outcome::Failed(fault),
+                }
+            }
         }
     }
 
@@ -297,29 +385,9 @@ impl<A: Allocator + Copy> Client<A> {
         }
     }
 
-    /// Goes on after a packet of the packfile section that was judged: the section goes on, and nothing is noted.
-    fn settle_band(&mut self, judged: Result<BandSaid, Kind>, offset: u64) -> Outcome
-        requires whole { is_open (reader_of self.old) ≡ false }
-        requires sound { reader_fault_of (reader_of self.old) ≡ None }
-        requires hears { phase_of self.old ≡ Phase.Hearing Due.Packfile }
-        ensures { Settles self.old (turn_on (caps_of self.old) judged) offset result self.new }
-    {
-        match judged {
-            // In a pack one such packet follows another: what is said stays, and no `Said` is written over it.
-            Ok(BandSaid::Pack) if matches!(self.said, Said::Pack) => Outcome::Event,
-            Ok(on_band) => {
-                self.said = on_band.said();
-                match on_band {
-                    BandSaid::Nothing => Outcome::More,
-                    _ => Outcome::Event,
-                }
-            }
-            Err(kind) => self.fail(kind, offset),
-        }
-    }
-
     /// Ends the conversation: the packet at this offset is refused.
     fn fail(&mut self, kind: Kind, offset: u64) -> Outcome
+        requires whole { is_open (reader_of self.old) ≡ false }
         requires said { is_asking (phase_of self.old) ≡ false }
         ensures { Settles self.old (Err kind) offset result self.new }
     {
@@ -332,7 +400,8 @@ impl<A: Allocator + Copy> Client<A> {
     fn event(&self) -> Event<'_>
         requires something { said_last self.now ≢ Said.Nothing }
         requires fits { Fits (said_last self.now) (drop 4 (held_of (reader_of self.now))) }
-        ensures { values_of result ≡ events_at (said_last self.now) (drop 4 (held_of (reader_of self.now))) }
+        ensures values { values_of result ≡ events_at (said_last self.now) (drop 4 (held_of (reader_of self.now))) }
+        ensures lent { IsLent result }
     {
         let payload = self.payload();
         match &self.said {
@@ -350,8 +419,6 @@ impl<A: Allocator + Copy> Client<A> {
                 id: &info.id,
                 size: info.size,
             },
-            Said::Pack => Event::Pack(&payload[1..]),
-            Said::Progress => Event::Progress(&payload[1..]),
             Said::Ended => Event::Ended,
         }
     }
@@ -384,7 +451,8 @@ fn capability<'a>(places: &CapabilityPlaces, line: &'a [u8]) -> Capability<'a>
 /// The reference whose parts lie there.
 fn reference<'a>(places: &'a ReferencePlaces, line: &'a [u8]) -> Event<'a>
     requires { FitsIn places.now (length line.now) }
-    ensures { values_of result ≡ reference (reference_at places.now line.now) ∷ [] }
+    ensures values { values_of result ≡ reference (reference_at places.now line.now) ∷ [] }
+    ensures lent { IsLent result }
 {
     let reference = places.reference(line);
     Event::Reference {
@@ -398,7 +466,8 @@ fn reference<'a>(places: &'a ReferencePlaces, line: &'a [u8]) -> Event<'a>
 /// The wanted reference that points to this object: its name is all after the object's name and a space.
 fn wanted<'a>(id: &'a Oid, line: &'a [u8]) -> Event<'a>
     requires { digits_of id.now.format < length line.now }
-    ensures { values_of result ≡ wanted_ref (wanted_at id.now line.now) ∷ [] }
+    ensures values { values_of result ≡ wanted_ref (wanted_at id.now line.now) ∷ [] }
+    ensures lent { IsLent result }
 {
     Event::WantedRef {
         id,

@@ -1,11 +1,12 @@
 //! What a packet says where something is due, and what refuses it.
 
-ghost use Rattle.std.specs.Prelude.{◌≡◌, Err, MatchResult, ◌+◌, ◌*◌, length};
+ghost use Rattle.std.specs.Prelude.{◌≡◌, Err, MatchResult, ◌+◌, ◌*◌, false, length};
 ghost use Rattle.git_names.specs.declared.object_format.Format.{Format};
 ghost use Rattle.git_names.specs.Steps.{TakesAtMost};
 ghost use Rattle.git_pkt.specs.Packets.{body_of, flush, delim, resp_end, payload as payload_of, seen};
 ghost use Rattle.git_client.specs.Events.{IsLineFault, Refuses, band_says};
-ghost use Rattle.git_client.specs.Turns.{IsLineTurn, IsOnBand, IsTurn, TakesLines, place_due, turn_after_flush};
+ghost use Rattle.git_client.specs.Turns.{IsLineTurn, IsTurn, TakesLines, place_due, turn_after_flush};
+ghost use Rattle.git_pkt.specs.Passed.{begins_band, is_on_band};
 ghost use Rattle.git_client.specs.declared.events.Ending.{Ending};
 
 use crate::events::Ending;
@@ -13,7 +14,7 @@ use crate::judge_lines::{
     judge_acknowledgment, judge_boundary, judge_capability, judge_header, judge_info,
     judge_reference, judge_size_line, judge_version, judge_wanted,
 };
-use crate::phase::{BandSaid, Due, Phase, Said, Turn};
+use crate::phase::{Due, Phase, Said, Turn};
 use crate::sections::Allowed;
 use git_msg::{Caps, is_error};
 use git_names::{Format, Steps};
@@ -22,7 +23,8 @@ use git_pkt::{Band, Kind, Packet, split_band, text};
 // The most bytes that a word has which is a line.
 const LONGEST_WORD: usize = 15;
 
-/// What the packet says where this is due, and `caps` was noted before it, or why it is refused.
+/// What the packet says where this is due, and `caps` was noted before it, or why it is refused. In the packfile section
+/// it is a packet of which no byte passes.
 pub(crate) fn judge(
     format: Format,
     ending: Ending,
@@ -31,6 +33,7 @@ pub(crate) fn judge(
     packet: Packet<'_>,
     steps: &mut Steps,
 ) -> Result<Turn, Kind>
+    requires on_no_band { due ≡ Due.Packfile → is_on_band (seen packet) ≡ false }
     ensures turn { MatchResult result (IsTurn format ending due caps (seen packet.entry))
         (Refuses format ending (place_due caps format due) (seen packet.entry)) }
     ensures cost { TakesAtMost (48 * (length (body_of (seen packet.entry)) + 1)) steps.old steps.new }
@@ -50,15 +53,13 @@ fn judge_payload(
     payload: &[u8],
     steps: &mut Steps,
 ) -> Result<Turn, Kind>
+    requires on_no_band { due ≡ Due.Packfile → begins_band payload.now ≡ false }
     ensures turn { (ending : Ending) → MatchResult result (IsTurn format ending due caps (payload_of payload.now))
         (Refuses format ending (place_due caps format due) (payload_of payload.now)) }
     ensures cost { TakesAtMost (48 * (length payload.now + 1)) steps.old steps.new }
 {
     match due {
-        Due::Packfile => {
-            let on_band = judge_band(payload)?;
-            Ok(heard(on_band.said(), caps, due))
-        }
+        Due::Packfile => Err(refused_on_band(payload)),
         Due::ResponseEnd => Err(Kind::UnexpectedPacket),
         _ => {
             let line = text(payload);
@@ -136,17 +137,15 @@ fn heard(said: Said, caps: Caps, next: Due) -> Turn
     }
 }
 
-/// What a packet of the packfile section says: its first byte says what the others are. Where there are none it says
-/// nothing.
-pub(crate) fn judge_band(payload: &[u8]) -> Result<BandSaid, Kind>
-    ensures on_band { MatchResult result (IsOnBand payload.now) (λ kind. band_says payload.now ≡ Err kind) }
+/// Why a payload of the packfile section is refused of which no byte passes.
+fn refused_on_band(payload: &[u8]) -> Kind
+    requires on_no_band { begins_band payload.now ≡ false }
+    ensures { band_says payload.now ≡ Err result }
 {
-    let (band, bytes) = split_band(payload)?;
-    match band {
-        Band::Fatal => Err(Kind::RemoteFatal),
-        _ if bytes.is_empty() => Ok(BandSaid::Nothing),
-        Band::Pack => Ok(BandSaid::Pack),
-        Band::Progress => Ok(BandSaid::Progress),
+    match split_band(payload) {
+        Ok((Band::Fatal, _)) => Kind::RemoteFatal,
+        Ok(_) => unreachable!(),
+        Err(kind) => kind,
     }
 }
 

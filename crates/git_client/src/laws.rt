@@ -107,10 +107,10 @@ pub fn one_pack()
         → HasPack t asked bytes pack → HasPack t asked bytes other → pack ≡ other }
 {}
 
-/// The pack bytes that were handed out are a front of the pack of the bytes used, and of a whole conversation all of it.
+/// The pack bytes that were handed out are the pack of the bytes used, and so they are of a whole conversation.
 pub fn heard_pack()
-    ensures front { (t : Terms) (asked : List Asked) (bytes : List ℕ) (events : List EventValue) (pack : List ℕ)
-        → HasEvents t asked bytes events → HasPack t asked bytes pack → (more : List ℕ) × (pack ≡ pack_bytes events ++ more) }
+    ensures all { (t : Terms) (asked : List Asked) (bytes : List ℕ) (events : List EventValue) (pack : List ℕ)
+        → HasEvents t asked bytes events → HasPack t asked bytes pack → pack ≡ pack_bytes events }
     ensures whole { (t : Terms) (asked : List Asked) (bytes : List ℕ) (events : List EventValue) (pack : List ℕ)
         → IsConversation t asked bytes events → HasPack t asked bytes pack → pack ≡ pack_bytes events }
 {}
@@ -127,8 +127,8 @@ pub fn all_fields_are_counted<A: Allocator + Copy>()
 
 /// After any calls of a client that was new before them, with the bytes received cut into pieces of any size: it has no more
 /// bytes than the longest packet and the limit of the request that it asks, it took at most 64 steps for each byte used and for
-/// each call of `feed`, its events are those of the bytes, its pack bytes are a front of the pack, and where it refused, it did
-/// so at the first malformed packet.
+/// each call of `feed`, its events are those of the bytes, its pack bytes are the pack, and where it refused, it did so at the
+/// first malformed packet.
 pub fn headline<A: Allocator + Copy>()
     ensures { (t : Terms) (calls : List (Call A)) (before after : ℕ) (first last : Client A)
         → Converses t nothing_yet first → credit_of (reader_of first) ≡ 0 → MakesAll Makes calls before first after last

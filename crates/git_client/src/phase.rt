@@ -1,8 +1,5 @@
 //! Where a conversation stands, and what a packet says there.
 
-ghost use Rattle.std.specs.Prelude.{◌≡◌};
-ghost use Rattle.git_client.specs.Turns.{said_on};
-
 use crate::sections::{Allowed, Told};
 use git_msg::{Caps, Info, ReferencePlaces, RequestWriter};
 use git_names::Oid;
@@ -49,7 +46,8 @@ pub(crate) enum Due {
     ResponseEnd,
 }
 
-/// What a packet without a fault says, and where in its payload: with this no line is read twice.
+/// What a packet without a fault says, and where in its payload: with this no line is read twice. Bytes of the pack and of
+/// the progress pass without it.
 #[derive(Clone, Copy, Debug)]
 pub(crate) enum Said {
     Nothing,
@@ -64,30 +62,7 @@ pub(crate) enum Said {
     /// The wanted reference that points to this object. Its name is what stands after the object's.
     WantedRef(Oid),
     Info(Info),
-    Pack,
-    Progress,
     Ended,
-}
-
-/// What a packet of the packfile section says: bytes of the band, where it has some. A pack has many such packets, so this
-/// is a byte and not a whole [`Said`].
-#[derive(Clone, Copy, Debug)]
-pub(crate) enum BandSaid {
-    Nothing,
-    Pack,
-    Progress,
-}
-
-impl BandSaid {
-    pub(crate) fn said(self) -> Said
-        ensures { result ≡ said_on self }
-    {
-        match self {
-            BandSaid::Nothing => Said::Nothing,
-            BandSaid::Pack => Said::Pack,
-            BandSaid::Progress => Said::Progress,
-        }
-    }
 }
 
 /// Where the parts of a capability line lie in its text: the key at its head, and the value after one `=`.

@@ -70,6 +70,28 @@ refused_not_open p rest kind offset o h = h
 pub not_open_and_faulty : (p : ℕ) (rest : List ℕ) (f : Fault) → IsOpen rest → RestFault p rest f → ⊥
 not_open_and_faulty p rest f o h = refused_not_open p rest f.kind f.offset o h
 
+-- a rest whose fault shows with its last byte has four bytes at most
+pub refused_is_short : (p : ℕ) (rest : List ℕ) (kind : Kind) (offset : ℕ) → IsRefused p rest kind offset → ShowsAtEnd rest → length rest ≤ 4
+refused_is_short p rest BadDigit offset (k, bad, at) shows = elim (cases_lt (k + 1) (length rest)) [
+  | inl more ↦
+      let front = bad_digit_of_take rest k bad in
+      absurd (front.bad ((shows (k + 1) more).digits k front.among front.there))
+  | inr all ↦ omega (arith, bad.among)
+]
+refused_is_short p rest BadLength offset (h, number, at) shows = elim (cases_lt 4 (length rest)) [
+  | inl more ↦
+      let allowed = (shows 4 more).allowed (omega (arith, length-take-le 4 rest (omega arith))) in
+      absurd (allowed.0 (number_of_take rest 4 (omega arith) (omega arith) ∙ number))
+  | inr few ↦ omega arith
+]
+refused_is_short p rest TooLong offset (h, number, at) shows = elim (cases_lt 4 (length rest)) [
+  | inl more ↦
+      let allowed = (shows 4 more).allowed (omega (arith, length-take-le 4 rest (omega arith))) in
+      absurd (omega (arith, allowed.1, number, number_of_take rest 4 (omega arith) (omega arith)))
+  | inr few ↦ omega arith
+]
+refused_is_short p rest kind offset h shows = absurd h
+
 -- one name and one offset
 pub same_fault : (f g : Fault) → f.kind ≡ g.kind → f.offset ≡ g.offset → f ≡ g
 same_fault f g e o =

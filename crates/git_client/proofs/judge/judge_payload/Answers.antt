@@ -11,14 +11,11 @@ use Rattle.git_client.specs.declared.events.Ending.{Ending}
 use Rattle.git_client.specs.declared.phase.Due.{Due}
 use Rattle.git_client.specs.declared.phase.Due.TheVariants.{Packfile, ResponseEnd}
 use Rattle.git_client.specs.declared.phase.Said.{Said}
-use Rattle.git_client.specs.declared.phase.Said.TheVariants.{Pack, Progress}
 use Rattle.git_client.specs.declared.phase.Turn.{Turn}
 use Rattle.git_client.proofs.judge.judge_payload.Goals as goal
 
 -- what was found of a text line was found of its payload
 of_payload : (said : Said) (bytes : List ℕ) → FitsLine said (text_of bytes) → (line_events said (text_of bytes) ≡ events_at said bytes) × Fits said bytes
-of_payload Pack bytes fits = absurd fits
-of_payload Progress bytes fits = absurd fits
 of_payload said bytes fits = (refl, fits)
 
 line_turn : (format : Format) (ending : Ending) (due : Due) (caps : Caps) (bytes : List ℕ) (turn : Turn) → TakesLines due → ¬ IsErrorText (text_of bytes)

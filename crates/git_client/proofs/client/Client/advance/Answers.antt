@@ -5,7 +5,7 @@ use Rattle.git_client.specs.Events.{EventValue}
 use Rattle.git_client.specs.Client.{Comes, HearsOn, LeavesStep}
 use Rattle.git_client.specs.declared.client.Outcome.{Outcome}
 use Rattle.git_client.specs.declared.client.Outcome.TheVariants.{More}
-use Rattle.git_client.proofs.Twice.{hears_then, leaves_then}
+use Rattle.git_client.proofs.Twice.{comes_then, hears_then, leaves_then}
 use Rattle.git_client.proofs.client.Client.advance.Goals as goal
 
 -- one call after another, where the first has been paid for by its bytes
@@ -19,7 +19,7 @@ loop-used-preserved g c =
     let takes = c.take-step.ensures.takes in
     let new = c.take-step.new.self in
     let rest = take (length c.args.piece.now - c.loop-used.used) (drop c.loop-used.used c.args.piece.now) in
-    let none : takes.events ≡ [] = subst (λ (o : Outcome). Comes o takes.events new) c.in-More.is takes.comes in
+    let none : takes.events ≡ [] = subst (λ (o : Outcome). Comes o takes.events c.take-step.result.used rest new) c.in-More.is takes.comes in
     let left : LeavesStep More c.take-step.result.used rest new =
     subst (λ (o : Outcome). LeavesStep o c.take-step.result.used rest new) c.in-More.is takes.leaves in
     record {
@@ -53,7 +53,8 @@ returns-in_default g c =
       all = λ e. absurd (c.in_default.not-More e);
       takes = record {
         events = takes.events;
-        comes = takes.comes;
+        comes = comes_then c.take-step.result.outcome takes.events c.args.piece.now c.loop-used.used c.take-step.result.used new
+            c.loop-used.invariant.within takes.comes;
         hears = hears_then c.args.self.now c.loop-used.self new c.args.piece.now c.loop-used.used c.take-step.result.used takes.events
             c.loop-used.invariant.within c.loop-used.invariant.hears takes.hears;
         leaves = leaves_then c.take-step.result.outcome c.args.piece.now c.loop-used.used c.take-step.result.used new c.in_default.not-More

@@ -1,11 +1,11 @@
-use Rattle.std.proofs.Common.{arith, rules, ◌≡◌, ◌≢◌, ℕ, List, [], ◌∷◌, Err, sym, ap, ◌∙◌}
+use Rattle.std.proofs.Common.{arith, ◌≡◌, ◌≢◌, ℕ, List, [], ◌∷◌, Err, sym, ap, ◌∙◌}
 use Rattle.std.proofs.lemmas.Bool.Decides.{nat_tests}
 use Rattle.git_pkt.specs.Bands.{IsNoBand}
 use Rattle.git_pkt.specs.declared.band.Band.TheVariants.{Pack, Progress, Fatal}
 use Rattle.git_pkt.specs.declared.fault.Kind.{Kind}
 use Rattle.git_pkt.specs.declared.fault.Kind.TheVariants.{BadBand}
 use Rattle.git_client.specs.Events.{band_says}
-use Rattle.git_client.proofs.judge.judge_band.Goals as goal
+use Rattle.git_client.proofs.judge.refused_on_band.Goals as goal
 
 other_byte : (byte : ℕ) (bytes : List ℕ) → byte ≢ 1 → byte ≢ 2 → byte ≢ 3 → band_says (byte ∷ bytes) ≡ Err BadBand
 other_byte byte bytes one two three = grind (arith, nat_tests)
@@ -15,5 +15,5 @@ no_band : (bytes : List ℕ) (kind : Kind) → IsNoBand bytes kind → band_says
 no_band [] kind is = ap Err (sym is)
 no_band (byte ∷ bytes) kind (none, is) = other_byte byte bytes (none Pack) (none Progress) (none Fatal) ∙ ap Err (sym is)
 
-pub returns-in_err-band : goal.returns-in_err-band
-returns-in_err-band c = let refused = no_band c.args.payload.now _ c.in_err-band.ensures in search rules
+pub returns-in-Err : goal.returns-in-Err
+returns-in-Err c = no_band c.args.payload.now c.in-Err.kind c.in-Err.ensures

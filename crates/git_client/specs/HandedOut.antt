@@ -1,0 +1,35 @@
+-- Bytes that passed, as they are handed out.
+use Rattle.std.specs.Prelude.{◌≡◌, ◌≢◌, ℕ, ◌-◌, ◌≤◌, List, take, drop}
+use Rattle.git_pkt.specs.declared.band.Band.{Band}
+use Rattle.git_pkt.specs.declared.band.Band.TheVariants.{Pack, Progress, Fatal}
+use Rattle.git_client.specs.declared.client.Outcome.{Outcome}
+use Rattle.git_client.specs.declared.client.Outcome.TheVariants.{More, Event, Passed, Failed}
+use Rattle.git_client.specs.declared.events.Event.{Event as EventLent}
+use Rattle.git_client.specs.declared.events.Event.TheVariants.{Pack as PackEvent, Progress as ProgressEvent}
+use Rattle.git_client.specs.declared.events.HeardGot.{HeardGot}
+use Rattle.git_client.specs.declared.events.HeardGot.TheVariants.{More as MoreGot, Event as EventGot, Failed as FailedGot}
+
+-- the bytes that passed are among those used, and on a band whose bytes pass
+abbrev pub HasPart : Outcome → ℕ → Type 0
+HasPart (Passed passed) used = (passed.count ≤ used) × (passed.band ≢ Fatal)
+HasPart outcome used = Unit {0}
+
+-- the event has these bytes, on this band
+abbrev pub Shows : Band → List ℕ → EventLent → Type 0
+Shows Pack bytes (PackEvent shown) = shown.now ≡ bytes
+Shows Progress bytes (ProgressEvent shown) = shown.now ≡ bytes
+Shows band bytes event = ⊥
+
+-- what a step came to is handed out: of bytes that passed the last of those used of the piece
+abbrev pub HandsOut : Outcome → ℕ → List ℕ → HeardGot → Type 0
+HandsOut (Passed passed) used piece (EventGot event) = Shows passed.band (take (used - (used - passed.count)) (drop (used - passed.count) piece)) event
+HandsOut (Failed f) used piece (FailedGot g) = f ≡ g
+HandsOut More used piece MoreGot = Unit {0}
+HandsOut Event used piece MoreGot = Unit {0}
+HandsOut outcome used piece got = ⊥
+
+-- the event is lent of the client: it is none of bytes that pass
+abbrev pub IsLent : EventLent → Type 0
+IsLent (PackEvent bytes) = ⊥
+IsLent (ProgressEvent bytes) = ⊥
+IsLent event = Unit {0}

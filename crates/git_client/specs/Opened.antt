@@ -1,0 +1,34 @@
+-- What has come of a packet that is not whole: of the packfile section each byte after that of the band.
+use Rattle.std.specs.Prelude.{◌≡◌, ◌⊎◌, ℕ, List, [], ◌∷◌, ◌++◌, Option, Some}
+use Rattle.git_pkt.specs.Faults.{IsOpen}
+use Rattle.git_pkt.specs.Passed.{OnBand, passed_by_rest}
+use Rattle.git_pkt.specs.Splits.{Given}
+use Rattle.git_pkt.specs.declared.band.Band.{Band}
+use Rattle.git_pkt.specs.declared.band.Band.TheVariants.{Pack, Progress, Fatal}
+use Rattle.git_client.specs.Places.{Place, packfile}
+use Rattle.git_client.specs.Events.{EventValue, pack, progress}
+
+-- what a byte on a band says: of a fatal error none says anything before the last
+abbrev pub band_event : Band → ℕ → List EventValue
+band_event Pack byte = pack byte ∷ []
+band_event Progress byte = progress byte ∷ []
+band_event Fatal byte = []
+
+-- what bytes on bands say, in order
+abbrev pub events_on : List OnBand → List EventValue
+events_on [] = []
+events_on (on ∷ bytes) = band_event on.band on.byte ++ events_on bytes
+
+-- the events of an open packet at this place
+abbrev pub opened_in : Option Place → List ℕ → List EventValue
+opened_in (Some packfile) rest = events_on (passed_by_rest rest)
+opened_in place rest = []
+
+-- what an open packet has, where no packet before it is refused
+abbrev pub unless_refused : {X : Type 0} → List Given → List X → List X
+unless_refused [] part = part
+unless_refused (g ∷ gs) part = []
+
+-- what an open rest has; a rest that can become no packet has nothing
+abbrev pub IsOfRest : {X : Type 0} → List ℕ → List X → List X → Type 0
+IsOfRest rest part opened = (IsOpen rest × (opened ≡ part)) ⊎ ((¬ IsOpen rest) × (opened ≡ []))
