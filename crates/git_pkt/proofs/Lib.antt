@@ -17,6 +17,7 @@ pub mod BandFeeds
 pub mod BandCalls
 pub mod Pieces
 pub mod Written
+pub mod Fronts
 pub mod Escapes
 pub mod EngineLemmas
 pub mod Rests

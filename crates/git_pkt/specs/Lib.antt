@@ -1,6 +1,7 @@
 pub mod Digits
 pub mod TellsDigits
 pub mod Packets
+pub mod Fronts
 pub mod Splits
 pub mod Faults
 pub mod HeldPacket

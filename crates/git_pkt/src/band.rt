@@ -1,12 +1,20 @@
 //! The side bands of a packfile section, gitprotocol-v2(5): the first byte of a payload says what the others are.
 
-ghost use Rattle.std.specs.Prelude.{◌≡◌, ◌<◌, ◌∷◌, MatchResult, length};
+ghost use Rattle.std.specs.Prelude.{◌≡◌, ◌+◌, ◌≤◌, ◌<◌, ◌∷◌, MatchResult, drop, length, take};
+ghost use Rattle.std.specs.Io.{StartsWith};
+ghost use Rattle.arrayvec.specs.ArrayVec.{array_vec_len};
 ghost use Rattle.git_pkt.specs.Bands.{IsNoBand, band_packet, byte_of};
 ghost use Rattle.git_pkt.specs.Packets.{spelling_of, longest_payload};
 
 use crate::fault::Kind;
-use crate::hold::{Hold, append};
-use crate::packet::begin;
+use crate::hold::{Hold, LONGEST_PACKET, append, overwrite};
+use crate::packet::{begin, digits};
+
+/// How many bytes of a packet stand before those on its band: its four digits, and the band's byte.
+pub const BAND_HEAD: usize = 5;
+
+/// By how many blank bytes a hold is made longer at a time.
+const BLANKS: usize = 1024;
 
 /// What the bytes of a packet are, inside a packfile section.
 #[derive(Clone, Copy, Debug, PartialEq, Eq, Hash)]
@@ -40,6 +48,31 @@ pub fn put_band(hold: &mut Hold, band: Band, bytes: &[u8])
     begin(hold, bytes.len() + 1);
     append(hold, &[band.byte()]);
     append(hold, bytes);
+}
+
+/// Makes room in the hold for a packet on a band: 65,515 bytes behind the place of its first [`BAND_HEAD`], to be written over
+/// before [`close_band`]. A hold that is as long as the longest packet stays as it is.
+pub fn open_band(hold: &mut Hold)
+    ensures long { array_vec_len hold.new ≡ 65520 }
+    ensures front { take (array_vec_len hold.old) hold.new.items ≡ hold.old.items }
+{
+    while hold.len() < LONGEST_PACKET {
+        let more = (LONGEST_PACKET - hold.len()).min(BLANKS);
+        append(hold, &[0; BLANKS][..more]);
+    }
+}
+
+/// Makes the hold's front the packet on a band of so many of the bytes that stand behind the place of its first [`BAND_HEAD`].
+/// None of these is moved, and the hold stays as long as it is.
+pub fn close_band(hold: &mut Hold, band: Band, count: usize)
+    requires within { count + 5 ≤ array_vec_len hold.old }
+    ensures front { StartsWith hold.new.items (spelling_of (band_packet band (take count (drop 5 hold.old.items)))) }
+    ensures behind { drop 5 hold.new.items ≡ drop 5 hold.old.items }
+    ensures long { array_vec_len hold.new ≡ array_vec_len hold.old }
+{
+    let held = hold.as_mut_slice();
+    let [a, b, c, d] = digits(count + BAND_HEAD);
+    overwrite(held, 0, &[a, b, c, d, band.byte()]);
 }
 
 /// The band of a payload inside a packfile section, and the bytes after it. A payload without a byte is `NoBand`, and one

@@ -1,9 +1,12 @@
 //! Packets of the wire, as gitprotocol-common(5) has them, and how they are written.
 
-ghost use Rattle.std.specs.Prelude.{◌≡◌, ◌+◌, ◌≤◌, ◌<◌, ◌++◌, length};
+ghost use Rattle.std.specs.Prelude.{◌≡◌, ◌+◌, ◌≤◌, ◌<◌, ◌++◌, ℕ, List, length};
+ghost use Rattle.std.specs.Io.{StartsWith};
 ghost use Rattle.git_pkt.specs.Digits.{digits_of};
-ghost use Rattle.git_pkt.specs.Packets.{body_of, seen, spelling_of, text_of, longest_payload};
+ghost use Rattle.git_pkt.specs.Fronts.{HasFront};
+ghost use Rattle.git_pkt.specs.Packets.{Pkt, Spells, body_of, seen, spelling_of, text_of, longest_payload};
 
+use crate::digits::{Digits, read_digits};
 use crate::hold::{Hold, append};
 use git_names::lower_digit;
 
@@ -51,6 +54,32 @@ pub fn begin(hold: &mut Hold, length: usize)
     spell(hold, length + 4, b"");
 }
 
+/// The packet at the hold's front, its four digits among its bytes. What stands after them is no part of it.
+pub fn front_packet(hold: &Hold) -> &[u8]
+    requires begins { HasFront hold.now.items }
+    ensures front { (packet : Pkt) (bytes : List ℕ) → Spells packet bytes → StartsWith hold.now.items bytes → result.now ≡ bytes }
+    ensures fits { length result.now ≤ 65520 }
+{
+    let bytes = hold.as_slice();
+    match read_digits(bytes) {
+        Digits::Number(field) => &bytes[..field.max(4)],
+        Digits::Bad(_) => unreachable!(),
+    }
+}
+
+/// A number below 65,536 as four digits.
+pub(crate) fn digits(field: usize) -> [u8; 4]
+    requires { field < 65536 }
+    ensures { result ≡ digits_of field }
+{
+    [
+        lower_digit(field / 4096),
+        lower_digit(field / 256 % 16),
+        lower_digit(field / 16 % 16),
+        lower_digit(field % 16),
+    ]
+}
+
 /// Four digits and the bytes after them.
 fn spell(hold: &mut Hold, field: usize, body: &[u8])
     requires digits { field < 65536 }
@@ -58,14 +87,6 @@ fn spell(hold: &mut Hold, field: usize, body: &[u8])
     ensures { hold.new.items ≡ digits_of field ++ body.now }
 {
     hold.clear();
-    append(
-        hold,
-        &[
-            lower_digit(field / 4096),
-            lower_digit(field / 256 % 16),
-            lower_digit(field / 16 % 16),
-            lower_digit(field % 16),
-        ],
-    );
+    append(hold, &digits(field));
     append(hold, body);
 }

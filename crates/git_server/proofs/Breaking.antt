@@ -1,9 +1,9 @@
 -- A server whose answer breaks off, since the source of the pack failed.
 use Rattle.std.proofs.Common.{arith, ◌≡◌, ℕ, Bool, false, List, [], ◌∷◌, ◌++◌, Option, None, ◌*◌, ap}
 use Rattle.std.proofs.Common.{refl, sym, ap, ◌∙◌, append_assoc, append-nil, subst, inr}
-use Rattle.git_pkt.specs.Packets.{Pkt}
+use Rattle.git_pkt.specs.Packets.{Pkt, spelling_of}
 use Rattle.git_pkt.specs.Splits.{Given}
-use Rattle.git_pkt.specs.PacketReader.{held_of, is_open}
+use Rattle.git_pkt.specs.PacketReader.{is_open}
 use Rattle.git_pkt.specs.declared.fault.Kind.TheVariants.{PackSource}
 use Rattle.git_pkt.proofs.KnownRest.{none_between, sound_rest}
 use Rattle.git_msg.specs.Asked.{Asked}
@@ -65,10 +65,10 @@ module _ {R A : Type 0} (state : R → RepoState) (old new : Server R A) (packet
     with_one : h.sent ++ packet ∷ [] ≡ advertised s ++ answering.answers ++ (answering.front ++ packet ∷ [])
     with_one = ap (λ (l : List Pkt). l ++ packet ∷ []) answering.sent_is ∙ append_assoc (advertised s ++ answering.answers) answering.front (packet ∷ [])
 
-    given_now : before ++ held_of new.reader ≡ spelled (h.sent ++ packet ∷ [])
-    given_now = ap (λ (l : List ℕ). l ++ held_of new.reader) h.given_is ∙ ap (λ (l : List ℕ). spelled h.sent ++ l) writes.held ∙ sym (spelled_one h.sent packet)
+    given_now : before ++ spelling_of packet ≡ spelled (h.sent ++ packet ∷ [])
+    given_now = ap (λ (l : List ℕ). l ++ spelling_of packet) h.given_is ∙ sym (spelled_one h.sent packet)
 
-    ends_broken : (owed : List Pkt) → owed ≡ [] → IsEnding s used over (before ++ held_of new.reader) (lost_pack offset) owed
+    ends_broken : (owed : List Pkt) → owed ≡ [] → IsEnding s used over (before ++ spelling_of packet) (lost_pack offset) owed
     ends_broken owed nothing =
         let a = answering in
         let asked = subst (λ (qs : List Asked). AreRequests (IsRequest s) h.packets qs h.left) a.whole h.requests in
@@ -117,6 +117,7 @@ module _ {R A : Type 0} (state : R → RepoState) (old new : Server R A) (packet
           some_left (state old.repo).answers answer,
         );
         held = writes.held;
+        fits = writes.fits;
         credit = ap (λ (n : ℕ). 56 * n) (shut_counts_none new.reader writes.between);
         outcome = lost_by_pull (outcome_of old) (outcome_of new) went_on lost;
         goes = λ s so_far over before r.
@@ -131,8 +132,8 @@ module _ {R A : Type 0} (state : R → RepoState) (old new : Server R A) (packet
               within = omega (arith, r.within, ap kept_so_far requests, ap kept_in is);
               covered = omega (arith, ap stored_in is);
               fits = writes.holds;
-              stands = subst (λ (o : Option Outcome). StandsBy o s (so_far ++ []) over (before ++ held_of new.reader) new) (sym (ap outcome_in is))
-                  (λ owed owes. subst (λ (l : List ℕ). IsEnding s l over (before ++ held_of new.reader) (lost_pack offset) owed) (sym (append-nil so_far))
+              stands = subst (λ (o : Option Outcome). StandsBy o s (so_far ++ []) over (before ++ spelling_of packet) new) (sym (ap outcome_in is))
+                  (λ owed owes. subst (λ (l : List ℕ). IsEnding s l over (before ++ spelling_of packet) (lost_pack offset) owed) (sym (append-nil so_far))
                   (ends_broken s so_far over before r.repo not_over h owed
                   (subst (λ (p : Phase A). Owes new.offer s.repo p owed) is owes)));
             };

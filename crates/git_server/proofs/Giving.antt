@@ -1,8 +1,7 @@
 -- A server that gives a packet.
 use Rattle.std.proofs.Common.{arith, ◌≡◌, ◌≤◌, ◌<◌, ℕ, Bool, List, [], ◌∷◌, ◌++◌, Option, Some, None, sym, ap, ◌∙◌, append_assoc, append-nil, subst, inl, ◌*◌}
-use Rattle.git_pkt.specs.Packets.{Pkt}
+use Rattle.git_pkt.specs.Packets.{Pkt, spelling_of}
 use Rattle.git_pkt.specs.Splits.{Given}
-use Rattle.git_pkt.specs.PacketReader.{held_of}
 use Rattle.git_pkt.proofs.OpenLengths.{shut_counts_none}
 use Rattle.git_server.specs.Repository.{Repository, RepoState}
 use Rattle.git_server.specs.Answers.{AllFit, spelled}
@@ -40,11 +39,11 @@ module _ {R A : Type 0} (state : R → RepoState) (old new : Server R A) (packet
       subst (λ (r : Repository). MayBreak r old.phase (packet ∷ later)) repo
       (breaks later (subst (λ (r : Repository). MayBreak r new.phase later) (sym repo) may))
 
-  given_on : (before : List ℕ) (sent : List Pkt) → before ≡ spelled sent → before ++ held_of new.reader ≡ spelled (sent ++ packet ∷ [])
-  given_on before sent is = ap (λ (l : List ℕ). l ++ held_of new.reader) is ∙ ap (λ (l : List ℕ). spelled sent ++ l) writes.held ∙ sym (spelled_one sent packet)
+  given_on : (before : List ℕ) (sent : List Pkt) → before ≡ spelled sent → before ++ spelling_of packet ≡ spelled (sent ++ packet ∷ [])
+  given_on before sent is = ap (λ (l : List ℕ). l ++ spelling_of packet) is ∙ sym (spelled_one sent packet)
 
   gives_in : (o : Option Outcome) (s : Setting) (used : List ℕ) (over : Bool) (before : List ℕ)
-      → (state old.repo).answers ≡ s.repo → StandsBy o s used over before old → StandsBy o s used over (before ++ held_of new.reader) new
+      → (state old.repo).answers ≡ s.repo → StandsBy o s used over before old → StandsBy o s used over (before ++ spelling_of packet) new
   gives_in None s used over before repo (not_over, h) = (
     not_over,
     record {
@@ -99,6 +98,7 @@ module _ {R A : Type 0} (state : R → RepoState) (old new : Server R A) (packet
         owed = inl comes_before;
         less = fewer;
         held = writes.held;
+        fits = writes.fits;
         credit = ap (λ (n : ℕ). 56 * n) (shut_counts_none new.reader writes.between);
         outcome = stays_as (outcome_of old) (outcome_of new) same;
         goes = λ s so_far over before r.
@@ -112,7 +112,7 @@ module _ {R A : Type 0} (state : R → RepoState) (old new : Server R A) (packet
               within = omega (arith, r.within, ap kept_so_far keeps.requests, no_more);
               covered = covered r.covered;
               fits = writes.holds;
-              stands = subst (λ (o : Option Outcome). StandsBy o s (so_far ++ []) over (before ++ held_of new.reader) new) (sym same)
-                  (subst (λ (l : List ℕ). StandsBy (outcome_of old) s l over (before ++ held_of new.reader) new) (sym (append-nil so_far)) stands);
+              stands = subst (λ (o : Option Outcome). StandsBy o s (so_far ++ []) over (before ++ spelling_of packet) new) (sym same)
+                  (subst (λ (l : List ℕ). StandsBy (outcome_of old) s l over (before ++ spelling_of packet) new) (sym (append-nil so_far)) stands);
             };
       }

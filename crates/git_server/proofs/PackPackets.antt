@@ -1,15 +1,21 @@
 -- The packets of a pack: one more of them, and that there are always some that end it.
-use Rattle.std.proofs.Common.{arith, ◌≡◌, ℕ, ◌+◌, ◌<◌, List, [], ◌∷◌, ◌++◌, length, take, drop, refl, sym, ap, ◌∙◌, append_assoc}
-use Rattle.std.proofs.Common.{take-append-drop}
+use Rattle.std.proofs.Common.{arith, ◌≡◌, ℕ, ◌+◌, ◌<◌, List, [], ◌∷◌, ◌++◌, length, take, drop, refl, sym, ap, ◌∙◌, append_assoc, subst}
+use Rattle.std.proofs.Common.{take-append-drop, drop_of_length-le}
 use Rattle.std.proofs.lemmas.List.{drop-drop}
 use Rattle.std.proofs.lemmas.Grind.{common_steps}
 use Rattle.git_pkt.specs.Packets.{Pkt, flush, flushes, longest_payload}
 use Rattle.git_pkt.specs.Bands.{AreBands, band_packet}
 use Rattle.git_pkt.specs.declared.band.Band.TheVariants.{Pack as PackBand}
-use Rattle.git_server.specs.FetchPlaces.{IsPackfileFrom}
+use Rattle.git_pkt.specs.declared.reader.PacketReader.{PacketReader}
+use Rattle.git_server.specs.AnsweredRequest.{IsNext, WritesPack}
+use Rattle.git_server.specs.FetchPlaces.{IsPackfileFrom, most_packets}
+use Rattle.git_server.specs.PackParts.{IsPartRead, WritesPart, answered_by, part_packet}
+use Rattle.git_server.specs.Repository.{RepoState}
 use Rattle.git_server.specs.Packs.{Manner, whole, broken, IsPackPart, EndsPack, EndsWhole, IsPackfile, pack_source_packet, packfile_header}
 use Rattle.git_server.specs.declared.packing.PackPlace.{PackPlace}
 use Rattle.git_server.specs.declared.packing.PackPlace.TheVariants.{Header, Pack}
+use Rattle.git_server.specs.declared.packing.PartRead.{PartRead}
+use Rattle.git_server.specs.declared.packing.PartRead.TheVariants.{Bytes, End, Failed}
 use Rattle.git_server.proofs.Flushes.{flushes-append}
 
 taken_off : (bytes : List ℕ) (offset count : ℕ) → drop offset bytes ≡ take count (drop offset bytes) ++ drop (offset + count) bytes
@@ -44,6 +50,31 @@ module _ (pack out : List ℕ) (offset count : ℕ) (part : IsPackPart pack offs
         are_bands = (take count out, h.front, refl, omega (arith, long, some), omega (arith, long, few), refl, h.are_bands);
         packets_are = ap (λ (l : List Pkt). band_packet PackBand (take count out) ∷ l) h.packets_are;
       }
+
+-- the place after a part that was read from an offset on
+abbrev pub place_after : PackPlace → ℕ → PartRead → PackPlace
+place_after place offset (Bytes count) = Pack (offset + count)
+place_after place offset End = place
+place_after place offset Failed = place
+
+part_is_next : (pack room : List ℕ) (offset : ℕ) → length room ≡ 65515 → (part : PartRead) → IsPartRead pack offset room part
+    → IsNext (λ manner place later. IsPackfileFrom manner pack place later) (most_packets pack) (Pack offset) (answered_by part)
+    (place_after (Pack offset) offset part) (part_packet room part)
+part_is_next pack room offset full (Bytes count) (some, part) =
+    (after_part pack room offset count part some (omega (arith, part.fits, full)), omega (arith, part.within, some))
+part_is_next pack room offset full End none =
+    record { bands = []; are_bands = drop_of_length-le pack none; packets_are = refl }
+part_is_next pack room offset full Failed h =
+    record { front = []; back = drop offset pack; bands = []; cut = refl; are_bands = refl; packets_are = refl }
+
+-- the packet of a part is the next of those that end the section
+pub part_written : (pack : List ℕ) (offset : ℕ) (place : PackPlace) → place ≡ Pack offset
+    → (repo_old : RepoState) (old : PacketReader) (part : PartRead) (repo_new : RepoState) (new : PacketReader)
+    → WritesPart pack offset repo_old old part repo_new new
+    → WritesPack pack repo_old place old (answered_by part) repo_new (place_after place offset part) new
+part_written pack offset place was repo_old old part repo_new new h =
+    subst (λ (p : PackPlace). WritesPack pack repo_old p old (answered_by part) repo_new (place_after p offset part) new) (sym was)
+    (record { packet = part_packet h.room part; writes = h.writes; is_next = part_is_next pack h.room offset h.full part h.is_read; reads = h.reads })
 
 -- some packets always end a pack: each byte in a packet of its own
 single : List ℕ → List Pkt

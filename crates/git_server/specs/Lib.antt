@@ -17,6 +17,7 @@ pub mod WrittenPackets
 pub mod Brought
 pub mod FetchPlaces
 pub mod AnsweredRequest
+pub mod PackParts
 pub mod Packs
 pub mod Phases
 pub mod Server

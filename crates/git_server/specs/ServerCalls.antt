@@ -1,7 +1,8 @@
 -- What each call does to all that a server used and gave.
 use Rattle.std.specs.Prelude.{◌≡◌, ◌⊎◌, ℕ, ◌<◌, ◌≤◌, Bool, true, List, [], ◌∷◌, ◌++◌, length, Option, Some, None}
+use Rattle.std.specs.Io.{StartsWith}
 use Rattle.git_pkt.specs.Credit.{credit_of}
-use Rattle.git_pkt.specs.Packets.{Pkt, spelling_of}
+use Rattle.git_pkt.specs.Packets.{Pkt, body_of, longest_payload, spelling_of}
 use Rattle.git_pkt.specs.Splits.{Given}
 use Rattle.git_pkt.specs.PacketReader.{ReadsOn, held_of}
 use Rattle.git_server.specs.Repository.{RepoState}
@@ -107,12 +108,13 @@ module _ {R A : Type 0} where
     pub repo : state new.repo ≡ state old.repo
     pub requests : new.requests ≡ old.requests
 
-  -- the next packet that is owed is in the hold, and given with it
+  -- the hold begins with the next packet that is owed, which is given with it
   pub record Gives (state : R → RepoState) (old new : Server R A) : Type 0 where
     pub packet : Pkt
     pub owed : ComesFirst state packet old new
     pub less : most_left state new < most_left state old
-    pub held : held_of new.reader ≡ spelling_of packet
+    pub held : StartsWith (held_of new.reader) (spelling_of packet)
+    pub fits : length (body_of packet) ≤ longest_payload
     pub credit : credit_of new.reader ≡ 0
-    pub goes : Goes state [] (held_of new.reader) old new
+    pub goes : Goes state [] (spelling_of packet) old new
     pub outcome : IsAfterPull (outcome_of old) (outcome_of new)

@@ -1,13 +1,14 @@
 -- What writing a packet into a reader's hold does to the reader.
 use Rattle.std.specs.Prelude.{◌≡◌, ◌≤◌, ℕ, false, List, ◌∷◌, length}
+use Rattle.std.specs.Io.{StartsWith}
 use Rattle.git_pkt.specs.Packets.{Pkt, spelling_of, body_of, longest_payload}
 use Rattle.git_pkt.specs.Splits.{Given}
 use Rattle.git_pkt.specs.PacketReader.{Reads, bytes_held, held_of, fault_of, is_open, passes_of, position_of}
 use Rattle.git_pkt.specs.declared.reader.PacketReader.{PacketReader}
 
--- the packet's spelling is in the hold, and the reader reads on as before
+-- the hold begins with the packet's spelling, and the reader reads on as before
 pub record Writes (old : PacketReader) (packet : Pkt) (new : PacketReader) : Type 0 where
-  pub held : held_of new ≡ spelling_of packet
+  pub held : StartsWith (held_of new) (spelling_of packet)
   pub fits : length (body_of packet) ≤ longest_payload
   pub between : is_open new ≡ false
   pub gathers : passes_of new ≡ false

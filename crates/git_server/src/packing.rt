@@ -1,21 +1,18 @@
 //! The section of the pack in an answer to `fetch`, a packet at a time.
 
-ghost use Rattle.std.specs.Prelude.{◌≡◌, ◌+◌, ◌<◌, length, false};
+ghost use Rattle.std.specs.Prelude.{◌≡◌, drop, length, false};
+ghost use Rattle.std.specs.Io.{StartsWith};
 ghost use Rattle.git_pkt.specs.PacketReader.{is_open};
-ghost use Rattle.git_pkt.specs.Bands.{band_packet};
-ghost use Rattle.git_pkt.specs.Packets.{longest_payload};
+ghost use Rattle.git_pkt.specs.Packets.{spelling_of};
 ghost use Rattle.git_server.specs.AnsweredRequest.{WritesPack};
-ghost use Rattle.git_server.specs.WrittenPackets.{Writes};
+ghost use Rattle.git_server.specs.PackParts.{FitsRoom, PutsPart, ReadsPart, WritesPart, part_packet};
 
 use crate::answer::Answered;
-use crate::packets::{write_line, write_packet};
+use crate::packets::write_line;
 use crate::repo::{PackFault, Repo};
 use git_msg::Fetch;
-use git_pkt::{Band, Packet, PacketReader, put_band};
+use git_pkt::{BAND_HEAD, Band, Hold, Packet, PacketReader, close_band, open_band, put, put_band};
 use std::alloc::Allocator;
-
-/// How many bytes of a pack a packet has at the most.
-const PART: usize = 4096;
 
 /// The place from which on the section of the pack is owed, gitprotocol-v2(5).
 #[derive(Clone, Copy, Debug)]
@@ -24,6 +21,17 @@ pub(crate) enum PackPlace {
     Header,
     /// From the byte of the pack at this offset on.
     Pack(u64),
+}
+
+// What came of a read of a pack into the room that a packet has for it.
+#[derive(Clone, Copy, Debug)]
+enum PartRead {
+    // So many bytes, and one at least.
+    Bytes(usize),
+    // None, since the pack has no more.
+    End,
+    // The read failed.
+    Failed,
 }
 
 /// Writes the next packet of the section into the reader's hold, and goes on to the place after it.
@@ -43,33 +51,76 @@ pub(crate) fn write_pack<R: Repo, A: Allocator + Copy>(
             *place = PackPlace::Pack(0);
             Answered::Part
         }
-        PackPlace::Pack(offset) => {
-            let mut part = [0; PART];
-            match repo.pack_read(request, offset, &mut part) {
-                Ok(0) => {
-                    write_packet(reader, Packet::Flush);
-                    Answered::Whole
-                }
-                Ok(count) => {
-                    write_band(reader, Band::Pack, &part[..count]);
-                    *place = PackPlace::Pack(offset + count as u64);
-                    Answered::Part
-                }
-                Err(PackFault) => {
-                    write_band(reader, Band::Fatal, b"PackSource");
-                    Answered::Broken
-                }
+        PackPlace::Pack(offset) => match write_part(repo, request, offset, reader) {
+            PartRead::Bytes(count) => {
+                *place = PackPlace::Pack(offset + count as u64);
+                Answered::Part
             }
-        }
+            PartRead::End => Answered::Whole,
+            PartRead::Failed => Answered::Broken,
+        },
     }
 }
 
-// Makes the hold the packet of these bytes on a band.
-fn write_band(reader: &mut PacketReader, band: Band, bytes: &[u8])
-    requires between { is_open reader.old ≡ false }
-    requires fits { length bytes.now < longest_payload }
-    ensures { Writes reader.old (band_packet band bytes.now) reader.new }
+// Writes the packet of the next part of the pack into the reader's hold, and says what it tells.
+fn write_part<R: Repo, A: Allocator + Copy>(
+    repo: &mut R,
+    request: &Fetch<A>,
+    offset: u64,
+    reader: &mut PacketReader,
+) -> PartRead
+    requires { is_open reader.old ≡ false }
+    ensures { WritesPart ((R.state repo.old).answers.pack request.now.asked) offset
+        (R.state repo.old) reader.old result (R.state repo.new) reader.new }
 {
-    put_band(reader.lend(), band, bytes);
+    let part = put_part(repo, request, offset, reader.lend());
     let _ = reader.hold();
+    part
+}
+
+// Makes the hold's front the packet of the next part of the pack, which is read into its place there.
+fn put_part<R: Repo, A: Allocator + Copy>(
+    repo: &mut R,
+    request: &Fetch<A>,
+    offset: u64,
+    hold: &mut Hold,
+) -> PartRead
+    ensures { PutsPart ((R.state repo.old).answers.pack request.now.asked) offset
+        (R.state repo.old) result (R.state repo.new) hold.new.items }
+{
+    open_band(hold);
+    let part = read_part(repo, request, offset, &mut hold.as_mut_slice()[BAND_HEAD..]);
+    close_part(hold, part);
+    part
+}
+
+// Reads as much of the pack as a packet has room for, or as the repository gives.
+fn read_part<R: Repo, A: Allocator + Copy>(
+    repo: &mut R,
+    request: &Fetch<A>,
+    offset: u64,
+    room: &mut [u8],
+) -> PartRead
+    requires full { length room.old ≡ 65515 }
+    ensures { ReadsPart ((R.state repo.old).answers.pack request.now.asked) offset
+        (R.state repo.old) result (R.state repo.new) room.new }
+{
+    match repo.pack_read(request, offset, room) {
+        Ok(0) => PartRead::End,
+        Ok(count) => PartRead::Bytes(count),
+        Err(PackFault) => PartRead::Failed,
+    }
+}
+
+// Makes the hold's front the packet that tells what was read behind the place of its first bytes.
+fn close_part(hold: &mut Hold, part: PartRead)
+    requires long { length hold.old.items ≡ 65520 }
+    requires within { FitsRoom part }
+    ensures { StartsWith hold.new.items (spelling_of (part_packet (drop 5 hold.old.items) part)) }
+{
+    match part {
+        PartRead::Bytes(count) => close_band(hold, Band::Pack, count),
+        PartRead::End => put(hold, Packet::Flush),
+        PartRead::Failed => put_band(hold, Band::Fatal, b"PackSource"),
+    }
 }

@@ -13,7 +13,7 @@ use crate::repo::Repo;
 use crate::requests::{Brought, take_packet};
 use git_msg::{Limits, Offer, RequestReader};
 use git_names::Steps;
-use git_pkt::{Fault, Got, Kind, PacketReader};
+use git_pkt::{Fault, Got, Kind, PacketReader, front_packet};
 use std::alloc::Allocator;
 
 /// Where a session stands.
@@ -66,11 +66,14 @@ enum Turn {
 }
 
 impl<R: Repo, A: Allocator + Copy> Server<R, A> {
-    ghost use Rattle.std.specs.Prelude.{◌+◌, ◌*◌, ◌≤◌, ◌<◌, ◌⊎◌, ◌↔◌, [], length, take, IsTrue, IsSome};
+    ghost use Rattle.std.specs.Prelude.{ℕ, List, ◌+◌, ◌*◌, ◌≤◌, ◌<◌, ◌⊎◌, ◌↔◌, [], length, take, IsTrue, IsSome};
     ghost use Rattle.std.specs.Borrow.{sem};
+    ghost use Rattle.std.specs.Io.{StartsWith};
     ghost use Rattle.std.specs.Io.BufRead.{Rests};
     ghost use Rattle.git_server.specs.contracts.server.Server.{the_row};
     ghost use Rattle.git_pkt.specs.Credit.{Pays, credit_of};
+    ghost use Rattle.git_pkt.specs.Fronts.{HasFront};
+    ghost use Rattle.git_pkt.specs.Packets.{Pkt, Spells};
     ghost use Rattle.git_server.specs.Server.{IsFresh, Running, reader_of, repo_of, wants_input, outcome_of};
     ghost use Rattle.git_server.specs.ServerCalls.{Closes, Gives, Goes, OwesNow, Pulls, StopsInTime};
     ghost use Rattle.git_pkt.specs.PacketReader.{held_of};
@@ -219,15 +222,16 @@ impl<R: Repo, A: Allocator + Copy> Server<R, A> {
         }
     }
 
-    // The packet in the hold.
+    // The packet at the hold's front.
     fn packet(&self) -> &[u8]
-        ensures held { result.now ≡ held_of self.now.reader }
+        requires { HasFront (held_of self.now.reader) }
+        ensures front { (packet : Pkt) (bytes : List ℕ) → Spells packet bytes → StartsWith (held_of self.now.reader) bytes → result.now ≡ bytes }
         ensures fits { length result.now ≤ 65520 }
     {
-        self.reader.hold().as_slice()
+        front_packet(self.reader.hold())
     }
 
-    // Puts the next packet that is owed into the hold.
+    // Puts the next packet that is owed at the hold's front.
     fn give(&mut self)
         requires { turn_in self.old.phase ≡ Turn.Packet }
         ensures { Gives R.state self.old self.new }

@@ -1,10 +1,11 @@
 use Rattle.std.proofs.Common.{rules, arith, ap, length}
+use Rattle.std.proofs.Transfers.{starts_with_of_eq}
 use Rattle.git_pkt.proofs.LentHolds.{lent_reads}
 use Rattle.git_server.proofs.wanting.write_wanted.Goals as goal
 
 pub returns : goal.returns
 returns c = record {
-  held = search rules;
+  held = starts_with_of_eq _ _ (search rules);
   fits = search rules;
   between = search rules;
   gathers = search rules;
