@@ -1,6 +1,6 @@
 -- Calls of a server, one after the other.
-use Rattle.std.proofs.Common.{arith, ◌≡◌, ◌≢◌, ℕ, ◌+◌, ◌≤◌, Bool, true, false, List, [], ◌∷◌, ◌++◌, length, take, Option, Some, None, refl, sym, ap}
-use Rattle.std.proofs.Common.{◌∙◌, subst, inl, inr}
+use Rattle.std.proofs.Common.{arith, ◌≡◌, ◌≢◌, ℕ, Bool, true, false, List, [], ◌∷◌, ◌++◌, length, take, Option, Some, None, refl, sym}
+use Rattle.std.proofs.Common.{subst, inl, inr}
 use Rattle.std.proofs.Common.{append_assoc, append-nil}
 use Rattle.std.proofs.lemmas.List.{length-take-le}
 use Rattle.git_pkt.specs.Credit.{ArePaid, MakesAll, credit_of}
@@ -8,11 +8,10 @@ use Rattle.git_pkt.proofs.Credits.{all_paid}
 use Rattle.git_pkt.specs.Packets.{Pkt}
 use Rattle.git_pkt.specs.declared.fault.Fault.{Fault}
 use Rattle.git_pkt.specs.declared.fault.Kind.TheVariants.{StreamTooLong}
-use Rattle.git_server.specs.Repository.{Repository, RepoState}
-use Rattle.git_server.specs.Sessions.{EndsBy, FirstMalformed, IsEnding, IsOfTheBytes, IsRefused, Setting}
-use Rattle.git_server.specs.Phases.{Owes}
+use Rattle.git_server.specs.Repository.{RepoState}
+use Rattle.git_server.specs.Sessions.{FirstMalformed, IsEnding, IsOfTheBytes, IsRefused, Setting}
 use Rattle.git_server.specs.Server.{Running, StandsBy, outcome_of, reader_of}
-use Rattle.git_server.specs.Calls.{Call, feed, pull, close, Headline, Makes, closes, feeds_by, feeds_in, given_in, used_by, used_in}
+use Rattle.git_server.specs.Calls.{Call, feed, pull, close, Headline, Makes, closes, feeds_by, given_in, used_by, used_in}
 use Rattle.git_server.specs.ServerCalls.{given_by}
 use Rattle.git_server.specs.declared.outcome.Outcome.{Outcome}
 use Rattle.git_server.specs.declared.outcome.Outcome.TheVariants.{Refused}

@@ -1,5 +1,5 @@
 -- Calls of a server, one after the other, and what is promised after any of them.
-use Rattle.std.specs.Prelude.{◌≡◌, ◌≢◌, ℕ, ◌+◌, ◌*◌, ◌≤◌, Bool, true, false, List, [], ◌∷◌, length, take, flat_map, sum_by, Option, Some, None}
+use Rattle.std.specs.Prelude.{◌≡◌, ◌≢◌, ℕ, ◌+◌, ◌*◌, ◌≤◌, Bool, true, false, List, [], ◌∷◌, length, take, flat_map, sum_by, Some, None}
 use Rattle.git_pkt.specs.Credit.{Pays, credit_of}
 use Rattle.git_pkt.specs.PacketReader.{bytes_held as held_in_packet}
 use Rattle.git_pkt.specs.declared.fault.Fault.{Fault}
