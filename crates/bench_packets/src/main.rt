@@ -4,8 +4,9 @@
 //! into a room of its own, as the library for C does, to be measured beside `bench/calls.c`.
 #![tactic(auto)]
 
-ghost use Rattle.std.specs.Prelude.{◌≡◌, ◌+◌, ◌%◌, ◌^◌, length};
+ghost use Rattle.std.specs.Prelude.{◌≡◌, ◌+◌, ◌%◌, ◌^◌, false, length};
 ghost use Rattle.git_pkt.specs.Packets.{body_of, seen};
+ghost use Rattle.git_pkt.specs.PacketReader.{passes_of};
 
 use git_names::Steps;
 use git_pkt::{Fault, Got, Packet, PacketReader};
@@ -80,7 +81,10 @@ fn count_piece(
     piece: &[u8],
     room: &mut [u8],
     counts: &mut Counts,
-) -> Result<(), Fault> {
+) -> Result<(), Fault>
+    requires gathers { passes_of reader.old ≡ false }
+    ensures gathers { passes_of reader.new ≡ false }
+{
     let mut rest = piece;
     while !rest.is_empty() {
         let fed = reader.feed(rest, &mut Steps::new());
@@ -94,6 +98,26 @@ fn count_piece(
     Ok(())
 }
 
+/// Counts the packets of the whole input, which is read into the piece. Answers the first fault, where there is one.
+fn count_input<R: Read>(
+    input: &mut R,
+    piece: &mut [u8],
+    room: &mut [u8],
+    counts: &mut Counts,
+) -> io::Result<Result<(), Fault>> {
+    let mut reader = PacketReader::new();
+    for _ in 0..u64::MAX {
+        let count = input.read(piece)?;
+        if count == 0 {
+            break;
+        }
+        if let Err(fault) = count_piece(&mut reader, &piece[..count], room, counts) {
+            return Ok(Err(fault));
+        }
+    }
+    Ok(reader.close())
+}
+
 /// Tells a fault on standard error.
 fn refuse(rt: &impl Eprint, fault: Fault) -> io::Result<ExitCode> {
     eprintln!(rt; "bench_packets: {:?} at {}", fault.kind, fault.offset)?;
@@ -105,23 +129,13 @@ fn main(rt: HostRuntime) -> io::Result<ExitCode> {
     let mut piece = vec![in rt.alloc(); 0; PIECE_BYTES]?;
     let copies = env::args(&rt)?.count() > 1;
     let mut room = vec![in rt.alloc(); 0; if copies { PAYLOAD_BYTES } else { 0 }]?;
-    let mut reader = PacketReader::new();
     let mut counts = Counts::none();
-    for _ in 0..u64::MAX {
-        let count = input.read(piece.as_mut_slice())?;
-        if count == 0 {
-            break;
-        }
-        if let Err(fault) = count_piece(
-            &mut reader,
-            &piece[..count],
-            room.as_mut_slice(),
-            &mut counts,
-        ) {
-            return refuse(&rt, fault);
-        }
-    }
-    if let Err(fault) = reader.close() {
+    if let Err(fault) = count_input(
+        &mut input,
+        piece.as_mut_slice(),
+        room.as_mut_slice(),
+        &mut counts,
+    )? {
         return refuse(&rt, fault);
     }
     println!(rt; "{} {} {}", counts.packets, counts.bytes, counts.checksum)?;

@@ -5,7 +5,7 @@ ghost use Rattle.std.specs.Io.KnownBytes.{IsAtEnd};
 ghost use Rattle.git_pkt.specs.Told.{inner_of, reads_of, has_failed, has_ended, has_wasted, IsNew};
 ghost use Rattle.git_pkt.specs.Engine.{FailsAs, IsShownBy, IsSpent};
 ghost use Rattle.git_pkt.specs.Streams.{flow, is_broken, Moves};
-ghost use Rattle.git_pkt.specs.PacketReader.{fault_of};
+ghost use Rattle.git_pkt.specs.PacketReader.{fault_of, passes_of};
 ghost use Rattle.git2show_lib.specs.ShownStream.{Shows, ShowsPiece, PrintsPiece, WritesFront};
 
 use crate::lines::Lines;
@@ -59,10 +59,12 @@ fn show_piece<W: Write>(
     writer: &mut Told<W>,
 ) -> Result<(), RunFault>
     requires sound { fault_of packets.old ≡ None }
+    requires gathers { passes_of packets.old ≡ false }
     requires empty { lines.old ≡ [] }
     requires sound_writer { has_failed writer.old ≡ false }
     ensures shown { ShowsPiece result packets.old packets.new piece.now
         (flow (W.contents (inner_of writer.old)) (W.contents (inner_of writer.new))) }
+    ensures gathers { passes_of packets.new ≡ false }
     ensures sent { OnOk result (lines.new ≡ []) }
     ensures told { FailsAs result false (has_failed writer.new) }
     ensures fault { IfErr result (IsShownBy ⊥ (IsTrue (has_failed writer.new)) ⊥) }
@@ -83,9 +85,11 @@ fn print_piece<W: Write>(
     writer: &mut Told<W>,
 ) -> Result<Option<Fault>, RunFault>
     requires sound { fault_of packets.old ≡ None }
+    requires gathers { passes_of packets.old ≡ false }
     requires empty { lines.old ≡ [] }
     ensures ok { IfOk result (λ stopped. PrintsPiece stopped packets.old packets.new piece.now lines.new
         (flow (W.contents (inner_of writer.old)) (W.contents (inner_of writer.new)))) }
+    ensures gathers { passes_of packets.new ≡ false }
     ensures front { OnErr result (WritesFront packets.old packets.new piece.now
         (flow (W.contents (inner_of writer.old)) (W.contents (inner_of writer.new)))) }
     ensures fault { IfErr result (λ fault. fault ≡ RunFault.WriteFault) }

@@ -22,6 +22,7 @@ pub loop-done-init : goal.loop-done-init
 loop-done-init g c = record {
   within = search rules;
   sound = search rules;
+  gathers = search rules;
   writer_sound = search rules;
   prints = record { packets = []; reads = none_read c.args.packets.now; emits = search rules };
 }
@@ -35,6 +36,7 @@ loop-done-preserved g c =
     record {
       within = omega (arith, c.feed-fed.ensures.used, rest, c.loop-done.invariant.within);
       sound = tells.1;
+      gathers = c.feed-fed.follows.holds-at-none.gathers;
       writer_sound = search rules;
       prints = fed_packet _ _ _ _ _ _ _ _ _ c.loop-done.invariant.within c.loop-done.invariant.prints c.feed-fed.follows.holds-at-none _ _ _ _
           c.in-Packet.is (search rules);

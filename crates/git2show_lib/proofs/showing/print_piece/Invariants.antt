@@ -1,6 +1,6 @@
-use Rattle.std.proofs.Common.{◌≡◌, ◌-◌, ◌≤◌, length, take, None}
+use Rattle.std.proofs.Common.{◌≡◌, ◌-◌, ◌≤◌, length, take, None, false}
 use Rattle.git_pkt.specs.Told.{inner_of, has_failed}
-use Rattle.git_pkt.specs.PacketReader.{fault_of}
+use Rattle.git_pkt.specs.PacketReader.{fault_of, passes_of}
 use Rattle.git_pkt.specs.Streams.{flow}
 use Rattle.git2show_lib.specs.ShownStream.{Prints}
 use Rattle.git2show_lib.proofs.showing.print_piece.Given as goal
@@ -10,6 +10,7 @@ abbrev pub invariant-loop-done : goal.invariant-loop-done
 invariant-loop-done g l = record {
   within : l.done ≤ length l.piece;
   sound : fault_of l.packets ≡ None;
+  gathers : passes_of l.packets ≡ false;
   writer_sound : has_failed l.writer ≡ has_failed l.fn.writer;
   prints : Prints l.fn.packets l.packets (take l.done l.piece) l.lines
       (flow (g.W.Write.contents (inner_of l.fn.writer)) (g.W.Write.contents (inner_of l.writer)));

@@ -1,4 +1,5 @@
-use Rattle.std.proofs.Common.{rules, Result, [], take, ℕ, subst, refl}
+use Rattle.std.proofs.Common.{rules, arith, Result, [], take, ℕ, subst, refl}
+use Rattle.std.proofs.lemmas.Grind.{common_steps}
 use Rattle.std.specs.Io.KnownBytes.{Consumes}
 use Rattle.git_pkt.specs.Told.{inner_of, has_ended}
 use Rattle.git_pkt.specs.Streams.{flow}
@@ -22,8 +23,8 @@ returns-then-count-eq0-clause-shown g c =
     let left_after = g.R.Read.remaining (inner_of c.receive.new.reader) in
     let nothing : Consumes left left_after [] =
     subst (λ (n : ℕ). Consumes left left_after (take n c.receive.new.piece)) c.if-count-eq0.true c.in_ok-count.ensures.bytes.0 in
-    ends_closed _ _ _ c.loop.packets c.close.new.self c.loop.invariant.shows nothing c.close.ensures.carries (search rules) c.close.result
-    c.map_err.result c.map_err.ensures.cases c.close.ensures.between c.close.ensures.told (c.close.ensures.truncated c.loop.invariant.sound)
+    ends_closed _ _ _ c.loop.packets c.close.new.self c.loop.invariant.shows nothing c.close.ensures.carries (grind (arith, common_steps))
+    c.close.result c.map_err.result c.map_err.ensures.cases c.close.ensures.between c.close.ensures.told (c.close.ensures.truncated c.loop.invariant.sound)
 
 pub returns-in_err-show_piece-clause-shown : goal.returns-in_err-show_piece-clause-shown
 returns-in_err-show_piece-clause-shown g c =
@@ -41,6 +42,7 @@ loop-preserved g c = record {
   useful = search rules;
   writer_sound = search rules;
   sound = c.in_ok-show_piece.ensures.shown.1;
+  gathers = search rules;
   empty = search rules;
   shows = shows_more c.loop.packets c.show_piece.new.packets c.loop.counter c.in_ok-count.count c.receive.new.piece c.loop.invariant.shows
       c.in_ok-count.ensures.bytes.0 c.in_ok-show_piece.ensures.shown.0 (search rules) (search rules);
