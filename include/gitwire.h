@@ -415,7 +415,7 @@ uint8_t gitwire_client_new(gitwire_client *client, uint8_t format, uint8_t endin
  *   ACK, SHALLOW, UNSHALLOW   id
  *   WANTED_REF   id, name
  *   INFO         id; the size, where the server has the object (`has_size`)
- *   PACK, PROGRESS   text: one byte at least
+ *   PACK, PROGRESS   text: one byte at least, and all that the piece has of one packet's; the rest comes as further events
  *   OFFERED, NAK, READY, ENDED   nothing
  *
  * An object name is its digits. `has_text` says whether there is a text, which may be empty. Fields that say nothing are 0.
@@ -442,6 +442,13 @@ typedef struct {
  * MORE, an event, or FAILED. NO_HANDLE, ROOM_TOO_SMALL.
  */
 gitwire_event gitwire_client_feed(gitwire_client *client, const uint8_t *piece, size_t piece_length,
+	uint8_t *room, size_t room_length);
+
+/*
+ * The same, but the bytes of PACK and PROGRESS are not copied: they are the last `text_length` of those used, so they begin at
+ * `piece + used - text_length`, and the room stays as it was. The texts of all other events lie in the room.
+ */
+gitwire_event gitwire_client_feed_in_place(gitwire_client *client, const uint8_t *piece, size_t piece_length,
 	uint8_t *room, size_t room_length);
 
 /*

@@ -481,6 +481,53 @@ static void try_bands(void)
 	gitwire_server_free(&t.server);
 }
 
+/* An event whose text is the last bytes of those used of the piece, and for which the room stays as it was. */
+static bool lies_in(gitwire_event event, const char *piece, uint8_t kind, size_t used, const char *text)
+{
+	static uint8_t kept[sizeof room];
+
+	memset(kept, '#', sizeof kept);
+	return event.kind == kind && event.used == used && event.has_text && event.text_length == strlen(text)
+		&& event.id_length == 0 && event.name_length == 0 && event.peeled_length == 0
+		&& memcmp(piece + event.used - event.text_length, text, event.text_length) == 0
+		&& memcmp(room, kept, sizeof room) == 0;
+}
+
+/* Bytes of the pack and of the progress stay in the piece, as it is cut; the texts of other events go to the room. */
+static void try_bands_in_place(void)
+{
+	static const char *const wants[] = { "want " ONE, "done", NULL };
+	static const char pack[] = "0008\00250%0009\001PACK";
+	struct talk t;
+	gitwire_client none = GITWIRE_NONE;
+	gitwire_event event;
+
+	begin_talk(&t);
+	EXPECT(go_on(&t) == GITWIRE_CAN_ASK);
+	EXPECT(tells(ask(&t, GITWIRE_FETCH, wants), GITWIRE_DONE, 0, 0, 0));
+	while (gitwire_client_pull(&t.client, ROOM).kind == GITWIRE_PACKET)
+		;
+	EXPECT(gitwire_client_feed_in_place(&t.client, TEXT("000dpackfile\n"), ROOM).kind == GITWIRE_MORE);
+	memset(room, '#', sizeof room);
+	event = gitwire_client_feed_in_place(&t.client, (const uint8_t *)pack, 15, ROOM);
+	EXPECT(lies_in(event, pack, GITWIRE_PROGRESS, 8, "50%"));
+	event = gitwire_client_feed_in_place(&t.client, (const uint8_t *)pack + 8, 7, ROOM);
+	EXPECT(lies_in(event, pack + 8, GITWIRE_PACK, 7, "PA"));
+	event = gitwire_client_feed_in_place(&t.client, (const uint8_t *)pack + 15, 2, ROOM);
+	EXPECT(lies_in(event, pack + 15, GITWIRE_PACK, 2, "CK"));
+	event = gitwire_client_feed_in_place(&t.client, TEXT("0000"), ROOM);
+	EXPECT(event.kind == GITWIRE_ENDED && event.used == 4);
+	EXPECT(gitwire_client_feed_in_place(&t.client, TEXT("0000"), room, GITWIRE_PAYLOAD_ROOM - 1).kind == GITWIRE_ROOM_TOO_SMALL);
+	EXPECT(gitwire_client_feed_in_place(&none, TEXT("0000"), ROOM).kind == GITWIRE_NO_HANDLE);
+	EXPECT(gitwire_client_new(&t.client, GITWIRE_SHA1, GITWIRE_ENDS_BY_FLUSH) == GITWIRE_DONE);
+	EXPECT(gitwire_client_feed_in_place(&t.client, TEXT("000eversion 2\n"), ROOM).kind == GITWIRE_MORE);
+	event = gitwire_client_feed_in_place(&t.client, TEXT("0013agent=git/2.39\n"), ROOM);
+	EXPECT(event.kind == GITWIRE_CAPABILITY && event.name_length == 5 && memcmp(room, "agentgit/2.3", 12) == 0);
+	gitwire_client_free(&t.client);
+	gitwire_server_free(&t.server);
+	memset(room, '#', sizeof room);
+}
+
 static void try_refusals_of_a_client(void)
 {
 	gitwire_client client = GITWIRE_NONE;
@@ -798,6 +845,7 @@ static void *try_all(void *nothing)
 	try_a_refused_session();
 	try_a_conversation();
 	try_bands();
+	try_bands_in_place();
 	try_refusals_of_a_client();
 	try_what_is_noted();
 	try_writers_of_packets();

@@ -4,3 +4,4 @@ pub mod FilledRooms
 pub mod GivenNames
 pub mod Handing
 pub mod ShownLengths
+pub mod ShownPlaces

@@ -1,5 +1,5 @@
 -- What C is told of a client's calls.
-use Rattle.std.specs.Prelude.{◌≡◌, ℕ, ◌+◌, ◌<◌, ◌≤◌, true, false, List, [], ◌∷◌, length, Option, Some, None, MatchOption}
+use Rattle.std.specs.Prelude.{◌≡◌, ℕ, ◌+◌, ◌<◌, ◌≤◌, true, false, List, [], ◌∷◌, ◌++◌, length, take, Option, Some, None, MatchOption}
 use Rattle.std.specs.Global.{Global}
 use Rattle.git_names.specs.declared.object_format.Format.{Format}
 use Rattle.git_pkt.specs.Packets.{longest_payload}
@@ -15,6 +15,7 @@ use Rattle.git_client.specs.Parts.{Terms, terms_of}
 use Rattle.git_client.specs.declared.client.Client.{Client}
 use Rattle.git_client.specs.declared.events.Ending.{Ending}
 use Rattle.git_client.specs.declared.events.Ending.TheVariants.{FlushOnly, ResponseEnd}
+use Rattle.git_client.specs.declared.events.Event.TheVariants as Event
 use Rattle.git_client.specs.declared.events.Heard.{Heard}
 use Rattle.git_client.specs.declared.events.HeardGot.{HeardGot}
 use Rattle.git_client.specs.declared.events.HeardGot.TheVariants as Got
@@ -53,24 +54,40 @@ filled_by Got.More room = room
 filled_by (Got.Event event) room = put_before (bytes_shown (parts_of event)) room
 filled_by (Got.Failed fault) room = room
 
--- the client hears on, and C is told what came, whose texts have no more bytes than a payload
-pub record FeedsTold (old : Client Global) (piece room : List ℕ) (told : GitwireEvent) (filled : List ℕ) (new : Client Global) : Type 0 where
+-- the room where bytes that pass are left in the piece: theirs stays as it was
+abbrev pub filled_beside : HeardGot → List ℕ → List ℕ
+filled_beside (Got.Event (Event.Pack bytes)) room = room
+filled_beside (Got.Event (Event.Progress bytes)) room = room
+filled_beside got room = filled_by got room
+
+-- bytes of the pack or of the progress are the last of those used of the piece
+abbrev pub LieInPiece : HeardGot → ℕ → List ℕ → Type 0
+LieInPiece (Got.Event (Event.Pack bytes)) used piece = (front : List ℕ) × (take used piece ≡ front ++ bytes.now)
+LieInPiece (Got.Event (Event.Progress bytes)) used piece = (front : List ℕ) × (take used piece ≡ front ++ bytes.now)
+LieInPiece got used piece = Unit {0}
+
+-- the client hears on, and C is told what came, whose texts have no more bytes than a payload; the room is filled by what came
+pub record FeedsTold (filled_with : HeardGot → List ℕ → List ℕ) (old : Client Global) (piece room : List ℕ) (told : GitwireEvent) (filled : List ℕ)
+    (new : Client Global) : Type 0 where
   pub heard : Heard
   pub feeds : Feeds old piece heard new
   pub within : heard.used ≤ length piece
   pub fits : told.id_length + told.name_length + told.text_length + told.peeled_length ≤ longest_payload
   pub told_is : told ≡ told_of heard.used heard.got
-  pub room_is : filled ≡ filled_by heard.got room
+  pub room_is : filled ≡ filled_with heard.got room
+  pub lies : LieInPiece heard.got heard.used piece
 
 -- nothing happens where the room is too small for the parts of some event
-pub record FeedsInRoom (old : Client Global) (piece room : List ℕ) (told : GitwireEvent) (filled : List ℕ) (new : Client Global) : Type 0 where
+pub record FeedsInRoom (filled_with : HeardGot → List ℕ → List ℕ) (old : Client Global) (piece room : List ℕ) (told : GitwireEvent) (filled : List ℕ)
+    (new : Client Global) : Type 0 where
   pub small : length room < longest_payload → (told ≡ telling_none 0 What.RoomTooSmall) × (filled ≡ room) × (new ≡ old)
-  pub large : longest_payload ≤ length room → FeedsTold old piece room told filled new
+  pub large : longest_payload ≤ length room → FeedsTold filled_with old piece room told filled new
 
 -- a handle that is fed
-abbrev pub FeedsIn : Option (Client Global) → List ℕ → List ℕ → GitwireEvent → List ℕ → Option (Client Global) → Type 0
-FeedsIn None piece room told filled new = (told ≡ telling_none 0 What.NoHandle) × (filled ≡ room) × (new ≡ None)
-FeedsIn (Some old) piece room told filled new = (client : Client Global) × (new ≡ Some client) × FeedsInRoom old piece room told filled client
+abbrev pub FeedsIn : (HeardGot → List ℕ → List ℕ) → Option (Client Global) → List ℕ → List ℕ → GitwireEvent → List ℕ → Option (Client Global) → Type 0
+FeedsIn filled_with None piece room told filled new = (told ≡ telling_none 0 What.NoHandle) × (filled ≡ room) × (new ≡ None)
+FeedsIn filled_with (Some old) piece room told filled new =
+    (client : Client Global) × (new ≡ Some client) × FeedsInRoom filled_with old piece room told filled client
 
 -- what C is told of what is to be done next
 abbrev pub told_of_sent : Sent → GitwireTold

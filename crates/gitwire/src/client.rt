@@ -1,7 +1,7 @@
 //! A client that C holds.
 
 ghost use Rattle.std.specs.Prelude.{◌≡◌, None, MatchResult, slice_get};
-ghost use Rattle.gitwire.specs.ClientTold.{AsksIn, BeginsBy, CapsIn, CapsTold, ClosesIn, ClosesTold, FeedsIn, FeedsInRoom};
+ghost use Rattle.gitwire.specs.ClientTold.{AsksIn, BeginsBy, CapsIn, CapsTold, ClosesIn, ClosesTold, FeedsIn, FeedsInRoom, filled_beside, filled_by};
 ghost use Rattle.gitwire.specs.ClientTold.{LeavesIn, LeavesRequest, LeavesTold, MessageIn, MessageTold, PullsIn, PullsInRoom, TakesRequest, endings};
 ghost use Rattle.gitwire.specs.Handles.{client_in, request_in};
 ghost use Rattle.gitwire.specs.Numbers.{formats};
@@ -11,7 +11,7 @@ use crate::handles::{GitwireClient, GitwireRequest};
 use crate::machine::Machine;
 use crate::numbers::format_numbered;
 use crate::told::{GitwireTold, What};
-use git_client::{Client, Ending, HeardGot, Sent};
+use git_client::{Client, Ending, Event, HeardGot, Sent};
 use git_msg::{Command, Limits, Request};
 use git_names::{Format, Steps};
 use git_pkt::LONGEST_PACKET;
@@ -96,7 +96,7 @@ pub extern "C" fn gitwire_client_feed(
     piece: &[u8],
     room: &mut [u8],
 ) -> GitwireEvent
-    ensures { FeedsIn (client_in client.old) piece.now room.old result room.new (client_in client.new) }
+    ensures { FeedsIn filled_by (client_in client.old) piece.now room.old result room.new (client_in client.new) }
 {
     let taken = replace(client, GitwireClient::none(alloc));
     let Some(mut machine) = taken.into_machine() else {
@@ -110,8 +110,31 @@ pub extern "C" fn gitwire_client_feed(
     told
 }
 
+/// Reads on, as `gitwire_client_feed` does, but leaves the bytes of `Pack` and `Progress` where they are: the last `text_length`
+/// of those used of the piece. The room stays as it was then.
+#[unsafe(no_mangle)]
+pub extern "C" fn gitwire_client_feed_in_place(
+    alloc: Global,
+    client: &mut GitwireClient,
+    piece: &[u8],
+    room: &mut [u8],
+) -> GitwireEvent
+    ensures { FeedsIn filled_beside (client_in client.old) piece.now room.old result room.new (client_in client.new) }
+{
+    let taken = replace(client, GitwireClient::none(alloc));
+    let Some(mut machine) = taken.into_machine() else {
+        return GitwireEvent::none(0, What::NoHandle);
+    };
+    let Machine::Client(inner) = &mut *machine else {
+        unreachable!()
+    };
+    let told = feed_in_place(inner, piece, room);
+    *client = GitwireClient::of(machine);
+    told
+}
+
 fn feed(client: &mut Client<Global>, piece: &[u8], room: &mut [u8]) -> GitwireEvent
-    ensures { FeedsInRoom client.old piece.now room.old result room.new client.new }
+    ensures { FeedsInRoom filled_by client.old piece.now room.old result room.new client.new }
 {
     if room.len() < LONGEST_PARTS {
         return GitwireEvent::none(0, What::RoomTooSmall);
@@ -119,6 +142,26 @@ fn feed(client: &mut Client<Global>, piece: &[u8], room: &mut [u8]) -> GitwireEv
     let heard = client.feed(piece, &mut Steps::new());
     match heard.got {
         HeardGot::More => GitwireEvent::none(heard.used, What::More),
+        HeardGot::Event(event) => EventParts::of(event).show(heard.used, room),
+        HeardGot::Failed(fault) => GitwireEvent::of_fault(heard.used, fault),
+    }
+}
+
+fn feed_in_place(client: &mut Client<Global>, piece: &[u8], room: &mut [u8]) -> GitwireEvent
+    ensures { FeedsInRoom filled_beside client.old piece.now room.old result room.new client.new }
+{
+    if room.len() < LONGEST_PARTS {
+        return GitwireEvent::none(0, What::RoomTooSmall);
+    }
+    let heard = client.feed(piece, &mut Steps::new());
+    match heard.got {
+        HeardGot::More => GitwireEvent::none(heard.used, What::More),
+        HeardGot::Event(Event::Pack(bytes)) => {
+            GitwireEvent::of_bytes(heard.used, What::Pack, bytes.len())
+        }
+        HeardGot::Event(Event::Progress(bytes)) => {
+            GitwireEvent::of_bytes(heard.used, What::Progress, bytes.len())
+        }
         HeardGot::Event(event) => EventParts::of(event).show(heard.used, room),
         HeardGot::Failed(fault) => GitwireEvent::of_fault(heard.used, fault),
     }

@@ -1,6 +1,6 @@
 //! How an event is shown to C: its numbers, and its texts one after another at the front of a room.
 
-ghost use Rattle.std.specs.Prelude.{◌≡◌, ◌+◌, ◌≤◌, ◌++◌, length, take, drop};
+ghost use Rattle.std.specs.Prelude.{◌≡◌, ◌+◌, ◌≤◌, ◌++◌, ℕ, List, length, take, drop};
 ghost use Rattle.std.specs.Option.{option_copied};
 ghost use Rattle.gitwire.specs.EventsTold.{digits_shown, text_shown};
 ghost use Rattle.gitwire.specs.Rooms.{put_before};
@@ -155,7 +155,7 @@ impl<'a> EventParts<'a> {
 }
 
 impl GitwireEvent {
-    ghost use Rattle.gitwire.specs.EventsTold.{telling_none, telling_refusal};
+    ghost use Rattle.gitwire.specs.EventsTold.{of_text, telling_none, telling_parts, telling_refusal};
 
     /// No event.
     pub(crate) fn none(used: usize, what: What) -> GitwireEvent
@@ -173,6 +173,17 @@ impl GitwireEvent {
             fault: 0,
             has_text: false,
             has_size: false,
+        }
+    }
+
+    /// So many bytes that lie elsewhere.
+    pub(crate) fn of_bytes(used: usize, what: What, count: usize) -> GitwireEvent
+        ensures { (bytes : List ℕ) → length bytes ≡ count → result ≡ telling_parts used (of_text what bytes) }
+    {
+        GitwireEvent {
+            text_length: count,
+            has_text: true,
+            ..GitwireEvent::none(used, what)
         }
     }
 

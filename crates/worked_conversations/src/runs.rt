@@ -5,6 +5,7 @@ use crate::escapes::{escaped, length_told};
 use crate::script::{Script, Step};
 use crate::setup::MANY;
 use crate::trouble::Trouble;
+use git_pkt::BAND_HEAD;
 use std::alloc::{AllocError, Global};
 
 /// What came of a run.
@@ -76,6 +77,23 @@ fn last_step(script: &Script, end: usize) -> (Step, bool) {
     (last, is_answered)
 }
 
+// How many bytes of the pack and of the progress are handed out where the input ends here, after this step: of a packet on their
+// bands all that has come after its first five bytes.
+fn on_bands(script: &Script, last: Step, at: usize) -> (usize, usize) {
+    let come = at.saturating_sub(last.input).saturating_sub(BAND_HEAD);
+    for step in script.steps.as_slice() {
+        if step.input > at {
+            let pack = step.pack.saturating_sub(last.pack).min(come);
+            let progress = step.progress.saturating_sub(last.progress).min(come);
+            return (
+                last.pack.saturating_add(pack),
+                last.progress.saturating_add(progress),
+            );
+        }
+    }
+    (last.pack, last.progress)
+}
+
 // The first bytes.
 fn front(alloc: Global, bytes: &Vec<u8>, count: usize) -> Result<Vec<u8>, AllocError> {
     Vec::from_slice(alloc, bytes.as_slice().get(..count).unwrap_or(&[]))
@@ -140,10 +158,11 @@ pub fn due_at(alloc: Global, end: &End<'_>, script: &Script, at: usize) -> Resul
         end.append_truncated(alloc, &mut given, offset)?;
         end.truncated(alloc, offset)?
     };
+    let (pack, progress) = on_bands(script, last, at);
     Ok(Due {
         given,
-        pack: front(alloc, &script.pack, last.pack)?,
-        progress: front(alloc, &script.progress, last.progress)?,
+        pack: front(alloc, &script.pack, pack)?,
+        progress: front(alloc, &script.progress, progress)?,
         ending,
         used: at,
         known: Known::Given,

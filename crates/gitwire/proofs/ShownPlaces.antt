@@ -1,0 +1,16 @@
+-- Where the bytes lie that C is shown of an event.
+use Rattle.std.proofs.Common.{◌≡◌, ◌≢◌, ◌<◌, ℕ, List, [], ◌++◌, take}
+use Rattle.std.specs.Global.{Global}
+use Rattle.git_client.specs.Client.{Feeds, EndsAt, LeavesAfter}
+use Rattle.git_client.specs.declared.client.Client.{Client}
+use Rattle.git_client.specs.declared.events.Event.TheVariants as Event
+use Rattle.git_client.specs.declared.events.HeardGot.{HeardGot}
+use Rattle.git_client.specs.declared.events.HeardGot.TheVariants as Got
+use Rattle.gitwire.specs.ClientTold.{LieInPiece}
+
+-- bytes of the pack and of the progress are bytes of the piece
+pub lies : (old new : Client Global) (piece : List ℕ) (used : ℕ) (got : HeardGot) → Feeds old piece (record { used = used; got = got }) new
+    → LieInPiece got used piece
+lies old new piece used (Got.Event (Event.Pack bytes)) feeds = (feeds.tells.1.front, feeds.tells.1.lies)
+lies old new piece used (Got.Event (Event.Progress bytes)) feeds = (feeds.tells.1.front, feeds.tells.1.lies)
+lies old new piece used got feeds = tt
