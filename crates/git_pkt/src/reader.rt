@@ -1,4 +1,20 @@
 //! Packets out of pieces of any size.
+//!
+//! How a reader stands, and what moves it on. `feed` goes up and down on the left alone; `feed_band` passes the bytes of a packet on
+//! the right, once its fifth byte has named a band whose bytes pass.
+//!
+//! ```text
+//!              the first byte                     the fifth byte
+//!  Between ---------------------> Gathering(count) ------------> Passing(left)
+//!     ^  ^                          |   |                          |   |
+//!     |  +--- the last byte --------+   +--> Failed(fault) <-------+   |
+//!     |                                   a fault, or the end          |
+//!     +---------------------------- the last byte ---------------------+
+//!
+//!  The hold:  Between           the last packet that was told, or what a writer put there
+//!             Gathering(count)  so many bytes of the open packet, and behind them some of an earlier one
+//!             Passing(left)     the first five bytes of the open packet
+//! ```
 
 ghost use Rattle.std.specs.Prelude.{◌≡◌, ◌≢◌, ◌+◌, ◌-◌, ◌*◌, ◌≤◌, ◌<◌, ◌∷◌, [], drop, length, take, true, false, Some, None, Err, IfErr, IfSome, MatchOption, OnOk, IsTrue, ◌↔◌, ℕ, List};
 ghost use Rattle.std.specs.Borrow.{sem};
