@@ -24,6 +24,7 @@ pub mod Advertisements
 pub mod SessionLaws
 pub mod Flushes
 pub mod PackPackets
+pub mod FullParts
 pub mod FetchPackets
 pub mod Dropped
 pub mod WantedLines

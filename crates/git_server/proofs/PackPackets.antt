@@ -68,11 +68,11 @@ part_is_next pack room offset full Failed h =
     record { front = []; back = drop offset pack; bands = []; cut = refl; are_bands = refl; packets_are = refl }
 
 -- the packet of a part is the next of those that end the section
-pub part_written : (pack : List ℕ) (offset : ℕ) (place : PackPlace) → place ≡ Pack offset
+pub part_written : (gives : ℕ → ℕ → Type 0) (pack : List ℕ) (offset : ℕ) (place : PackPlace) → place ≡ Pack offset
     → (repo_old : RepoState) (old : PacketReader) (part : PartRead) (repo_new : RepoState) (new : PacketReader)
-    → WritesPart pack offset repo_old old part repo_new new
+    → WritesPart gives pack offset repo_old old part repo_new new
     → WritesPack pack repo_old place old (answered_by part) repo_new (place_after place offset part) new
-part_written pack offset place was repo_old old part repo_new new h =
+part_written gives pack offset place was repo_old old part repo_new new h =
     subst (λ (p : PackPlace). WritesPack pack repo_old p old (answered_by part) repo_new (place_after p offset part) new) (sym was)
     (record { packet = part_packet h.room part; writes = h.writes; is_next = part_is_next pack h.room offset h.full part h.is_read; reads = h.reads })
 

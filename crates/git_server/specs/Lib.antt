@@ -18,6 +18,7 @@ pub mod Brought
 pub mod FetchPlaces
 pub mod AnsweredRequest
 pub mod PackParts
+pub mod FullParts
 pub mod Packs
 pub mod Phases
 pub mod Server

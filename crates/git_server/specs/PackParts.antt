@@ -38,23 +38,33 @@ IsPartRead pack offset room (Bytes count) = (0 < count) × IsPackPart pack offse
 IsPartRead pack offset room End = length pack ≤ offset
 IsPartRead pack offset room Failed = Unit {0}
 
+-- it is what a read into all of the room may come to
+abbrev pub IsGiven : (ℕ → ℕ → Type 0) → PartRead → Type 0
+IsGiven gives (Bytes count) = gives 65515 count
+IsGiven gives End = Unit {0}
+IsGiven gives Failed = Unit {0}
+
 -- a part was read into the room
-pub record ReadsPart (pack : List ℕ) (offset : ℕ) (repo_old : RepoState) (part : PartRead) (repo_new : RepoState) (room : List ℕ) : Type 0 where
+pub record ReadsPart (gives : ℕ → ℕ → Type 0) (pack : List ℕ) (offset : ℕ) (repo_old : RepoState) (part : PartRead) (repo_new : RepoState) (room : List ℕ) : Type 0 where
   pub is_read : IsPartRead pack offset room part
+  pub given : IsGiven gives part
   pub reads : ReadsPack (answered_by part) repo_old repo_new
 
 -- a part was read, and the hold begins with its packet
-pub record PutsPart (pack : List ℕ) (offset : ℕ) (repo_old : RepoState) (part : PartRead) (repo_new : RepoState) (held : List ℕ) : Type 0 where
+pub record PutsPart (gives : ℕ → ℕ → Type 0) (pack : List ℕ) (offset : ℕ) (repo_old : RepoState) (part : PartRead) (repo_new : RepoState) (held : List ℕ) : Type 0 where
   pub room : List ℕ
   pub full : length room ≡ 65515
   pub is_read : IsPartRead pack offset room part
+  pub given : IsGiven gives part
   pub reads : ReadsPack (answered_by part) repo_old repo_new
   pub begins : StartsWith held (spelling_of (part_packet room part))
 
 -- a part was read, and its packet was written
-pub record WritesPart (pack : List ℕ) (offset : ℕ) (repo_old : RepoState) (old : PacketReader) (part : PartRead) (repo_new : RepoState) (new : PacketReader) : Type 0 where
+pub record WritesPart (gives : ℕ → ℕ → Type 0) (pack : List ℕ) (offset : ℕ) (repo_old : RepoState) (old : PacketReader)
+    (part : PartRead) (repo_new : RepoState) (new : PacketReader) : Type 0 where
   pub room : List ℕ
   pub full : length room ≡ 65515
   pub is_read : IsPartRead pack offset room part
+  pub given : IsGiven gives part
   pub reads : ReadsPack (answered_by part) repo_old repo_new
   pub writes : Writes old (part_packet room part) new

@@ -5,6 +5,8 @@ use Rattle.git_pkt.specs.Credit.{credit_of}
 use Rattle.git_pkt.specs.Packets.{Pkt, body_of, longest_payload, spelling_of}
 use Rattle.git_pkt.specs.Splits.{Given}
 use Rattle.git_pkt.specs.PacketReader.{ReadsOn, held_of}
+use Rattle.git_msg.specs.Asked.{FetchAsked}
+use Rattle.git_server.specs.FullParts.{FillsPhase}
 use Rattle.git_server.specs.Repository.{RepoState}
 use Rattle.git_server.specs.Sessions.{Setting, IsSession}
 use Rattle.git_server.specs.Phases.{MayBreak, Owes, most_owed}
@@ -33,6 +35,10 @@ given_by (Packet bytes) = bytes.now
 given_by NeedInput = []
 given_by (Finished outcome) = []
 
+-- what was pulled is this packet
+abbrev pub IsPulled : Pulled → Pkt → Type 0
+IsPulled pulled packet = given_by pulled ≡ spelling_of packet
+
 module _ {R A : Type 0} where
   -- the call used and gave these bytes: what stood before stands with them
   abbrev pub Goes : (R → RepoState) → List ℕ → List ℕ → Server R A → Server R A → Type 0
@@ -59,6 +65,10 @@ module _ {R A : Type 0} where
   -- how many wait at the most
   abbrev pub most_left : (R → RepoState) → Server R A → ℕ
   most_left state server = most_owed server.offer (state server.repo).answers server.phase
+
+  -- the packet that waits: where it is of a pack, it has all that the repository gives for one
+  abbrev pub FillsOwed : (R → FetchAsked → ℕ → ℕ → ℕ → Type 0) → Server R A → (Pkt → Type 0) → Type 0
+  FillsOwed gives server Is = FillsPhase (gives server.repo) server.phase Is
 
   -- the packet comes before whatever waits now
   abbrev pub ComesBefore : (R → RepoState) → Pkt → Server R A → Server R A → Type 0

@@ -6,9 +6,13 @@ use Rattle.git_pkt.specs.Splits.{Given}
 use Rattle.git_pkt.specs.PacketReader.{Reads, bytes_held, held_of, fault_of, is_open, passes_of, position_of}
 use Rattle.git_pkt.specs.declared.reader.PacketReader.{PacketReader}
 
--- the hold begins with the packet's spelling, and the reader reads on as before
+-- the hold begins with the packet's spelling
+abbrev pub IsAtFront : PacketReader → Pkt → Type 0
+IsAtFront reader packet = StartsWith (held_of reader) (spelling_of packet)
+
+-- it does, and the reader reads on as before
 pub record Writes (old : PacketReader) (packet : Pkt) (new : PacketReader) : Type 0 where
-  pub held : StartsWith (held_of new) (spelling_of packet)
+  pub held : IsAtFront new packet
   pub fits : length (body_of packet) ≤ longest_payload
   pub between : is_open new ≡ false
   pub gathers : passes_of new ≡ false

@@ -8,7 +8,8 @@ ghost use Rattle.git_msg.specs.Prefixes.{IsOrdered};
 ghost use Rattle.git_msg.specs.References.{IsWritable, shown_reference};
 ghost use Rattle.git_server.specs.AnsweredRequest.{AnswersOne, WritesAnswer, answer_to, kept_with, stored_with};
 ghost use Rattle.git_server.specs.Answers.{reference_packet, shown_line};
-ghost use Rattle.git_server.specs.WrittenPackets.{Writes};
+ghost use Rattle.git_server.specs.FullParts.{FillsAnswer};
+ghost use Rattle.git_server.specs.WrittenPackets.{IsAtFront, Writes};
 ghost use Rattle.git_server.specs.Repository.{HasOneFormat};
 
 use crate::entry::RefEntry;
@@ -63,6 +64,7 @@ impl<A: Allocator + Copy> Answer<A> {
     pub(crate) fn write<R: Repo>(&mut self, repo: &mut R, reader: &mut PacketReader) -> Answered
         requires { is_open reader.old ≡ false }
         ensures writes { WritesAnswer (R.state repo.old) self.old reader.old result (R.state repo.new) self.new reader.new }
+        ensures full { FillsAnswer (R.read_gives repo.old) self.old (IsAtFront reader.new) }
         ensures kept { kept_with self.new ≡ kept_with self.old }
         ensures stored { stored_with self.new ≤ stored_with self.old }
     {

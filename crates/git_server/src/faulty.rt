@@ -1,6 +1,6 @@
 //! A repository whose reads of packs are short, and fail from one of them on.
 
-ghost use Rattle.std.specs.Prelude.{◌≡◌, ◌≤◌, ◌<◌, ◌-◌, ◌⊎◌, IfOk, IsErr, OnErr, OnOk, length};
+ghost use Rattle.std.specs.Prelude.{◌≡◌, ◌≤◌, ◌<◌, ◌-◌, ◌⊎◌, IfOk, IsErr, OnErr, OnOk, length, min};
 ghost use Rattle.git_server.specs.Packs.{IsPackPart};
 
 use crate::entry::RefEntry;
@@ -55,6 +55,8 @@ impl<R: Repo> Repo for Faulty<R> {
 
     ghost state = { faulty_state R.state };
 
+    ghost read_gives = { λ faulty request offset room count. R.read_gives (inner_of faulty) request offset (min (most_of faulty) room) count };
+
     ghost sound = { λ faulty. R.sound faulty.inner };
 
     ghost short = { λ faulty request. R.short faulty.inner request };
@@ -102,6 +104,8 @@ impl<R: Repo> Repo for Faulty<R> {
         ensures cause { OnErr result ((faulty_state R.state self.old).failures < (faulty_state R.state self.new).failures) }
         ensures fine { OnOk result ((faulty_state R.state self.new).failures ≡ (faulty_state R.state self.old).failures) }
         ensures same { (faulty_state R.state self.new).answers ≡ (faulty_state R.state self.old).answers }
+        ensures given { IfOk result (λ count.
+            R.read_gives (inner_of self.old) request.now.asked offset (min (most_of self.old) (length out.old)) count) }
         ensures fails { reads_left self.old ≡ 0 → IsErr result }
         ensures due { OnErr result ((reads_left self.old ≡ 0)
             ⊎ ((R.state (inner_of self.old)).failures < (R.state (inner_of self.new)).failures)) }

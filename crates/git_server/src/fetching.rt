@@ -4,6 +4,8 @@ ghost use Rattle.std.specs.Prelude.{◌≡◌, false};
 ghost use Rattle.git_pkt.specs.PacketReader.{is_open};
 ghost use Rattle.git_server.specs.AnsweredRequest.{WritesFetch};
 ghost use Rattle.git_server.specs.FetchPlaces.{first_place};
+ghost use Rattle.git_server.specs.FullParts.{FillsFetch, FillsPart};
+ghost use Rattle.git_server.specs.WrittenPackets.{IsAtFront};
 
 use crate::acknowledging::{Acknowledged, AcknowledgmentsPlace, write_acknowledgments};
 use crate::answer::Answered;
@@ -52,7 +54,8 @@ pub(crate) fn write_fetch<R: Repo, A: Allocator + Copy>(
     reader: &mut PacketReader,
 ) -> Answered
     requires { is_open reader.old ≡ false }
-    ensures { WritesFetch request.now.asked (R.state repo.old) place.old reader.old result (R.state repo.new) place.new reader.new }
+    ensures written { WritesFetch request.now.asked (R.state repo.old) place.old reader.old result (R.state repo.new) place.new reader.new }
+    ensures full { FillsFetch (R.read_gives repo.old request.now.asked) place.old (IsAtFront reader.new) }
 {
     match *place {
         FetchPlace::Acknowledgments(at) => match write_acknowledgments(repo, request, at, reader) {
@@ -136,7 +139,8 @@ fn write_from_pack<R: Repo, A: Allocator + Copy>(
     reader: &mut PacketReader,
 ) -> Answered
     requires { is_open reader.old ≡ false }
-    ensures { WritesFetch request.now.asked (R.state repo.old) (FetchPlace.Packfile at) reader.old result (R.state repo.new) place.new reader.new }
+    ensures written { WritesFetch request.now.asked (R.state repo.old) (FetchPlace.Packfile at) reader.old result (R.state repo.new) place.new reader.new }
+    ensures full { FillsPart (R.read_gives repo.old request.now.asked) at (IsAtFront reader.new) }
 {
     let mut at = at;
     let answered = write_pack(repo, request, &mut at, reader);

@@ -164,6 +164,8 @@ impl Repo for ListRepo {
 
     ghost state = { state_of };
 
+    ghost read_gives = { λ repo request offset room count. count ≡ min (length (lists_of repo).pack - offset) room };
+
     ghost sound = { is_sound };
 
     ghost short = { is_short };

@@ -5,7 +5,9 @@ ghost use Rattle.std.specs.Io.{StartsWith};
 ghost use Rattle.git_pkt.specs.PacketReader.{is_open};
 ghost use Rattle.git_pkt.specs.Packets.{spelling_of};
 ghost use Rattle.git_server.specs.AnsweredRequest.{WritesPack};
+ghost use Rattle.git_server.specs.FullParts.{FillsPart};
 ghost use Rattle.git_server.specs.PackParts.{FitsRoom, PutsPart, ReadsPart, WritesPart, part_packet};
+ghost use Rattle.git_server.specs.WrittenPackets.{IsAtFront};
 
 use crate::answer::Answered;
 use crate::packets::write_line;
@@ -42,8 +44,9 @@ pub(crate) fn write_pack<R: Repo, A: Allocator + Copy>(
     reader: &mut PacketReader,
 ) -> Answered
     requires { is_open reader.old ≡ false }
-    ensures { WritesPack ((R.state repo.old).answers.pack request.now.asked)
+    ensures written { WritesPack ((R.state repo.old).answers.pack request.now.asked)
         (R.state repo.old) place.old reader.old result (R.state repo.new) place.new reader.new }
+    ensures full { FillsPart (R.read_gives repo.old request.now.asked) place.old (IsAtFront reader.new) }
 {
     match *place {
         PackPlace::Header => {
@@ -70,7 +73,7 @@ fn write_part<R: Repo, A: Allocator + Copy>(
     reader: &mut PacketReader,
 ) -> PartRead
     requires { is_open reader.old ≡ false }
-    ensures { WritesPart ((R.state repo.old).answers.pack request.now.asked) offset
+    ensures { WritesPart (R.read_gives repo.old request.now.asked offset) ((R.state repo.old).answers.pack request.now.asked) offset
         (R.state repo.old) reader.old result (R.state repo.new) reader.new }
 {
     let part = put_part(repo, request, offset, reader.lend());
@@ -85,7 +88,7 @@ fn put_part<R: Repo, A: Allocator + Copy>(
     offset: u64,
     hold: &mut Hold,
 ) -> PartRead
-    ensures { PutsPart ((R.state repo.old).answers.pack request.now.asked) offset
+    ensures { PutsPart (R.read_gives repo.old request.now.asked offset) ((R.state repo.old).answers.pack request.now.asked) offset
         (R.state repo.old) result (R.state repo.new) hold.new.items }
 {
     open_band(hold);
@@ -102,7 +105,7 @@ fn read_part<R: Repo, A: Allocator + Copy>(
     room: &mut [u8],
 ) -> PartRead
     requires full { length room.old ≡ 65515 }
-    ensures { ReadsPart ((R.state repo.old).answers.pack request.now.asked) offset
+    ensures { ReadsPart (R.read_gives repo.old request.now.asked offset) ((R.state repo.old).answers.pack request.now.asked) offset
         (R.state repo.old) result (R.state repo.new) room.new }
 {
     match repo.pack_read(request, offset, room) {

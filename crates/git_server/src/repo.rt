@@ -1,6 +1,6 @@
 //! What a server asks of a repository.
 
-ghost use Rattle.std.specs.Prelude.{◌≡◌, ◌<◌, Some, codes, length, slice_get, IfOk, OnErr, OnOk};
+ghost use Rattle.std.specs.Prelude.{◌≡◌, ◌<◌, ℕ, Some, codes, length, slice_get, IfOk, OnErr, OnOk};
 ghost use Rattle.git_msg.specs.Asked.{FetchAsked};
 ghost use Rattle.git_server.specs.Packs.{IsPackPart};
 ghost use Rattle.git_server.specs.Repository.{RepoState, IsFound, IsSound};
@@ -30,6 +30,10 @@ impl Error for PackFault {}
 pub trait Repo {
     /// What the repository answers, and how many of its reads have failed.
     ghost state: { Self → RepoState };
+
+    /// How many bytes a read of a pack may come to: for a request, from an offset on, into a room of so many. Any number, where a
+    /// repository does not say it.
+    ghost read_gives: { Self → FetchAsked → ℕ → ℕ → ℕ → Type 0 } = { λ repo request offset room count. Unit {0} };
 
     /// The format of its object names.
     fn format(&self) -> Format
@@ -76,6 +80,7 @@ pub trait Repo {
     ) -> Result<usize, PackFault>
         requires room { 0 < length out.old }
         ensures part { IfOk result (λ count. IsPackPart ((state self.old).answers.pack request.now.asked) offset count out.new) }
+        ensures given { IfOk result (λ count. read_gives self.old request.now.asked offset (length out.old) count) }
         ensures cause { OnErr result ((state self.old).failures < (state self.new).failures) }
         ensures fine { OnOk result ((state self.new).failures ≡ (state self.old).failures) }
         ensures same { (state self.new).answers ≡ (state self.old).answers };

@@ -75,7 +75,8 @@ impl<R: Repo, A: Allocator + Copy> Server<R, A> {
     ghost use Rattle.git_pkt.specs.Fronts.{HasFront};
     ghost use Rattle.git_pkt.specs.Packets.{Pkt, Spells};
     ghost use Rattle.git_server.specs.Server.{IsFresh, Running, reader_of, repo_of, wants_input, outcome_of};
-    ghost use Rattle.git_server.specs.ServerCalls.{Closes, Gives, Goes, OwesNow, Pulls, StopsInTime};
+    ghost use Rattle.git_server.specs.ServerCalls.{Closes, FillsOwed, Gives, Goes, IsPulled, OwesNow, Pulls, StopsInTime};
+    ghost use Rattle.git_server.specs.WrittenPackets.{IsAtFront};
     ghost use Rattle.git_pkt.specs.PacketReader.{held_of};
 
     /// A server at the beginning of a session over this repository. Of each request it keeps argument lines whose texts have at
@@ -196,9 +197,11 @@ impl<R: Repo, A: Allocator + Copy> Server<R, A> {
 
     /// The next packet to be sent, or what to do in its place.
     ///
-    /// No packet has more than 65,520 bytes.
+    /// No packet has more than 65,520 bytes. One of a pack has as many bytes of it as the repository gives for the 65,515 that a
+    /// packet has room for, and is written only once they are there.
     pub fn pull(&mut self) -> Pulled<'_>
-        ensures* { sem 𝓛 (Rests (the_row R.row A.row A.Allocator) self.entry (λ new. Pulls R.state self.old result new)) }
+        ensures* after { sem 𝓛 (Rests (the_row R.row A.row A.Allocator) self.entry (λ new. Pulls R.state self.old result new)) }
+        ensures full { FillsOwed R.read_gives self.old (IsPulled result) }
     {
         match self.turn() {
             Turn::NeedInput => Pulled::NeedInput,
@@ -234,7 +237,8 @@ impl<R: Repo, A: Allocator + Copy> Server<R, A> {
     // Puts the next packet that is owed at the hold's front.
     fn give(&mut self)
         requires { turn_in self.old.phase ≡ Turn.Packet }
-        ensures { Gives R.state self.old self.new }
+        ensures gives { Gives R.state self.old self.new }
+        ensures full { FillsOwed R.read_gives self.old (IsAtFront self.new.reader) }
     {
         match &mut self.phase {
             Phase::Advertising(line) => {

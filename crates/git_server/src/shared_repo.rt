@@ -48,6 +48,8 @@ impl Repo for SharedRepo {
 
     ghost state = { shared_state };
 
+    ghost read_gives = { λ shared request offset room count. count ≡ min (length (lists_of (shared_by shared)).pack - offset) room };
+
     ghost sound = { λ shared. is_sound (shared_by shared) };
 
     ghost short = { λ shared request. is_short (shared_by shared) request };

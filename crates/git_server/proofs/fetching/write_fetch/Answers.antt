@@ -2,8 +2,8 @@ use Rattle.std.proofs.Common.{refl}
 use Rattle.git_server.proofs.FetchPackets.{line_follows, ready_follows}
 use Rattle.git_server.proofs.fetching.write_fetch.Goals as goal
 
-pub returns-in-Part : goal.returns-in-Part
-returns-in-Part g c =
+pub returns-in-Part-clause-written : goal.returns-in-Part-clause-written
+returns-in-Part-clause-written g c =
     let repo = (g.R.Repo.state c.args.repo.now).answers in
     let came = c.in-Part.ensures in
     let at = c.in-Acknowledgments.at in
@@ -14,8 +14,8 @@ returns-in-Part g c =
       reads = record { answers = refl; failures = refl };
     }
 
-pub returns-in-Ready : goal.returns-in-Ready
-returns-in-Ready g c =
+pub returns-in-Ready-clause-written : goal.returns-in-Ready-clause-written
+returns-in-Ready-clause-written g c =
     let repo = (g.R.Repo.state c.args.repo.now).answers in
     let came = c.in-Ready.ensures in
     let at = c.in-Acknowledgments.at in

@@ -10,6 +10,7 @@ returns g c =
       room = put.room;
       full = put.full;
       is_read = put.is_read;
+      given = put.given;
       reads = put.reads;
       writes = record {
         held = search (rules, put.begins);

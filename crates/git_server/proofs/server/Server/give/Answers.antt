@@ -11,8 +11,8 @@ use Rattle.git_server.proofs.Owing.{same_outcome, left_stays, refusal_behind, re
 use Rattle.git_server.proofs.Owing.{none_stored_in_advertising}
 use Rattle.git_server.proofs.server.Server.give.Goals as goal
 
-pub returns-in-Advertising : goal.returns-in-Advertising
-returns-in-Advertising g c =
+pub returns-in-Advertising-clause-gives : goal.returns-in-Advertising-clause-gives
+returns-in-Advertising-clause-gives g c =
     let old = c.args.self.now in
     let repo = (g.R.Repo.state old.repo).answers in
     let was = is_advertising old.phase c.in-Advertising.line c.in-Advertising.is in
@@ -28,8 +28,8 @@ returns-in-Advertising g c =
     (omega (arith, none_kept_in_advertising c.next.result _ c.advertising.ensures))
     (λ _. omega (arith, none_stored_in_advertising c.next.result _ c.advertising.ensures))
 
-pub returns-in-Part : goal.returns-in-Part
-returns-in-Part g c =
+pub returns-in-Part-clause-gives : goal.returns-in-Part-clause-gives
+returns-in-Part-clause-gives g c =
     let old = c.args.self.now in
     let flush = c.in-Answering.flush in
     let answer = c.in-Answering.answer in
@@ -49,8 +49,8 @@ returns-in-Part g c =
     (flush_stays answer flush old.phase other was) (omega (arith, ap kept_in was, c.in-Part.ensures.kept))
     (λ h. omega (arith, h, ap kept_in was, ap stored_in was, c.in-Part.ensures.kept, c.in-Part.ensures.stored))
 
-pub returns-in-Whole : goal.returns-in-Whole
-returns-in-Whole g c =
+pub returns-in-Whole-clause-gives : goal.returns-in-Whole-clause-gives
+returns-in-Whole-clause-gives g c =
     let old = c.args.self.now in
     let flush = c.in-Answering.flush in
     let answer = c.in-Answering.answer in
@@ -66,15 +66,15 @@ returns-in-Whole g c =
     (last_less old.offer repo old.phase answer flush one.packet was)
     (same_outcome old.phase Between quiet quiet_now) (left_stays old.phase Between quiet quiet_now) (λ packets h. tt) (omega arith) (λ _. omega arith)
 
-pub returns-in-Broken : goal.returns-in-Broken
-returns-in-Broken g c =
+pub returns-in-Broken-clause-gives : goal.returns-in-Broken-clause-gives
+returns-in-Broken-clause-gives g c =
     let old = c.args.self.now in
     let one = c.in-Broken.ensures.writes in
     gives_broken g.R.Repo.state old _ one.packet c.in-Answering.answer c.in-Answering.flush one.writes refl refl c.in-Answering.is
     (ap Ended c.without_pack.ensures) one.reads one.is_next
 
-pub returns-in-Refusing : goal.returns-in-Refusing
-returns-in-Refusing g c =
+pub returns-in-Refusing-clause-gives : goal.returns-in-Refusing-clause-gives
+returns-in-Refusing-clause-gives g c =
     let old = c.args.self.now in
     let repo = (g.R.Repo.state old.repo).answers in
     gives g.R.Repo.state old _ (error_packet c.in-Refusing.fault) c.write_error.ensures (record { offer = refl; repo = refl; requests = refl })
