@@ -11,7 +11,7 @@ use Rattle.gitwire.specs.declared.machine.Machine.{Machine}
 
 -- the packet reader that a machine is
 abbrev pub packet_reader_of : Machine → Option PacketReader
-packet_reader_of (Machine.PacketReader packet_reader) = Some packet_reader.value
+packet_reader_of (Machine.PacketReader gatherer) = Some gatherer.value.reader
 packet_reader_of other = None
 
 -- the request reader that a machine is

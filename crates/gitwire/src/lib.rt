@@ -5,6 +5,7 @@
 mod client;
 mod event;
 mod faults;
+mod gatherer;
 mod handles;
 mod held;
 pub mod laws;

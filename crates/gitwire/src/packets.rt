@@ -4,6 +4,7 @@ ghost use Rattle.std.specs.Prelude.{◌≡◌, None};
 ghost use Rattle.gitwire.specs.Handles.{packet_reader_in};
 ghost use Rattle.gitwire.specs.PacketsTold.{Begins, ClosesIn, ClosesTold, FeedsIn, FeedsInRoom};
 
+use crate::gatherer::Gatherer;
 use crate::handles::GitwirePacketReader;
 use crate::machine::Machine;
 use crate::told::{GitwireTold, What};
@@ -22,7 +23,10 @@ pub extern "C" fn gitwire_packet_reader_new(alloc: Global, reader: &mut GitwireP
     ensures { Begins result (packet_reader_in reader.new) }
 {
     *reader = GitwirePacketReader::none(alloc);
-    let Ok(made) = Box::new(alloc, PacketReader::new()) else {
+    let gatherer = Gatherer {
+        reader: PacketReader::new(),
+    };
+    let Ok(made) = Box::new(alloc, gatherer) else {
         return What::OutOfMemory.number();
     };
     let Ok(made) = Box::new(alloc, Machine::PacketReader(made)) else {
@@ -55,13 +59,13 @@ pub extern "C" fn gitwire_packet_reader_feed(
     told
 }
 
-fn feed(reader: &mut PacketReader, piece: &[u8], room: &mut [u8]) -> GitwireTold
-    ensures { FeedsInRoom reader.old piece.now room.old result room.new reader.new }
+fn feed(gatherer: &mut Gatherer, piece: &[u8], room: &mut [u8]) -> GitwireTold
+    ensures { FeedsInRoom gatherer.old.reader piece.now room.old result room.new gatherer.new.reader }
 {
     if room.len() < LONGEST_PAYLOAD {
         return GitwireTold::of(What::RoomTooSmall);
     }
-    let fed = reader.feed(piece, &mut Steps::new());
+    let fed = gatherer.reader.feed(piece, &mut Steps::new());
     match fed.got {
         Got::More => GitwireTold::of_used(fed.used, What::More),
         Got::Failed(fault) => GitwireTold::of_fault(fed.used, fault),
@@ -97,10 +101,10 @@ pub extern "C" fn gitwire_packet_reader_close(
     told
 }
 
-fn close(reader: &mut PacketReader) -> GitwireTold
-    ensures { ClosesTold reader.old result reader.new }
+fn close(gatherer: &mut Gatherer) -> GitwireTold
+    ensures { ClosesTold gatherer.old.reader result gatherer.new.reader }
 {
-    match reader.close() {
+    match gatherer.reader.close() {
         Ok(()) => GitwireTold::of(What::Done),
         Err(fault) => GitwireTold::of_fault(0, fault),
     }
