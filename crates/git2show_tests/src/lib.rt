@@ -1,8 +1,10 @@
 //! Tests that need code: memory that is refused, packs that come in parts or fail, readers and writers that fail or are
-//! asked when they were flushed, many packets and prefixes at once, and the names and texts of faults. What a text can tell is a
-//! case of `worked_conversations`.
+//! asked when they were flushed, bytes of a pack as they pass, many packets and prefixes at once, and the names and texts of
+//! faults. What a text can tell is a case of `worked_conversations`.
 #![tactic(auto)]
 
+#[cfg(test)]
+mod bands;
 #[cfg(test)]
 mod checking;
 #[cfg(test)]
@@ -11,6 +13,8 @@ mod conversing;
 mod escapes;
 #[cfg(test)]
 mod faults;
+#[cfg(test)]
+mod full_packets;
 #[cfg(test)]
 mod many_packets;
 #[cfg(test)]

@@ -1,0 +1,146 @@
+//! Bytes of a pack and of the progress, as they pass: what the packet reader tells of them, and what a client hands out.
+
+ghost use Rattle.git_pkt.specs.BandReader.{MayPass};
+
+use crate::conversing::requests;
+use git_client::{Client, Ending, Event, HeardGot, Sent};
+use git_names::{Format, Steps};
+use git_pkt::{BandGot, Kind, Packet, PacketReader};
+use std::alloc::{AllocError, Global};
+use std::process::Abort;
+use std::test::Fail;
+
+/// More answers than any of these pieces has.
+const MANY: usize = 100;
+
+/// Appends a line of what was told: how many bytes were used, and what they came to.
+fn note(lines: &mut Vec<u8>, alloc: Global, used: usize, got: &BandGot<'_>) -> Result<(), AllocError> {
+    let (what, bytes) = match got {
+        BandGot::More => (format!(in alloc; "{used} more ")?, b"".as_slice()),
+        BandGot::Part(band, bytes) => (format!(in alloc; "{used} band {} ", band.byte())?, *bytes),
+        BandGot::Packet(Packet::Payload(payload), offset) => {
+            (format!(in alloc; "{used} packet at {offset} ")?, *payload)
+        }
+        BandGot::Packet(_, offset) => (format!(in alloc; "{used} mark at {offset} ")?, b"".as_slice()),
+        BandGot::Failed(fault) => (format!(in alloc; "{used} {fault} ")?, b"".as_slice()),
+    };
+    lines.extend_from_slice(what.as_bytes())?;
+    lines.extend_from_slice(bytes)?;
+    lines.push(b'\n')
+}
+
+/// Feeds a piece until it is used up.
+fn feed_piece(
+    reader: &mut PacketReader,
+    alloc: Global,
+    piece: &[u8],
+    lines: &mut Vec<u8>,
+) -> Result<(), AllocError>
+    requires { MayPass reader.old }
+    ensures { MayPass reader.new }
+{
+    let mut rest = piece;
+    for _ in 0..MANY {
+        if rest.is_empty() {
+            return Ok(());
+        }
+        let fed = reader.feed_band(rest, &mut Steps::new());
+        note(lines, alloc, fed.used, &fed.got)?;
+        rest = &rest[fed.used..];
+    }
+    Ok(())
+}
+
+/// What the reader tells of these pieces, and how the stream ends after them.
+fn told(alloc: Global, pieces: &[&[u8]]) -> Result<Vec<u8>, AllocError> {
+    let mut lines = Vec::new(alloc);
+    let mut reader = PacketReader::new();
+    for piece in pieces {
+        feed_piece(&mut reader, alloc, piece, &mut lines)?;
+    }
+    if let Err(fault) = reader.close() {
+        lines.extend_from_slice(format!(in alloc; "{fault}\n")?.as_bytes())?;
+    }
+    Ok(lines)
+}
+
+#[test]
+fn a_reader_passes_the_bytes_of_both_bands(rt: HostRuntime) -> Result<(), Fail> {
+    let lines = told(rt.alloc(), &[b"0007\x01AB0005\x010006\x03x0000"])?;
+    let wanted = b"7 band 1 AB\n11 packet at 12 \x03x\n4 mark at 18 \n".as_slice();
+    assert_eq!(rt; lines.as_slice(), wanted);
+    Ok(())
+}
+
+#[test]
+fn a_part_is_all_that_the_piece_has(rt: HostRuntime) -> Result<(), Fail> {
+    let lines = told(rt.alloc(), &[b"0007\x01A", b"B0006\x02x"])?;
+    let wanted = b"6 band 1 A\n1 band 1 B\n6 band 2 x\n".as_slice();
+    assert_eq!(rt; lines.as_slice(), wanted);
+    let lines = told(rt.alloc(), &[b"0007\x01A"])?;
+    assert_eq!(rt; lines.as_slice(), b"6 band 1 A\nTruncated at 0\n".as_slice());
+    Ok(())
+}
+
+/// Appends the bytes of an event of side bands and a bar, of another one its name.
+fn hear(heard: &mut Vec<u8>, event: &Event<'_>) -> Result<(), AllocError> {
+    match event {
+        Event::Pack(bytes) => heard.extend_from_slice(bytes)?,
+        Event::Progress(bytes) => heard.extend_from_slice(bytes)?,
+        Event::Ended => heard.extend_from_slice(b"ended")?,
+        _ => {}
+    }
+    heard.push(b'|')
+}
+
+/// A client that has asked for a pack.
+fn asking(rt: &(impl Abort + AllocGlobal)) -> Result<Client<Global>, Fail> {
+    let mut client = Client::new(Format::Sha1, Ending::FlushOnly);
+    let mut rest = b"000eversion 2\n000afetch\n0000".as_slice();
+    for _ in 0..MANY {
+        let used = client.feed(rest, &mut Steps::new()).used;
+        rest = &rest[used..];
+    }
+    let script = b"fetch\nwant aaaaaaaaaaaaaaaaaaaaaaaaaaaaaaaaaaaaaaaa\ndone\n";
+    for request in requests(rt, script)? {
+        assert!(rt; client.can_ask());
+        assert!(rt; client.ask(request).is_ok());
+    }
+    for _ in 0..MANY {
+        let Sent::Packet(_) = client.pull() else {
+            break;
+        };
+    }
+    Ok(client)
+}
+
+#[test]
+fn a_client_hands_out_each_byte_of_a_pack_as_it_comes(rt: HostRuntime) -> Result<(), Fail> {
+    let mut client = asking(&rt)?;
+    let mut heard = Vec::new(rt.alloc());
+    for byte in b"000dpackfile\n0008\x01ABC0006\x02x0005\x010000".chunks(1) {
+        if let HeardGot::Event(event) = client.feed(byte, &mut Steps::new()).got {
+            hear(&mut heard, &event)?;
+        }
+    }
+    assert_eq!(rt; heard.as_slice(), b"A|B|C|x|ended|".as_slice());
+    assert!(rt; client.can_ask());
+    Ok(())
+}
+
+#[test]
+fn what_came_of_an_open_packet_was_handed_out(rt: HostRuntime) -> Result<(), Fail> {
+    let mut client = asking(&rt)?;
+    let mut heard = Vec::new(rt.alloc());
+    for piece in [b"000dpackfile\n".as_slice(), b"0009\x01AB"] {
+        if let HeardGot::Event(event) = client.feed(piece, &mut Steps::new()).got {
+            hear(&mut heard, &event)?;
+        }
+    }
+    assert_eq!(rt; heard.as_slice(), b"AB|".as_slice());
+    assert!(rt; client.wants_input());
+    let fault = client.close();
+    assert!(rt; fault.kind == Kind::Truncated);
+    assert_eq!(rt; fault.offset, 41);
+    Ok(())
+}
