@@ -19,15 +19,13 @@ use Rattle.git_client.specs.Conversation.{GiveAll, GivesAt}
 use Rattle.git_client.specs.Events.{EventValue, ended, ended_by, flush_says, pack, Gives, GivesLine}
 use Rattle.git_client.specs.Parts.{Terms, advertisement_of, message_of, nearest, terms_of}
 use Rattle.git_client.specs.Sections.{may_begin, section_named}
-use Rattle.git_client.specs.Turns.{Fits, NotesAfter, due_after_header, events_at, phase_after, phase_after_response, place_due}
+use Rattle.git_client.specs.Turns.{NotesAfter, due_after_header, phase_after, phase_after_response, place_due}
 use Rattle.git_client.specs.declared.events.Ending.{Ending}
 use Rattle.git_client.specs.declared.events.Ending.TheVariants.{FlushOnly, ResponseEnd as WithResponseEnd}
 use Rattle.git_client.specs.declared.phase.Due.{Due}
 use Rattle.git_client.specs.declared.phase.Due.TheVariants.{Acknowledgments, Header, Packfile, References, ShallowInfo, Sizes, WantedRefs, ResponseEnd}
-use Rattle.git_client.specs.declared.phase.Said.{Said}
-use Rattle.git_client.specs.declared.phase.Said.TheVariants.{Nothing, Pack, Ended}
 use Rattle.git_client.specs.declared.sections.Allowed.{Allowed}
-use Rattle.git_client.proofs.Judged.{judged_well, place_is}
+use Rattle.git_client.proofs.Judged.{gives_well, place_is}
 use Rattle.git_client.proofs.PartSteps.{due_after, next_part, part_due, stands}
 use Rattle.git_client.proofs.SectionSteps.{allowed_stays, inside_more}
 use Rattle.git2show_lib.specs.ToldAnswers.{end_packets, packets_of}
@@ -131,15 +129,12 @@ module _ (t : Terms) (asked : List Asked) where
       subst (λ (u : List ℕ). GivesLine (place_due caps t.format due) t.format u now) (sym (text_of-line_end text)) gives
 
   -- a packet that has no fault, and then the others
-  pub packet_gives : (before : List Pkt) (due : Due) (p : Pkt) (said : Said) (ps : List Pkt) (later : List EventValue) → IsDue t asked before due
-      → Gives t.format t.ending (place_due (caps_at before) t.format due) p (events_at said (body_of p)) → Fits said (body_of p)
-      → NotesAfter due (caps_at before) p (caps_at before)
-      → (Behind t asked (p ∷ before) None (phase_after t.ending due p) → AnswerGives (p ∷ before) ps later)
-      → AnswerGives before (p ∷ ps) (events_at said (body_of p) ++ later)
-  packet_gives before due p said ps later is gives fits notes others =
-      let judged = judged_well t asked before due (caps_at before) p (record { said = said; caps = caps_at before; next = phase_after t.ending due p })
-      is refl (record { gives = gives; fits = fits; notes = notes; next = refl }) in
-      (events_at said (body_of p), later, refl, judged.0, others judged.2)
+  pub packet_gives : (before : List Pkt) (due : Due) (p : Pkt) (now : List EventValue) (ps : List Pkt) (later : List EventValue) → IsDue t asked before due
+      → Gives t.format t.ending (place_due (caps_at before) t.format due) p now → NotesAfter due (caps_at before) p (caps_at before)
+      → (Behind t asked (p ∷ before) None (phase_after t.ending due p) → AnswerGives (p ∷ before) ps later) → AnswerGives before (p ∷ ps) (now ++ later)
+  packet_gives before due p now ps later is gives notes others =
+      let given = gives_well t asked before due (caps_at before) (caps_at before) p now is refl gives notes in
+      (now, later, refl, given.0, others given.2)
 
   -- lines of which each gives its event, and then the others
   pub lines_give : {X : Type 0} (text : X → List ℕ) (event : X → EventValue) (due : Due) → IsOfLines due → (xs : List X) (before ps : List Pkt)
@@ -174,8 +169,8 @@ module _ (t : Terms) (asked : List Asked) where
       → (IsDue t asked (text_line text ∷ before) due → AnswerGives (text_line text ∷ before) ps later)
       → AnswerGives before (text_line text ∷ ps) later
   header_gives text allowed due before ps later is clean may next others =
-      packet_gives before (Header allowed) (text_line text) Nothing ps later is
-      (of_text (Header allowed) (caps_at before) text [] (record { no_error = clean; says = may })) tt refl
+      packet_gives before (Header allowed) (text_line text) [] ps later is
+      (of_text (Header allowed) (caps_at before) text [] (record { no_error = clean; says = may })) refl
       (λ behind. others (rw (text_of-line_end text, next) at behind))
 
   -- packets of the pack's band, and then the others
@@ -188,7 +183,7 @@ module _ (t : Terms) (asked : List Asked) where
       let events : map pack bytes ++ later ≡ map pack part ++ (map pack more ++ later) =
       ap (λ (l : List ℕ). map pack l ++ later) cut ∙ ap (λ (l : List EventValue). l ++ later) (map-append pack part more)
       ∙ append_assoc (map pack part) (map pack more) later in
-      let one = packet_gives before Packfile (band_packet PackBand part) Pack (bands ++ ps) (map pack more ++ later) is refl (omega arith) refl
+      let one = packet_gives before Packfile (band_packet PackBand part) (map pack part) (bands ++ ps) (map pack more ++ later) is refl refl
       (λ behind. bands_give bands more (band_packet PackBand part ∷ before) ps later rest behind others) in
       subst (λ (l : List EventValue). AnswerGives before (p ∷ (bands ++ ps)) l) (sym events)
       (subst (λ (q : Pkt). AnswerGives before (q ∷ (bands ++ ps)) (map pack part ++ (map pack more ++ later))) (sym same) one)
@@ -198,15 +193,15 @@ pub end_gives : (format : Format) (ending : Ending) (asked : List Asked) (before
     → IsDue (terms_of format ending) asked before due → AnswerGives (terms_of format ending) asked before (flush ∷ end_packets ending) (ended ∷ [])
 end_gives format FlushOnly asked before due may is =
     let t = terms_of format FlushOnly in
-    packet_gives t asked before due flush Ended [] [] is (flush_is FlushOnly (caps_at t asked before) format due may) tt
+    packet_gives t asked before due flush (ended ∷ []) [] [] is (flush_is FlushOnly (caps_at t asked before) format due may)
     (flush_notes due (caps_at t asked before) may)
     (λ behind.
     let whole : AreWhole t asked (flush ∷ before) = rw (after_flush FlushOnly due may) at behind in
     (refl, whole))
 end_gives format WithResponseEnd asked before due may is =
     let t = terms_of format WithResponseEnd in
-    packet_gives t asked before due flush Nothing (resp_end ∷ []) (ended ∷ []) is (flush_is WithResponseEnd (caps_at t asked before) format due may) tt
+    packet_gives t asked before due flush [] (resp_end ∷ []) (ended ∷ []) is (flush_is WithResponseEnd (caps_at t asked before) format due may)
     (flush_notes due (caps_at t asked before) may)
     (λ behind.
     let last : IsDue t asked (flush ∷ before) ResponseEnd = rw (after_flush WithResponseEnd due may) at behind in
-    packet_gives t asked (flush ∷ before) ResponseEnd resp_end Ended [] [] last refl tt refl (λ behind. (refl, behind)))
+    packet_gives t asked (flush ∷ before) ResponseEnd resp_end (ended ∷ []) [] [] last refl refl (λ behind. (refl, behind)))

@@ -31,13 +31,12 @@ use Rattle.git_msg.proofs.ResponseLines.{ack_reads_back, boundary_reads_back, in
 use Rattle.git_msg.proofs.WrittenNames.{hex_of-reads_back, length-hex_of}
 use Rattle.git_client.specs.Client.{AreWhole, IsDue}
 use Rattle.git_client.specs.Conversation.{GiveAll}
-use Rattle.git_client.specs.Events.{EventValue, GivesLine, ack, ended, info, pack, ready, reference, wanted_ref}
+use Rattle.git_client.specs.Events.{EventValue, GivesLine, ack, ended, info, nak, pack, ready, reference, wanted_ref}
 use Rattle.git_client.specs.Parts.{Terms, nearest}
 use Rattle.git_client.specs.Places.{acknowledgments as acknowledgments_at, references, shallow_info as shallow_place, sizes, wanted_refs as wanted_place}
 use Rattle.git_client.specs.Sections.{allowed_after, told_with}
 use Rattle.git_client.specs.Turns.{after_acknowledgments, first_due}
 use Rattle.git_client.specs.declared.phase.Due.TheVariants.{Acknowledgments, Header, Packfile, References, ShallowInfo, SizeLine, Sizes, WantedRefs}
-use Rattle.git_client.specs.declared.phase.Said.TheVariants.{Nothing, Ack, Nak, Ready}
 use Rattle.git_client.specs.declared.sections.Allowed.{Allowed}
 use Rattle.git_client.specs.declared.sections.Told.{Told}
 use Rattle.git_client.proofs.Questions.{due_said}
@@ -223,7 +222,7 @@ module _ (t : Terms) (asked : List Asked) (repo : Repository) (sound : IsSound r
       (header_gives t asked (codes "wanted-refs") allowed (WantedRefs left) before _ _ is (no_error (codes "wanted-refs") (λ e. omega arith)) may refl
       (λ is. lines_give t asked wanted_text wanted_ref (WantedRefs left) tt wanteds _ (delim ∷ (others ++ end_packets t.ending)) _ is
       (λ caps. wanted_lines (name ∷ names))
-      (λ behind is. packet_gives t asked behind (WantedRefs left) delim Nothing (others ++ end_packets t.ending) _ is refl tt refl
+      (λ behind is. packet_gives t asked behind (WantedRefs left) delim [] (others ++ end_packets t.ending) _ is refl refl
       (λ is. pack_gives bytes left (delim ∷ behind) others file is))))
 
   -- ---- the shallow boundary
@@ -261,7 +260,7 @@ module _ (t : Terms) (asked : List Asked) (repo : Repository) (sound : IsSound r
       (map told_boundary all_lines ++ later) is (no_error (codes "shallow-info") (λ e. omega arith)) may refl
       (λ is. lines_give t asked boundary_text told_boundary (ShallowInfo left) tt all_lines _ behind later is
       (λ caps. all)
-      (λ behind is. packet_gives t asked behind (ShallowInfo left) delim Nothing (others ++ end_packets t.ending) later is refl tt refl
+      (λ behind is. packet_gives t asked behind (ShallowInfo left) delim [] (others ++ end_packets t.ending) later is refl refl
       (λ is. then left (delim ∷ behind) may_refs is))))
 
   -- from the section of the shallow boundary on
@@ -295,8 +294,8 @@ module _ (t : Terms) (asked : List Asked) (repo : Repository) (sound : IsSound r
       let one = All-head (IsNameIn t.format) id ids all in
       let gives : GivesLine (acknowledgments_at (told_acks any)) t.format (ack_text id) (ack id ∷ []) =
       record { no_error = no_error (codes "ACK " ++ hex_of id) (λ e. omega arith); says = (ack_reads_back t.format id one, refl) } in
-      packet_gives t asked before (Acknowledgments (told_acks any)) (ack_packet id) (Ack id) (map ack_packet ids ++ ps) (map ack ids ++ later) is
-      (of_text t asked (Acknowledgments (told_acks any)) (caps_at t asked before) (ack_text id) (ack id ∷ []) gives) tt refl
+      packet_gives t asked before (Acknowledgments (told_acks any)) (ack_packet id) (ack id ∷ []) (map ack_packet ids ++ ps) (map ack ids ++ later) is
+      (of_text t asked (Acknowledgments (told_acks any)) (caps_at t asked before) (ack_text id) (ack id ∷ []) gives) refl
       (λ behind. acks_give ids true (ack_packet id ∷ before) ps later (All-tail (IsNameIn t.format) id ids all)
       (subst (λ (u : List ℕ). IsDue t asked (ack_packet id ∷ before) (Acknowledgments (told_with (told_acks any) u))) (text_of-line_end (ack_text id)) behind)
       then)
@@ -307,8 +306,8 @@ module _ (t : Terms) (asked : List Asked) (repo : Repository) (sound : IsSound r
       → ((told : Told) (behind : List Pkt) → told.ready ≡ false → IsDue t asked behind (Acknowledgments told) → AnswerGives t asked behind ps later)
       → AnswerGives t asked before (nak_or_acks ids ++ ps) (told_common ids ++ later)
   common_gives [] before ps later all is then =
-      packet_gives t asked before (Acknowledgments (told_acks false)) (text_line (codes "NAK")) Nak ps later is
-      (record { no_error = no_error (codes "NAK") (λ e. omega arith); says = (refl, refl) }) tt refl
+      packet_gives t asked before (Acknowledgments (told_acks false)) (text_line (codes "NAK")) (nak ∷ []) ps later is
+      (record { no_error = no_error (codes "NAK") (λ e. omega arith); says = (refl, refl) }) refl
       (λ behind. then _ (text_line (codes "NAK") ∷ before) refl behind)
   common_gives (id ∷ ids) before ps later all is then = acks_give (id ∷ ids) false before ps later all is then
 
@@ -317,9 +316,9 @@ module _ (t : Terms) (asked : List Asked) (repo : Repository) (sound : IsSound r
       → ((behind : List Pkt) → IsDue t asked behind (Header after_acknowledgments) → AnswerGives t asked behind ps later)
       → AnswerGives t asked before (ready_lines ++ ps) (ready ∷ later)
   ready_gives told before ps later not_yet is then =
-      packet_gives t asked before (Acknowledgments told) (text_line (codes "ready")) Ready (delim ∷ ps) later is
-      (record { no_error = no_error (codes "ready") (λ e. omega arith); says = (refl, not_yet) }) tt refl
-      (λ is. packet_gives t asked (text_line (codes "ready") ∷ before) (Acknowledgments (told_with told (codes "ready"))) delim Nothing ps later is refl tt refl
+      packet_gives t asked before (Acknowledgments told) (text_line (codes "ready")) (ready ∷ []) (delim ∷ ps) later is
+      (record { no_error = no_error (codes "ready") (λ e. omega arith); says = (refl, not_yet) }) refl
+      (λ is. packet_gives t asked (text_line (codes "ready") ∷ before) (Acknowledgments (told_with told (codes "ready"))) delim [] ps later is refl refl
       (λ is. then (delim ∷ text_line (codes "ready") ∷ before) is))
 
   -- ---- a fetch
@@ -402,8 +401,8 @@ module _ (t : Terms) (asked : List Asked) (repo : Repository) (sound : IsSound r
       ap (λ (ps : List Pkt). ps ++ end_packets t.ending) answer
       ∙ ap (λ (ps : List Pkt). text_line (codes "size") ∷ ps) (append_assoc (map (info_packet repo) q.oids) (flush ∷ []) (end_packets t.ending)) in
       subst (λ (ps : List Pkt). AnswerGives t asked before ps (told_sizes repo q ++ ended ∷ [])) (sym parts)
-      (packet_gives t asked before SizeLine (text_line (codes "size")) Nothing (map (info_packet repo) q.oids ++ last) (told_sizes repo q ++ ended ∷ []) is
-      (record { no_error = no_error (codes "size") (λ e. omega arith); says = refl }) tt refl
+      (packet_gives t asked before SizeLine (text_line (codes "size")) [] (map (info_packet repo) q.oids ++ last) (told_sizes repo q ++ ended ∷ []) is
+      (record { no_error = no_error (codes "size") (λ e. omega arith); says = refl }) refl
       (λ is. lines_give t asked (λ id. info_text (told id)) (λ id. info (told id)) Sizes tt q.oids (text_line (codes "size") ∷ before) last (ended ∷ []) is
       (λ caps k d within. size_line_is t.format _ _ (oids k d within) (written.sizes _))
       (λ behind is. end_gives t.format t.ending asked behind Sizes tt is)))
