@@ -37,7 +37,12 @@ pub written_full : (gives : ℕ → ℕ → ℕ → Type 0) (pack : List ℕ) (o
     → WritesPart (gives offset) pack offset repo_old old part repo_new new → FillsPart gives place (IsAtFront new)
 written_full gives pack offset place was repo_old old part repo_new new h =
     subst (λ (p : PackPlace). FillsPart gives p (IsAtFront new)) (sym was)
-    (record { packet = part_packet h.room part; fits = h.writes.fits; is = h.writes.held; full = full_part (gives offset) pack h.room offset part h.is_read h.given })
+    (record {
+      packet = part_packet h.room part;
+      fits = h.writes.fits;
+      is = h.writes.held;
+      full = full_part (gives offset) pack h.room offset part h.is_read h.given;
+    })
 
 -- what such a packet is may be said by other words
 module _ (Is Also : Pkt → Type 0) (then : (packet : Pkt) → length (body_of packet) ≤ longest_payload → Is packet → Also packet) where

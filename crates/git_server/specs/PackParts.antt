@@ -45,13 +45,15 @@ IsGiven gives End = Unit {0}
 IsGiven gives Failed = Unit {0}
 
 -- a part was read into the room
-pub record ReadsPart (gives : ℕ → ℕ → Type 0) (pack : List ℕ) (offset : ℕ) (repo_old : RepoState) (part : PartRead) (repo_new : RepoState) (room : List ℕ) : Type 0 where
+pub record ReadsPart (gives : ℕ → ℕ → Type 0) (pack : List ℕ) (offset : ℕ)
+    (repo_old : RepoState) (part : PartRead) (repo_new : RepoState) (room : List ℕ) : Type 0 where
   pub is_read : IsPartRead pack offset room part
   pub given : IsGiven gives part
   pub reads : ReadsPack (answered_by part) repo_old repo_new
 
 -- a part was read, and the hold begins with its packet
-pub record PutsPart (gives : ℕ → ℕ → Type 0) (pack : List ℕ) (offset : ℕ) (repo_old : RepoState) (part : PartRead) (repo_new : RepoState) (held : List ℕ) : Type 0 where
+pub record PutsPart (gives : ℕ → ℕ → Type 0) (pack : List ℕ) (offset : ℕ)
+    (repo_old : RepoState) (part : PartRead) (repo_new : RepoState) (held : List ℕ) : Type 0 where
   pub room : List ℕ
   pub full : length room ≡ 65515
   pub is_read : IsPartRead pack offset room part
