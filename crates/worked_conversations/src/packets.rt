@@ -1,5 +1,8 @@
 //! The packet reader and `show`: a line for each packet.
 
+ghost use Rattle.std.specs.Prelude.{◌≡◌, false};
+ghost use Rattle.git_pkt.specs.PacketReader.{passes_of};
+
 use crate::escapes::escaped;
 use crate::runs::Run;
 use crate::script::Script;
@@ -35,7 +38,10 @@ fn append_line(
 }
 
 // After a packet the hold has its bytes as they came, and an empty piece leaves them. Then it may be written over.
-fn check_hold(reader: &mut PacketReader, came: &[u8]) -> Result<(), Trouble> {
+fn check_hold(reader: &mut PacketReader, came: &[u8]) -> Result<(), Trouble>
+    requires gathers { passes_of reader.old ≡ false }
+    ensures gathers { passes_of reader.new ≡ false }
+{
     if !came.ends_with(reader.hold().as_slice()) {
         return Err(Trouble::Breaks("the hold has not the packet as it came"));
     }
@@ -58,7 +64,10 @@ fn feed(
     input: &[u8],
     piece: &[u8],
     lines: &mut Vec<u8>,
-) -> Result<bool, Trouble> {
+) -> Result<bool, Trouble>
+    requires gathers { passes_of reader.old ≡ false }
+    ensures gathers { passes_of reader.new ≡ false }
+{
     let mut rest = piece;
     for _ in 0..=piece.len() {
         let fed = reader.feed(rest, &mut Steps::new());
@@ -75,7 +84,9 @@ fn feed(
 }
 
 // A reader that failed uses nothing more, has no packet open, and tells the same fault for good.
-fn check_failed(reader: &mut PacketReader, fault: Fault) -> Result<(), Trouble> {
+fn check_failed(reader: &mut PacketReader, fault: Fault) -> Result<(), Trouble>
+    requires gathers { passes_of reader.old ≡ false }
+{
     let position = reader.position();
     for piece in [b"0000".as_slice(), b"".as_slice()] {
         let fed = reader.feed(piece, &mut Steps::new());

@@ -1,6 +1,7 @@
 //! A request reader that keeps each argument, fed by a packet reader.
 
 ghost use Rattle.std.specs.Prelude.{◌≡◌, false};
+ghost use Rattle.git_pkt.specs.PacketReader.{passes_of};
 ghost use Rattle.git_msg.specs.RequestReader.{is_waiting};
 
 use crate::escapes::escaped;
@@ -187,7 +188,10 @@ fn feed(
     keeper: &mut Keeper,
     piece: &[u8],
     lines: &mut Vec<u8>,
-) -> Result<Option<String>, Trouble> {
+) -> Result<Option<String>, Trouble>
+    requires gathers { passes_of packets.old ≡ false }
+    ensures gathers { passes_of packets.new ≡ false }
+{
     let mut rest = piece;
     for _ in 0..=piece.len() {
         let fed = packets.feed(rest, &mut Steps::new());

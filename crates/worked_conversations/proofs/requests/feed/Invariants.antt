@@ -1,0 +1,6 @@
+use Rattle.std.proofs.Common.{◌≡◌, false}
+use Rattle.git_pkt.specs.PacketReader.{passes_of}
+use Rattle.worked_conversations.proofs.requests.feed.Given as goal
+
+abbrev pub invariant-loop : goal.invariant-loop
+invariant-loop l = passes_of l.packets ≡ false
