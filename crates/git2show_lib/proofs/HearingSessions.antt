@@ -15,7 +15,7 @@ use Rattle.git_msg.specs.References.{IsMaybeObjectName, IsReferenceLine, Ref}
 use Rattle.git_msg.specs.ResponseLines.{IsSize, object_of}
 use Rattle.git_client.specs.Client.{AreWhole}
 use Rattle.git_client.specs.Conversation.{GiveAll}
-use Rattle.git_client.specs.Events.{EventValue, ended}
+use Rattle.git_client.specs.Events.{ended}
 use Rattle.git_client.specs.Parts.{Terms, nearest}
 use Rattle.git_client.specs.declared.events.Ending.{Ending}
 use Rattle.git_client.specs.declared.events.Ending.TheVariants.{FlushOnly}
@@ -29,28 +29,11 @@ use Rattle.git_server.specs.Sessions.{AreAnswers}
 use Rattle.git_server.specs.declared.list_repo.ListRepo.{ListRepo}
 use Rattle.git_repository.specs.RepositoryLines.{Said, boundary, object, ready, reference}
 use Rattle.git_repository.specs.RepositoryText.{IsRepositoryText, SayAll, boundaries_in, entry_of, objects_in, refs_in}
+use Rattle.git_client.proofs.Sequences.{give_all_append, nearest-append}
 use Rattle.git2show_lib.specs.ToldAnswers.{AsksIn, IsEntryOfNames, CanBeWritten, end_packets, packets_of, told_all, told_by}
 use Rattle.git2show_lib.proofs.HearingAnswers.{heard, whole_after}
 
 -- ---- answers one after the other
-
--- packets give what they do, and those behind them what they do
-pub all_give : (t : Terms) (asked : List Asked) (before : List Pkt) (gs hs : List Given) (events later : List EventValue) → GiveAll t asked before gs events
-    → GiveAll t asked (nearest gs before) hs later → GiveAll t asked before (gs ++ hs) (events ++ later)
-all_give t asked before [] hs events later e gives =
-    subst (λ (l : List EventValue). GiveAll t asked before hs (l ++ later)) (sym e) gives
-all_give t asked before (g ∷ gs) hs events later (now, rest, e, at, others) gives = (
-  now,
-  rest ++ later,
-  ap (λ (l : List EventValue). l ++ later) e ∙ append_assoc now rest later,
-  at,
-  all_give t asked (g.packet ∷ before) gs hs rest later others gives,
-)
-
--- the packets of two lists stand behind those before both
-pub nearest-append : (gs hs : List Given) (before : List Pkt) → nearest (gs ++ hs) before ≡ nearest hs (nearest gs before)
-nearest-append [] hs before = refl
-nearest-append (g ∷ gs) hs before = nearest-append gs hs (g.packet ∷ before)
 
 -- packets that are two lists fall into these two
 pub record Cut (gs : List Given) (front back : List Pkt) : Type 0 where
@@ -106,7 +89,7 @@ module _ (t : Terms) (repo : Repository) (sound : IsSound repo) (written : CanBe
       let behind = subst (λ (l : List Asked). GiveAll t l (nearest c.first before) c.second (told_all repo asked))
       (append_assoc earlier (q ∷ []) (asked ++ later)) others.0 in (
         subst (λ (l : List Given). GiveAll t (earlier ++ (q ∷ (asked ++ later))) before l (told_all repo (q ∷ asked))) (sym c.whole)
-            (all_give t (earlier ++ (q ∷ (asked ++ later))) before c.first c.second (told_by repo q ++ ended ∷ []) (told_all repo asked) now behind),
+            (give_all_append t (earlier ++ (q ∷ (asked ++ later))) before c.first c.second (told_by repo q ++ ended ∷ []) (told_all repo asked) now behind),
         subst (λ (l : List Asked). AreWhole t l (nearest gs before)) (append_assoc earlier (q ∷ []) asked)
             (subst (λ (l : List Pkt). AreWhole t ((earlier ++ q ∷ []) ++ asked) l)
             (sym (ap (λ (l : List Given). nearest l before) c.whole ∙ nearest-append c.first c.second before)) others.1),

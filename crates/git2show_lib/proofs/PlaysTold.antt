@@ -27,7 +27,8 @@ use Rattle.git_client.specs.Parts.{Terms, advertisement_of, nearest, terms_of}
 use Rattle.git_client.specs.Transcript.{transcript_of}
 use Rattle.git_client.specs.declared.events.Ending.{Ending}
 use Rattle.git_client.specs.declared.events.Ending.TheVariants.{FlushOnly, ResponseEnd}
-use Rattle.git_client.proofs.Determined.{one_event_list, one_note}
+use Rattle.git_client.proofs.Determined.{one_note, same_sounds}
+use Rattle.git_client.proofs.Sequences.{give_all_append, nearest-append}
 use Rattle.git_server.specs.Answers.{AllFit, advertisement_of as server_says}
 use Rattle.git_server.specs.Repository.{IsSound, Repository, RepoState}
 use Rattle.git_server.specs.Sessions.{AreAnswers, IsAnswered, Setting, Stream}
@@ -35,7 +36,7 @@ use Rattle.git_server.proofs.Sent.{spelled_both}
 use Rattle.git2show_lib.specs.Plays.{IsWholePlay, Played, Talk, said_each, setting_of, with_end}
 use Rattle.git2show_lib.specs.ToldAnswers.{AsksIn, CanBeWritten, told_all, told_offer, told_play}
 use Rattle.git2show_lib.proofs.HearingOffers.{advertisement_stays, format_meant, lines_said, nearest_offer, offer_heard, offer_whole}
-use Rattle.git2show_lib.proofs.HearingSessions.{AreEnded, all_give, all_heard, cut_at, ended_by_flush, nearest-append}
+use Rattle.git2show_lib.proofs.HearingSessions.{AreEnded, all_heard, cut_at, ended_by_flush}
 use Rattle.git2show_lib.proofs.RequestsHeard.{HaveValues, IsLeft, IsTail, requests_are, written_all}
 use Rattle.git2show_lib.proofs.SpelledPackets.{are_spelled, fit_both, fit_front, front_are, packets_are, requests_fit}
 
@@ -154,9 +155,9 @@ events_told t repo asked answers used events sound written same values are fit e
     subst (λ (l : List Asked). GiveAll t l (nearest c.first []) c.second (told_all repo asked)) (append-nil asked) answered in
     let all : GiveAll t asked [] s.given (first_events ++ told_all repo asked) =
     subst (λ (l : List Given). GiveAll t asked [] l (first_events ++ told_all repo asked)) (sym c.whole)
-    (all_give t asked [] c.first c.second first_events (told_all repo asked) heard later) in
-    one_event_list t asked used events (first_events ++ told_all repo asked) (conversation.given, heard_so t asked used events conversation)
-    (s.given, record { given = s.given; rest = []; more = []; splits = s.splits; cut = sym (append-nil s.given); gives = all; stops = tt })
+    (give_all_append t asked [] c.first c.second first_events (told_all repo asked) heard later) in
+    (same_sounds t asked used conversation.given s.given events (first_events ++ told_all repo asked) (heard_so t asked used events conversation)
+    (record { given = s.given; rest = []; more = []; splits = s.splits; cut = sym (append-nil s.given); gives = all; stops = tt })).events_are
 
 -- ---- each ending
 
