@@ -15,8 +15,6 @@
 
 #include "pkt_line.h"
 
-#define MOST_REQUEST 4096        /* a pipe takes as much before the program reads it */
-
 static struct reader reader;
 
 static void stop(const char *why)
@@ -57,6 +55,42 @@ static int start(char **program)
 	return to[1];
 }
 
+/* Reads the request whole, and sets its length. */
+static char *read_request(size_t *length)
+{
+	size_t room = 4096;
+	char *request = NULL;
+	ssize_t count;
+
+	*length = 0;
+	do {
+		room *= 2;
+		request = realloc(request, room);
+		if (!request)
+			stop("no memory");
+		do {
+			count = read(STDIN_FILENO, request + *length, room - *length);
+			if (count < 0)
+				stop("no request");
+			*length += (size_t)count;
+		} while (count > 0 && *length < room);
+	} while (count > 0);
+	return request;
+}
+
+/* Sends the request. The program answers nothing before it has read it whole. */
+static void send(int to, const char *request, size_t length)
+{
+	while (length > 0) {
+		ssize_t count = write(to, request, length);
+		if (count <= 0)
+			stop("the program does not read");
+		request += count;
+		length -= (size_t)count;
+	}
+	close(to);
+}
+
 /* Reads up to a flush, and counts the data packets before it. */
 static uint64_t read_message(void)
 {
@@ -85,10 +119,10 @@ static long wait_for_end(void)
 
 int main(int argc, char **argv)
 {
-	char request[MOST_REQUEST];
-	ssize_t length = read(STDIN_FILENO, request, sizeof request);
+	size_t length;
+	char *request = read_request(&length);
 
-	if (argc < 2 || length <= 0) {
+	if (argc < 2 || length == 0) {
 		fputs("usage: ask PROGRAM [ARGUMENT..] < REQUEST\n", stderr);
 		return 2;
 	}
@@ -97,9 +131,7 @@ int main(int argc, char **argv)
 	int to = start(argv + 1);
 	read_message();
 	uint64_t asked = microseconds();
-	if (write(to, request, (size_t)length) != length)
-		stop("the program does not read");
-	close(to);
+	send(to, request, length);
 	uint64_t packets = read_message();
 	uint64_t answered = microseconds();
 	printf("%" PRIu64 " %" PRIu64 " %" PRIu64 " %ld\n", asked - begin, answered - asked, packets, wait_for_end());

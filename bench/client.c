@@ -1,21 +1,14 @@
 /*
- * Reads what a server says to a client that asked for a pack, and prints one line: `packets bytes checksum` of the
- * packets of the pack's band. The checksum takes the length and the first byte of what each of them has. This is what
- * `git_client::Client` is measured against; crates/bench_client prints the same line.
+ * Reads what a server says to a client that asked for a pack, and prints one line: `bytes checksum` of the pack. The checksum
+ * takes the bytes at the multiples of 65,536 of the pack: so neither number depends on how a reader cuts the pack, which this
+ * one does by packets. This is what `git_client::Client` is measured against; crates/bench_client prints the same line.
  */
+#include "pack_counts.h"
 #include "pkt_line.h"
 
 enum band { PACK = 1, PROGRESS = 2, FATAL = 3 };
 
 static struct reader reader;
-static uint64_t packets, bytes, checksum;
-
-static void count(const unsigned char *pack, size_t length)
-{
-	packets++;
-	bytes += length;
-	checksum = checksum * 31 + (uint64_t)pack[0] * 65536 + length;
-}
 
 static bool is_line(const char *line)
 {
@@ -64,7 +57,7 @@ static bool split(void)
 	switch (payload[0]) {
 	case PACK:
 		if (reader.length > 1)
-			count(payload + 1, reader.length - 1);
+			count_pack(payload + 1, reader.length - 1);
 		return true;
 	case PROGRESS:
 		return true;
@@ -94,6 +87,6 @@ int main(void)
 	prepare_digits();
 	if (!read_advertisement() || !read_pack())
 		return tell_fault(&reader, "bench_client");
-	printf("%" PRIu64 " %" PRIu64 " %" PRIu64 "\n", packets, bytes, checksum);
+	print_counts();
 	return 0;
 }

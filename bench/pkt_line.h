@@ -16,9 +16,7 @@
 #include <string.h>
 #include <unistd.h>
 
-#define PIECE_BYTES 65536
-#define PACKET_BYTES 65520
-#define HEAD_BYTES 4
+#include "digits.h"
 
 enum packet { FLUSH, DELIM, RESPONSE_END, DATA, NO_PACKET };
 
@@ -33,17 +31,6 @@ struct reader {
 	unsigned char piece[PIECE_BYTES];
 	unsigned char hold[PACKET_BYTES];
 };
-
-static signed char digit_value[256];
-
-static void prepare_digits(void)
-{
-	memset(digit_value, -1, sizeof digit_value);
-	for (int i = 0; i < 10; i++)
-		digit_value['0' + i] = (signed char)i;
-	for (int i = 0; i < 6; i++)
-		digit_value['a' + i] = digit_value['A' + i] = (signed char)(10 + i);
-}
 
 static inline const unsigned char *payload_of(const struct reader *r)
 {

@@ -5,9 +5,9 @@
 #
 # The arguments are the paths of the Rattle programs and of the library for C; without them, where `rt run` and `rt lib` leave them
 # in this repository.
-# `bench/run.sh --c-only` measures the C programs and Git alone; without a git the rows `serve`, `check` and `fetch` are left out. The streams
-# lie in a new folder of /tmp (or of $BENCH_FOLDER), which is removed at the end, and take 5 GB. Times are wall-clock
-# seconds, the best of five runs that alternate; a ratio is C's time by ours, so 1.00 is as fast as C and more is faster.
+# `bench/run.sh --c-only` measures the C programs and Git alone; without a git the rows `serve`, `prefixes`, `check` and `fetch` are
+# left out. The streams lie in a new folder of /tmp (or of $BENCH_FOLDER), which is removed at the end, and take 5 GB. Times are
+# wall-clock seconds, the best of five runs that alternate; a ratio is C's time by ours, so 1.00 is as fast as C and more is faster.
 set -eu -o pipefail
 shopt -s inherit_errexit
 export LC_ALL=C
@@ -39,12 +39,14 @@ if [ -z "$c_only" ]; then
 fi
 
 mkdir -p "$out"
-for program in packets show names client generate ask bands check; do
+for program in packets uncopied show names client generate ask bands check; do
     ${CC:-gcc} -O3 -Wall -Wextra -o "$out/$program" "$top/bench/$program.c"
 done
 if [ -z "$c_only" ]; then
     taken=("$our_library" "$(dirname "$("${RT:-rt}" doc)")/c/liblibc_c.a")
-    ${CC:-gcc} -O3 -Wall -Wextra -I"$top/include" -o "$out/calls" "$top/bench/calls.c" "${taken[@]}"
+    for program in calls client_calls; do
+        ${CC:-gcc} -O3 -Wall -Wextra -I"$top/include" -o "$out/$program" "$top/bench/$program.c" "${taken[@]}"
+    done
     ${CC:-gcc} -O2 -Wall -Wextra -I"$top/include" -o "$out/daemon" "$top/examples/daemon.c" "${taken[@]}"
 fi
 
@@ -80,10 +82,14 @@ keep_least() {
     if [ "$least" = 0 ] || [ "$2" -lt "$least" ]; then least=$2; fi
 }
 
+# row NAME BYTES C-TIME OUR-TIME, of which one is 0 where it was not measured.
 row() {
     awk -v name="$1" -v bytes="$2" -v c="$3" -v ours="$4" 'BEGIN {
-        printf "%-34s %8.3f s %6.2f GB/s", name, c / 1e6, bytes / c / 1000
-        if (ours > 0) printf "   %8.3f s %6.2f GB/s   %6.2f", ours / 1e6, bytes / ours / 1000, c / ours
+        printf "%-34s ", name
+        if (c > 0) printf "%8.3f s %6.2f GB/s", c / 1e6, bytes / c / 1000
+        else printf "%22s", ""
+        if (ours > 0) printf "   %8.3f s %6.2f GB/s", ours / 1e6, bytes / ours / 1000
+        if (c > 0 && ours > 0) printf "   %6.2f", c / ours
         printf "\n"
     }'
 }
@@ -103,14 +109,24 @@ measure() {
 }
 
 same_output() {
-    local stream
+    local stream counts
     for stream in large small; do
         [ "$("$our_packets" < "$streams/$stream")" = "$("$out/packets" < "$streams/$stream")" ] ||
             stop "bench_packets and packets.c differ on the stream '$stream'"
         [ "$("$our_packets" copied < "$streams/$stream")" = "$("$out/calls" < "$streams/$stream")" ] ||
             stop "bench_packets and calls.c differ on the stream '$stream'"
-        [ "$("$our_client" < "$streams/${stream}_pack")" = "$("$out/client" < "$streams/${stream}_pack")" ] ||
-            stop "bench_client and client.c differ on the stream '${stream}_pack'"
+    done
+    for stream in large small large_pack small_pack; do
+        [ "$("$our_packets" bands < "$streams/$stream")" = "$("$out/uncopied" < "$streams/$stream")" ] ||
+            stop "bench_packets bands and uncopied.c differ on the stream '$stream'"
+    done
+    # A client hands out the bytes of a packet as they come, and client.c a packet whole: what is compared are the bytes of the pack
+    # and a checksum, which do not depend on how it is cut.
+    for stream in large_pack small_pack; do
+        counts=$("$out/client" < "$streams/$stream")
+        [ "$("$our_client" < "$streams/$stream")" = "$counts" ] || stop "bench_client and client.c differ on the stream '$stream'"
+        [ "$("$out/client_calls" < "$streams/$stream")" = "$counts" ] ||
+            stop "client_calls.c and client.c differ on the stream '$stream'"
     done
     for stream in large small binary; do
         cmp <("$our_show" show < "$streams/$stream") <("$out/show" < "$streams/$stream") ||
@@ -134,6 +150,8 @@ print(resource.getrusage(resource.RUSAGE_CHILDREN).ru_maxrss)' "$@"
 
 # shellcheck source=bench/serve.sh
 source "$top/bench/serve.sh"
+# shellcheck source=bench/prefixes.sh
+source "$top/bench/prefixes.sh"
 # shellcheck source=bench/check.sh
 source "$top/bench/check.sh"
 # shellcheck source=bench/fetch.sh
@@ -147,6 +165,8 @@ echo
 printf '%-34s %22s   %22s   %6s\n' '' 'C' 'Rattle' 'ratio'
 measure 'packets, 65,515 bytes, 1 GB' large "$out/packets" "$our_packets"
 measure 'packets, 50 bytes, 200 MB' small "$out/packets" "$our_packets"
+measure 'bands, 65,515 bytes, 1 GB' large_pack "$out/uncopied" "$our_packets" bands
+measure 'bands, 50 bytes, 200 MB' small_pack "$out/uncopied" "$our_packets" bands
 # Here C's time is that of the same library, called from C.
 if [ -z "$c_only" ]; then
     measure 'calls of C, 65,515 bytes, 1 GB' large "$out/calls" "$our_packets"
@@ -156,12 +176,18 @@ if [ -z "$c_only" ]; then
 fi
 measure 'client, 65,515 bytes, 1 GB' large_pack "$out/client" "$our_client"
 measure 'client, 50 bytes, 200 MB' small_pack "$out/client" "$our_client"
+# Here it is the library, called from C, that is measured beside C.
+if [ -z "$c_only" ]; then
+    measure 'client by calls of C, 65,515 bytes' large_pack "$out/client" "$out/client_calls"
+    measure 'client by calls of C, 50 bytes' small_pack "$out/client" "$out/client_calls"
+fi
 measure 'show, 65,515 text, 1 GB' large "$out/show" "$our_show" show
 measure 'show, 50 text, 200 MB' small "$out/show" "$our_show" show
 measure 'show, 65,515 binary, 250 MB' binary "$out/show" "$our_show" show
 head -c 100000000 /dev/zero > "$streams/names" # its size alone counts: about the bytes of the names read and written
 measure 'names, 1,000,000 of each kind' names "$out/names" "$our_names"
 [ -z "$has_git" ] || measure_serve
+[ -z "$has_git" ] || measure_prefixes
 [ -z "$has_git" ] || measure_check
 [ -z "$has_git" ] || measure_fetch
 echo
@@ -175,7 +201,7 @@ if [ -z "$c_only" ]; then
     echo "Peak resident set on 10 GB from a pipe: git2show show $our_peak KiB."
 fi
 if [ -z "$has_git" ]; then
-    echo "There is no git here: the rows 'serve', 'check' and 'fetch' are left out."
+    echo "There is no git here: the rows 'serve', 'prefixes', 'check' and 'fetch' are left out."
 elif [ -z "$c_only" ]; then
     tell_serve
     tell_check

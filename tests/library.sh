@@ -722,6 +722,46 @@ case_a_daemon_in_c_answers_many_small_requests() {
     end_daemon
 }
 
+# While one client's 80,000 prefixes, all that a request of it may keep, are looked up among 100,000 references, another's listing comes
+# within a second, each time.
+case_a_daemon_in_c_lists_beside_many_prefixes() {
+    local hearing begin took lists=0
+    awk 'BEGIN {
+        print "format sha1"
+        for (i = 1; i <= 100000; i++) printf "ref %040x refs/heads/%06d\n", i, i
+    }' > crowded.repo
+    : > crowded.pack
+    {
+        packet command=ls-refs
+        printf 0001
+        awk 'BEGIN { for (i = 1; i <= 80000; i++) printf "0016ref-prefix %07d", i * 7919 % 1000003 }'
+        packet 'ref-prefix refs/heads/050000'
+        printf 00000000
+    } > request
+    {
+        advertisement sha1
+        packet "$(printf '%040x refs/heads/050000' 50000)"
+        printf 0000
+    } > wanted
+    start_daemon crowded daemon
+    says "$(greeting here version=2)"
+    cat request >&5 &
+    limited cat <&5 > answer &
+    hearing=$!
+    while kill -0 $hearing 2> /dev/null || [ $lists -lt 3 ]; do
+        begin=${EPOCHREALTIME/./}
+        ls_remote "$address" refs/heads/099999
+        took=$((${EPOCHREALTIME/./} - begin))
+        expect 0 <(printf '%040x\trefs/heads/099999\n' 99999) /dev/null
+        [ $took -lt 1000000 ] || differs "a list after $took microseconds"
+        lists=$((lists + 1))
+    done
+    wait $hearing || differs 'a connection that did not end'
+    exec 5>&-
+    expect_same 'the answer' wanted answer
+    end_daemon
+}
+
 # A hundred and twenty-eight that say nothing have all its places, until they are closed.
 case_a_daemon_in_c_lets_others_wait() {
     local i connection

@@ -1,15 +1,18 @@
 //! Counts the packets of standard input and the bytes of their payloads, and prints one line,
 //! `packets bytes checksum`, or tells the first fault. This is `PacketReader` as a caller uses it, for
-//! `bench/run.sh` to measure beside `bench/packets.c`. With a word after its name it copies each payload
-//! into a room of its own, as the library for C does, to be measured beside `bench/calls.c`.
+//! `bench/run.sh` to measure beside `bench/packets.c`. With the word `copied` after its name it copies each payload
+//! into a room of its own, as the library for C does, to be measured beside `bench/calls.c`. With the word `bands`
+//! bytes of the pack and of the progress pass uncopied, and each part of them counts as a packet does: this is
+//! measured beside `bench/uncopied.c`.
 #![tactic(auto)]
 
 ghost use Rattle.std.specs.Prelude.{◌≡◌, ◌+◌, ◌%◌, ◌^◌, false, length};
 ghost use Rattle.git_pkt.specs.Packets.{body_of, seen};
 ghost use Rattle.git_pkt.specs.PacketReader.{passes_of};
+ghost use Rattle.git_pkt.specs.BandReader.{MayPass};
 
 use git_names::Steps;
-use git_pkt::{Fault, Got, Packet, PacketReader};
+use git_pkt::{BandGot, Fault, Got, Packet, PacketReader};
 use std::env;
 use std::io::{self, Read};
 use std::process::ExitCode;
@@ -118,6 +121,44 @@ fn count_input<R: Read>(
     Ok(reader.close())
 }
 
+/// Counts the packets that a piece makes whole, and the parts that it has of a pack and of a progress.
+fn pass_piece(reader: &mut PacketReader, piece: &[u8], counts: &mut Counts) -> Result<(), Fault>
+    requires { MayPass reader.old }
+    ensures { MayPass reader.new }
+{
+    let mut rest = piece;
+    while !rest.is_empty() {
+        let fed = reader.feed_band(rest, &mut Steps::new());
+        match fed.got {
+            BandGot::More => return Ok(()),
+            BandGot::Part(_, bytes) => counts.add(Packet::Payload(bytes)),
+            BandGot::Packet(packet, _) => counts.add(packet),
+            BandGot::Failed(fault) => return Err(fault),
+        }
+        rest = &rest[fed.used..];
+    }
+    Ok(())
+}
+
+/// The same as [`count_input`], where bytes of a pack and of a progress pass.
+fn pass_input<R: Read>(
+    input: &mut R,
+    piece: &mut [u8],
+    counts: &mut Counts,
+) -> io::Result<Result<(), Fault>> {
+    let mut reader = PacketReader::new();
+    for _ in 0..u64::MAX {
+        let count = input.read(piece)?;
+        if count == 0 {
+            break;
+        }
+        if let Err(fault) = pass_piece(&mut reader, &piece[..count], counts) {
+            return Ok(Err(fault));
+        }
+    }
+    Ok(reader.close())
+}
+
 /// Tells a fault on standard error.
 fn refuse(rt: &impl Eprint, fault: Fault) -> io::Result<ExitCode> {
     eprintln!(rt; "bench_packets: {:?} at {}", fault.kind, fault.offset)?;
@@ -127,15 +168,21 @@ fn refuse(rt: &impl Eprint, fault: Fault) -> io::Result<ExitCode> {
 fn main(rt: HostRuntime) -> io::Result<ExitCode> {
     let mut input = rt.stdin();
     let mut piece = vec![in rt.alloc(); 0; PIECE_BYTES]?;
-    let copies = env::args(&rt)?.count() > 1;
-    let mut room = vec![in rt.alloc(); 0; if copies { PAYLOAD_BYTES } else { 0 }]?;
     let mut counts = Counts::none();
-    if let Err(fault) = count_input(
-        &mut input,
-        piece.as_mut_slice(),
-        room.as_mut_slice(),
-        &mut counts,
-    )? {
+    let word = env::args(&rt)?.nth(1);
+    let counted = if word.as_deref() == Some("bands") {
+        pass_input(&mut input, piece.as_mut_slice(), &mut counts)?
+    } else {
+        let bytes = if word.is_some() { PAYLOAD_BYTES } else { 0 };
+        let mut room = vec![in rt.alloc(); 0; bytes]?;
+        count_input(
+            &mut input,
+            piece.as_mut_slice(),
+            room.as_mut_slice(),
+            &mut counts,
+        )?
+    };
+    if let Err(fault) = counted {
         return refuse(&rt, fault);
     }
     println!(rt; "{} {} {}", counts.packets, counts.bytes, counts.checksum)?;
