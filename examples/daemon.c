@@ -30,7 +30,8 @@ enum { MOST_CLIENTS = 128, TICK = 500 /* milliseconds */ };
 
 /*
  * What a request may keep: some 23,000 lines `want` or `have`. One with more is refused. While one client's packet is made the
- * others wait, and for `ls-refs` that is a comparison of each reference with each prefix: over many references less is better.
+ * others wait: at the longest for as long as it takes to put in order the prefixes that this has room for, some hundredths of a
+ * second, or to compare each `unshallow` line of the text with each `shallow` of the request: of many such lines less is better.
  */
 enum { MOST_KEPT = 1048576 };
 

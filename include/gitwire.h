@@ -358,9 +358,10 @@ void gitwire_repository_free(gitwire_repository *repository);
  * the input calls for. The texts of the argument lines that it keeps have together at most as many bytes as its limit, at every
  * return; beside them it has one buffer of GITWIRE_PACKET_ROOM bytes.
  *
- * One pull can take long. For `ls-refs` it compares each reference with each prefix of the request, up to a reference that is
- * asked for; for a `fetch` that cuts the history off, each line of the repository's boundary with each `shallow` of the request.
- * The limit bounds how many prefixes and `shallow` lines these can be: a program that serves many in one thread gives a low one.
+ * One pull can take long. For `ls-refs` the first one puts the prefixes of the request in order, a million of them in about a second,
+ * and each reference is then looked up among them by binary search. For a `fetch` that cuts the history off, each pull of a line of
+ * `shallow-info` compares each `unshallow` line of the repository with each `shallow` of the request. The limit bounds how many
+ * prefixes and `shallow` lines these can be: a program that serves many in one thread gives a low one.
  *
  * It offers what `git2show serve` does: `shallow`, `ref-in-want`, `server-option`, `object-info`, and the repository's format.
  */

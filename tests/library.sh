@@ -734,7 +734,11 @@ case_a_daemon_in_c_lists_beside_many_prefixes() {
     {
         packet command=ls-refs
         printf 0001
-        awk 'BEGIN { for (i = 1; i <= 80000; i++) printf "0016ref-prefix %07d", i * 7919 % 1000003 }'
+        awk 'BEGIN {
+            letters = "0123456789ABCDEFGHIJKLMNOPQRSTUVWXYZ"
+            for (i = 0; i < 80000; i++)
+                printf "0011ref-prefix %s%s", substr(letters, i * 7 % 36 + 1, 1), substr(letters, int(i / 36) % 36 + 1, 1)
+        }'
         packet 'ref-prefix refs/heads/050000'
         printf 00000000
     } > request
