@@ -1,8 +1,10 @@
 //! A client that C holds.
 
-ghost use Rattle.std.specs.Prelude.{◌≡◌, None, MatchResult, slice_get};
+ghost use Rattle.std.specs.Prelude.{◌≡◌, ◌≤◌, None, MatchResult, length, slice_get};
+ghost use Rattle.git_client.specs.declared.events.HeardGot.TheVariants as Got;
 ghost use Rattle.gitwire.specs.ClientTold.{AsksIn, BeginsBy, CapsIn, CapsTold, ClosesIn, ClosesTold, FeedsIn, FeedsInRoom, filled_beside, filled_by};
 ghost use Rattle.gitwire.specs.ClientTold.{LeavesIn, LeavesRequest, LeavesTold, MessageIn, MessageTold, PullsIn, PullsInRoom, TakesRequest, endings};
+ghost use Rattle.gitwire.specs.EventsTold.{bytes_shown, parts_of, telling_parts};
 ghost use Rattle.gitwire.specs.Handles.{client_in, request_in};
 ghost use Rattle.gitwire.specs.Numbers.{formats};
 
@@ -156,14 +158,21 @@ fn feed_in_place(client: &mut Client<Global>, piece: &[u8], room: &mut [u8]) -> 
     let heard = client.feed(piece, &mut Steps::new());
     match heard.got {
         HeardGot::More => GitwireEvent::none(heard.used, What::More),
-        HeardGot::Event(Event::Pack(bytes)) => {
-            GitwireEvent::of_bytes(heard.used, What::Pack, bytes.len())
-        }
-        HeardGot::Event(Event::Progress(bytes)) => {
-            GitwireEvent::of_bytes(heard.used, What::Progress, bytes.len())
-        }
-        HeardGot::Event(event) => EventParts::of(event).show(heard.used, room),
+        HeardGot::Event(event) => show_in_place(event, heard.used, room),
         HeardGot::Failed(fault) => GitwireEvent::of_fault(heard.used, fault),
+    }
+}
+
+/// Shows an event, of which bytes that pass stay where they are.
+fn show_in_place(event: Event<'_>, used: usize, room: &mut [u8]) -> GitwireEvent
+    requires { length (bytes_shown (parts_of event)) ≤ length room.old }
+    ensures told { result ≡ telling_parts used (parts_of event.entry) }
+    ensures room { room.new ≡ filled_beside (Got.Event event.entry) room.old }
+{
+    match event {
+        Event::Pack(bytes) => GitwireEvent::of_bytes(used, What::Pack, bytes.len()),
+        Event::Progress(bytes) => GitwireEvent::of_bytes(used, What::Progress, bytes.len()),
+        _ => EventParts::of(event).show(used, room),
     }
 }
 
