@@ -6,7 +6,7 @@ use clap::{Arg, ArgAction, ArgMatches, Command, Error, value_parser};
 use git_client::Ending;
 use git_msg::{Limits, Offer};
 use git_names::Format;
-use git_pkt::{Discard, RunFault, Told};
+use git_pkt::{Discard, LONGEST_PACKET, RunFault, Told};
 use git_repository::{RepositoryReader, TextFault};
 use git_server::{ListRepo, Outcome, Repo, Server, serve};
 use git2show_lib::{ProgramFault, check, play, read_script, report, show};
@@ -197,9 +197,12 @@ fn file_fault(error: io::Error) -> ProgramFault {
     }
 }
 
-/// Standard output, where what is written goes out by large pieces and at each flush.
+/// Standard output, where what is written goes out by large pieces and at each flush. The buffer is no longer than the longest packet,
+/// which is so written from where it lies.
 fn buffered_output(rt: &HostRuntime) -> Result<BufWriter<Stdout>, ProgramFault> {
-    BufWriter::with_capacity(rt.alloc(), PIECE, rt.stdout()).map_err(|_| ProgramFault::OutOfMemory)
+    BufWriter::with_capacity(rt.alloc(), LONGEST_PACKET, rt.stdout()).map_err(
+        |_| ProgramFault::OutOfMemory,
+    )
 }
 
 /// Serves the repository whose files are named, on standard input and output.
