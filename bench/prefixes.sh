@@ -59,3 +59,12 @@ measure_prefixes() {
         row "prefixes, $count of them" "$(wc -c < "$streams/prefixes")" "$their_answer" "$our_answer"
     done
 }
+
+# Tells what the rows do not.
+tell_prefixes() {
+    prefix_request 20000 > "$streams/request"
+    answer_of "${their_listing[@]}" > "$streams/answer"
+    answer_of "${our_listing[@]}" | cmp - "$streams/answer" ||
+        stop "git2show serve and git upload-pack answer 20,000 prefixes differently"
+    echo "Output of git2show serve with 20,000 prefixes: the same as git upload-pack's, byte for byte."
+}

@@ -204,6 +204,7 @@ if [ -z "$has_git" ]; then
     echo "There is no git here: the rows 'serve', 'prefixes', 'check' and 'fetch' are left out."
 elif [ -z "$c_only" ]; then
     tell_serve
+    tell_prefixes
     tell_check
     tell_fetch
     tell_sessions
