@@ -34,7 +34,7 @@ fn note(
     };
     lines.extend_from_slice(what.as_bytes())?;
     lines.extend_from_slice(bytes)?;
-    lines.push(b'\n')
+    lines.extend_from_slice(b"\n")
 }
 
 /// Feeds a piece until it is used up.
@@ -101,7 +101,7 @@ fn hear(heard: &mut Vec<u8>, event: &Event<'_>) -> Result<(), AllocError> {
         Event::Ended => heard.extend_from_slice(b"ended")?,
         _ => {}
     }
-    heard.push(b'|')
+    heard.extend_from_slice(b"|")
 }
 
 /// A client that has asked for a pack.
