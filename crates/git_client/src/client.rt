@@ -65,7 +65,9 @@ impl Advance {
     {
         let used = self.used;
         let got = match self.outcome {
-            Outcome::Passed(passed) => HeardGot::Event(passed.event(&piece[used - passed.count..used])),
+            Outcome::Passed(passed) => HeardGot::Event(passed.event(
+                &piece[used - passed.count..used],
+            )),
             Outcome::Failed(fault) => HeardGot::Failed(fault),
             _ => HeardGot::More,
         };
@@ -349,7 +351,14 @@ impl<A: Allocator + Copy> Client<A> {
                 }
             }
             BandGot::Packet(packet, offset) => {
-                let judged = judge(self.format, self.ending, Due::Packfile, self.caps, packet, steps);
+                let judged = judge(
+                    self.format,
+                    self.ending,
+                    Due::Packfile,
+                    self.caps,
+                    packet,
+                    steps,
+                );
                 let outcome = self.settle(judged, offset);
                 Advance { used, outcome }
             }

@@ -230,8 +230,8 @@ module _ {A : Type 0} (old new : RequestStream A) (u : List ℕ) (wants : wants_
       let (rest, stream) = reads 0 used h.packets h.rest h.reads in
       let all : used ++ u ≡ used = ap (λ (l : List ℕ). used ++ l) none ∙ append-nil used in
       let same = one_split 0 used (h.packets ++ []) h.packets rest h.rest
-          (subst (λ (l : List ℕ). SpellsAll 0 l (h.packets ++ []) rest) all stream.splits.spelled) h.reads.splits.spelled
-          stream.splits.ends h.reads.splits.ends in
+      (subst (λ (l : List ℕ). SpellsAll 0 l (h.packets ++ []) rest) all stream.splits.spelled) h.reads.splits.spelled
+      stream.splits.ends h.reads.splits.ends in
       bytes_read h.rest (FailedStage fault) is (subst (λ (l : List ℕ). Reads new.packets 0 (used ++ u) (h.packets ++ []) l) same.rest_is stream)
       (inr (inr (record {
         begun = begun_before;

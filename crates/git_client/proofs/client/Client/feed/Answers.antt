@@ -109,8 +109,7 @@ returns-in_default-outcome g c =
     answers c.args.self.now c.advance-step.new.self c.args.piece.now step.used (sym c.wants_input.ensures.value ∙ c.if-not-wants_input.false)
     c.advance-step.ensures.used step.outcome c.heard.result.got c.advance-step.ensures.takes c.in_default-outcome.not-Event c.advance-step.ensures.all
     c.heard.ensures.got in
-    let feeds = feeds_again c.args.self.now c.advance-step.new.self c.args.piece.now c.heard.result step.used c.heard.ensures.used told.feeds in
-    (
+    let feeds = feeds_again c.args.self.now c.advance-step.new.self c.args.piece.now c.heard.result step.used c.heard.ensures.used told.feeds in (
       (refl, (λ _. tt), (feeds, paid_again _ _ _ _ _ _ (sym c.heard.ensures.used) c.advance-step.ensures.cost)),
       record { after = tt; used = omega (arith, c.heard.ensures.used, c.advance-step.ensures.used); fits = told.fits },
     )

@@ -16,8 +16,7 @@ returns-in-Err g c =
 
 pub returns : goal.returns
 returns g c =
-    let (same, sound, shut) = c.in_default.ensures.between in
-    (
+    let (same, sound, shut) = c.in_default.ensures.between in (
       refl,
       refl,
       refl,
