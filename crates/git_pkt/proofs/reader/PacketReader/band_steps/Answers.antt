@@ -58,7 +58,7 @@ returns-in_default c =
       moves = bands_after c.args.self.now c.loop-used.self c.next_band-step.new.self (take done piece) _ piece c.next_band-step.result.used
           (done + c.next_band-step.result.used) (ap (λ (l : List ℕ). take done piece ++ l) left ∙ take-append-drop done piece)
           (omega (arith, length-take-le done piece c.loop-used.invariant.within))
-    (omega (arith, c.loop-used.invariant.rises, length-take-le done piece c.loop-used.invariant.within)) c.loop-used.invariant.goes c.next_band-step.result.progress
+          (omega (arith, c.loop-used.invariant.rises, length-take-le done piece c.loop-used.invariant.within)) c.loop-used.invariant.goes c.next_band-step.result.progress
           c.next_band-step.ensures.moves;
       keeps = λ none. c.next_band-step.ensures.keeps (omega arith) ∙ c.loop-used.invariant.keeps (omega arith);
       cost = record {
