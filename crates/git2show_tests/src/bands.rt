@@ -14,19 +14,27 @@ use std::test::Fail;
 const MANY: usize = 100;
 
 /// Appends a line of what was told: how many bytes were used, and what they came to.
-fn note(lines: &mut Vec<u8>, alloc: Global, used: usize, got: &BandGot<'_>) -> Result<(), AllocError> {
+fn note(
+    lines: &mut Vec<u8>,
+    alloc: Global,
+    used: usize,
+    got: &BandGot<'_>,
+) -> Result<(), AllocError> {
     let (what, bytes) = match got {
         BandGot::More => (format!(in alloc; "{used} more ")?, b"".as_slice()),
         BandGot::Part(band, bytes) => (format!(in alloc; "{used} band {} ", band.byte())?, *bytes),
         BandGot::Packet(Packet::Payload(payload), offset) => {
             (format!(in alloc; "{used} packet at {offset} ")?, *payload)
         }
-        BandGot::Packet(_, offset) => (format!(in alloc; "{used} mark at {offset} ")?, b"".as_slice()),
+        BandGot::Packet(_, offset) => (
+            format!(in alloc; "{used} mark at {offset} ")?,
+            b"".as_slice(),
+        ),
         BandGot::Failed(fault) => (format!(in alloc; "{used} {fault} ")?, b"".as_slice()),
     };
     lines.extend_from_slice(what.as_bytes())?;
     lines.extend_from_slice(bytes)?;
-    lines.push(b'\n')
+    lines.extend_from_slice(b"\n")
 }
 
 /// Feeds a piece until it is used up.
@@ -78,7 +86,10 @@ fn a_part_is_all_that_the_piece_has(rt: HostRuntime) -> Result<(), Fail> {
     let wanted = b"6 band 1 A\n1 band 1 B\n6 band 2 x\n".as_slice();
     assert_eq!(rt; lines.as_slice(), wanted);
     let lines = told(rt.alloc(), &[b"0007\x01A"])?;
-    assert_eq!(rt; lines.as_slice(), b"6 band 1 A\nTruncated at 0\n".as_slice());
+    assert_eq!(rt;
+        lines.as_slice(),
+        b"6 band 1 A\nTruncated at 0\n".as_slice()
+    );
     Ok(())
 }
 
@@ -90,7 +101,7 @@ fn hear(heard: &mut Vec<u8>, event: &Event<'_>) -> Result<(), AllocError> {
         Event::Ended => heard.extend_from_slice(b"ended")?,
         _ => {}
     }
-    heard.push(b'|')
+    heard.extend_from_slice(b"|")
 }
 
 /// A client that has asked for a pack.
