@@ -1,6 +1,6 @@
 #!/usr/bin/env bash
-# Tests the built program `git2show` from outside: as the real Git calls it (real_git.sh, clones.sh and fetches.sh), and by hand
-# (program.sh); our client, as it asks the real Git (asking.sh); and what both ends of the real Git say, as `check` judges it (recorded.sh); and
+# Tests the built program `git2show` from outside: as the real Git calls it (real_git.sh, clones.sh and fetches.sh), and over HTTP
+# (http.sh), and by hand (program.sh); our client, as it asks the real Git (asking.sh); and what both ends of the real Git say, as `check` judges it (recorded.sh); and
 # both of our ends against each other (playing.sh). And the library for programs in C, as the examples use it (library.sh).
 #
 #     tests/run.sh [PROGRAM [LIBRARY]]
@@ -92,6 +92,7 @@ export PATH=$room/bin:$PATH
 . "$top/tests/real_git.sh"
 . "$top/tests/clones.sh"
 . "$top/tests/fetches.sh"
+. "$top/tests/http.sh"
 . "$top/tests/asking.sh"
 . "$top/tests/recorded.sh"
 . "$top/tests/program.sh"

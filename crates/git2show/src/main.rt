@@ -1,6 +1,9 @@
 //! The program `git2show`: shows, checks, serves and plays conversations of Git's wire protocol.
 #![tactic(auto)]
 
+mod one_request;
+
+use crate::one_request::take_request;
 use clap::error::ErrorKind;
 use clap::{Arg, ArgAction, ArgMatches, Command, Error, value_parser};
 use git_client::Ending;
@@ -89,13 +92,25 @@ fn serve_command<'a>(alloc: Global) -> Result<Command<'a>, AllocError> {
     let command = Command::new(alloc, "serve").about(
         "Answers the requests on standard input, on standard output",
     );
-    with_repository(alloc, command)?.arg(
-        Arg::new(alloc, "limit")
-            .long("limit")
-            .value_name("N")
-            .value_parser(value_parser!(u32).range(..=i64::from(MOST_KEPT)))
-            .help("Refuses a request whose arguments have more than N bytes [usual: 16777216]"),
-    )
+    with_repository(alloc, command)?
+        .arg(
+            Arg::new(alloc, "limit")
+                .long("limit")
+                .value_name("N")
+                .value_parser(value_parser!(u32).range(..=i64::from(MOST_KEPT)))
+                .help("Refuses a request whose arguments have more than N bytes [usual: 16777216]"),
+        )?
+        .arg(flag_argument(alloc, "stateless-rpc").help(
+            "Answers one request, without an advertisement, and ends",
+        ))?
+        .arg(
+            flag_argument(alloc, "http-backend-info-refs")
+                .visible_alias("advertise-refs")?
+                .help("Gives the advertisement alone, and reads no request"),
+        )?
+        .arg(Arg::new(alloc, "DIR").help(
+            "Where Git or ssh names a repository; nothing is read from it",
+        ))
 }
 
 /// What the words after `play` may be.
@@ -137,10 +152,12 @@ fn file_argument<'a>(alloc: Global, name: &'a str) -> Arg<'a> {
 
 /// The argument that tells how responses end.
 fn stateless_argument<'a>(alloc: Global, help: &'a str) -> Arg<'a> {
-    Arg::new(alloc, "stateless")
-        .long("stateless")
-        .action(ArgAction::SetTrue)
-        .help(help)
+    flag_argument(alloc, "stateless").help(help)
+}
+
+/// An argument that is there or not.
+fn flag_argument<'a>(alloc: Global, name: &'a str) -> Arg<'a> {
+    Arg::new(alloc, name).long(name).action(ArgAction::SetTrue)
 }
 
 /// Shows the packets of standard input.
@@ -202,23 +219,60 @@ fn buffered_output(rt: &HostRuntime) -> Result<BufWriter<Stdout>, ProgramFault> 
     BufWriter::with_capacity(rt.alloc(), PIECE, rt.stdout()).map_err(|_| ProgramFault::OutOfMemory)
 }
 
-/// Serves the repository whose files are named, on standard input and output.
-fn run_serve(rt: &HostRuntime, matches: &ArgMatches<'_>) -> Result<(), ProgramFault> {
-    let alloc = rt.alloc();
-    let repo = read_repository(rt, matches)?;
-    let offer = Offer::everything(repo.format());
-    // clap refuses more than the most, which is said once more for the prover.
+/// What a server is to say.
+#[derive(Clone, Copy, Debug, PartialEq, Eq)]
+enum Service {
+    /// The advertisement, and the answer to each request.
+    Session,
+    /// The advertisement alone.
+    Advertisement,
+    /// The answer to one request alone.
+    Answer,
+}
+
+/// What a server is to say, by the command line.
+fn service_of(matches: &ArgMatches<'_>) -> Service {
+    if matches.get_flag("http-backend-info-refs") {
+        return Service::Advertisement;
+    }
+    match matches.get_flag("stateless-rpc") {
+        true => Service::Answer,
+        false => Service::Session,
+    }
+}
+
+/// How much is kept of a request, by the command line. clap refuses more than the most, which is said once more for the prover.
+fn limits_of(matches: &ArgMatches<'_>) -> Limits {
     let args = match matches.get_one::<u32>("limit") {
         Some(args) => args.min(MOST_KEPT),
         None => Limits::USUAL,
     };
-    let mut server = Server::new(alloc, repo, offer, Limits { args }, true);
+    Limits { args }
+}
+
+/// Serves the repository whose files are named, on standard input and output.
+fn run_serve(rt: &HostRuntime, matches: &ArgMatches<'_>) -> Result<(), ProgramFault> {
+    let repo = read_repository(rt, matches)?;
+    let offer = Offer::everything(repo.format());
+    let service = service_of(matches);
+    let advertise = service != Service::Answer;
+    let mut server = Server::new(rt.alloc(), repo, offer, limits_of(matches), advertise);
+    let mut piece = [0; PIECE];
+    if service == Service::Answer && server.wants_input() {
+        take_request(&mut Told::new(rt.stdin()), &mut piece, &mut server, TURNS)?;
+    }
+    let turns = match service {
+        Service::Session => TURNS,
+        // All that is owed is written, and nothing is read for it.
+        Service::Advertisement | Service::Answer => 0,
+    };
     let mut reader = Told::new(rt.stdin());
     let mut writer = Told::new(buffered_output(rt)?);
-    let mut piece = [0; PIECE];
-    match serve(&mut reader, &mut writer, &mut piece, &mut server, TURNS)? {
-        Outcome::Flush | Outcome::Closed => Ok(()),
-        Outcome::Refused(fault) => Err(RunFault::Refused(fault).into()),
+    match serve(&mut reader, &mut writer, &mut piece, &mut server, turns) {
+        Ok(Outcome::Flush | Outcome::Closed) => Ok(()),
+        Ok(Outcome::Refused(fault)) => Err(RunFault::Refused(fault).into()),
+        Err(RunFault::ReadLimit) if turns == 0 => Ok(()),
+        Err(fault) => Err(fault.into()),
     }
 }
 
