@@ -107,7 +107,7 @@ case_library_programs_compile_without_a_word() {
 # The options that a command's help has stand in the manual page, in the part on that command.
 case_manual_page_has_each_option() {
     local command option
-    for command in show check serve play; do
+    for command in show check serve fetch play; do
         sed -n "/^\.SS git2show $command/,/^\.S/p" "$installed/share/man/man1/git2show.1" | sed 's/\\-/-/g' > part
         git2show "$command" --help | grep -o -e '--[a-z]*' | sort -u > options
         [ -s options ] || differs "no option of $command"

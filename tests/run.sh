@@ -62,7 +62,6 @@ if [ $# -gt 1 ]; then
 else
     library=$(built_library gitwire)
 fi
-fetcher=$(built example_fetch)
 [ -x "$program" ] || stop "no program $program"
 [ -f "$library" ] || stop "no library $library"
 command -v git > /dev/null || install_packages git || stop "no git, and it could not be installed"

@@ -1,13 +1,15 @@
-//! The program `git2show`: shows, checks, serves and plays conversations of Git's wire protocol.
+//! The program `git2show`: shows, checks, serves, fetches and plays conversations of Git's wire protocol.
 #![tactic(auto)]
 
+mod fetching;
 mod one_request;
 
+use crate::fetching::run_fetch;
 use crate::one_request::take_request;
 use clap::error::ErrorKind;
 use clap::{Arg, ArgAction, ArgMatches, Command, Error, value_parser};
 use git_client::Ending;
-use git_msg::{Limits, Offer};
+use git_msg::{Limits, Offer, Request};
 use git_names::Format;
 use git_pkt::{Discard, RunFault, Told};
 use git_repository::{RepositoryReader, TextFault};
@@ -46,7 +48,9 @@ static FORMATS: [&str; 2] = ["sha1", "sha256"];
 fn command<'a>(alloc: Global) -> Result<Command<'a>, AllocError> {
     Command::new(alloc, "git2show")
         .version("0.1.0")
-        .about("Shows, checks, serves and plays conversations of Git's wire protocol, version 2")
+        .about(
+            "Shows, checks, serves, fetches and plays conversations of Git's wire protocol, version 2",
+        )
         .after_help(STATUSES)
         .subcommand_required(true)
         .subcommand(Command::new(alloc, "show").about(
@@ -54,6 +58,7 @@ fn command<'a>(alloc: Global) -> Result<Command<'a>, AllocError> {
         ))?
         .subcommand(check_command(alloc)?)?
         .subcommand(serve_command(alloc)?)?
+        .subcommand(fetch_command(alloc)?)?
         .subcommand(play_command(alloc)?)
 }
 
@@ -73,14 +78,7 @@ fn check_command<'a>(alloc: Global) -> Result<Command<'a>, AllocError> {
                 .required(true)
                 .help("File of what the server sent, its advertisement first"),
         )?
-        .arg(
-            Arg::new(alloc, "format")
-                .long("format")
-                .value_name("FORMAT")
-                .value_parser(FORMATS.as_slice())
-                .default_value("sha1")
-                .help("Object format of the repository"),
-        )?
+        .arg(format_argument(alloc))?
         .arg(stateless_argument(
             alloc,
             "Each response ends with a response-end packet, as where each has its own connection",
@@ -113,13 +111,36 @@ fn serve_command<'a>(alloc: Global) -> Result<Command<'a>, AllocError> {
         ))
 }
 
+/// What the words after `fetch` may be.
+fn fetch_command<'a>(alloc: Global) -> Result<Command<'a>, AllocError> {
+    Command::new(alloc, "fetch")
+        .about(
+            "Asks what a script says on standard output, hears a server on standard input, and writes the pack that comes",
+        )
+        .arg(script_argument(alloc))?
+        .arg(file_argument(alloc, "pack").help(
+            "Where the pack goes: the bytes of all packs that come",
+        ))?
+        .arg(
+            Arg::new(alloc, "transcript")
+                .long("transcript")
+                .value_name("FILE")
+                .help("Where the transcript goes [usual: standard error]"),
+        )?
+        .arg(format_argument(alloc))?
+        .arg(stateless_argument(
+            alloc,
+            "Each response ends with a response-end packet, as where each has its own connection",
+        ))
+}
+
 /// What the words after `play` may be.
 fn play_command<'a>(alloc: Global) -> Result<Command<'a>, AllocError> {
     let command = Command::new(alloc, "play").about(
         "Plays both ends of a conversation in memory, and prints its transcript; the pack's bytes are dropped",
     );
     with_repository(alloc, command)?
-        .arg(file_argument(alloc, "script").help("Text of the requests, one argument to a line"))?
+        .arg(script_argument(alloc))?
         .arg(
             Arg::new(alloc, "cut")
                 .long("cut")
@@ -150,6 +171,21 @@ fn file_argument<'a>(alloc: Global, name: &'a str) -> Arg<'a> {
         .required(true)
 }
 
+/// The argument that names a script.
+fn script_argument<'a>(alloc: Global) -> Arg<'a> {
+    file_argument(alloc, "script").help("Text of the requests, one argument to a line")
+}
+
+/// The argument that tells the object format.
+fn format_argument<'a>(alloc: Global) -> Arg<'a> {
+    Arg::new(alloc, "format")
+        .long("format")
+        .value_name("FORMAT")
+        .value_parser(FORMATS.as_slice())
+        .default_value("sha1")
+        .help("Object format of the repository")
+}
+
 /// The argument that tells how responses end.
 fn stateless_argument<'a>(alloc: Global, help: &'a str) -> Arg<'a> {
     flag_argument(alloc, "stateless").help(help)
@@ -172,10 +208,6 @@ fn run_show(rt: &HostRuntime) -> Result<(), ProgramFault> {
 fn run_check(rt: &HostRuntime, matches: &ArgMatches<'_>) -> Result<(), ProgramFault> {
     let mut requests = Told::new(open(rt, matches, "REQUESTS")?);
     let mut responses = Told::new(open(rt, matches, "RESPONSES")?);
-    let format = matches
-        .get_str("format")
-        .and_then(|name| Format::read(name.as_bytes()))
-        .unwrap_or(Format::Sha1);
     let mut out = Told::new(buffered_output(rt)?);
     let mut piece = [0; PIECE];
     let mut other_piece = [0; PIECE];
@@ -183,13 +215,21 @@ fn run_check(rt: &HostRuntime, matches: &ArgMatches<'_>) -> Result<(), ProgramFa
         rt.alloc(),
         &mut requests,
         &mut responses,
-        format,
+        format_of(matches),
         ending_of(matches),
         &mut piece,
         &mut other_piece,
         &mut out,
         TURNS,
     )?)
+}
+
+/// The object format, by the command line.
+fn format_of(matches: &ArgMatches<'_>) -> Format {
+    matches
+        .get_str("format")
+        .and_then(|name| Format::read(name.as_bytes()))
+        .unwrap_or(Format::Sha1)
 }
 
 /// How responses end, by the command line.
@@ -280,15 +320,7 @@ fn run_serve(rt: &HostRuntime, matches: &ArgMatches<'_>) -> Result<(), ProgramFa
 fn run_play(rt: &HostRuntime, matches: &ArgMatches<'_>) -> Result<(), ProgramFault> {
     let alloc = rt.alloc();
     let repo = read_repository(rt, matches)?;
-    let script = read_whole(rt, matches, "script")?;
-    let limits = Limits {
-        args: Limits::USUAL,
-    };
-    let requests = match read_script(alloc, &script, repo.format(), limits) {
-        Ok(requests) => requests,
-        Err(TextFault::Bad { line }) => return Err(ProgramFault::Script(line)),
-        Err(TextFault::OutOfMemory) => return Err(ProgramFault::OutOfMemory),
-    };
+    let requests = read_requests(rt, matches, repo.format())?;
     // clap refuses 0 and more than the longest, which is said once more for the prover.
     let cut = match matches.get_one::<u32>("cut") {
         Some(cut) => cut.clamp(1, LONGEST_CUT),
@@ -304,6 +336,23 @@ fn run_play(rt: &HostRuntime, matches: &ArgMatches<'_>) -> Result<(), ProgramFau
         &mut out,
         &mut Discard,
     )?)
+}
+
+/// Reads the script that is named.
+fn read_requests(
+    rt: &HostRuntime,
+    matches: &ArgMatches<'_>,
+    format: Format,
+) -> Result<Vec<Request<Global>>, ProgramFault> {
+    let script = read_whole(rt, matches, "script")?;
+    let limits = Limits {
+        args: Limits::USUAL,
+    };
+    match read_script(rt.alloc(), &script, format, limits) {
+        Ok(requests) => Ok(requests),
+        Err(TextFault::Bad { line }) => Err(ProgramFault::Script(line)),
+        Err(TextFault::OutOfMemory) => Err(ProgramFault::OutOfMemory),
+    }
 }
 
 /// Reads the files of a repository: its text by pieces, and its pack whole.
@@ -350,6 +399,7 @@ fn run(rt: &HostRuntime, matches: &ArgMatches<'_>) -> u8 {
         Some(("show", _)) => run_show(rt),
         Some(("check", words)) => run_check(rt, words),
         Some(("serve", words)) => run_serve(rt, words),
+        Some(("fetch", words)) => run_fetch(rt, words),
         Some(("play", words)) => run_play(rt, words),
         // clap takes no other word for a command.
         _ => return BAD_COMMAND_LINE,
