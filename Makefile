@@ -29,7 +29,8 @@ install: $(PROGRAM) $(LIBRARY)
 	@install -D -m 644 include/gitwire.h "$(to)/include/gitwire.h"
 	@install -D -m 644 docs/PROTOCOL.md "$(to)/share/doc/gitwire/PROTOCOL.md"
 	@install -D -m 755 sample/repository-text.sh "$(to)/share/doc/gitwire/repository-text.sh"
-	@install -D -m 644 -t "$(to)/share/doc/gitwire/examples" $(wildcard examples/*)
+	@install -D -m 644 -t "$(to)/share/doc/gitwire/examples" $(filter-out %.sh,$(wildcard examples/*))
+	@install -D -m 755 -t "$(to)/share/doc/gitwire/examples" $(wildcard examples/*.sh)
 	@install -D -m 644 gitwire.pc.in "$(to)/lib/pkgconfig/gitwire.pc"
 	@sed -i 's|@PREFIX@|$(prefix)|' "$(to)/lib/pkgconfig/gitwire.pc"
 	@install -D -m 644 "$(LIBRARY)" "$(to)/lib/libgitwire.a"

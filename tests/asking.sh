@@ -1,14 +1,39 @@
-# Cases in which our client asks the real Git's server: `example_fetch`, which is one call of `converse` over its own streams.
+# Cases in which our client asks the real Git's server: `git2show fetch`, over two pipes.
 
-# ask FOLDER: asks `git upload-pack` of a repository what the file `script` says. Leaves the `transcript`, the `pack`, the `status`,
-# and that of the server, `served`.
+# ask FOLDER [OPTION..]: asks `git upload-pack` of a repository what the file `script` says.
 ask() {
+    local folder=$1
+    shift
+    ask_of over_one_connection "$folder" "$@"
+}
+
+# ask_of SERVER FOLDER [OPTION..]: the same of this server of it. Leaves the `transcript` and what else is told, the `pack`, the `status`,
+# and that of the server, `served`.
+ask_of() {
+    local server=$1 folder=$2
+    shift 2
     rm -f to from
     mkfifo to from
-    GIT_PROTOCOL=version=2 limited git upload-pack "$1" < to > from 2> err &
+    GIT_PROTOCOL=version=2 "$server" "$folder" < to > from 2> err &
     status=0 served=0
-    limited "$fetcher" script pack > to < from 2> transcript || status=$?
+    limited git2show fetch --script script --pack pack "$@" > to < from 2> transcript || status=$?
     wait $! || served=$?
+}
+
+# over_one_connection FOLDER: the server of all requests.
+over_one_connection() {
+    limited git upload-pack "$1"
+}
+
+# over_many_connections FOLDER: a server for the advertisement, and one for each of two requests, whose answer ends as a remote helper of
+# Git ends it.
+over_many_connections() {
+    local i
+    limited git upload-pack --http-backend-info-refs "$1"
+    for i in 1 2; do
+        limited git upload-pack --stateless-rpc "$1"
+        printf 0002
+    done
 }
 
 # heard LINE..: that our client and the server ended well, and that the transcript has these lines.
@@ -24,6 +49,15 @@ heard() {
 # told_references FOLDER: the lines of a transcript for all references of a repository.
 told_references() {
     git ls-remote "$1" | sed -e '/\^{}$/d' -e 's/^\([0-9a-f]*\)\t/ref \1 /'
+}
+
+# is_whole FORMAT FOLDER ID: that the pack is whole, and has what the commit of the repository reaches.
+is_whole() {
+    rm -rf fetched
+    git init -q -b main --object-format="$1" fetched
+    git -C fetched index-pack --stdin --strict < pack > /dev/null
+    git -C fetched fsck --strict "$3" > out 2>&1 || differs 'a pack that git fsck refuses' out
+    expect_same 'the history' <(git -C "$2" rev-list --objects "$3") <(git -C fetched rev-list --objects "$3")
 }
 
 case_our_client_lists_what_git_serves() {
@@ -43,13 +77,52 @@ case_our_client_fetches_a_pack() {
     bytes=$(wc -c < pack)
     heard "ref $id HEAD symref-target:refs/heads/main" 'request fetch'
     grep -a -q -x "end $bytes [0-9]*" transcript || differs "no end after $bytes bytes of the pack" transcript
-    git init -q -b main fetched
-    git -C fetched index-pack --stdin < pack > /dev/null
-    git -C fetched fsck --strict "$id" > out 2>&1 || differs 'a pack that git fsck refuses' out
-    expect_same 'the history' <(git -C history-sha1 rev-list --objects "$id") <(git -C fetched rev-list --objects "$id")
+    is_whole sha1 history-sha1 "$id"
 }
 
-# A heavy pack comes in many pieces. The client has a commit already, which Git finds to be common.
+case_our_client_fetches_a_pack_of_sha256() {
+    local id
+    id=$(git -C history-sha256 rev-parse HEAD)
+    printf '%s\n' fetch "want $id" 'done' > script
+    ask history-sha256 --format sha256
+    heard 'request fetch'
+    is_whole sha256 history-sha256 "$id"
+}
+
+case_our_client_writes_its_transcript_to_a_file() {
+    local id
+    id=$(git -C history-sha1 rev-parse HEAD)
+    printf '%s\n' fetch "want $id" 'done' > script
+    ask history-sha1
+    cp transcript wanted
+    ask history-sha1 --transcript written
+    expect_status 0
+    expect_same 'standard error' /dev/null transcript
+    expect_same 'the transcript' <(sed 's/^\(end [0-9]*\) .*/\1/' wanted) <(sed 's/^\(end [0-9]*\) .*/\1/' written)
+    is_whole sha1 history-sha1 "$id"
+}
+
+case_our_client_fetches_over_a_connection_for_each_request() {
+    local id
+    id=$(git -C history-sha1 rev-parse HEAD)
+    printf '%s\n' ls-refs 'ref-prefix HEAD' '' fetch "want $id" 'done' > script
+    ask_of over_many_connections history-sha1 --stateless
+    heard "ref $id HEAD" 'request fetch'
+    is_whole sha1 history-sha1 "$id"
+}
+
+# A heavy pack comes in many pieces.
+case_our_client_fetches_a_heavy_pack() {
+    local id
+    id=$(git -C heavy rev-parse main)
+    printf '%s\n' fetch "want $id" 'done' > script
+    ask heavy
+    heard 'request fetch'
+    [ "$(wc -c < pack)" -gt 21000000 ] || differs 'a pack that is too short'
+    is_whole sha1 heavy "$id"
+}
+
+# The client has a commit already, which Git finds to be common. Both packs go to the file, one after another.
 case_our_client_fetches_what_is_new() {
     local new old
     git init -q -b main grown
@@ -64,9 +137,77 @@ case_our_client_fetches_what_is_new() {
     [ "$(wc -c < pack)" -gt 21000000 ] || differs 'a pack that is too short'
 }
 
+# What Git says of an object that it has not, and after it the fault and its place.
 case_our_client_is_told_an_error() {
-    printf '%s\n' fetch "want $(printf 'f%.0s' {1..40})" 'done' > script
+    local other
+    other=$(printf 'f%.0s' {1..40})
+    printf '%s\n' fetch "want $other" 'done' > script
     ask history-sha1
     expect_status 1
-    grep -a -q '^example_fetch: RemoteError at ' transcript || differs 'no RemoteError' transcript
+    expect_line 'what is told' "remote error: upload-pack: not our ref $other" transcript
+    grep -a -q '^git2show: RemoteError at [0-9]*$' transcript || differs 'no RemoteError' transcript
+    [ ! -s pack ] || differs 'a pack that was refused'
+}
+
+# answered TEXT..: what our client tells where a server says this, whatever it is asked.
+answered() {
+    echo ls-refs > script
+    run git2show fetch --script script --pack pack --transcript written < <(printf "$@")
+}
+
+# Of what a server says no byte goes to a terminal that could be more than a letter.
+case_our_client_shows_an_error_on_one_line() {
+    answered '0017ERR no \033[31m\n\xff way\n'
+    expect_status 1
+    expect_same 'what is told' <(printf '%s\n' 'remote error: no \x1b[31m\n\xff way' 'git2show: RemoteError at 0') err
+    answered '0008ERR '
+    expect_same 'what is told' <(printf '%s\n' 'remote error: ' 'git2show: RemoteError at 0') err
+}
+
+case_our_client_tells_what_is_wrong() {
+    answered 000
+    expect 1 /dev/null <(fault 'Truncated at 0')
+    answered 00g0
+    expect 1 /dev/null <(fault 'BadDigit at 2')
+    echo push > script
+    run git2show fetch --script script --pack pack < /dev/null
+    expect 1 /dev/null <(fault 'BadScript at 1')
+    run git2show fetch --script nowhere --pack pack < /dev/null
+    expect 1 /dev/null <(fault File)
+    echo ls-refs > script
+    run git2show fetch --script script --pack nowhere/pack < /dev/null
+    expect 1 /dev/null <(fault File)
+    run git2show fetch --script script --pack pack --transcript nowhere/written < /dev/null
+    expect 1 /dev/null <(fault File)
+    run git2show fetch --script script --pack pack < .
+    expect 1 /dev/null <(fault ReadFault)
+}
+
+# A device that takes nothing: in the place of the server, of the transcript, and of the pack.
+case_our_client_tells_a_full_device() {
+    local id
+    advertisement sha1 > said
+    echo ls-refs > script
+    status=0
+    limited git2show fetch --script script --pack pack --transcript written < said > /dev/full 2> err || status=$?
+    expect_status 1
+    expect_same 'standard error' <(fault WriteFault) err
+    run git2show fetch --script script --pack pack --transcript /dev/full < said
+    expect_status 1
+    expect_same 'standard error' <(fault WriteFault) err
+    printf '%s\n' fetch "want $one" 'done' > script
+    { advertisement sha1; pack_answer; } > said
+    run git2show fetch --script script --pack /dev/full --transcript written < said
+    expect_status 1
+    expect_same 'standard error' <(fault WriteFault) err
+}
+
+case_our_client_refuses_other_words() {
+    echo ls-refs > script
+    expect_refused fetch
+    expect_refused fetch --script script
+    expect_refused fetch --pack pack
+    expect_refused fetch --script script --pack pack more
+    expect_refused fetch --script script --pack pack --format md5
+    expect_help 'Usage: git2show fetch [OPTIONS] --script <FILE> --pack <FILE>' fetch --help
 }

@@ -52,8 +52,11 @@ under_valgrind() {
 case_library_is_installed_whole() {
     local file line
     for file in bin/git2show lib/libgitwire.a include/gitwire.h lib/pkgconfig/gitwire.pc share/man/man1/git2show.1 \
-        share/doc/gitwire/PROTOCOL.md share/doc/gitwire/repository-text.sh share/doc/gitwire/examples/{common.h,daemon.c,host.c,list.c,packets.c}; do
+        share/doc/gitwire/PROTOCOL.md share/doc/gitwire/repository-text.sh share/doc/gitwire/examples/{common.h,daemon.c,host.c,list.c,packets.c,http-backend.sh}; do
         [ -s "$installed/$file" ] || differs "no $file"
+    done
+    for file in bin/git2show share/doc/gitwire/{repository-text.sh,examples/http-backend.sh}; do
+        [ -x "$installed/$file" ] || differs "no program $file"
     done
     run "$installed/bin/git2show" --version
     expect 0 <(echo 'git2show 0.1.0') /dev/null
@@ -104,7 +107,7 @@ case_library_programs_compile_without_a_word() {
 # The options that a command's help has stand in the manual page, in the part on that command.
 case_manual_page_has_each_option() {
     local command option
-    for command in show check serve play; do
+    for command in show check serve fetch play; do
         sed -n "/^\.SS git2show $command/,/^\.S/p" "$installed/share/man/man1/git2show.1" | sed 's/\\-/-/g' > part
         git2show "$command" --help | grep -o -e '--[a-z]*' | sort -u > options
         [ -s options ] || differs "no option of $command"

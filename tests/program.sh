@@ -118,7 +118,7 @@ case_help_goes_to_standard_output() {
     expect_help 'Usage: git2show <COMMAND>' --help
     expect_help 'Usage: git2show show' show --help
     expect_help 'Usage: git2show check [OPTIONS] <REQUESTS> <RESPONSES>' check --help
-    expect_help 'Usage: git2show serve [OPTIONS] --repo <FILE> --pack <FILE>' serve --help
+    expect_help 'Usage: git2show serve [OPTIONS] --repo <FILE> --pack <FILE> [DIR]' serve --help
 }
 
 case_version_goes_to_standard_output() {
@@ -227,6 +227,58 @@ case_serve_keeps_no_more_of_a_million_wants() {
 case_serve_tells_a_fetch_that_is_cut_off() {
     serve_pack < <(fetch $one | head -c 80)
     expect 1 <(advertisement sha1; packet 'ERR Truncated at 72') <(fault 'Truncated at 72')
+}
+
+# The advertisement alone, and whatever comes is not read.
+case_serve_gives_its_advertisement_alone() {
+    local option
+    for option in --http-backend-info-refs --advertise-refs '--stateless-rpc --http-backend-info-refs'; do
+        serve $option < <(request peel symrefs)
+        expect 0 <(advertisement sha1) /dev/null
+        serve $option < /dev/null
+        expect 0 <(advertisement sha1) /dev/null
+    done
+}
+
+case_serve_answers_one_request_alone() {
+    serve --stateless-rpc < <(request peel symrefs; request 'ref-prefix refs/tags/'; printf zzzz)
+    expect 0 <(whole_answer) /dev/null
+    serve_pack --stateless-rpc < <(fetch $one; fetch $two)
+    expect 0 <(pack_answer) /dev/null
+    serve --stateless-rpc < /dev/null
+    expect 0 /dev/null /dev/null
+    serve --stateless-rpc < <(printf 0000; request peel)
+    expect 0 /dev/null /dev/null
+}
+
+# The answer to a request whose bytes come one by one, over an input that stays open.
+case_serve_ends_after_one_request() {
+    mkfifo one-by-one
+    { request peel symrefs | dd bs=1 status=none; exec sleep 60; } > one-by-one &
+    serve --stateless-rpc < one-by-one
+    kill $!
+    rm one-by-one
+    expect 0 <(whole_answer) /dev/null
+}
+
+case_serve_tells_what_is_wrong_with_one_request() {
+    serve --stateless-rpc < <(printf 00g0)
+    expect 1 <(packet 'ERR BadDigit at 2') <(fault 'BadDigit at 2')
+    serve_pack --stateless-rpc < <(fetch $one | head -c 80)
+    expect 1 <(packet 'ERR Truncated at 72') <(fault 'Truncated at 72')
+    serve_pack --stateless-rpc --limit 93 < <(fetch $one $two)
+    expect 1 <(packet 'ERR TooMuchKept at 122') <(fault 'TooMuchKept at 122')
+    serve --stateless-rpc < .
+    expect 1 /dev/null <(fault ReadFault)
+}
+
+# What Git puts after its words names a repository, of which nothing is read.
+case_serve_takes_a_folder_at_its_end() {
+    serve --http-backend-info-refs /nowhere
+    expect 0 <(advertisement sha1) /dev/null
+    serve 'nowhere at all' < <(request peel symrefs)
+    expect 0 <(advertisement sha1; whole_answer) /dev/null
+    expect_refused serve --repo small.repo --pack empty.pack one two
 }
 
 case_serve_ends_where_its_input_ends() {
@@ -432,5 +484,6 @@ case_a_full_device_is_a_write_fault() {
     expect_device_full show
     expect_device_full check /dev/null responses
     expect_device_full serve --repo small.repo --pack empty.pack
+    expect_device_full serve --repo small.repo --pack empty.pack --http-backend-info-refs
     expect_device_full play --repo small.repo --pack empty.pack --script /dev/null
 }

@@ -1,6 +1,6 @@
 #!/usr/bin/env bash
-# Tests the built program `git2show` from outside: as the real Git calls it (real_git.sh, clones.sh and fetches.sh), and by hand
-# (program.sh); our client, as it asks the real Git (asking.sh); and what both ends of the real Git say, as `check` judges it (recorded.sh); and
+# Tests the built program `git2show` from outside: as the real Git calls it (real_git.sh, clones.sh and fetches.sh), and over HTTP
+# (http.sh), and by hand (program.sh); our client, as it asks the real Git (asking.sh); and what both ends of the real Git say, as `check` judges it (recorded.sh); and
 # both of our ends against each other (playing.sh). And the library for programs in C, as the examples use it (library.sh).
 #
 #     tests/run.sh [PROGRAM [LIBRARY]]
@@ -62,7 +62,6 @@ if [ $# -gt 1 ]; then
 else
     library=$(built_library gitwire)
 fi
-fetcher=$(built example_fetch)
 [ -x "$program" ] || stop "no program $program"
 [ -f "$library" ] || stop "no library $library"
 command -v git > /dev/null || install_packages git || stop "no git, and it could not be installed"
@@ -92,6 +91,7 @@ export PATH=$room/bin:$PATH
 . "$top/tests/real_git.sh"
 . "$top/tests/clones.sh"
 . "$top/tests/fetches.sh"
+. "$top/tests/http.sh"
 . "$top/tests/asking.sh"
 . "$top/tests/recorded.sh"
 . "$top/tests/program.sh"

@@ -1,10 +1,15 @@
-//! The program `git2show`: shows, checks, serves and plays conversations of Git's wire protocol.
+//! The program `git2show`: shows, checks, serves, fetches and plays conversations of Git's wire protocol.
 #![tactic(auto)]
 
+mod fetching;
+mod one_request;
+
+use crate::fetching::run_fetch;
+use crate::one_request::take_request;
 use clap::error::ErrorKind;
 use clap::{Arg, ArgAction, ArgMatches, Command, Error, value_parser};
 use git_client::Ending;
-use git_msg::{Limits, Offer};
+use git_msg::{Limits, Offer, Request};
 use git_names::Format;
 use git_pkt::{Discard, LONGEST_PACKET, RunFault, Told};
 use git_repository::{RepositoryReader, TextFault};
@@ -43,7 +48,9 @@ static FORMATS: [&str; 2] = ["sha1", "sha256"];
 fn command<'a>(alloc: Global) -> Result<Command<'a>, AllocError> {
     Command::new(alloc, "git2show")
         .version("0.1.0")
-        .about("Shows, checks, serves and plays conversations of Git's wire protocol, version 2")
+        .about(
+            "Shows, checks, serves, fetches and plays conversations of Git's wire protocol, version 2",
+        )
         .after_help(STATUSES)
         .subcommand_required(true)
         .subcommand(Command::new(alloc, "show").about(
@@ -51,6 +58,7 @@ fn command<'a>(alloc: Global) -> Result<Command<'a>, AllocError> {
         ))?
         .subcommand(check_command(alloc)?)?
         .subcommand(serve_command(alloc)?)?
+        .subcommand(fetch_command(alloc)?)?
         .subcommand(play_command(alloc)?)
 }
 
@@ -70,14 +78,7 @@ fn check_command<'a>(alloc: Global) -> Result<Command<'a>, AllocError> {
                 .required(true)
                 .help("File of what the server sent, its advertisement first"),
         )?
-        .arg(
-            Arg::new(alloc, "format")
-                .long("format")
-                .value_name("FORMAT")
-                .value_parser(FORMATS.as_slice())
-                .default_value("sha1")
-                .help("Object format of the repository"),
-        )?
+        .arg(format_argument(alloc))?
         .arg(stateless_argument(
             alloc,
             "Each response ends with a response-end packet, as where each has its own connection",
@@ -89,13 +90,48 @@ fn serve_command<'a>(alloc: Global) -> Result<Command<'a>, AllocError> {
     let command = Command::new(alloc, "serve").about(
         "Answers the requests on standard input, on standard output",
     );
-    with_repository(alloc, command)?.arg(
-        Arg::new(alloc, "limit")
-            .long("limit")
-            .value_name("N")
-            .value_parser(value_parser!(u32).range(..=i64::from(MOST_KEPT)))
-            .help("Refuses a request whose arguments have more than N bytes [usual: 16777216]"),
-    )
+    with_repository(alloc, command)?
+        .arg(
+            Arg::new(alloc, "limit")
+                .long("limit")
+                .value_name("N")
+                .value_parser(value_parser!(u32).range(..=i64::from(MOST_KEPT)))
+                .help("Refuses a request whose arguments have more than N bytes [usual: 16777216]"),
+        )?
+        .arg(flag_argument(alloc, "stateless-rpc").help(
+            "Answers one request, without an advertisement, and ends",
+        ))?
+        .arg(
+            flag_argument(alloc, "http-backend-info-refs")
+                .visible_alias("advertise-refs")?
+                .help("Gives the advertisement alone, and reads no request"),
+        )?
+        .arg(Arg::new(alloc, "DIR").help(
+            "Where Git or ssh names a repository; nothing is read from it",
+        ))
+}
+
+/// What the words after `fetch` may be.
+fn fetch_command<'a>(alloc: Global) -> Result<Command<'a>, AllocError> {
+    Command::new(alloc, "fetch")
+        .about(
+            "Asks what a script says on standard output, hears a server on standard input, and writes the pack that comes",
+        )
+        .arg(script_argument(alloc))?
+        .arg(file_argument(alloc, "pack").help(
+            "Where the pack goes: the bytes of all packs that come",
+        ))?
+        .arg(
+            Arg::new(alloc, "transcript")
+                .long("transcript")
+                .value_name("FILE")
+                .help("Where the transcript goes [usual: standard error]"),
+        )?
+        .arg(format_argument(alloc))?
+        .arg(stateless_argument(
+            alloc,
+            "Each response ends with a response-end packet, as where each has its own connection",
+        ))
 }
 
 /// What the words after `play` may be.
@@ -104,7 +140,7 @@ fn play_command<'a>(alloc: Global) -> Result<Command<'a>, AllocError> {
         "Plays both ends of a conversation in memory, and prints its transcript; the pack's bytes are dropped",
     );
     with_repository(alloc, command)?
-        .arg(file_argument(alloc, "script").help("Text of the requests, one argument to a line"))?
+        .arg(script_argument(alloc))?
         .arg(
             Arg::new(alloc, "cut")
                 .long("cut")
@@ -135,12 +171,29 @@ fn file_argument<'a>(alloc: Global, name: &'a str) -> Arg<'a> {
         .required(true)
 }
 
+/// The argument that names a script.
+fn script_argument<'a>(alloc: Global) -> Arg<'a> {
+    file_argument(alloc, "script").help("Text of the requests, one argument to a line")
+}
+
+/// The argument that tells the object format.
+fn format_argument<'a>(alloc: Global) -> Arg<'a> {
+    Arg::new(alloc, "format")
+        .long("format")
+        .value_name("FORMAT")
+        .value_parser(FORMATS.as_slice())
+        .default_value("sha1")
+        .help("Object format of the repository")
+}
+
 /// The argument that tells how responses end.
 fn stateless_argument<'a>(alloc: Global, help: &'a str) -> Arg<'a> {
-    Arg::new(alloc, "stateless")
-        .long("stateless")
-        .action(ArgAction::SetTrue)
-        .help(help)
+    flag_argument(alloc, "stateless").help(help)
+}
+
+/// An argument that is there or not.
+fn flag_argument<'a>(alloc: Global, name: &'a str) -> Arg<'a> {
+    Arg::new(alloc, name).long(name).action(ArgAction::SetTrue)
 }
 
 /// Shows the packets of standard input.
@@ -155,10 +208,6 @@ fn run_show(rt: &HostRuntime) -> Result<(), ProgramFault> {
 fn run_check(rt: &HostRuntime, matches: &ArgMatches<'_>) -> Result<(), ProgramFault> {
     let mut requests = Told::new(open(rt, matches, "REQUESTS")?);
     let mut responses = Told::new(open(rt, matches, "RESPONSES")?);
-    let format = matches
-        .get_str("format")
-        .and_then(|name| Format::read(name.as_bytes()))
-        .unwrap_or(Format::Sha1);
     let mut out = Told::new(buffered_output(rt)?);
     let mut piece = [0; PIECE];
     let mut other_piece = [0; PIECE];
@@ -166,13 +215,21 @@ fn run_check(rt: &HostRuntime, matches: &ArgMatches<'_>) -> Result<(), ProgramFa
         rt.alloc(),
         &mut requests,
         &mut responses,
-        format,
+        format_of(matches),
         ending_of(matches),
         &mut piece,
         &mut other_piece,
         &mut out,
         TURNS,
     )?)
+}
+
+/// The object format, by the command line.
+fn format_of(matches: &ArgMatches<'_>) -> Format {
+    matches
+        .get_str("format")
+        .and_then(|name| Format::read(name.as_bytes()))
+        .unwrap_or(Format::Sha1)
 }
 
 /// How responses end, by the command line.
@@ -205,23 +262,60 @@ fn buffered_output(rt: &HostRuntime) -> Result<BufWriter<Stdout>, ProgramFault> 
     )
 }
 
-/// Serves the repository whose files are named, on standard input and output.
-fn run_serve(rt: &HostRuntime, matches: &ArgMatches<'_>) -> Result<(), ProgramFault> {
-    let alloc = rt.alloc();
-    let repo = read_repository(rt, matches)?;
-    let offer = Offer::everything(repo.format());
-    // clap refuses more than the most, which is said once more for the prover.
+/// What a server is to say.
+#[derive(Clone, Copy, Debug, PartialEq, Eq)]
+enum Service {
+    /// The advertisement, and the answer to each request.
+    Session,
+    /// The advertisement alone.
+    Advertisement,
+    /// The answer to one request alone.
+    Answer,
+}
+
+/// What a server is to say, by the command line.
+fn service_of(matches: &ArgMatches<'_>) -> Service {
+    if matches.get_flag("http-backend-info-refs") {
+        return Service::Advertisement;
+    }
+    match matches.get_flag("stateless-rpc") {
+        true => Service::Answer,
+        false => Service::Session,
+    }
+}
+
+/// How much is kept of a request, by the command line. clap refuses more than the most, which is said once more for the prover.
+fn limits_of(matches: &ArgMatches<'_>) -> Limits {
     let args = match matches.get_one::<u32>("limit") {
         Some(args) => args.min(MOST_KEPT),
         None => Limits::USUAL,
     };
-    let mut server = Server::new(alloc, repo, offer, Limits { args }, true);
+    Limits { args }
+}
+
+/// Serves the repository whose files are named, on standard input and output.
+fn run_serve(rt: &HostRuntime, matches: &ArgMatches<'_>) -> Result<(), ProgramFault> {
+    let repo = read_repository(rt, matches)?;
+    let offer = Offer::everything(repo.format());
+    let service = service_of(matches);
+    let advertise = service != Service::Answer;
+    let mut server = Server::new(rt.alloc(), repo, offer, limits_of(matches), advertise);
+    let mut piece = [0; PIECE];
+    if service == Service::Answer && server.wants_input() {
+        take_request(&mut Told::new(rt.stdin()), &mut piece, &mut server, TURNS)?;
+    }
+    let turns = match service {
+        Service::Session => TURNS,
+        // All that is owed is written, and nothing is read for it.
+        Service::Advertisement | Service::Answer => 0,
+    };
     let mut reader = Told::new(rt.stdin());
     let mut writer = Told::new(buffered_output(rt)?);
-    let mut piece = [0; PIECE];
-    match serve(&mut reader, &mut writer, &mut piece, &mut server, TURNS)? {
-        Outcome::Flush | Outcome::Closed => Ok(()),
-        Outcome::Refused(fault) => Err(RunFault::Refused(fault).into()),
+    match serve(&mut reader, &mut writer, &mut piece, &mut server, turns) {
+        Ok(Outcome::Flush | Outcome::Closed) => Ok(()),
+        Ok(Outcome::Refused(fault)) => Err(RunFault::Refused(fault).into()),
+        Err(RunFault::ReadLimit) if turns == 0 => Ok(()),
+        Err(fault) => Err(fault.into()),
     }
 }
 
@@ -229,15 +323,7 @@ fn run_serve(rt: &HostRuntime, matches: &ArgMatches<'_>) -> Result<(), ProgramFa
 fn run_play(rt: &HostRuntime, matches: &ArgMatches<'_>) -> Result<(), ProgramFault> {
     let alloc = rt.alloc();
     let repo = read_repository(rt, matches)?;
-    let script = read_whole(rt, matches, "script")?;
-    let limits = Limits {
-        args: Limits::USUAL,
-    };
-    let requests = match read_script(alloc, &script, repo.format(), limits) {
-        Ok(requests) => requests,
-        Err(TextFault::Bad { line }) => return Err(ProgramFault::Script(line)),
-        Err(TextFault::OutOfMemory) => return Err(ProgramFault::OutOfMemory),
-    };
+    let requests = read_requests(rt, matches, repo.format())?;
     // clap refuses 0 and more than the longest, which is said once more for the prover.
     let cut = match matches.get_one::<u32>("cut") {
         Some(cut) => cut.clamp(1, LONGEST_CUT),
@@ -253,6 +339,23 @@ fn run_play(rt: &HostRuntime, matches: &ArgMatches<'_>) -> Result<(), ProgramFau
         &mut out,
         &mut Discard,
     )?)
+}
+
+/// Reads the script that is named.
+fn read_requests(
+    rt: &HostRuntime,
+    matches: &ArgMatches<'_>,
+    format: Format,
+) -> Result<Vec<Request<Global>>, ProgramFault> {
+    let script = read_whole(rt, matches, "script")?;
+    let limits = Limits {
+        args: Limits::USUAL,
+    };
+    match read_script(rt.alloc(), &script, format, limits) {
+        Ok(requests) => Ok(requests),
+        Err(TextFault::Bad { line }) => Err(ProgramFault::Script(line)),
+        Err(TextFault::OutOfMemory) => Err(ProgramFault::OutOfMemory),
+    }
 }
 
 /// Reads the files of a repository: its text by pieces, and its pack whole.
@@ -299,6 +402,7 @@ fn run(rt: &HostRuntime, matches: &ArgMatches<'_>) -> u8 {
         Some(("show", _)) => run_show(rt),
         Some(("check", words)) => run_check(rt, words),
         Some(("serve", words)) => run_serve(rt, words),
+        Some(("fetch", words)) => run_fetch(rt, words),
         Some(("play", words)) => run_play(rt, words),
         // clap takes no other word for a command.
         _ => return BAD_COMMAND_LINE,

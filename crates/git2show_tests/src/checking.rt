@@ -1,17 +1,16 @@
-//! Recorded streams that are checked against each other: what is told where one fails, where memory or the reads run out, and how far
+//! Recorded streams that are checked against each other: what is told where one stops, where memory or the reads run out, and how far
 //! each is read.
+use crate::stopping::{ALL, MANY, TURNS, expect_due, expect_front};
 use git_client::Ending;
 use git_names::Format;
-use git_pkt::{Fault, Kind, Told};
+use git_pkt::{Fault, Kind, Stops, Told};
 use git2show_lib::{CheckFault, ProgramFault, check, report};
 use linked_list_allocator::LocalHeap;
 use std::alloc::Global;
+use std::io::Read;
 use std::process::Abort;
 use std::test::Fail;
-use test_streams::{Sink, Stream};
-
-/// More reads than any test makes.
-const TURNS: u64 = 1_073_741_824;
+use test_streams::{Endless, Pieces, Sink, Stream};
 
 /// Nothing fails at this number.
 const NEVER: u32 = u32::MAX;
@@ -31,7 +30,7 @@ const TRANSCRIPT: &[u8] =
 request ls-refs\nref aaaaaaaaaaaaaaaaaaaaaaaaaaaaaaaaaaaaaaaa HEAD\nend 0 0\nrequest fetch\nend 3 0\n";
 
 /// Where the advertisement ends, in the responses and in the transcript.
-const ADVERTISED: (u32, usize) = (100, 125);
+const ADVERTISED: (u64, usize) = (100, 125);
 
 #[test]
 fn faults_are_reported_with_their_stream(rt: HostRuntime) -> Result<(), Fail> {
@@ -65,24 +64,20 @@ fn faults_are_reported_with_their_stream(rt: HostRuntime) -> Result<(), Fail> {
     Ok(())
 }
 
-/// Which call of each stream fails, how many bytes a read gives at the most, and how many reads may be made.
+/// After how many calls each stream stops, and how many reads may be made.
 #[derive(Clone, Copy)]
-struct Failing {
+struct Stopping {
     requests: u32,
     responses: u32,
-    write: u32,
-    flush: u32,
-    step: usize,
+    writes: u32,
     turns: u64,
 }
 
-/// Streams of which none fails, read whole.
-const SOUND: Failing = Failing {
-    requests: NEVER,
-    responses: NEVER,
-    write: NEVER,
-    flush: NEVER,
-    step: 256,
+/// Streams of which none stops.
+const SOUND: Stopping = Stopping {
+    requests: ALL,
+    responses: ALL,
+    writes: ALL,
     turns: TURNS,
 };
 
@@ -91,17 +86,21 @@ const SOUND: Failing = Failing {
 struct Checked {
     answer: Result<(), CheckFault>,
     /// How many reads were made of each stream.
-    requests: u32,
-    responses: u32,
+    requests: u64,
+    responses: u64,
     out: Sink,
 }
 
-/// Checks the streams, which fail so.
-fn check_failing(alloc: Global, requests: &[u8], responses: &[u8], failing: Failing) -> Checked {
-    let mut out = Sink::new(Vec::new(alloc), usize::MAX, failing.write);
-    out.last_flush = failing.flush;
-    let mut requests = Told::new(Stream::new(requests, failing.step, failing.requests));
-    let mut responses = Told::new(Stream::new(responses, failing.step, failing.responses));
+/// Checks the streams, which stop so.
+fn check_stopping(
+    alloc: Global,
+    requests: impl Read + Drop,
+    responses: impl Read + Drop,
+    stopping: Stopping,
+) -> Checked {
+    let mut out = Sink::new(Vec::new(alloc), usize::MAX, NEVER);
+    let mut requests = Told::new(Stops::new(requests, stopping.requests));
+    let mut responses = Told::new(Stops::new(responses, stopping.responses));
     let answer = check(
         alloc,
         &mut requests,
@@ -110,71 +109,156 @@ fn check_failing(alloc: Global, requests: &[u8], responses: &[u8], failing: Fail
         Ending::FlushOnly,
         &mut [0; 256],
         &mut [0; 256],
-        &mut Told::new(&mut out),
-        failing.turns,
+        &mut Told::new(Stops::new(&mut out, stopping.writes)),
+        stopping.turns,
     );
     Checked {
         answer,
-        requests: u32::try_from(requests.reads()).unwrap_or(NEVER),
-        responses: u32::try_from(responses.reads()).unwrap_or(NEVER),
+        requests: requests.reads(),
+        responses: responses.reads(),
         out,
     }
 }
 
-/// The whole conversation, over streams that fail so.
-fn conversation(alloc: Global, failing: Failing) -> Checked {
-    check_failing(alloc, REQUESTS, RESPONSES, failing)
+/// The responses, a piece at a read.
+const HEARD: [&[u8]; 11] = [
+    b"000eversion 2\n",
+    b"0011agent=git2/1\n000cls-refs\n00",
+    b"12fetch=shallow\n",
+    b"0017object-format=sha1\n000cx-later\n",
+    b"0000",
+    b"0032aaaaaaaaaaaaaaaaaaaaaaaaaaaaaaaaaaaaaaaa HEAD\n",
+    b"0000",
+    b"000dpackfile\n0007",
+    b"\x01AB",
+    b"0006\x01C",
+    b"0000",
+];
+
+/// The lines that are due after each read of them, and none before the first.
+const LINES_OF_HEARD: [&[u8]; 12] = [
+    b"",
+    b"",
+    b"capability agent=git2/1\ncapability ls-refs\n",
+    b"capability fetch=shallow\n",
+    b"capability object-format=sha1\ncapability x-later\n",
+    b"offered\nrequest ls-refs\n",
+    b"ref aaaaaaaaaaaaaaaaaaaaaaaaaaaaaaaaaaaaaaaa HEAD\n",
+    b"end 0 0\nrequest fetch\n",
+    b"",
+    b"",
+    b"",
+    b"end 3 0\n",
+];
+
+/// The requests, a piece at a read.
+const SAID: [&[u8]; 5] = [
+    b"0014command=ls-refs\n",
+    b"0000",
+    b"0012command=fetch\n00010032want aaaaaaaaaaaaaaaaaaaaaaaaaaaaaaaaaaaaaaaa\n0009",
+    b"done\n0000",
+    b"0000",
+];
+
+/// The lines that are due before the first read of them, and after each but the last.
+const LINES_OF_SAID: [&[u8]; 5] = [
+    b"capability agent=git2/1\ncapability ls-refs\ncapability fetch=shallow\ncapability object-format=sha1\ncapability x-later\noffered\n",
+    b"",
+    b"request ls-refs\nref aaaaaaaaaaaaaaaaaaaaaaaaaaaaaaaaaaaaaaaa HEAD\nend 0 0\n",
+    b"",
+    b"request fetch\nend 3 0\n",
+];
+
+/// The whole conversation, over streams that stop so.
+fn conversation(alloc: Global, stopping: Stopping) -> Checked {
+    check_stopping(alloc, Pieces::new(&SAID), Pieces::new(&HEARD), stopping)
 }
 
-/// That all that was written was flushed, and that it begins the transcript.
-fn assert_flushed(rt: &impl Abort, out: &Sink) {
-    assert_eq!(rt; out.flushed, out.taken.len());
-    assert!(rt; TRANSCRIPT.starts_with(out.taken.as_slice()));
+/// The whole conversation, by so many bytes at a read, in so many reads.
+fn slow_conversation(alloc: Global, step: usize, turns: u64) -> Checked {
+    check_stopping(
+        alloc,
+        Stream::new(REQUESTS, step, NEVER),
+        Stream::new(RESPONSES, step, NEVER),
+        Stopping { turns, ..SOUND },
+    )
 }
 
-/// Each stream is read in pieces of seven bytes. The requests are read up to the flush alone, and the responses to their end.
+/// A read of the responses that fails is told behind the lines before it: the requests are read as soon as they are due.
 #[test]
-fn each_failing_read_is_told_after_what_was_heard(rt: HostRuntime) -> Result<(), Fail> {
-    let slow = Failing { step: 7, ..SOUND };
-    let whole = conversation(rt.alloc(), slow);
-    assert_eq!(rt; whole.answer, Ok(()));
-    assert_eq!(rt; whole.out.taken.as_slice(), TRANSCRIPT);
-    assert_flushed(&rt, &whole.out);
-    let mut told = 0;
-    for responses in 0..whole.responses {
-        let checked = conversation(rt.alloc(), Failing { responses, ..slow });
+fn each_read_of_the_responses_fails_in_turn_while_they_are_checked(
+    rt: HostRuntime,
+) -> Result<(), Fail> {
+    let mut due = Vec::new(rt.alloc());
+    let mut responses = 0u32;
+    for lines in LINES_OF_HEARD {
+        due.extend_from_slice(lines)?;
+        let checked = conversation(rt.alloc(), Stopping { responses, ..SOUND });
         assert_eq!(rt; checked.answer, Err(CheckFault::ReadFault));
-        assert_eq!(rt; checked.responses, responses.saturating_add(1));
-        assert!(rt; told <= checked.out.taken.len());
-        told = checked.out.taken.len();
-        assert_flushed(&rt, &checked.out);
+        responses = responses.saturating_add(1);
+        assert_eq!(rt; checked.responses, u64::from(responses));
+        expect_due(&rt, &checked.out, &due);
     }
-    assert_eq!(rt; told, TRANSCRIPT.len());
-    told = ADVERTISED.1;
-    for requests in 0..whole.requests {
-        let checked = conversation(rt.alloc(), Failing { requests, ..slow });
+    // The last read shows their end.
+    let checked = conversation(rt.alloc(), Stopping { responses, ..SOUND });
+    assert_eq!(rt; checked.answer, Ok(()));
+    expect_due(&rt, &checked.out, TRANSCRIPT);
+    Ok(())
+}
+
+/// The requests are read up to the flush alone.
+#[test]
+fn each_read_of_the_requests_fails_in_turn_while_they_are_checked(
+    rt: HostRuntime,
+) -> Result<(), Fail> {
+    let mut due = Vec::new(rt.alloc());
+    let mut requests = 0u32;
+    for lines in LINES_OF_SAID {
+        due.extend_from_slice(lines)?;
+        let checked = conversation(rt.alloc(), Stopping { requests, ..SOUND });
         assert_eq!(rt; checked.answer, Err(CheckFault::ReadFault));
-        assert_eq!(rt; checked.requests, requests.saturating_add(1));
-        assert!(rt; told <= checked.out.taken.len());
-        told = checked.out.taken.len();
-        assert_flushed(&rt, &checked.out);
+        requests = requests.saturating_add(1);
+        assert_eq!(rt; checked.requests, u64::from(requests));
+        expect_due(&rt, &checked.out, &due);
     }
+    let checked = conversation(rt.alloc(), Stopping { requests, ..SOUND });
+    assert_eq!(rt; checked.answer, Ok(()));
+    assert_eq!(rt; checked.requests, u64::from(requests));
+    expect_due(&rt, &checked.out, TRANSCRIPT);
     Ok(())
 }
 
 #[test]
-fn each_failing_write_and_flush_is_told(rt: HostRuntime) -> Result<(), Fail> {
-    let whole = conversation(rt.alloc(), SOUND);
-    for write in 0..whole.out.writes {
-        let checked = conversation(rt.alloc(), Failing { write, ..SOUND });
+fn each_write_and_flush_fails_in_turn_while_streams_are_checked(
+    rt: HostRuntime,
+) -> Result<(), Fail> {
+    let mut longest = 0;
+    for writes in 0..MANY {
+        let checked = conversation(rt.alloc(), Stopping { writes, ..SOUND });
+        expect_front(&rt, &checked.out, TRANSCRIPT, &mut longest);
+        if checked.answer.is_ok() {
+            assert_eq!(rt; longest, TRANSCRIPT.len());
+            return Ok(());
+        }
         assert_eq!(rt; checked.answer, Err(CheckFault::WriteFault));
-        assert!(rt; TRANSCRIPT.starts_with(checked.out.taken.as_slice()));
     }
-    for flush in 0..whole.out.flushes {
-        let checked = conversation(rt.alloc(), Failing { flush, ..SOUND });
-        assert_eq!(rt; checked.answer, Err(CheckFault::WriteFault));
-        assert!(rt; TRANSCRIPT.starts_with(checked.out.taken.as_slice()));
-    }
+    assert!(rt; false, "a run with fewer calls");
+    Ok(())
+}
+
+/// The client asks for the references for ever, and is told for ever that there is none.
+#[test]
+fn a_conversation_without_an_end_ends_at_the_limit_of_reads(rt: HostRuntime) -> Result<(), Fail> {
+    let asked = Endless::new(b"", b"0014command=ls-refs\n0000");
+    let heard = Endless::new(&RESPONSES[..100], b"0000");
+    let endless = Stopping {
+        turns: 1_000,
+        ..SOUND
+    };
+    let checked = check_stopping(rt.alloc(), asked, heard, endless);
+    assert_eq!(rt; checked.answer, Err(CheckFault::ReadLimit));
+    assert_eq!(rt; checked.requests.saturating_add(checked.responses), 1_000);
+    assert_eq!(rt; checked.out.flushed, checked.out.taken.len());
     Ok(())
 }
 
@@ -182,29 +266,20 @@ fn each_failing_write_and_flush_is_told(rt: HostRuntime) -> Result<(), Fail> {
 #[test]
 fn reads_that_are_spent_are_told(rt: HostRuntime) -> Result<(), Fail> {
     for step in [1, 7, 256] {
-        let slow = Failing { step, ..SOUND };
-        let whole = conversation(rt.alloc(), slow);
+        let whole = slow_conversation(rt.alloc(), step, TURNS);
         if step == 256 {
             // Each stream lies in one piece. The responses are read to their end, the requests to the flush alone.
             assert_eq!(rt; (whole.requests, whole.responses), (1, 2));
         }
-        let reads = u64::from(whole.requests).saturating_add(u64::from(whole.responses));
-        let enough = conversation(
-            rt.alloc(),
-            Failing {
-                turns: reads,
-                ..slow
-            },
-        );
+        let reads = whole.requests.saturating_add(whole.responses);
+        let enough = slow_conversation(rt.alloc(), step, reads);
         assert_eq!(rt; enough.answer, Ok(()));
         for turns in 0..reads {
-            let checked = conversation(rt.alloc(), Failing { turns, ..slow });
+            let checked = slow_conversation(rt.alloc(), step, turns);
             assert_eq!(rt; checked.answer, Err(CheckFault::ReadLimit));
-            assert_eq!(rt;
-                u64::from(checked.requests).saturating_add(u64::from(checked.responses)),
-                turns
-            );
-            assert_flushed(&rt, &checked.out);
+            assert_eq!(rt; checked.requests.saturating_add(checked.responses), turns);
+            assert_eq!(rt; checked.out.flushed, checked.out.taken.len());
+            assert!(rt; TRANSCRIPT.starts_with(checked.out.taken.as_slice()));
         }
     }
     Ok(())
@@ -213,9 +288,9 @@ fn reads_that_are_spent_are_told(rt: HostRuntime) -> Result<(), Fail> {
 /// Of each stream just so many bytes are read as are due: each read gives one.
 #[test]
 fn nothing_is_read_before_it_is_due(rt: HostRuntime) -> Result<(), Fail> {
-    let slow = Failing { step: 1, ..SOUND };
-    let unknown = b"0017command=bundle-uri\n0000";
-    let checked = check_failing(rt.alloc(), unknown, RESPONSES, slow);
+    let unknown = Stream::new(b"0017command=bundle-uri\n0000", 1, NEVER);
+    let heard = Stream::new(RESPONSES, 1, NEVER);
+    let checked = check_stopping(rt.alloc(), unknown, heard, SOUND);
     let refused = Fault {
         kind: Kind::UnknownCommand,
         offset: 0,
@@ -225,7 +300,8 @@ fn nothing_is_read_before_it_is_due(rt: HostRuntime) -> Result<(), Fail> {
     assert_eq!(rt; checked.responses, ADVERTISED.0);
     assert_eq!(rt; checked.out.taken.len(), ADVERTISED.1);
     let bad = [&RESPONSES[..100], b"0001"].concat(rt.alloc())?;
-    let checked = check_failing(rt.alloc(), REQUESTS, bad.as_slice(), slow);
+    let asked = Stream::new(REQUESTS, 1, NEVER);
+    let checked = check_stopping(rt.alloc(), asked, Stream::new(&bad, 1, NEVER), SOUND);
     let refused = Fault {
         kind: Kind::UnexpectedPacket,
         offset: 100,

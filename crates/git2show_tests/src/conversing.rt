@@ -1,18 +1,17 @@
-//! A client over readers and writers: what it says and hears, what is flushed when, and what is told of streams that fail.
-use crate::serving::{Asking, Counted, Held};
+//! A client over readers and writers: what it says and hears, what is flushed when, and what is told of streams that stop.
+use crate::serving::{Asking, Counted};
+use crate::stopping::{ALL, MANY, TURNS, expect_due, expect_front};
 use git_client::{Client, Ending, converse};
 use git_msg::{Limits, Request};
 use git_names::Format;
-use git_pkt::{Fault, Kind, RunFault, Told};
+use git_pkt::{Fault, Kind, RunFault, Stops, Told};
 use git2show_lib::read_script;
 use std::alloc::Global;
 use std::cell::Cell;
+use std::io::Read;
 use std::process::Abort;
 use std::test::Fail;
-use test_streams::{Sink, Stream};
-
-/// More reads than any test makes.
-const TURNS: u64 = 1_073_741_824;
+use test_streams::{Endless, Pieces, Sink, Stream};
 
 /// Nothing fails at this number.
 const NEVER: u32 = u32::MAX;
@@ -27,17 +26,23 @@ const ANSWERS: [&[u8]; 3] = [
     b"000dpackfile\n0007\x01AB0008\x02hi\n0006\x01C0000",
 ];
 
-/// What the client says for that.
-const SAID: [&[u8]; 3] = [
-    b"0014command=ls-refs\n0017object-format=sha1\n00010000",
-    b"0012command=fetch\n0017object-format=sha1\n00010032want aaaaaaaaaaaaaaaaaaaaaaaaaaaaaaaaaaaaaaaa\n0009done\n0000",
-    b"0000",
-];
+/// What the client says for the references.
+const LISTS: &[u8] = b"0014command=ls-refs\n0017object-format=sha1\n00010000";
+
+/// What it says for the pack.
+const FETCHES: &[u8] =
+    b"0012command=fetch\n0017object-format=sha1\n00010032want aaaaaaaaaaaaaaaaaaaaaaaaaaaaaaaaaaaaaaaa\n0009done\n0000";
+
+/// All that it says, up to its leaving.
+const SAID: [&[u8]; 3] = [LISTS, FETCHES, b"0000"];
 
 /// The transcript of it.
 const TRANSCRIPT: &[u8] =
     b"capability ls-refs\ncapability fetch=shallow\ncapability object-format=sha1\noffered\n\
 request ls-refs\nref aaaaaaaaaaaaaaaaaaaaaaaaaaaaaaaaaaaaaaaa HEAD\nend 0 0\nrequest fetch\nend 3 3\n";
+
+/// The pack.
+const PACK: &[u8] = b"ABC";
 
 /// The requests of a script.
 pub fn requests(
@@ -60,63 +65,69 @@ fn joined(rt: &(impl Abort + AllocGlobal), texts: &[&[u8]]) -> Result<Vec<u8>, F
     Ok(all)
 }
 
-/// Which read, and which write of each writer, fails, and how many reads may be made.
-#[derive(Clone, Copy)]
-struct Failing {
-    read: u32,
-    say: u32,
-    write: u32,
-    pack: u32,
-    turns: u64,
-}
-
-/// Streams of which none fails.
-const SOUND: Failing = Failing {
-    read: NEVER,
-    say: NEVER,
-    write: NEVER,
-    pack: NEVER,
-    turns: TURNS,
-};
-
 /// What was given to each writer.
 #[derive(Drop)]
 struct Given {
+    got: Result<(), RunFault>,
     said: Sink,
     out: Sink,
     pack: Sink,
 }
 
-/// Runs a client over what a server says, which comes by five bytes, and sees how the run ends.
-fn run(
+/// After how many calls each stream stops, and how many reads may be made.
+#[derive(Clone, Copy)]
+struct Stopping {
+    reads: u32,
+    says: u32,
+    writes: u32,
+    packs: u32,
+    turns: u64,
+}
+
+/// No stream stops.
+const SOUND: Stopping = Stopping {
+    reads: ALL,
+    says: ALL,
+    writes: ALL,
+    packs: ALL,
+    turns: TURNS,
+};
+
+/// Runs a client over what a server says, which comes so, and over streams that stop.
+fn run<R: Read + Drop>(
     rt: &(impl Abort + AllocGlobal),
-    answers: &[u8],
+    answers: R,
     ending: Ending,
-    failing: Failing,
-    expected: Result<(), RunFault>,
+    stopping: Stopping,
 ) -> Result<Given, Fail> {
-    let mut said = Sink::new(Vec::new(rt.alloc()), 3, failing.say);
-    let mut out = Sink::new(Vec::new(rt.alloc()), usize::MAX, failing.write);
-    let mut pack = Sink::new(Vec::new(rt.alloc()), usize::MAX, failing.pack);
+    let mut said = Sink::new(Vec::new(rt.alloc()), 40, NEVER);
+    let mut out = Sink::new(Vec::new(rt.alloc()), usize::MAX, NEVER);
+    let mut pack = Sink::new(Vec::new(rt.alloc()), usize::MAX, NEVER);
     let mut client = Client::new(Format::Sha1, ending);
     let got = converse(
-        &mut Told::new(Stream::new(answers, 5, failing.read)),
-        &mut Told::new(&mut said),
-        &mut [0; 7],
+        &mut Told::new(Stops::new(answers, stopping.reads)),
+        &mut Told::new(Stops::new(&mut said, stopping.says)),
+        &mut [0; 128],
         &mut client,
         requests(rt, SCRIPT)?,
-        &mut Told::new(&mut out),
-        &mut Told::new(&mut pack),
-        failing.turns,
+        &mut Told::new(Stops::new(&mut out, stopping.writes)),
+        &mut Told::new(Stops::new(&mut pack, stopping.packs)),
+        stopping.turns,
     );
-    assert_eq!(rt; got, expected);
-    Ok(Given { said, out, pack })
+    Ok(Given {
+        got,
+        said,
+        out,
+        pack,
+    })
 }
 
 #[test]
 fn a_client_asks_and_hears_and_leaves(rt: HostRuntime) -> Result<(), Fail> {
     let answers = joined(&rt, &ANSWERS)?;
-    let given = run(&rt, &answers, Ending::FlushOnly, SOUND, Ok(()))?;
+    let slow = Stream::new(&answers, 5, NEVER);
+    let given = run(&rt, slow, Ending::FlushOnly, SOUND)?;
+    assert_eq!(rt; given.got, Ok(()));
     assert_eq!(rt; given.said.taken.as_slice(), joined(&rt, &SAID)?.as_slice());
     assert_eq!(rt; given.out.taken.as_slice(), TRANSCRIPT);
     assert_eq!(rt; given.pack.taken.as_slice(), b"ABC".as_slice());
@@ -127,7 +138,9 @@ fn a_client_asks_and_hears_and_leaves(rt: HostRuntime) -> Result<(), Fail> {
 fn a_client_with_response_ends_asks_and_does_not_leave(rt: HostRuntime) -> Result<(), Fail> {
     let [advertisement, references, pack] = ANSWERS;
     let answers = joined(&rt, &[advertisement, references, b"0002", pack, b"0002"])?;
-    let given = run(&rt, &answers, Ending::ResponseEnd, SOUND, Ok(()))?;
+    let slow = Stream::new(&answers, 5, NEVER);
+    let given = run(&rt, slow, Ending::ResponseEnd, SOUND)?;
+    assert_eq!(rt; given.got, Ok(()));
     assert_eq!(rt;
         given.said.taken.as_slice(),
         joined(&rt, &SAID[..2])?.as_slice()
@@ -137,65 +150,222 @@ fn a_client_with_response_ends_asks_and_does_not_leave(rt: HostRuntime) -> Resul
     Ok(())
 }
 
+/// What comes, a piece at a read.
+const PIECES: [&[u8]; 11] = [
+    b"000eversion 2\n",
+    b"000cls-refs\n",
+    b"0012fetch=shallow\n",
+    b"0017object-format=sha1\n0000",
+    b"0032aaaaaaaaaaaaaaaaaaaaaaaaaaaaaaaaaaaaaaaa HEAD\n",
+    b"0000",
+    b"000dpackfile\n",
+    b"0007\x01A",
+    b"B0008\x02hi\n",
+    b"0006\x01C",
+    b"0000",
+];
+
+/// What is due after so many reads: to the server, in the transcript, and of the pack. Then nothing more is, up to the next of these.
+const DUE: [(u32, &[u8], &[u8], &[u8]); 8] = [
+    (2, b"", b"capability ls-refs\n", b""),
+    (3, b"", b"capability fetch=shallow\n", b""),
+    (
+        4,
+        LISTS,
+        b"capability object-format=sha1\noffered\nrequest ls-refs\n",
+        b"",
+    ),
+    (
+        5,
+        b"",
+        b"ref aaaaaaaaaaaaaaaaaaaaaaaaaaaaaaaaaaaaaaaa HEAD\n",
+        b"",
+    ),
+    (6, FETCHES, b"end 0 0\nrequest fetch\n", b""),
+    (8, b"", b"", b"A"),
+    (9, b"", b"", b"B"),
+    (10, b"", b"", b"C"),
+];
+
+/// How much of what is said, of the transcript and of the pack is due after so many reads.
+fn due_after(reads: u32) -> (usize, usize, usize) {
+    let mut due = (0usize, 0usize, 0usize);
+    for (number, said, out, pack) in DUE {
+        if number <= reads {
+            due.0 = due.0.saturating_add(said.len());
+            due.1 = due.1.saturating_add(out.len());
+            due.2 = due.2.saturating_add(pack.len());
+        }
+    }
+    due
+}
+
+/// That the run ended so, and that just what is due after so many reads was written and flushed.
+fn expect_interrupted(
+    rt: &(impl Abort + AllocGlobal),
+    given: &Given,
+    reads: u32,
+    fault: RunFault,
+) -> Result<(), Fail> {
+    let (said, out, pack) = due_after(reads);
+    assert_eq!(rt; given.got, Err(fault));
+    let all_said = joined(rt, &SAID)?;
+    expect_due(rt, &given.said, all_said.get(..said).unwrap_or(&[]));
+    expect_due(rt, &given.out, TRANSCRIPT.get(..out).unwrap_or(&[]));
+    expect_due(rt, &given.pack, PACK.get(..pack).unwrap_or(&[]));
+    Ok(())
+}
+
+/// A read that fails, and reads that are spent, are told behind all that is due before them.
 #[test]
-fn failing_streams_are_told_with_a_front_of_what_was_given(rt: HostRuntime) -> Result<(), Fail> {
-    let answers = joined(&rt, &ANSWERS)?;
-    let said = joined(&rt, &SAID)?;
-    for (failing, fault) in [
-        (Failing { read: 3, ..SOUND }, RunFault::ReadFault),
-        (Failing { read: 30, ..SOUND }, RunFault::ReadFault),
-        (Failing { say: 0, ..SOUND }, RunFault::WriteFault),
-        (Failing { say: 20, ..SOUND }, RunFault::WriteFault),
-        (Failing { write: 0, ..SOUND }, RunFault::WriteFault),
-        (Failing { write: 9, ..SOUND }, RunFault::WriteFault),
-        (Failing { pack: 1, ..SOUND }, RunFault::WriteFault),
-        (Failing { turns: 0, ..SOUND }, RunFault::ReadLimit),
-        (Failing { turns: 20, ..SOUND }, RunFault::ReadLimit),
-    ] {
-        let given = run(&rt, &answers, Ending::FlushOnly, failing, Err(fault))?;
-        assert!(rt; said.starts_with(given.said.taken.as_slice()));
-        assert!(rt; TRANSCRIPT.starts_with(given.out.taken.as_slice()));
-        assert!(rt; b"ABC".starts_with(given.pack.taken.as_slice()));
+fn each_read_fails_in_turn_while_a_client_converses(rt: HostRuntime) -> Result<(), Fail> {
+    for reads in 0..11u32 {
+        let failing = Stopping { reads, ..SOUND };
+        let given = run(&rt, Pieces::new(&PIECES), Ending::FlushOnly, failing)?;
+        expect_interrupted(&rt, &given, reads, RunFault::ReadFault)?;
+        let spent = Stopping {
+            turns: u64::from(reads),
+            ..SOUND
+        };
+        let given = run(&rt, Pieces::new(&PIECES), Ending::FlushOnly, spent)?;
+        expect_interrupted(&rt, &given, reads, RunFault::ReadLimit)?;
+    }
+    let whole = Stopping {
+        reads: 11,
+        turns: 11,
+        ..SOUND
+    };
+    let given = run(&rt, Pieces::new(&PIECES), Ending::FlushOnly, whole)?;
+    assert_eq!(rt; given.got, Ok(()));
+    Ok(())
+}
+
+/// How much was written to each writer by the runs before.
+#[derive(Default, Drop)]
+struct Longest {
+    said: usize,
+    out: usize,
+    pack: usize,
+}
+
+/// That what was written begins what the whole run writes, and is no shorter than before. Whether the run is whole.
+fn expect_fronts(
+    rt: &(impl Abort + AllocGlobal),
+    given: &Given,
+    longest: &mut Longest,
+) -> Result<bool, Fail> {
+    let said = joined(rt, &SAID)?;
+    expect_front(rt, &given.said, &said, &mut longest.said);
+    expect_front(rt, &given.out, TRANSCRIPT, &mut longest.out);
+    expect_front(rt, &given.pack, PACK, &mut longest.pack);
+    if given.got.is_err() {
+        assert_eq!(rt; given.got, Err(RunFault::WriteFault));
+        return Ok(false);
+    }
+    assert_eq!(rt; longest.said, said.len());
+    assert_eq!(rt; longest.out, TRANSCRIPT.len());
+    assert_eq!(rt; longest.pack, PACK.len());
+    Ok(true)
+}
+
+#[test]
+fn each_write_and_flush_fails_in_turn_while_a_client_converses(
+    rt: HostRuntime,
+) -> Result<(), Fail> {
+    for writer in 0..3 {
+        let mut longest = Longest::default();
+        let mut is_whole = false;
+        for calls in 0..MANY {
+            let mut stopping = SOUND;
+            match writer {
+                0 => stopping.says = calls,
+                1 => stopping.writes = calls,
+                _ => stopping.packs = calls,
+            }
+            let given = run(&rt, Pieces::new(&PIECES), Ending::FlushOnly, stopping)?;
+            is_whole = expect_fronts(&rt, &given, &mut longest)?;
+            if is_whole {
+                break;
+            }
+        }
+        assert!(rt; is_whole);
     }
     Ok(())
 }
 
-/// A fatal error ends the pack of the second request: what was heard before it has been passed on by then.
-#[test]
-fn what_came_before_a_fault_is_flushed(rt: HostRuntime) -> Result<(), Fail> {
-    let [advertisement, references, _] = ANSWERS;
-    let answer = b"000dpackfile\n0007\x01AB0008\x03bad";
-    let answers = joined(&rt, &[advertisement, references, answer])?;
-    let fault = Fault {
-        kind: Kind::RemoteFatal,
-        offset: 145,
-    };
-    let mut said = Vec::new(rt.alloc());
-    let mut out = Held {
-        waiting: Vec::new(rt.alloc()),
-        passed: Vec::new(rt.alloc()),
-    };
-    let mut pack = Held {
-        waiting: Vec::new(rt.alloc()),
-        passed: Vec::new(rt.alloc()),
-    };
+/// An advertisement of 100 bytes, with a capability that no client knows.
+const ADVERTISEMENT: &[u8] =
+    b"000eversion 2\n0011agent=git2/1\n000cls-refs\n0012fetch=shallow\n0017object-format=sha1\n000cx-later\n0000";
+
+/// What the client says for a pack to a server that names itself.
+const FETCHES_FROM_AN_AGENT: &[u8] =
+    b"0012command=fetch\n0011agent=git2/1\n0017object-format=sha1\n00010032want aaaaaaaaaaaaaaaaaaaaaaaaaaaaaaaaaaaaaaaa\n0009done\n0000";
+
+/// Runs a client that asks for a pack over this stream, and sees that all that it wrote was flushed. How the run ended, and the pack.
+fn run_fetch<R: Read + Drop>(
+    rt: &(impl Abort + AllocGlobal),
+    answers: R,
+    turns: u64,
+) -> Result<(Result<(), RunFault>, Vec<u8>), Fail> {
+    let mut said = Sink::new(Vec::new(rt.alloc()), usize::MAX, NEVER);
+    let mut out = Sink::new(Vec::new(rt.alloc()), usize::MAX, NEVER);
+    let mut pack = Sink::new(Vec::new(rt.alloc()), usize::MAX, NEVER);
     let mut client = Client::new(Format::Sha1, Ending::FlushOnly);
+    let script = b"fetch\nwant aaaaaaaaaaaaaaaaaaaaaaaaaaaaaaaaaaaaaaaa\ndone\n";
     let got = converse(
-        &mut Told::new(answers.as_slice()),
+        &mut Told::new(answers),
         &mut Told::new(&mut said),
         &mut [0; 256],
         &mut client,
-        requests(&rt, SCRIPT)?,
+        requests(rt, script)?,
         &mut Told::new(&mut out),
         &mut Told::new(&mut pack),
-        TURNS,
+        turns,
     );
-    assert_eq!(rt; got, Err(RunFault::Refused(fault)));
-    assert_eq!(rt; said.as_slice(), joined(&rt, &SAID[..2])?.as_slice());
-    assert!(rt; out.waiting.is_empty());
-    assert!(rt; out.passed.ends_with(b"end 0 0\nrequest fetch\n"));
-    assert!(rt; pack.waiting.is_empty());
-    assert_eq!(rt; pack.passed.as_slice(), b"AB".as_slice());
+    expect_due(rt, &said, FETCHES_FROM_AN_AGENT);
+    assert!(rt;
+        out.taken
+            .ends_with(b"capability x-later\noffered\nrequest fetch\n")
+    );
+    assert_eq!(rt; out.flushed, out.taken.len());
+    assert_eq!(rt; pack.flushed, pack.taken.len());
+    Ok((got, pack.taken))
+}
+
+/// What was heard before a fatal error has been passed on by the time that it is told.
+#[test]
+fn what_came_before_a_fault_is_flushed(rt: HostRuntime) -> Result<(), Fail> {
+    let response = b"000dpackfile\n0007\x01AB0008\x02hi\n0005\x010008\x03bad";
+    let answers = joined(&rt, &[ADVERTISEMENT, response])?;
+    let (got, pack) = run_fetch(&rt, answers.as_slice(), TURNS)?;
+    let fatal = Fault {
+        kind: Kind::RemoteFatal,
+        offset: 133,
+    };
+    assert_eq!(rt; got, Err(RunFault::Refused(fatal)));
+    assert_eq!(rt; pack.as_slice(), b"AB".as_slice());
+    Ok(())
+}
+
+/// The advertisement and a part of the response come in one piece.
+#[test]
+fn a_piece_is_heard_whole_before_the_read_that_fails(rt: HostRuntime) -> Result<(), Fail> {
+    let answers = joined(&rt, &[ADVERTISEMENT, b"000dpackfile\n0007\x01AB"])?;
+    let (got, pack) = run_fetch(&rt, Stops::new(answers.as_slice(), 1), TURNS)?;
+    assert_eq!(rt; got, Err(RunFault::ReadFault));
+    assert_eq!(rt; pack.as_slice(), b"AB".as_slice());
+    Ok(())
+}
+
+/// The server tells of its progress for ever.
+#[test]
+fn a_response_without_an_end_ends_at_the_limit_of_reads(rt: HostRuntime) -> Result<(), Fail> {
+    let first = joined(&rt, &[ADVERTISEMENT, b"000dpackfile\n0007\x01AB"])?;
+    let mut reader = Told::new(Endless::new(&first, b"0006\x02x"));
+    let (got, pack) = run_fetch(&rt, &mut reader, 1_000)?;
+    assert_eq!(rt; got, Err(RunFault::ReadLimit));
+    assert_eq!(rt; reader.reads(), 1_000);
+    assert_eq!(rt; pack.as_slice(), b"AB".as_slice());
     Ok(())
 }
 

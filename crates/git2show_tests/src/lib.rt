@@ -40,6 +40,8 @@ mod short_texts;
 #[cfg(test)]
 mod showing;
 #[cfg(test)]
+mod stopping;
+#[cfg(test)]
 mod told;
 #[cfg(test)]
 mod transcripts;

@@ -1,20 +1,21 @@
-//! Servers over readers and writers: what is flushed when, what is told of streams that fail, and reads that are spent.
+//! Servers over readers and writers: what is flushed when, what is told of streams that stop, and reads that are spent.
 use crate::servers::{Setup, advertising, new_server, usual};
+use crate::stopping::{ALL, MANY, TURNS, expect_due, expect_front};
 use git_names::Format;
-use git_pkt::{RunFault, Told};
+use git_pkt::{RunFault, Stops, Told};
 use git_server::{Outcome, Repo, serve};
 use std::cell::Cell;
 use std::io;
 use std::io::{Read, Write};
 use std::process::Abort;
 use std::test::Fail;
-use test_streams::{Sink, Stream};
+use test_streams::{Endless, Pieces, Sink};
 
 // A writer that passes bytes on when it is flushed.
 #[derive(Drop)]
-pub(crate) struct Held {
-    pub(crate) waiting: Vec<u8>,
-    pub(crate) passed: Vec<u8>,
+struct Held {
+    waiting: Vec<u8>,
+    passed: Vec<u8>,
 }
 
 impl Write for Held {
@@ -73,7 +74,7 @@ fn all_is_flushed_where_the_reads_are_spent(rt: HostRuntime) -> Result<(), Fail>
     assert_eq!(rt; passed.len(), 173);
     let (run, passed) = run_held(&rt, b"", advertising(Format::Sha1), 0)?;
     assert_eq!(rt; run, Err(RunFault::ReadLimit));
-    assert_eq!(rt; passed.len(), 118);
+    assert_eq!(rt; passed.as_slice(), ANSWERS[0]);
     Ok(())
 }
 
@@ -144,39 +145,95 @@ fn each_answer_is_flushed_before_the_next_read(rt: HostRuntime) -> Result<(), Fa
     Ok(())
 }
 
-// How a run of so many turns ends where the read, the write or the flush of this number fails, counted from 0.
-fn run_failing(
+/// What comes, a piece at a read: two requests, and the flush by which the client leaves.
+const PIECES: [&[u8]; 6] = [
+    b"0014command=ls",
+    b"-refs\n0000",
+    b"0012command=fetch\n0001",
+    b"0032want aaaaaaaaaaaaaaaaaaaaaaaaaaaaaaaaaaaaaaaa\n0009done\n",
+    b"0000",
+    b"0000",
+];
+
+/// What is due before the first read, and after each but the last.
+const ANSWERS: [&[u8]; 6] = [
+    b"000eversion 2\n0011agent=git2/1\n000cls-refs\n001efetch=shallow ref-in-want\n0012server-option\n0017object-format=sha1\n0000",
+    b"",
+    b"0032aaaaaaaaaaaaaaaaaaaaaaaaaaaaaaaaaaaaaaaa HEAD\n\
+003daaaaaaaaaaaaaaaaaaaaaaaaaaaaaaaaaaaaaaaa refs/heads/main\n\
+003abbbbbbbbbbbbbbbbbbbbbbbbbbbbbbbbbbbbbbbb refs/tags/v1\n0000",
+    b"",
+    b"",
+    b"000dpackfile\n000a\x01PACK!0000",
+];
+
+/// How a run of so many turns ends over streams that stop after so many calls, and what it wrote.
+fn serve_stopping(
     rt: &(impl Abort + AllocGlobal),
-    read: u32,
-    write: u32,
-    last_flush: u32,
+    reads: u32,
+    writes: u32,
     turns: u64,
-) -> Result<Result<Outcome, RunFault>, Fail> {
-    let mut server = new_server(rt, rt.alloc(), usual())?;
-    let mut stream = Stream::new(b"0014command=ls-refs\n00000000", 12, read);
-    let mut sink = Sink::new(Vec::new(rt.alloc()), usize::MAX, write);
-    sink.last_flush = last_flush;
-    let mut reader = Told::new(&mut stream);
-    let mut writer = Told::new(&mut sink);
-    let mut piece = [0; 64];
-    Ok(serve(&mut reader, &mut writer, &mut piece, &mut server, turns))
+) -> Result<(Result<Outcome, RunFault>, Sink), Fail> {
+    let mut server = new_server(rt, rt.alloc(), advertising(Format::Sha1))?;
+    let mut sink = Sink::new(Vec::new(rt.alloc()), 60, u32::MAX);
+    let mut reader = Told::new(Stops::new(Pieces::new(&PIECES), reads));
+    let mut writer = Told::new(Stops::new(&mut sink, writes));
+    let run = serve(&mut reader, &mut writer, &mut [0; 64], &mut server, turns);
+    Ok((run, sink))
+}
+
+/// A read that fails, and reads that are spent, are told behind the whole answers before them.
+#[test]
+fn each_read_fails_in_turn_while_a_session_is_served(rt: HostRuntime) -> Result<(), Fail> {
+    let mut due = Vec::new(rt.alloc());
+    let mut reads = 0u32;
+    for answer in ANSWERS {
+        due.extend_from_slice(answer)?;
+        let (run, sink) = serve_stopping(&rt, reads, ALL, TURNS)?;
+        assert_eq!(rt; run, Err(RunFault::ReadFault));
+        expect_due(&rt, &sink, &due);
+        let (run, sink) = serve_stopping(&rt, ALL, ALL, u64::from(reads))?;
+        assert_eq!(rt; run, Err(RunFault::ReadLimit));
+        expect_due(&rt, &sink, &due);
+        reads = reads.saturating_add(1);
+    }
+    let (run, sink) = serve_stopping(&rt, reads, ALL, u64::from(reads))?;
+    assert_eq!(rt; run, Ok(Outcome::Flush));
+    expect_due(&rt, &sink, &due);
+    Ok(())
 }
 
 #[test]
-fn failing_streams_are_told(rt: HostRuntime) -> Result<(), Fail> {
-    let never = u32::MAX;
-    let run = run_failing(&rt, never, never, never, 100)?;
-    assert_eq!(rt; run, Ok(Outcome::Flush));
-    let run = run_failing(&rt, 1, never, never, 100)?;
-    assert_eq!(rt; run, Err(RunFault::ReadFault));
-    let run = run_failing(&rt, never, 2, never, 100)?;
-    assert_eq!(rt; run, Err(RunFault::WriteFault));
-    let run = run_failing(&rt, never, never, 1, 2)?;
-    assert_eq!(rt; run, Err(RunFault::WriteFault));
-    let run = run_failing(&rt, never, never, never, 0)?;
+fn each_write_and_flush_fails_in_turn_while_a_session_is_served(
+    rt: HostRuntime,
+) -> Result<(), Fail> {
+    let whole = ANSWERS.concat(rt.alloc())?;
+    let mut longest = 0;
+    for writes in 0..MANY {
+        let (run, sink) = serve_stopping(&rt, ALL, writes, TURNS)?;
+        expect_front(&rt, &sink, &whole, &mut longest);
+        if run.is_ok() {
+            assert_eq!(rt; longest, whole.len());
+            return Ok(());
+        }
+        assert_eq!(rt; run, Err(RunFault::WriteFault));
+    }
+    assert!(rt; false, "a run with fewer calls");
+    Ok(())
+}
+
+/// The client asks for the references, again and again.
+#[test]
+fn a_session_without_an_end_ends_at_the_limit_of_reads(rt: HostRuntime) -> Result<(), Fail> {
+    let mut server = new_server(&rt, rt.alloc(), usual())?;
+    let mut sink = Sink::new(Vec::new(rt.alloc()), usize::MAX, u32::MAX);
+    let mut reader = Told::new(Endless::new(b"", b"0014command=ls-refs\n0000"));
+    let mut writer = Told::new(&mut sink);
+    let run = serve(&mut reader, &mut writer, &mut [0; 64], &mut server, 100);
     assert_eq!(rt; run, Err(RunFault::ReadLimit));
-    let run = run_failing(&rt, never, never, 0, 0)?;
-    assert_eq!(rt; run, Err(RunFault::WriteFault));
+    assert_eq!(rt; reader.reads(), 100);
+    assert_eq!(rt; sink.taken.len(), 17_300);
+    assert_eq!(rt; sink.flushed, 17_300);
     Ok(())
 }
 

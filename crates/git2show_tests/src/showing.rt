@@ -1,32 +1,53 @@
-//! Streams without an end or that fail while their packets are shown, and how faults are reported.
-use git_pkt::{Fault, Kind, RunFault, Told};
+//! Streams without an end, or that stop, while their packets are shown, and how faults are reported.
+use crate::stopping::{ALL, MANY, TURNS, expect_due, expect_front};
+use git_pkt::{Fault, Kind, RunFault, Stops, Told};
 use git2show_lib::{ProgramFault, report, show};
-use std::io::{self, Read};
+use std::alloc::Global;
 use std::test::Fail;
-use test_streams::{Sink, Stream};
-
-/// More reads than any test makes.
-const TURNS: u64 = 1_073_741_824;
+use test_streams::{Endless, Pieces, Sink, Stream};
 
 /// Nothing fails at this number.
 const NEVER: u32 = u32::MAX;
 
-/// Gives the same four bytes for ever.
-#[derive(Drop)]
-struct Endless;
+/// What comes, a piece at a read.
+const PIECES: [&[u8]; 5] = [b"0000", b"0001000", b"8a\\", b"\nb0002", b"00040003"];
 
-impl Read for Endless {
-    fn read(&mut self, buf: &mut [u8]) -> io::Result<usize> {
-        let count = buf.len().min(4);
-        buf[..count].copy_from_slice(&b"0004"[..count]);
-        Ok(count)
-    }
+/// The lines that are due after each read, and none before the first.
+const LINES: [&[u8]; 6] = [
+    b"",
+    b"0 flush\n",
+    b"4 delim\n",
+    b"",
+    b"8 data 4 a\\\\\\nb\n16 end\n",
+    b"20 data 0\n",
+];
+
+/// Shows the packets over streams that stop after so many calls, by so many reads at the most.
+fn show_stopping(
+    alloc: Global,
+    reads: u32,
+    writes: u32,
+    turns: u64,
+) -> (Result<(), RunFault>, Sink) {
+    let mut sink = Sink::new(Vec::new(alloc), 5, NEVER);
+    let mut reader = Told::new(Stops::new(Pieces::new(&PIECES), reads));
+    let mut writer = Told::new(Stops::new(&mut sink, writes));
+    let got = show(&mut reader, &mut writer, &mut [0; 64], turns);
+    (got, sink)
+}
+
+/// How the run ends that nothing cuts short: three is no length.
+fn bad_length() -> Result<(), RunFault> {
+    Err(RunFault::Refused(Fault {
+        kind: Kind::BadLength,
+        offset: 24,
+    }))
 }
 
 #[test]
 fn an_endless_stream_ends_at_the_limit_of_reads(rt: HostRuntime) -> Result<(), Fail> {
     let mut sink = Sink::new(Vec::new(rt.alloc()), usize::MAX, NEVER);
-    let mut reader = Told::new(Endless);
+    let mut reader = Told::new(Endless::new(b"", b"0004"));
     let mut piece = [0; 4];
     let got = show(&mut reader, &mut Told::new(&mut sink), &mut piece, 3);
     assert_eq!(rt; got, Err(RunFault::ReadLimit));
@@ -38,30 +59,42 @@ fn an_endless_stream_ends_at_the_limit_of_reads(rt: HostRuntime) -> Result<(), F
     Ok(())
 }
 
+/// A read that fails, and reads that are spent, are told behind the lines before them.
 #[test]
-fn a_failing_read_is_told_behind_the_lines_before_it(rt: HostRuntime) -> Result<(), Fail> {
-    let mut sink = Sink::new(Vec::new(rt.alloc()), usize::MAX, NEVER);
-    let mut reader = Told::new(Stream::new(b"00000001", 4, 1));
-    let mut piece = [0; 64];
-    let got = show(&mut reader, &mut Told::new(&mut sink), &mut piece, TURNS);
-    assert_eq!(rt; got, Err(RunFault::ReadFault));
-    assert_eq!(rt; sink.taken.as_slice(), b"0 flush\n".as_slice());
+fn each_read_fails_in_turn_while_packets_are_shown(rt: HostRuntime) -> Result<(), Fail> {
+    let mut due = Vec::new(rt.alloc());
+    let mut reads = 0u32;
+    for lines in &LINES[..5] {
+        due.extend_from_slice(lines)?;
+        let (got, sink) = show_stopping(rt.alloc(), reads, ALL, TURNS);
+        assert_eq!(rt; got, Err(RunFault::ReadFault));
+        expect_due(&rt, &sink, &due);
+        let (got, sink) = show_stopping(rt.alloc(), ALL, ALL, u64::from(reads));
+        assert_eq!(rt; got, Err(RunFault::ReadLimit));
+        expect_due(&rt, &sink, &due);
+        reads = reads.saturating_add(1);
+    }
+    due.extend_from_slice(LINES[5])?;
+    let (got, sink) = show_stopping(rt.alloc(), reads, ALL, u64::from(reads));
+    assert_eq!(rt; got, bad_length());
+    expect_due(&rt, &sink, &due);
     Ok(())
 }
 
 #[test]
-fn a_failing_write_or_flush_is_told(rt: HostRuntime) -> Result<(), Fail> {
-    let mut sink = Sink::new(Vec::new(rt.alloc()), usize::MAX, 1);
-    let mut reader = Told::new(Stream::new(b"00000001", 4, NEVER));
-    let mut piece = [0; 64];
-    let got = show(&mut reader, &mut Told::new(&mut sink), &mut piece, TURNS);
-    assert_eq!(rt; got, Err(RunFault::WriteFault));
-    assert_eq!(rt; sink.taken.as_slice(), b"0 flush\n".as_slice());
-    let mut sink = Sink::new(Vec::new(rt.alloc()), usize::MAX, NEVER);
-    sink.last_flush = 0;
-    let mut reader = Told::new(Stream::new(b"0000", 4, NEVER));
-    let got = show(&mut reader, &mut Told::new(&mut sink), &mut piece, TURNS);
-    assert_eq!(rt; got, Err(RunFault::WriteFault));
+fn each_write_and_flush_fails_in_turn_while_packets_are_shown(rt: HostRuntime) -> Result<(), Fail> {
+    let whole = LINES.concat(rt.alloc())?;
+    let mut longest = 0;
+    for writes in 0..MANY {
+        let (got, sink) = show_stopping(rt.alloc(), ALL, writes, TURNS);
+        expect_front(&rt, &sink, &whole, &mut longest);
+        if got == bad_length() {
+            assert_eq!(rt; longest, whole.len());
+            return Ok(());
+        }
+        assert_eq!(rt; got, Err(RunFault::WriteFault));
+    }
+    assert!(rt; false, "a run with fewer calls");
     Ok(())
 }
 

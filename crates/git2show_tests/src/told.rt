@@ -1,5 +1,5 @@
 //! What a `Told` tells of calls that go well, fail, and go well again.
-use git_pkt::Told;
+use git_pkt::{Stops, Told};
 use std::io::{ErrorKind, Read, Write};
 use std::test::Fail;
 use test_streams::{Sink, Stream};
@@ -87,8 +87,8 @@ fn a_full_writer_is_a_failure(rt: HostRuntime) -> Result<(), Fail> {
 #[test]
 fn flushes_are_passed_on(rt: HostRuntime) -> Result<(), Fail> {
     let mut sink = Sink::new(Vec::new(rt.alloc()), 1, 99);
-    sink.last_flush = 1;
-    let mut writer = Told::new(&mut sink);
+    let mut writer = Told::new(Stops::new(&mut sink, 2));
+    writer.flush()?;
     writer.flush()?;
     assert!(rt; !writer.failed());
     assert!(rt; writer.flush().is_err());

@@ -19,5 +19,6 @@ pub mod Escape
 pub mod FaultNames
 pub mod NameFaults
 pub mod Told
+pub mod Stops
 pub mod Engine
 pub mod Streams

@@ -11,6 +11,7 @@ pub mod laws;
 mod output;
 mod packet;
 mod reader;
+mod stops;
 mod told;
 
 pub use band::{BAND_HEAD, Band, close_band, open_band, put_band, split_band};
@@ -21,4 +22,5 @@ pub use hold::{Hold, LONGEST_PACKET, append};
 pub use output::{Discard, Output};
 pub use packet::{Packet, begin, front_packet, put, text};
 pub use reader::{BandFed, BandGot, Fed, Got, PacketReader};
+pub use stops::Stops;
 pub use told::Told;

@@ -21,7 +21,7 @@ pub struct RepositoryReader {
 }
 
 impl RepositoryReader {
-    ghost use Rattle.git_repository.specs.RepositoryReader.{HasRefused, LacksRoom, Reads};
+    ghost use Rattle.git_repository.specs.RepositoryReader.{HasRefused, LacksRoom, Reads, Stays};
 
     /// A reader that was fed nothing.
     pub fn new(alloc: Global) -> RepositoryReader
@@ -40,7 +40,7 @@ impl RepositoryReader {
     /// that was refused a piece is passed over.
     pub fn feed(&mut self, piece: &[u8]) -> Result<(), AllocError>
         ensures fed { OnOk result ((text : List ℕ) → Reads self.old text → Reads self.new (text ++ piece.now)) }
-        ensures stays { OnErr result ((text : List ℕ) → Reads self.old text → Reads self.new text) }
+        ensures stays { OnErr result (Stays self.old self.new) }
         ensures full { OnErr result (LacksRoom self.old (length piece.now)) }
         ensures passed { HasRefused self.old → IsOk result × (self.new ≡ self.old) }
     {

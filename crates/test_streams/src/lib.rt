@@ -1,4 +1,4 @@
-//! Readers and writers in memory that go slowly, fail and count, for tests.
+//! Readers and writers in memory that go slowly, fail once, count and never end, for tests.
 #![tactic(auto)]
 
 use std::io;
@@ -40,7 +40,7 @@ impl<'a> Read for Stream<'a> {
 }
 
 /// Takes at most `step` bytes at a write, and fails once with `error`, at the write numbered
-/// `failing` from 0. Flushes fail from the one numbered `last_flush` on. Of what was taken, `flushed` bytes were flushed.
+/// `failing` from 0. Of what was taken, `flushed` bytes were flushed.
 #[derive(Drop)]
 pub struct Sink {
     pub taken: Vec<u8>,
@@ -48,13 +48,12 @@ pub struct Sink {
     pub failing: u32,
     pub error: ErrorKind,
     pub writes: u32,
-    pub last_flush: u32,
     pub flushes: u32,
     pub flushed: usize,
 }
 
 impl Sink {
-    /// A writer after these bytes, which fails as a broken pipe does, and whose flushes do not fail.
+    /// A writer after these bytes, which fails as a broken pipe does.
     pub fn new(taken: Vec<u8>, step: usize, failing: u32) -> Sink {
         Sink {
             taken,
@@ -62,7 +61,6 @@ impl Sink {
             failing,
             error: ErrorKind::BrokenPipe,
             writes: 0,
-            last_flush: u32::MAX,
             flushes: 0,
             flushed: 0,
         }
@@ -82,11 +80,7 @@ impl Write for Sink {
     }
 
     fn flush(&mut self) -> io::Result<()> {
-        let number = self.flushes;
-        self.flushes = number.saturating_add(1);
-        if number >= self.last_flush {
-            return Err(io::Error::from(ErrorKind::BrokenPipe));
-        }
+        self.flushes = self.flushes.saturating_add(1);
         self.flushed = self.taken.len();
         Ok(())
     }
@@ -129,5 +123,31 @@ impl<'a> Read for Pieces<'a> {
             self.given = 0;
         }
         Ok(0)
+    }
+}
+
+/// Gives its first bytes once, and then those of a round again and again, for ever.
+#[derive(Drop)]
+pub struct Endless<'a> {
+    rest: &'a [u8],
+    round: &'a [u8],
+}
+
+impl<'a> Endless<'a> {
+    /// A reader that gives these bytes first, and then the round for ever.
+    pub fn new(first: &'a [u8], round: &'a [u8]) -> Endless<'a> {
+        Endless { rest: first, round }
+    }
+}
+
+impl<'a> Read for Endless<'a> {
+    fn read(&mut self, buf: &mut [u8]) -> io::Result<usize> {
+        if self.rest.is_empty() {
+            self.rest = self.round;
+        }
+        let count = self.rest.len().min(buf.len());
+        buf[..count].copy_from_slice(&self.rest[..count]);
+        self.rest = &self.rest[count..];
+        Ok(count)
     }
 }

@@ -1,0 +1,83 @@
+//! A client on standard input and output.
+
+use crate::{PIECE, TURNS, ending_of, file_fault, format_of, read_requests};
+use clap::ArgMatches;
+use git_client::{Client, converse};
+use git_msg::Request;
+use git_pkt::{Told, escape_into};
+use git2show_lib::ProgramFault;
+use std::alloc::Global;
+use std::fs::File;
+use std::io::{self, BufWriter, Write};
+
+/// How many bytes of a message are shown at a time.
+const PART: usize = 256;
+
+/// Room for what is shown of them.
+const SHOWN: usize = 4 * PART;
+
+/// Asks on standard output what the script that is named says, and hears on standard input. What comes of packs goes to the file that is
+/// named, and the transcript to one too, or to standard error.
+pub(crate) fn run_fetch(rt: &HostRuntime, matches: &ArgMatches<'_>) -> Result<(), ProgramFault> {
+    let requests = read_requests(rt, matches, format_of(matches))?;
+    let pack = create(rt, matches.get_str("pack").unwrap_or(""))?;
+    match matches.get_str("transcript") {
+        Some(path) => {
+            let transcript = create(rt, path)?;
+            fetch(rt, matches, requests, pack, transcript)
+        }
+        None => fetch(rt, matches, requests, pack, rt.stderr()),
+    }
+}
+
+/// Asks the requests in their order, and writes what comes of packs and the transcript. What the server tells where it refuses one goes to
+/// standard error.
+fn fetch<O: Write + Drop>(
+    rt: &HostRuntime,
+    matches: &ArgMatches<'_>,
+    requests: Vec<Request<Global>>,
+    pack: File,
+    transcript: O,
+) -> Result<(), ProgramFault> {
+    let mut client = Client::new(format_of(matches), ending_of(matches));
+    let transcript = BufWriter::with_capacity(rt.alloc(), PIECE, transcript).map_err(
+        |_| ProgramFault::OutOfMemory,
+    )?;
+    let done = converse(
+        &mut Told::new(rt.stdin()),
+        &mut Told::new(rt.stdout()),
+        &mut [0; PIECE],
+        &mut client,
+        requests,
+        &mut Told::new(transcript),
+        &mut Told::new(pack),
+        TURNS,
+    );
+    if let Some(message) = client.message() {
+        let _ = tell_message(rt, message);
+    }
+    Ok(done?)
+}
+
+/// Makes the file of this name, or empties the one that is there.
+fn create(rt: &HostRuntime, path: &str) -> Result<File, ProgramFault> {
+    File::create(rt, path).map_err(file_fault)
+}
+
+/// Writes what a server told on one line of standard error, without the line feed at its end, and each byte as `show` shows it.
+fn tell_message(rt: &HostRuntime, message: &[u8]) -> io::Result<()> {
+    let mut error = rt.stderr();
+    let text = match message {
+        [front @ .., b'\n'] => front,
+        _ => message,
+    };
+    error.write_all(b"remote error: ")?;
+    for part in text.chunks(PART) {
+        let mut shown = [0; SHOWN];
+        let end = escape_into(part, &mut shown, 0);
+        if let Some(line) = shown.get(..end) {
+            error.write_all(line)?;
+        }
+    }
+    error.write_all(b"\n")
+}

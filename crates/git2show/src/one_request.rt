@@ -1,0 +1,53 @@
+//! One request alone, as where each has a server of its own.
+
+ghost use Rattle.std.specs.Prelude.{◌≡◌, ◌<◌, ◌≤◌, true, false, length, IsTrue, IfErr, OnErr, OnOk};
+ghost use Rattle.git_pkt.specs.Told.{inner_of, reads_of, has_failed, has_ended, has_wasted, IsNew};
+ghost use Rattle.git_pkt.specs.Engine.{FailsAs, IsShownBy, IsSpent};
+ghost use Rattle.git_pkt.specs.Streams.{flow};
+ghost use Rattle.git_server.specs.Server.{wants_input};
+ghost use Rattle.git2show.specs.OneRequest.{TakesOne};
+
+use git_names::Steps;
+use git_pkt::{RunFault, Told, receive};
+use git_server::{Repo, Server};
+use std::alloc::Allocator;
+use std::io::Read;
+
+/// Feeds a server that waits for a request what a reader gives, until it has an answer or a refusal to give, or the session has
+/// ended. What was read after that is dropped, and nothing more is read. The piece is where the bytes that are read go; it may not
+/// be empty.
+///
+/// `ReadFault` where a read fails, and `ReadLimit` where a further read than the `turns` that are allowed would be needed. The
+/// server waits for input then.
+pub(crate) fn take_request<In: Read, R: Repo, A: Allocator + Copy>(
+    reader: &mut Told<In>,
+    piece: &mut [u8],
+    server: &mut Server<R, A>,
+    turns: u64,
+) -> Result<(), RunFault>
+    requires room { 0 < length piece.old }
+    requires new_reader { IsNew reader.old }
+    requires waits { wants_input server.old ≡ true }
+
+    ensures reads { reads_of reader.new ≤ turns }
+    ensures useful { has_wasted reader.new ≡ false }
+    ensures takes { TakesOne R.state server.old server.new (has_ended reader.new)
+        (flow (In.remaining (inner_of reader.old)) (In.remaining (inner_of reader.new))) }
+    ensures due { OnOk result (wants_input server.new ≡ false) }
+    ensures goes_on { OnErr result (wants_input server.new ≡ true) }
+    ensures fault { IfErr result (IsShownBy (IsTrue (has_failed reader.new)) ⊥ (IsSpent reader.new turns)) }
+    ensures told { FailsAs result (has_failed reader.new) false }
+{
+    for _ in 0..turns {
+        let count = receive(reader, piece)?;
+        if count == 0 {
+            server.close();
+            return Ok(());
+        }
+        server.feed(&piece[..count], &mut Steps::new());
+        if !server.wants_input() {
+            return Ok(());
+        }
+    }
+    Err(RunFault::ReadLimit)
+}

@@ -1,0 +1,25 @@
+//! What runs have written whose streams stop after so many calls.
+use std::process::Abort;
+use test_streams::Sink;
+
+/// No stream stops after so many calls.
+pub const ALL: u32 = u32::MAX;
+
+/// More calls than any of these runs makes on one stream.
+pub const MANY: u32 = 1_000;
+
+/// More reads than any of these runs makes.
+pub const TURNS: u64 = 1_073_741_824;
+
+/// That just this was written, and that all of it was flushed.
+pub fn expect_due(rt: &impl Abort, sink: &Sink, due: &[u8]) {
+    assert_eq!(rt; sink.taken.as_slice(), due);
+    assert_eq!(rt; sink.flushed, due.len());
+}
+
+/// That what was written begins what the whole run writes, and is no shorter than what was written before one call more was made.
+pub fn expect_front(rt: &impl Abort, sink: &Sink, whole: &[u8], longest: &mut usize) {
+    assert!(rt; whole.starts_with(sink.taken.as_slice()));
+    assert!(rt; *longest <= sink.taken.len());
+    *longest = sink.taken.len();
+}
