@@ -725,8 +725,8 @@ case_a_daemon_in_c_answers_many_small_requests() {
     end_daemon
 }
 
-# While one client's 80,000 prefixes, all that a request of it may keep, are looked up among 100,000 references, another's listing comes
-# within a second, each time.
+# While one client's 80,000 prefixes, all that a request of it may keep, are looked up among 100,000 references, another's listing comes,
+# each time: in less than a second on a quiet machine, where to compare each with each would take minutes. The limit lies between both.
 case_a_daemon_in_c_lists_beside_many_prefixes() {
     local hearing begin took lists=0
     awk 'BEGIN {
@@ -760,7 +760,7 @@ case_a_daemon_in_c_lists_beside_many_prefixes() {
         ls_remote "$address" refs/heads/099999
         took=$((${EPOCHREALTIME/./} - begin))
         expect 0 <(printf '%040x\trefs/heads/099999\n' 99999) /dev/null
-        [ $took -lt 1000000 ] || differs "a list after $took microseconds"
+        [ $took -lt 20000000 ] || differs "a list after $took microseconds"
         lists=$((lists + 1))
     done
     wait $hearing || differs 'a connection that did not end'
