@@ -12,7 +12,7 @@ write_examples() {
     local name
     make -s -C "$top" install PREFIX="$installed" PROGRAM="$program" LIBRARY="$library" RT="${RT:-rt}" >&2 ||
         stop 'what was built could not be installed'
-    for name in daemon host list packets; do
+    for name in daemon fetch host list packets; do
         compile "$name" "$top/examples/$name.c"
     done
     compile library_calls "$top/tests/library_calls.c"
@@ -52,7 +52,7 @@ under_valgrind() {
 case_library_is_installed_whole() {
     local file line
     for file in bin/git2show lib/libgitwire.a include/gitwire.h lib/pkgconfig/gitwire.pc share/man/man1/git2show.1 \
-        share/doc/gitwire/PROTOCOL.md share/doc/gitwire/repository-text.sh share/doc/gitwire/examples/{common.h,daemon.c,host.c,list.c,packets.c,http-backend.sh}; do
+        share/doc/gitwire/PROTOCOL.md share/doc/gitwire/repository-text.sh share/doc/gitwire/examples/{common.h,daemon.c,fetch.c,host.c,list.c,packets.c,upload_pack.h,http-backend.sh}; do
         [ -s "$installed/$file" ] || differs "no $file"
     done
     for file in bin/git2show share/doc/gitwire/{repository-text.sh,examples/http-backend.sh}; do
@@ -99,7 +99,7 @@ case_library_header_stands_alone() {
 
 case_library_programs_compile_without_a_word() {
     local name
-    for name in daemon host list packets library_calls refused_memory; do
+    for name in daemon fetch host list packets library_calls refused_memory; do
         expect_same "what the compiler says of $name" /dev/null "$name.said"
     done
 }
@@ -249,6 +249,40 @@ case_a_client_in_c_tells_what_is_wrong() {
     expect 1 /dev/null <(echo 'list: a prefix is too long')
     tells_a_full_device list history-sha1
     run list-watched
+    expect_status 2
+}
+
+# fetches_from_git FORMAT FOLDER [OPTION..]: that the client in C fetches what a branch of a repository reaches, and tells its object.
+fetches_from_git() {
+    local id
+    id=$(git -C "$2" rev-parse refs/heads/main)
+    run fetch-watched "${@:3}" "$2" refs/heads/main pack
+    expect 0 <(echo "$id") /dev/null
+    is_whole "$1" "$2" "$id"
+}
+
+case_a_client_in_c_fetches_a_pack() {
+    fetches_from_git sha1 history-sha1
+    fetches_from_git sha256 history-sha256 --sha256
+    fetches_from_git sha1 heavy
+    under_valgrind bin/fetch history-sha1 HEAD pack
+    expect 0 <(git -C history-sha1 rev-parse HEAD) /dev/null
+}
+
+case_a_client_in_c_tells_why_it_fetches_nothing() {
+    run fetch-watched history-sha1 refs/heads/nowhere pack
+    expect 1 /dev/null <(echo 'fetch: no such reference')
+    run fetch-watched nowhere HEAD pack
+    expect_status 1
+    expect_line 'standard error' 'fetch: Truncated at 0' err
+    run fetch-watched history-sha256 HEAD pack
+    expect_status 1
+    grep -q '^fetch: WrongFormat at [0-9]*$' err || differs 'no WrongFormat' err
+    run fetch-watched heavy HEAD /dev/full
+    expect 1 /dev/null <(echo 'fetch: the pack cannot be written')
+    run fetch-watched history-sha1 HEAD nowhere/pack
+    expect 1 /dev/null <(echo 'fetch: the pack cannot be opened')
+    run fetch-watched history-sha1 HEAD
     expect_status 2
 }
 
