@@ -74,6 +74,12 @@ static bool is_made(uint8_t answer, const char *what)
 	return answer == GITWIRE_DONE;
 }
 
+/* What is said and answered by calls that take no memory: none was asked for since it had been asked for so often. */
+static void expect_none_asked(long before, const char *what)
+{
+	expect(asked == before, what);
+}
+
 #define TEXT(text) (const uint8_t *)(text), strlen(text)
 #define ONE "1111111111111111111111111111111111111111"
 #define FETCH "0012command=fetch\n" "0001" "0032want " ONE "\n" "0032have " ONE "\n" "0016deepen-not refs/a\n" "0000"
@@ -85,8 +91,10 @@ static void run_packet_reader(void)
 {
 	gitwire_packet_reader reader = GITWIRE_NONE;
 	bool made = is_made(gitwire_packet_reader_new(&reader), "a packet reader");
+	long before = asked;
 	gitwire_told told = gitwire_packet_reader_feed(&reader, TEXT("0009hello"), room, sizeof room);
 
+	expect_none_asked(before, "memory for a packet");
 	expect(told.kind == (made ? GITWIRE_PAYLOAD : GITWIRE_NO_HANDLE), "a packet");
 	made = is_made(gitwire_packet_reader_new(&reader), "a further packet reader");
 	expect(reader.is_made_ == made, "what a handle has");
@@ -97,8 +105,10 @@ static void run_writer(void)
 {
 	gitwire_writer writer = GITWIRE_NONE;
 	bool made = is_made(gitwire_writer_new(&writer), "a writer");
+	long before = asked;
 	gitwire_told told = gitwire_put_line(&writer, TEXT("NAK"), room, sizeof room);
 
+	expect_none_asked(before, "memory for a line");
 	expect(told.kind == (made ? GITWIRE_DONE : GITWIRE_NO_HANDLE), "a line");
 	made = is_made(gitwire_writer_new(&writer), "a further writer");
 	expect(writer.is_made_ == made, "what a writer's handle has");
@@ -149,6 +159,16 @@ static bool add(gitwire_request *request, const char *line)
 	return told.kind == GITWIRE_DONE;
 }
 
+/* A flag or a number, which takes no memory. */
+static void add_without_memory(gitwire_request *request, const char *line)
+{
+	long before = asked;
+	gitwire_told told = gitwire_request_add(request, TEXT(line));
+
+	expect(told.kind == GITWIRE_DONE, "a flag or a number");
+	expect_none_asked(before, "memory for a flag or a number");
+}
+
 /* An argument that was refused is not there, and those before it are. */
 static void run_request(void)
 {
@@ -156,6 +176,8 @@ static void run_request(void)
 	bool first, second;
 
 	if (is_made(gitwire_request_new(&request, GITWIRE_FETCH, GITWIRE_SHA1, 1000), "a request")) {
+		add_without_memory(&request, "done");
+		add_without_memory(&request, "deepen 1");
 		first = add(&request, "want " ONE);
 		expect(gitwire_request_item(&request, GITWIRE_LIST_WANTS, 0, room, sizeof room).kind
 			== (first ? GITWIRE_DONE : GITWIRE_NOTHING), "a want");
@@ -201,7 +223,10 @@ static void run_server(void)
 
 	if (make_repository(&repository) && is_made(gitwire_server_new(&server, &repository, 1000, true), "a server")) {
 		while (told.kind == GITWIRE_PACKET || told.kind == GITWIRE_NEED_INPUT) {
+			long before = asked;
+
 			told = gitwire_server_pull(&server, room, sizeof room);
+			expect_none_asked(before, "memory for an answer");
 			if (told.kind == GITWIRE_NEED_INPUT && used < strlen(said))
 				used += gitwire_server_feed(&server, (const uint8_t *)said + used, strlen(said) - used).used;
 			else if (told.kind == GITWIRE_NEED_INPUT)
@@ -222,20 +247,25 @@ static void run_client(void)
 	gitwire_event event;
 	gitwire_told told;
 	bool made;
+	long before;
 
 	if (is_made(gitwire_client_new(&client, GITWIRE_SHA1, GITWIRE_ENDS_BY_FLUSH), "a client")) {
+		before = asked;
 		event = gitwire_client_feed(&client, TEXT("000eversion 2\n"), room, sizeof room);
 		event = gitwire_client_feed(&client, TEXT("000cls-refs\n"), room, sizeof room);
 		event = gitwire_client_feed(&client, TEXT("0000"), room, sizeof room);
 		expect(event.kind == GITWIRE_OFFERED, "an advertisement");
+		expect_none_asked(before, "memory for an advertisement");
 		if (is_made(gitwire_request_new(&request, GITWIRE_LS_REFS, GITWIRE_SHA1, 1000), "a request to ask")) {
 			add(&request, "ref-prefix refs/heads/");
+			before = asked;
 			told = gitwire_client_ask(&client, &request);
 			expect(told.kind == GITWIRE_DONE || refused > 0, "a question");
 			do
 				told = gitwire_client_pull(&client, room, sizeof room);
 			while (told.kind == GITWIRE_PACKET);
 			expect(told.kind == GITWIRE_NEED_INPUT || refused > 0, "what is said of it");
+			expect_none_asked(before, "memory for a question");
 		}
 		made = is_made(gitwire_client_new(&client, GITWIRE_SHA1, GITWIRE_ENDS_BY_FLUSH), "a further client");
 		expect(client.is_made_ == made, "what its handle has");
