@@ -92,6 +92,11 @@ case_play_tells_a_missing_file() {
     expect 1 /dev/null <(fault File)
     run git2show play --repo nowhere --pack played.pack --script /dev/null
     expect 1 /dev/null <(fault File)
+    printf 'no line of a repository\n' > bad.repo
+    run git2show play --repo bad.repo --pack played.pack --script nowhere
+    expect 1 /dev/null <(fault File)
+    run git2show play --repo bad.repo --pack played.pack --script /dev/null
+    expect 1 /dev/null <(fault 'BadRepo at 1')
 }
 
 case_play_refuses_wrong_words() {

@@ -319,11 +319,15 @@ fn run_serve(rt: &HostRuntime, matches: &ArgMatches<'_>) -> Result<(), ProgramFa
     }
 }
 
-/// Plays the script that is named over the repository whose files are named, and writes the transcript to standard output.
+/// Plays the script that is named over the repository whose files are named, and writes the transcript to standard output. All
+/// three files are read before one of them is judged.
 fn run_play(rt: &HostRuntime, matches: &ArgMatches<'_>) -> Result<(), ProgramFault> {
     let alloc = rt.alloc();
-    let repo = read_repository(rt, matches)?;
-    let requests = read_requests(rt, matches, repo.format())?;
+    let text = read_text(rt, open(rt, matches, "repo")?)?;
+    let pack = read_whole(rt, matches, "pack")?;
+    let script = read_whole(rt, matches, "script")?;
+    let repo = judge_repository(text, pack)?;
+    let requests = judge_script(alloc, &script, repo.format())?;
     // clap refuses 0 and more than the longest, which is said once more for the prover.
     let cut = match matches.get_one::<u32>("cut") {
         Some(cut) => cut.clamp(1, LONGEST_CUT),
@@ -348,10 +352,19 @@ fn read_requests(
     format: Format,
 ) -> Result<Vec<Request<Global>>, ProgramFault> {
     let script = read_whole(rt, matches, "script")?;
+    judge_script(rt.alloc(), &script, format)
+}
+
+/// The requests of a script.
+fn judge_script(
+    alloc: Global,
+    script: &[u8],
+    format: Format,
+) -> Result<Vec<Request<Global>>, ProgramFault> {
     let limits = Limits {
         args: Limits::USUAL,
     };
-    match read_script(rt.alloc(), &script, format, limits) {
+    match read_script(alloc, script, format, limits) {
         Ok(requests) => Ok(requests),
         Err(TextFault::Bad { line }) => Err(ProgramFault::Script(line)),
         Err(TextFault::OutOfMemory) => Err(ProgramFault::OutOfMemory),
@@ -360,9 +373,13 @@ fn read_requests(
 
 /// Reads the files of a repository: its text by pieces, and its pack whole.
 fn read_repository(rt: &HostRuntime, matches: &ArgMatches<'_>) -> Result<ListRepo, ProgramFault> {
-    let reader = read_text(rt, open(rt, matches, "repo")?)?;
-    let pack = read_whole(rt, matches, "pack")?;
-    match reader.finish(pack) {
+    let text = read_text(rt, open(rt, matches, "repo")?)?;
+    judge_repository(text, read_whole(rt, matches, "pack")?)
+}
+
+/// The repository of a text that was read, and of its pack.
+fn judge_repository(text: RepositoryReader, pack: Vec<u8>) -> Result<ListRepo, ProgramFault> {
+    match text.finish(pack) {
         Ok(repo) => Ok(repo),
         Err(TextFault::Bad { line }) => Err(ProgramFault::Repo(line)),
         Err(TextFault::OutOfMemory) => Err(ProgramFault::OutOfMemory),
