@@ -1,0 +1,45 @@
+# A thousand sessions with clients that lie (soak.py): what leaves early, garbage, silence, a byte a second, half closed, reset, deaf.
+
+# write_lie: what such a client sends: `lie`, a greeting, and `asks`, a fetch that the heavy pack answers.
+write_lie() {
+    printf "$(greeting here version=2)" > lie
+    fetch "$(git -C heavy rev-parse main)" > asks
+}
+
+# descriptors_are COUNT: that the daemon comes to have so many, within half a minute.
+descriptors_are() {
+    local i
+    for ((i = 0; i < 300; i++)); do
+        [ "$(ls "/proc/$daemon/fd" | wc -l)" != "$1" ] || return 0
+        sleep 0.1
+    done
+    differs "$(ls "/proc/$daemon/fd" | wc -l) descriptors in place of $1"
+}
+
+# A first round has used each place of the daemon: what came later would be what is never given back.
+case_a_daemon_in_c_is_the_same_after_a_thousand_lies() {
+    local descriptors memory
+    patience=3
+    write_lie
+    start_daemon heavy daemon
+    descriptors=$(ls "/proc/$daemon/fd" | wc -l)
+    timeout 300 "$top/tests/soak.py" daemon "$port" 512 lie asks deaf garbage
+    descriptors_are "$descriptors"
+    memory=$(memory_of VmRSS)
+    timeout 300 "$top/tests/soak.py" daemon "$port" 1000 lie asks
+    descriptors_are "$descriptors"
+    memory=$(($(memory_of VmRSS) - memory))
+    [ $memory -lt 1024 ] || differs "$memory KiB more after a thousand sessions"
+    ls_remote "$address" refs/heads/main
+    expect 0 <(git ls-remote ./heavy refs/heads/main) /dev/null
+    end_daemon
+}
+
+# No session takes more memory than one that asks and reads.
+case_serve_takes_a_fixed_memory_of_a_thousand_lies() {
+    local honest most
+    write_lie
+    honest=$("$top/tests/soak.py" serve 1 asks git2show serve --repo heavy.repo --pack heavy.pack)
+    most=$(timeout 300 "$top/tests/soak.py" serve 1000 asks git2show serve --repo heavy.repo --pack heavy.pack)
+    [ "$most" -lt $((honest + 1024)) ] || differs "$most KiB in place of $honest"
+}
