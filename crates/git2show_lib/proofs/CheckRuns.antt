@@ -31,15 +31,16 @@ use Rattle.git_client.specs.Client.{History, Converses, nothing_yet, ask_checks,
 use Rattle.git_client.specs.Client.{wants_input}
 use Rattle.git_client.specs.Conversation.{IsConversation, HasNoted}
 use Rattle.git_client.specs.Parts.{Terms}
-use Rattle.git_client.specs.RunSteps.{IsTold, AsksNext, AsksTo, HearsBytes, HearsTo, HearsWhole, no_counts, window_of}
+use Rattle.git_client.specs.RunSteps.{AsksNext, AsksTo, HearsFrom, HearsTo, HearsWhole, no_counts, window_of}
 use Rattle.git_client.specs.Runs.{IsInterrupted}
-use Rattle.git_client.specs.Transcript.{transcript_of}
+use Rattle.git_client.specs.Events.{pack_bytes}
+use Rattle.git_client.specs.Transcript.{transcript_from, transcript_of}
 use Rattle.git_client.specs.Turns.{takes_packets}
 use Rattle.git_client.specs.declared.client.Client.{Client}
 use Rattle.git_client.specs.declared.hearing.Window.{Window}
 use Rattle.git_client.specs.declared.phase.Phase.{Phase}
 use Rattle.git_client.specs.declared.phase.Phase.TheVariants.{Hearing}
-use Rattle.git_client.proofs.Alongs.{written_then}
+use Rattle.git_client.proofs.Alongs.{written_then, along_anew, along_asked, along_heard, counts_on}
 use Rattle.git_client.proofs.Carries.{is_quiet, not_left, owes_nothing}
 use Rattle.git_client.proofs.AskedInTurn.{asked_in_turn, commands_advertised, heard_in_turn}
 use Rattle.git_client.proofs.ClientRuns.{Running, Ran, ran, begins}
@@ -139,21 +140,23 @@ module _ {A : Type 0} (t : Terms) where
   heard_on : (broken : Bool) (front : List (Request A)) (old new : Client A) (waiting unused : List ℕ)
       {before held after out_before out_held out_after : Option (List ℕ)}
       → (r : Running false t front old no_counts waiting (flow before held) silent (flow out_before out_held) silent)
-      → (step : HearsBytes broken old new waiting unused (flow held after) (flow out_held out_after) silent)
+      → wants_input old ≡ true → (step : HearsFrom broken old new waiting unused (flow held after) (flow out_held out_after) silent)
       → (on : Running broken t front new step.counts unused (flow before after) silent (flow out_before out_after) silent)
       × (on.h.used ≡ r.h.used ++ step.used)
-  heard_on broken front old new waiting unused {before} {held} {after} {out_before} {out_held} {out_after} r step =
-      let (events, along, risen) = step.goes t r.h r.lines r.packed r.along in (
+  heard_on broken front old new waiting unused {before} {held} {after} {out_before} {out_held} {out_after} r waits step =
+      let heard = step.bytes in
+      let lines = transcript_from [] 0 0 heard.events in (
         record {
-          h = record r.h { used = r.h.used ++ step.used; events = r.h.events ++ events };
-          lines = r.lines ++ step.lines;
-          packed = r.packed ++ step.packed;
-          along = along;
-          in_turn = heard_in_turn t r.h.asked r.h.used step.used r.h.events events front r.in_turn;
+          h = record r.h { used = r.h.used ++ step.used; events = r.h.events ++ heard.events };
+          lines = r.lines ++ lines;
+          packed = r.packed ++ pack_bytes heard.events;
+          along = along_heard r.along waits heard;
+          stays = r.stays;
+          in_turn = heard_in_turn t r.h.asked r.h.used step.used r.h.events heard.events front r.in_turn;
           read = bytes_on before held after r.h.used waiting step.came step.used unused r.read step.read step.parts;
           said = in_silence broken r.h.given;
-          told = written_then broken out_before out_held out_after r.lines step.lines r.told step.told;
-          sent = in_silence broken (r.packed ++ step.packed);
+          told = written_then broken out_before out_held out_after r.lines lines r.told (heard.told (counts_on r.along heard.hears));
+          sent = in_silence broken (r.packed ++ pack_bytes heard.events);
         },
         refl,
       )
@@ -162,22 +165,17 @@ module _ {A : Type 0} (t : Terms) where
   heard_whole : (front : List (Request A)) (old new : Client A) (waiting : List ℕ) (window : Window) (piece : List ℕ)
       {before held after out_before out_held out_after : Option (List ℕ)}
       → (r : Running false t front old no_counts waiting (flow before held) silent (flow out_before out_held) silent)
-      → (step : HearsWhole window old new waiting piece (flow held after) (flow out_held out_after) silent)
+      → wants_input old ≡ true → (step : HearsWhole window old new waiting piece (flow held after) (flow out_held out_after) silent)
       → (on : Running false t front new no_counts (window_of window piece) (flow before after) silent (flow out_before out_after) silent)
       × (on.h.used ≡ r.h.used ++ step.hears.used)
-  heard_whole front old new waiting window piece r step =
-      let (on, grown) = heard_on false front old new waiting (window_of window piece) r step.hears in (
+  heard_whole front old new waiting window piece r waits step =
+      let (on, grown) = heard_on false front old new waiting (window_of window piece) r waits step.hears in (
         record {
           h = on.h;
           lines = on.lines;
           packed = on.packed;
-          along = record {
-            stands = on.along.stands;
-            told = subst (λ (now : Bool). IsTold now on.h on.lines no_counts) (sym step.can_ask_on)
-                (subst (λ (now : Bool). IsTold now on.h on.lines step.hears.counts) step.can_ask_on on.along.told);
-            pack_is = on.along.pack_is;
-            within = omega arith;
-          };
+          along = along_anew on.along step.can_ask_on;
+          stays = on.stays;
           in_turn = on.in_turn;
           read = on.read;
           said = on.said;
@@ -199,7 +197,8 @@ module _ {A : Type 0} (t : Terms) where
       h = record r.h { asked = r.h.asked ++ asked_of request ∷ []; given = r.h.given ++ step.given };
       lines = _;
       packed = r.packed;
-      along = step.goes t r.h r.lines r.packed no_counts r.along;
+      along = along_asked r.along ready step;
+      stays = r.stays;
       in_turn = asked_in_turn t r.h old front request r.along.stands ready step.passes r.in_turn;
       read = r.read;
       said = in_silence broken (r.h.given ++ step.given);
@@ -299,11 +298,11 @@ module _ {A : Type 0} (t : Terms) where
     pub advertised : (old new : Client A) (stream : RequestStream A) (window : Window) (piece : List ℕ) {requests : Option (List ℕ)}
         {before held after out_before out_held out_after : Option (List ℕ)}
         → Awaiting false [] old [] (flow requests requests) (flow before held) (flow out_before out_held)
-        → HearsWhole window old new [] piece (flow held after) (flow out_held out_after) silent
+        → wants_input old ≡ true → HearsWhole window old new [] piece (flow held after) (flow out_held out_after) silent
         → HasRead [] [] stream → offer_of stream ≡ noted_offer (caps_of new) t.format → limit_of stream ≡ limit
         → Checking new stream [] (window_of window piece) (flow requests requests) (flow before after) (flow out_before out_after)
-    advertised old new stream window piece {requests} a heard reads offers kept =
-        let (on, grown) = heard_whole [] old new [] window piece a.runs heard in
+    advertised old new stream window piece {requests} a due heard reads offers kept =
+        let (on, grown) = heard_whole [] old new [] window piece a.runs due heard in
         let stands = on.along.stands in
         record {
           front = [];
@@ -353,11 +352,11 @@ module _ {A : Type 0} (t : Terms) where
         → Checking old stream held waiting (flow before left) (flow heard_before heard) (flow out_before out_held)
         → ReadsRequest ended stream next request held later (flow left after)
         → AsksNext false old middle request silent (flow out_held out_asked)
-        → HearsWhole window middle new waiting piece (flow heard heard_after) (flow out_asked out_after) silent
+        → wants_input middle ≡ true → HearsWhole window middle new waiting piece (flow heard heard_after) (flow out_asked out_after) silent
         → Checking new next later (window_of window piece) (flow before after) (flow heard_before heard_after) (flow out_before out_after)
-    response_heard old middle new stream next request ended held later waiting window piece {before} {left} {after} c step asks heard =
+    response_heard old middle new stream next request ended held later waiting window piece {before} {left} {after} c step asks due heard =
         let (asked, same) = asked_on false c.front old middle request waiting c.runs c.ready asks in
-        let (on, grown) = heard_whole (c.front ++ request ∷ []) middle new waiting window piece asked heard in
+        let (on, grown) = heard_whole (c.front ++ request ∷ []) middle new waiting window piece asked due heard in
         record {
           front = c.front ++ request ∷ [];
           runs = on;
@@ -417,15 +416,15 @@ module _ (A : Type 0) (t : Terms) (limit : ℕ) {Q R : Type 0} (of_requests : To
 
   module _ (front : List (Request A)) (old new : Client A) (waiting : List ℕ) {requests : Flow}
       {before held out_before out_held : Option (List ℕ)} (after out_after : Option (List ℕ))
-      (a : Awaiting t limit false front old waiting requests (flow before held) (flow out_before out_held)) where
+      (a : Awaiting t limit false front old waiting requests (flow before held) (flow out_before out_held)) (due : wants_input old ≡ true) where
     -- all that came of it was heard, and then this was told
     heard_up_to : (result : Result (Unit {0}) CheckFault) (unused : List ℕ)
-        (step : HearsBytes (is_broken (run_result result)) old new waiting unused (flow held after) (flow out_held out_after) silent)
+        (step : HearsFrom (is_broken (run_result result)) old new waiting unused (flow held after) (flow out_held out_after) silent)
         → ((h : History) → Converses t h new → AreAllAsked h a.found
         → EndsAs A t a.offer limit result (standing_of of_requests) (standing_of of_responses) unused h a.found)
         → CheckEnds result requests (flow before after) (flow out_before out_after)
     heard_up_to result unused step ended =
-        let (on, grown) = heard_on t (is_broken (run_result result)) front old new waiting unused a.runs step in
+        let (on, grown) = heard_on t (is_broken (run_result result)) front old new waiting unused a.runs due step in
         let all_asked : AreAllAsked on.h a.found =
         record { asked = a.asked ∙ sym on.in_turn.are; nothing_left = a.nothing_left; no_rest = a.no_rest } in
         ends result a.found a.offer on.h front new unused _ _ _ a.read (ran on)

@@ -72,6 +72,7 @@ module _ {R A : Type 0} (state : R → RepoState) where
           says = record {
             given = so_far.given;
             written = tt;
+            last = λ e. absurd (cc);
             says = so_far.says;
             all = λ whole. all;
             same_leaving = so_far.same_leaving;

@@ -123,7 +123,7 @@ module _ {R A : Type 0} (state : R → RepoState) (t : Terms) (limit : ℕ) (s0 
   }
   asks_on true h front old new request server after {pack} {o0} {o1} {o2} ending ready r at step =
       let q = asked_of request in
-      let on = (step.asks.goes t h r.lines r.packed no_counts r.along).stands in
+      let on = step.asks.goes t h r.along.stands in
       let question = question_is t h old new request step.asks.given r.along.stands ready on step.waits in
       let noted = has_noted t h old r.along.stands in
       let whole = is_whole t h old r.along.stands ready in

@@ -6,11 +6,12 @@ use Rattle.git_pkt.specs.Streams.{Flow, flow}
 use Rattle.git_pkt.specs.declared.fault.RunFault.{RunFault}
 use Rattle.git_pkt.specs.declared.fault.RunFault.TheVariants.{ReadFault, WriteFault, ReadLimit, Refused as RefusedRun}
 use Rattle.git_pkt.proofs.EngineLemmas.{timely}
-use Rattle.git_client.specs.Client.{can_ask, wants_input}
-use Rattle.git_client.specs.RunSteps.{HearsInPiece, HearsPiece, HearsPieceTo}
+use Rattle.git_client.specs.Client.{can_ask, phase_of, wants_input}
+use Rattle.git_client.specs.RunSteps.{HearsBytes, HearsInPiece, HearsPieceTo}
 use Rattle.git_client.specs.declared.client.Client.{Client}
 use Rattle.git_client.specs.declared.hearing.Counts.{Counts}
-use Rattle.git_client.proofs.Alongs.{along_nothing, along_then, written_nothing, written_then}
+use Rattle.git_client.proofs.HeardBytes.{heard_then, nothing_heard}
+use Rattle.git_client.proofs.Phases.{not_ready_where_due}
 use Rattle.git_server.specs.Repository.{RepoState}
 use Rattle.git_server.specs.Server.{Running, outcome_of, wants_input as waits_for_input}
 use Rattle.git_server.specs.ServerCalls.{EndsAs as EndsServer, IsAfterPull, Pulls, TellsPulled, given_by}
@@ -63,14 +64,10 @@ module _ {R A : Type 0} (state : R → RepoState) where
   hearing_begins client counts server told sent waits = record {
     unheard = [];
     hears = record {
-      lines = [];
-      packed = [];
       given = [];
       used = [];
       parts = refl;
-      told = written_nothing told;
-      sent = written_nothing sent;
-      client_goes = along_nothing client counts;
+      heard = nothing_heard client counts told sent (not_ready_where_due (phase_of client) waits);
       server_goes = gives_still server;
     };
     due = λ _. refl;
@@ -90,20 +87,15 @@ module _ {R A : Type 0} (state : R → RepoState) where
         ∙ append-nil so_far.hears.used
 
     -- some of a packet was heard, as far as that went
-    hears_packet : (broken : Bool) (u : ℕ) → HearsPiece broken b c now after bytes.now u (flow told told_after) (flow sent sent_after)
+    hears_packet : (broken : Bool) (u : ℕ) → HearsBytes broken b c now after (take u bytes.now) (flow told told_after) (flow sent sent_after)
         → Hears state broken old c counts after server new [] (drop u bytes.now) (flow told_before told_after) (flow sent_before sent_after)
     hears_packet broken u step = record {
-      lines = so_far.hears.lines ++ step.lines;
-      packed = so_far.hears.packed ++ step.packed;
       given = so_far.hears.given ++ bytes.now;
       used = so_far.hears.used ++ take u bytes.now;
       parts = append-nil (so_far.hears.given ++ bytes.now) ∙ ap (λ (l : List ℕ). l ++ bytes.now) all_heard
           ∙ ap (λ (l : List ℕ). so_far.hears.used ++ l) (sym (take-append-drop u bytes.now))
           ∙ sym (append_assoc so_far.hears.used (take u bytes.now) (drop u bytes.now));
-      told = written_then broken told_before told told_after so_far.hears.lines step.lines so_far.hears.told step.told;
-      sent = written_then broken sent_before sent sent_after so_far.hears.packed step.packed so_far.hears.sent step.sent;
-      client_goes = along_then old b c counts now after so_far.hears.used (take u bytes.now) so_far.hears.lines step.lines so_far.hears.packed step.packed
-          so_far.hears.client_goes step.goes;
+      heard = heard_then (not_ready_where_due (phase_of b) waits) so_far.hears.heard step;
       server_goes = gives_then server middle new so_far.hears.given bytes.now so_far.hears.server_goes
           (gives_packet middle new pulled bytes pulls is);
     }

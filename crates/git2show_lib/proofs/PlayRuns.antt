@@ -20,18 +20,19 @@ use Rattle.git_client.specs.Client.{phase_of, questions_of, request_of, said_of,
 use Rattle.git_client.specs.Conversation.{IsConversation}
 use Rattle.git_client.specs.Events.{EventValue, pack_bytes}
 use Rattle.git_client.specs.Parts.{Terms}
-use Rattle.git_client.specs.RunSteps.{Along, AsksNext, IsTold, no_counts}
+use Rattle.git_client.specs.RunSteps.{AsksNext, no_counts}
 use Rattle.git_client.specs.Runs.{HasSaid}
-use Rattle.git_client.specs.Transcript.{asked_line, transcript_of}
+use Rattle.git_client.specs.Transcript.{asked_line, transcript_from, transcript_of}
 use Rattle.git_client.specs.Turns.{fault_in, is_ready, takes_packets}
 use Rattle.git_client.specs.declared.client.Client.{Client}
 use Rattle.git_client.specs.declared.hearing.Counts.{Counts}
 use Rattle.git_client.specs.declared.phase.Phase.{Phase}
 use Rattle.git_client.specs.declared.phase.Phase.TheVariants.{Hearing, Ready, Failed}
 use Rattle.git_client.proofs.Alongs.{written_nothing, written_then, written_whole}
+use Rattle.git_client.proofs.Alongs.{Along, along_anew, along_asked, along_begun, along_heard, counts_on}
 use Rattle.git_client.proofs.Carries.{is_quiet, not_left, owes_nothing}
 use Rattle.git_client.proofs.AskedInTurn.{AskedInTurn, asked_in_turn, has_asked, heard_in_turn, none_in_turn}
-use Rattle.git_client.proofs.ClientRuns.{Ran, ran}
+use Rattle.git_client.proofs.ClientRuns.{Ran, ran_by}
 use Rattle.git_client.proofs.EventsHeard.{all_is_said, has_events, has_noted}
 use Rattle.git_client.proofs.Faults.{first_fault}
 use Rattle.git_client.proofs.Phases.{not_ready_where_due}
@@ -108,12 +109,7 @@ module _ {A : Type 0} (t : Terms) where
   begun client out pack due stands = record {
     lines = [];
     packed = [];
-    along = record {
-      stands = stands;
-      told = subst (λ (ready : Bool). IsTold ready nothing_yet [] no_counts) (sym (not_ready_where_due (phase_of client) due)) (λ later more. refl);
-      pack_is = refl;
-      within = omega arith;
-    };
+    along = along_begun t client due stands;
     in_turn = none_in_turn t;
     told = written_nothing out;
     sent = written_nothing pack;
@@ -124,12 +120,7 @@ module _ {A : Type 0} (t : Terms) where
   anew h front client counts ready r = record {
     lines = r.lines;
     packed = r.packed;
-    along = record {
-      stands = r.along.stands;
-      told = subst (λ (now : Bool). IsTold now h r.lines no_counts) (sym ready) (subst (λ (now : Bool). IsTold now h r.lines counts) ready r.along.told);
-      pack_is = r.along.pack_is;
-      within = omega arith;
-    };
+    along = along_anew r.along ready;
     in_turn = r.in_turn;
     told = r.told;
     sent = r.sent;
@@ -143,7 +134,7 @@ module _ {A : Type 0} (t : Terms) where
   asks_runs broken h front old new request {pack} {o0} {o1} {o2} r ready step = record {
     lines = r.lines ++ asked_line (command_asked (asked_of request));
     packed = r.packed;
-    along = step.goes t h r.lines r.packed no_counts r.along;
+    along = along_asked r.along ready step;
     in_turn = asked_in_turn t h old front request r.along.stands ready step.passes r.in_turn;
     told = written_then broken o0 o1 o2 r.lines (asked_line (command_asked (asked_of request))) r.told step.told;
     sent = written_whole broken pack r.packed r.sent;
@@ -162,17 +153,7 @@ module _ {A : Type 0} (t : Terms) where
 
   pub ran_of : {broken : Bool} {h : History} {front : List (Request A)} {client : Client A} {counts : Counts} {out pack : Flow}
       → Runs broken h front client counts out pack → Ran broken t h front client [] silent silent out pack
-  ran_of {broken} {h} r = ran (record {
-    h = h;
-    lines = r.lines;
-    packed = r.packed;
-    along = r.along;
-    in_turn = r.in_turn;
-    read = tt;
-    said = written_whole broken silent h.given tt;
-    told = r.told;
-    sent = r.sent;
-  })
+  ran_of {broken} {h} r = ran_by r.lines r.packed r.along r.in_turn tt (written_whole broken silent h.given tt) r.told r.sent
 
   module _ (Fails : Type 0) (limit : ℕ) (s0 : RepoState) (requests : List (Request A)) where
     -- how a play with this answer moved its streams
@@ -216,19 +197,20 @@ questions_are t h all stays =
 module _ {R A : Type 0} (state : R → RepoState) (t : Terms) (limit : ℕ) (s0 : RepoState) where
   pub heard_runs : (broken : Bool) (h : History) (front : List (Request A)) (old new : Client A) (counts : Counts) (server after : Server R A)
       (end unheard : List ℕ) {o0 o1 o2 p0 p1 p2 : Option (List ℕ)} → Runs t false h front old no_counts (flow o0 o1) (flow p0 p1)
-      → (hears : Hears state broken old new no_counts counts server after end unheard (flow o1 o2) (flow p1 p2))
+      → wants_input old ≡ true → (hears : Hears state broken old new no_counts counts server after end unheard (flow o1 o2) (flow p1 p2))
       → (events : List EventValue)
       × Runs t broken (record h { used = h.used ++ hears.used; events = h.events ++ events }) front new counts (flow o0 o2) (flow p0 p2)
-  heard_runs broken h front old new counts server after end unheard {o0} {o1} {o2} {p0} {p1} {p2} r hears =
-      let (events, along, risen) = hears.client_goes t h r.lines r.packed r.along in (
-        events,
+  heard_runs broken h front old new counts server after end unheard {o0} {o1} {o2} {p0} {p1} {p2} r waits hears =
+      let heard = hears.heard in
+      let lines = transcript_from [] 0 0 heard.events in (
+        heard.events,
         record {
-          lines = r.lines ++ hears.lines;
-          packed = r.packed ++ hears.packed;
-          along = along;
-          in_turn = heard_in_turn t h.asked h.used hears.used h.events events front r.in_turn;
-          told = written_then broken o0 o1 o2 r.lines hears.lines r.told hears.told;
-          sent = written_then broken p0 p1 p2 r.packed hears.packed r.sent hears.sent;
+          lines = r.lines ++ lines;
+          packed = r.packed ++ pack_bytes heard.events;
+          along = along_heard r.along waits heard;
+          in_turn = heard_in_turn t h.asked h.used hears.used h.events heard.events front r.in_turn;
+          told = written_then broken o0 o1 o2 r.lines lines r.told (heard.told (counts_on r.along heard.hears));
+          sent = written_then broken p0 p1 p2 r.packed (pack_bytes heard.events) r.sent heard.sent;
         },
       )
 

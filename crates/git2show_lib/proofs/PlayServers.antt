@@ -13,12 +13,12 @@ use Rattle.git_pkt.specs.declared.fault.RunFault.{RunFault}
 use Rattle.git_pkt.specs.declared.fault.RunFault.TheVariants.{ReadFault, WriteFault, ReadLimit, Refused as RefusedRun}
 use Rattle.git_pkt.proofs.EngineLemmas.{timely, written_flushed}
 use Rattle.git_client.specs.Client.{HearsOn, can_ask, fault_of, phase_of, spelled, wants_input}
-use Rattle.git_client.specs.RunSteps.{GoesAlong, HearsInPiece, HearsPiece, HearsPieceTo, no_counts}
+use Rattle.git_client.specs.RunSteps.{HearsBytes, HearsInPiece, HearsPieceTo, no_counts}
 use Rattle.git_client.specs.declared.client.Client.{Client}
 use Rattle.git_client.specs.declared.hearing.Counts.{Counts}
-use Rattle.git_client.proofs.Alongs.{along_then, written_then}
-use Rattle.git_client.proofs.HearingSteps.{goes_quietly}
-use Rattle.git_client.proofs.Phases.{not_ready_where_failed}
+use Rattle.git_client.proofs.Alongs.{written_nothing}
+use Rattle.git_client.proofs.HeardBytes.{heard_flushed, heard_quietly, heard_then}
+use Rattle.git_client.proofs.Phases.{not_ready_where_due, not_ready_where_failed}
 use Rattle.git_server.specs.Repository.{RepoState}
 use Rattle.git_server.specs.declared.server.Server.{Server}
 use Rattle.git2show_lib.specs.PlaySteps.{Hears, HearsMessage, HearsMessageTo, HearsOut, HearsServerTo, IsSpent, end_of}
@@ -50,14 +50,10 @@ module _ {R A : Type 0} (state : R → RepoState) where
       → Hears state broken old new no_counts counts server after [] unheard out packs
       → Hears state broken old new no_counts counts server after end (unheard ++ end) out packs
   hears_with {unheard = unheard} end h = record {
-    lines = h.lines;
-    packed = h.packed;
     given = h.given;
     used = h.used;
     parts = ap (λ (l : List ℕ). l ++ end) (sym (append-nil h.given) ∙ h.parts) ∙ append_assoc h.used unheard end;
-    told = h.told;
-    sent = h.sent;
-    client_goes = h.client_goes;
+    heard = h.heard;
     server_goes = h.server_goes;
   }
 
@@ -89,24 +85,19 @@ module _ {R A : Type 0} (state : R → RepoState) where
 
     -- of the packet after the message some was heard, as far as that went
     end_heard : (broken : Bool) (new : Client A) (now : Counts) (told_after sent_after : Option (List ℕ)) (n : ℕ)
-        → HearsPiece broken middle new counts now end_bytes n (flow told told_after) (flow sent sent_after)
+        → HearsBytes broken middle new counts now (take n end_bytes) (flow told told_after) (flow sent sent_after)
         → Hears state broken old new no_counts now server after (end_of alone) (drop n end_bytes) (flow told_before told_after) (flow sent_before sent_after)
     end_heard broken new now told_after sent_after n step =
         let all : heard.hears.given ≡ heard.hears.used =
         sym (append-nil heard.hears.given) ∙ heard.hears.parts ∙ ap (λ (l : List ℕ). heard.hears.used ++ l) (heard.due waits).0
         ∙ append-nil heard.hears.used in
         record {
-          lines = heard.hears.lines ++ step.lines;
-          packed = heard.hears.packed ++ step.packed;
           given = heard.hears.given;
           used = heard.hears.used ++ take n end_bytes;
           parts =
               ap (λ (l : List ℕ). l ++ end_of alone) all ∙ ap (λ (l : List ℕ). heard.hears.used ++ l) (end_comes ∙ sym (take-append-drop n end_bytes))
               ∙ sym (append_assoc heard.hears.used (take n end_bytes) (drop n end_bytes));
-          told = written_then broken told_before told told_after heard.hears.lines step.lines heard.hears.told step.told;
-          sent = written_then broken sent_before sent sent_after heard.hears.packed step.packed heard.hears.sent step.sent;
-          client_goes = along_then old middle new no_counts counts now heard.hears.used (take n end_bytes) heard.hears.lines step.lines heard.hears.packed
-              step.packed heard.hears.client_goes step.goes;
+          heard = heard_then (not_ready_where_due (phase_of middle) waits) heard.hears.heard step;
           server_goes = heard.hears.server_goes;
         }
 
@@ -182,14 +173,11 @@ module _ {R A : Type 0} (state : R → RepoState) where
         → Hears state broken old new no_counts heard.counts server after (end_of alone) heard.unheard (flow told_before told_after)
         (flow sent_before sent_after)
     hears_flushed broken = record {
-      lines = heard.hears.lines;
-      packed = heard.hears.packed;
       given = heard.hears.given;
       used = heard.hears.used;
       parts = heard.hears.parts;
-      told = written_flushed broken told_before told told_after heard.hears.lines heard.hears.told kept;
-      sent = written_flushed broken sent_before sent sent_after heard.hears.packed heard.hears.sent kept_pack;
-      client_goes = heard.hears.client_goes;
+      heard = heard_flushed heard.hears.heard (written_flushed false told told told_after [] (written_nothing told) kept)
+          (written_flushed false sent sent sent_after [] (written_nothing sent) kept_pack);
       server_goes = heard.hears.server_goes;
     }
 
@@ -209,26 +197,19 @@ module _ {R A : Type 0} (state : R → RepoState) where
     message_closed closed fault waits hears failed kind =
         let flushed = hears_flushed false in
         let (all, spent) = heard.due waits in
-        let goes : GoesAlong old closed no_counts heard.counts (flushed.used ++ []) (flushed.lines ++ []) (flushed.packed ++ []) =
-        along_then old new closed no_counts heard.counts heard.counts flushed.used [] flushed.lines [] flushed.packed [] flushed.client_goes
-        (goes_quietly new closed [] hears waits (not_ready_where_failed (phase_of closed) fault failed) heard.counts) in (
+        let nothing = heard_quietly heard.counts hears (not_ready_where_failed (phase_of closed) fault failed) (written_nothing told_after)
+        (written_nothing sent_after) in
+        let closing : HearsBytes false old closed no_counts heard.counts (flushed.used ++ []) (flow told_before told_after) (flow sent_before sent_after) =
+        heard_then (not_ready_where_due (phase_of new) waits) flushed.heard nothing in (
           true,
           heard.counts,
           [],
           record {
             hears = record {
-              lines = flushed.lines;
-              packed = flushed.packed;
               given = flushed.given;
-              used = flushed.used;
-              parts = flushed.parts ∙ ap (λ (l : List ℕ). flushed.used ++ l) all;
-              told = flushed.told;
-              sent = flushed.sent;
-              client_goes =
-                  subst (λ (l : List ℕ). GoesAlong old closed no_counts heard.counts l flushed.lines flushed.packed) (append-nil flushed.used)
-                  (subst (λ (l : List ℕ). GoesAlong old closed no_counts heard.counts (flushed.used ++ []) l flushed.packed) (append-nil flushed.lines)
-                  (subst (λ (l : List ℕ). GoesAlong old closed no_counts heard.counts (flushed.used ++ []) (flushed.lines ++ []) l)
-                  (append-nil flushed.packed) goes));
+              used = flushed.used ++ [];
+              parts = flushed.parts ∙ ap (λ (l : List ℕ). flushed.used ++ l) all ∙ sym (append-nil (flushed.used ++ []));
+              heard = closing;
               server_goes = flushed.server_goes;
             };
             told = failed;

@@ -125,7 +125,7 @@ module _ {R A : Type 0} (state : R → RepoState) (t : Terms) (limit : ℕ) (s0 
     one_stopped ReadFault h front rest old new server after split due one r step = absurd step
     one_stopped ReadLimit h front rest old new server after split due one r step = absurd step
     one_stopped WriteFault h front rest old new server after split due one r (counts, unheard, hears) =
-        let (events, on) = heard_runs state t limit s0 true h front old new counts server after [] unheard r hears in
+        let (events, on) = heard_runs state t limit s0 true h front old new counts server after [] unheard r due hears in
         let quietly = quiet_due (phase_of old) due in
         let stands = r.along.stands in
         play_ends t (CanFail state s0.failures) limit s0 requests (Err WriteFault) _ front rest new counts split on
@@ -133,7 +133,7 @@ module _ {R A : Type 0} (state : R → RepoState) (t : Terms) (limit : ℕ) (s0 
         (served_one state t limit s0 h server after hears.given hears.used unheard one (has_said t h old stands quietly)
         (has_stayed t h old stands quietly) hears.server_goes hears.parts (h.events ++ events)))
     one_stopped (Refused fault) h front rest old new server after split due one r (ended, counts, unheard, step) =
-        let (events, on) = heard_runs state t limit s0 false h front old new counts server after [] unheard r step.hears in
+        let (events, on) = heard_runs state t limit s0 false h front old new counts server after [] unheard r due step.hears in
         let quietly = quiet_due (phase_of old) due in
         let stands = r.along.stands in
         play_ends t (CanFail state s0.failures) limit s0 requests (Err (Refused fault)) _ front rest new counts split on
@@ -148,12 +148,12 @@ module _ {R A : Type 0} (state : R → RepoState) (t : Terms) (limit : ℕ) (s0 
     many_stopped ReadFault h front rest old new server after split due ending a r step = absurd step
     many_stopped ReadLimit h front rest old new server after split due ending a r step = absurd step
     many_stopped WriteFault h front rest old new server after split due ending a r (counts, unheard, hears) =
-        let (events, on) = heard_runs state t limit s0 true h front old new counts server after _ unheard r hears in
+        let (events, on) = heard_runs state t limit s0 true h front old new counts server after _ unheard r due hears in
         play_ends t (CanFail state s0.failures) limit s0 requests (Err WriteFault) _ front rest new counts split on
         (broken_off (CanFail state s0.failures) t limit s0 h hears.used (h.events ++ events) (has_said t h old r.along.stands (quiet_due (phase_of old) due))
         (served_many state t limit s0 h server after hears.given hears.used unheard a ending hears.server_goes hears.parts (h.events ++ events)))
     many_stopped (Refused fault) h front rest old new server after split due ending a r (ended, counts, unheard, step) =
-        let (events, on) = heard_runs state t limit s0 false h front old new counts server after _ unheard r step.hears in
+        let (events, on) = heard_runs state t limit s0 false h front old new counts server after _ unheard r due step.hears in
         play_ends t (CanFail state s0.failures) limit s0 requests (Err (Refused fault)) _ front rest new counts split on
         (refused_many state t limit s0 h server after step.hears.given step.hears.used unheard a ending step.hears.server_goes step.hears.parts rest events new
         fault ended on.along.stands step.told step.timely step.done)
@@ -190,7 +190,7 @@ module _ {R A : Type 0} (state : R → RepoState) (t : Terms) (limit : ℕ) (s0 
       → (step : HearsMessage state false old new server after (flow o1 o2) (flow p1 p2))
       → HeardOne h front new after (flow o0 o2) (flow p0 p2) step.hears.used
   one_heard h front old new server after due one r step =
-      let (events, on) = heard_runs state t limit s0 false h front old new step.counts server after [] step.unheard r step.hears in
+      let (events, on) = heard_runs state t limit s0 false h front old new step.counts server after [] step.unheard r due step.hears in
       let all = has_said t h old r.along.stands (quiet_due (phase_of old) due) in
       let stays = has_stayed t h old r.along.stands (quiet_due (phase_of old) due) in
       let whole = is_whole t (record h { used = h.used ++ step.hears.used; events = h.events ++ events }) new on.along.stands step.asks in
@@ -261,7 +261,7 @@ module _ {R A : Type 0} (state : R → RepoState) (t : Terms) (limit : ℕ) (s0 
       let heard = one_heard h front old new server after due at r step in
       record { h = _; runs = heard.runs; ready = step.asks; rests = heard.meets }
   response_whole true h front old new server after ending due at r step =
-      let (events, on) = heard_runs state t limit s0 false h front old new step.counts server after _ step.unheard r step.hears in
+      let (events, on) = heard_runs state t limit s0 false h front old new step.counts server after _ step.unheard r due step.hears in
       let now : History = record h { used = h.used ++ step.hears.used; events = h.events ++ events } in
       let whole = is_whole t now new on.along.stands step.asks in
       record {

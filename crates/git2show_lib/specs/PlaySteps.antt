@@ -1,14 +1,14 @@
 -- What the steps of a play do to the client, to the server that it hears, and to what was said between them.
 use Rattle.std.specs.Prelude.{◌≡◌, ◌≢◌, ◌⊎◌, ℕ, Bool, true, false, List, [], ◌∷◌, ◌++◌, Some, None, Result, Ok, Err}
 use Rattle.git_pkt.specs.Packets.{resp_end}
-use Rattle.git_pkt.specs.Streams.{Flow, flow, WrittenAs, IsTimely}
+use Rattle.git_pkt.specs.Streams.{Flow, flow, IsTimely}
 use Rattle.git_pkt.specs.declared.fault.Fault.{Fault}
 use Rattle.git_pkt.specs.declared.fault.Kind.TheVariants.{StreamTooLong}
 use Rattle.git_pkt.specs.declared.fault.RunFault.{RunFault}
 use Rattle.git_pkt.specs.declared.fault.RunFault.TheVariants.{WriteFault, Refused as RefusedRun}
 use Rattle.git_msg.specs.declared.requests.Request.{Request}
 use Rattle.git_client.specs.Client.{can_ask, fault_of, spelled, wants_input}
-use Rattle.git_client.specs.RunSteps.{GoesAlong, AsksNext, AsksNot, Says, no_counts}
+use Rattle.git_client.specs.RunSteps.{HearsBytes, AsksNext, AsksNot, Says, no_counts}
 use Rattle.git_client.specs.declared.client.Client.{Client}
 use Rattle.git_client.specs.declared.hearing.Counts.{Counts}
 use Rattle.git_server.specs.Repository.{RepoState}
@@ -61,17 +61,13 @@ module _ {R A : Type 0} (state : R → RepoState) where
   abbrev pub IsSpent : Server R A → Type 0
   IsSpent server = (waits_for_input server ≡ true) ⊎ ((outcome : Outcome) × (outcome_of server ≡ Some outcome) × EndsServer state server outcome)
 
-  -- a server gave these bytes, of which the client used a front, and what that says was written
+  -- a server gave these bytes, of which the client heard a front
   pub record Hears (broken : Bool) (old new : Client A) (counts counts_after : Counts) (server after : Server R A) (end unheard : List ℕ)
       (out packs : Flow) : Type 0 where
-    pub lines : List ℕ
-    pub packed : List ℕ
     pub given : List ℕ
     pub used : List ℕ
     pub parts : given ++ end ≡ used ++ unheard
-    pub told : WrittenAs broken out lines
-    pub sent : WrittenAs broken packs packed
-    pub client_goes : GoesAlong old new counts counts_after used lines packed
+    pub heard : HearsBytes broken old new counts counts_after used out packs
     pub server_goes : GivesOn server given after
 
   -- the client heard the server, up to where it can ask, or the server gives nothing more

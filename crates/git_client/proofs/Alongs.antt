@@ -1,20 +1,27 @@
 -- The steps of a run, one after another: what was written, and how the history goes on.
-use Rattle.std.proofs.Common.{arith, ◌≡◌, ℕ, Bool, true, false, List, [], ◌++◌, Option, Some, None}
-use Rattle.std.proofs.Common.{Result, Err, IsErrAnd, sym, ap, ◌∙◌, subst, append_assoc, append-nil}
+use Rattle.std.proofs.Common.{arith, ◌≡◌, ℕ, ◌+◌, ◌≤◌, Bool, true, false, List, [], ◌∷◌, ◌++◌, length, drop, Option, Some, None}
+use Rattle.std.proofs.Common.{Result, Err, IsErrAnd, refl, sym, ap, ◌∙◌, subst, append_assoc, append-nil, length-append}
 use Rattle.std.proofs.lemmas.Result.{err_from_is_err_and}
 use Rattle.std.proofs.KnownBytes.{Appends-nil, Appends-trans}
 use Rattle.git_pkt.specs.declared.fault.Fault.{Fault}
 use Rattle.git_pkt.specs.declared.fault.RunFault.{RunFault}
 use Rattle.git_pkt.proofs.EngineLemmas.{AppendsFront-after}
-use Rattle.git_client.specs.Events.{EventValue}
+use Rattle.git_msg.specs.Asked.{Asked, command_asked}
+use Rattle.git_msg.specs.HeldRequest.{asked_of}
+use Rattle.git_msg.specs.declared.requests.Request.{Request}
+use Rattle.git_client.specs.Events.{EventValue, pack_bytes}
 use Rattle.git_client.specs.Parts.{Terms}
 use Rattle.git_pkt.specs.Streams.{Flow, flow, WrittenAs, IsTimely}
-use Rattle.git_client.specs.Client.{History, fault_of}
-use Rattle.git_client.specs.RunSteps.{counted, Along, GoesAlong, FaultsInTime}
+use Rattle.git_client.specs.Transcript.{asked_line, next_asked, transcript_from, transcript_of}
+use Rattle.git_client.specs.Client.{History, Converses, HearsOn, can_ask, fault_of, nothing_yet, phase_of, wants_input}
+use Rattle.git_client.specs.RunSteps.{no_counts, counts_with, progress_bytes, CanCount, HearsBytes, AsksNext, FaultsInTime}
 use Rattle.git_client.specs.declared.client.Client.{Client}
 use Rattle.git_client.specs.declared.hearing.Counts.{Counts}
-use Rattle.git_client.proofs.Counting.{counted_nothing, counted_then}
+use Rattle.git_client.proofs.Counting.{bytes_fit}
 use Rattle.git_client.proofs.EventCounts.{few_events}
+use Rattle.git_client.proofs.OneTurn.{Adds, turn_adds}
+use Rattle.git_client.proofs.Packs.{pack_bytes-append}
+use Rattle.git_client.proofs.Phases.{not_ready_where_due}
 
 -- ---- what was written
 
@@ -42,39 +49,109 @@ pub at_fault : {T : Type 0} (r : Result T RunFault) (fault met : RunFault) (P : 
 at_fault r fault met P named answered at =
     let (e, is, same) = err_from_is_err_and r answered in subst P (sym (is ∙ ap Err (same ∙ named))) at
 
--- ---- how the history goes on
+-- ---- what is told of a history
 
--- the history with these bytes and events, and what was told of them
-abbrev pub AlongAfter : {A : Type 0} → Terms → History → Client A → Counts → List ℕ → List EventValue → List ℕ → List ℕ → Type 0
-AlongAfter t h client counts used events lines packed = Along t (record h { used = used; events = events }) client lines packed counts
+-- however the conversation goes on, its transcript begins with these lines. Where the client can ask, the line of the next
+-- question comes after them; else so many bytes of the pack and the progress of the response have come.
+abbrev pub IsTold : Bool → History → List ℕ → Counts → Type 0
+IsTold true h lines counts = (later : List Asked) (more : List EventValue)
+    → transcript_of (h.asked ++ later) (h.events ++ more) ≡ lines ++ next_asked later ++ transcript_from (drop 1 later) 0 0 more
+IsTold false h lines counts = (later : List Asked) (more : List EventValue)
+    → transcript_of (h.asked ++ later) (h.events ++ more) ≡ lines ++ transcript_from later counts.pack counts.progress more
+
+-- these lines go on by what the events add
+lines_told : (asks : Bool) (h : History) (used : List ℕ) (events : List EventValue) (lines : List ℕ) (counts : Counts) → IsTold false h lines counts
+    → Adds asks events
+    → IsTold asks (record h { used = h.used ++ used; events = h.events ++ events })
+    (lines ++ transcript_from [] counts.pack counts.progress events) (counts_with counts events)
+lines_told true h used events lines counts told adds = λ later more.
+    let now = transcript_from [] counts.pack counts.progress events in
+    ap (transcript_of (h.asked ++ later)) (append_assoc h.events events more)
+    ∙ told later (events ++ more)
+    ∙ ap (λ (l : List ℕ). lines ++ l) (adds later counts.pack counts.progress more)
+    ∙ sym (append_assoc lines (now ++ next_asked later) (transcript_from (drop 1 later) 0 0 more))
+    ∙ ap (λ (l : List ℕ). l ++ transcript_from (drop 1 later) 0 0 more) (sym (append_assoc lines now (next_asked later)))
+lines_told false h used events lines counts told adds = λ later more.
+    ap (transcript_of (h.asked ++ later)) (append_assoc h.events events more)
+    ∙ told later (events ++ more)
+    ∙ ap (λ (l : List ℕ). lines ++ l) (adds later counts.pack counts.progress more)
+    ∙ sym (append_assoc lines (transcript_from [] counts.pack counts.progress events)
+    (transcript_from later (counts.pack + length (pack_bytes events)) (counts.progress + length (progress_bytes events)) more))
+
+-- however the conversation goes on after the question: its line comes next, and no byte of its response has come
+told_asked : (h : History) (question : Asked) (lines : List ℕ) (counts : Counts) → IsTold true h lines counts
+    → IsTold false (record h { asked = h.asked ++ question ∷ [] }) (lines ++ asked_line (command_asked question)) no_counts
+told_asked h question lines counts told later more =
+    ap (λ (asked : List Asked). transcript_of asked (h.events ++ more)) (append_assoc h.asked (question ∷ []) later) ∙ told (question ∷ later) more
 
 module _ {A : Type 0} where
-  pub along_nothing : (c : Client A) (counts : Counts) → GoesAlong c c counts counts [] [] []
-  along_nothing c counts t h lines packed along = (
-    [],
-    subst (λ (used : List ℕ). AlongAfter t h c counts used (h.events ++ []) (lines ++ []) (packed ++ [])) (sym (append-nil h.used))
-        (subst (λ (events : List EventValue). AlongAfter t h c counts h.used events (lines ++ []) (packed ++ [])) (sym (append-nil h.events))
-        (subst (λ (told : List ℕ). AlongAfter t h c counts h.used h.events told (packed ++ [])) (sym (append-nil lines))
-        (subst (λ (sent : List ℕ). AlongAfter t h c counts h.used h.events lines sent) (sym (append-nil packed)) along))),
-    counted_nothing counts (omega (arith, along.within, few_events t h c along.stands)),
-  )
+  -- after this history a client on these terms stands so, with these lines of the transcript, and these bytes of the pack
+  pub record Along (t : Terms) (h : History) (client : Client A) (lines packed : List ℕ) (counts : Counts) : Type 0 where
+    pub stands : Converses t h client
+    pub told : IsTold (can_ask client) h lines counts
+    pub pack_is : packed ≡ pack_bytes h.events
+    pub within : counts.pack + counts.progress ≤ length h.events
 
-  pub along_then : (a b c : Client A) (k l m : Counts) (u v o1 o2 p1 p2 : List ℕ) → GoesAlong a b k l u o1 p1 → GoesAlong b c l m v o2 p2
-      → GoesAlong a c k m (u ++ v) (o1 ++ o2) (p1 ++ p2)
-  along_then a b c k l m u v o1 o2 p1 p2 first second t h lines packed along =
-      let (now, there, risen) = first t h lines packed along in
-      let (later, at, risen_on) = second t (record h { used = h.used ++ u; events = h.events ++ now }) (lines ++ o1) (packed ++ p1) there in (
-        now ++ later,
-        subst (λ (used : List ℕ). AlongAfter t h c m used (h.events ++ (now ++ later)) (lines ++ (o1 ++ o2)) (packed ++ (p1 ++ p2)))
-            (append_assoc h.used u v)
-            (subst (λ (events : List EventValue). AlongAfter t h c m ((h.used ++ u) ++ v) events (lines ++ (o1 ++ o2)) (packed ++ (p1 ++ p2)))
-            (append_assoc h.events now later)
-            (subst (λ (told : List ℕ). AlongAfter t h c m ((h.used ++ u) ++ v) ((h.events ++ now) ++ later) told (packed ++ (p1 ++ p2)))
-            (append_assoc lines o1 o2)
-            (subst (λ (sent : List ℕ). AlongAfter t h c m ((h.used ++ u) ++ v) ((h.events ++ now) ++ later) ((lines ++ o1) ++ o2) sent)
-            (append_assoc packed p1 p2) at))),
-        risen_on ∙ ap (λ (n : Counts). counted n later) risen ∙ counted_then k now later,
-      )
+  -- before the first byte
+  pub along_begun : (t : Terms) (client : Client A) → wants_input client ≡ true → Converses t nothing_yet client
+      → Along t nothing_yet client [] [] no_counts
+  along_begun t client due stands = record {
+    stands = stands;
+    told = subst (λ (ready : Bool). IsTold ready nothing_yet [] no_counts) (sym (not_ready_where_due (phase_of client) due)) (λ later more. refl);
+    pack_is = refl;
+    within = omega arith;
+  }
+
+  module _ {t : Terms} {h : History} {client : Client A} {lines packed : List ℕ} {counts : Counts} (along : Along t h client lines packed counts) where
+    -- at the next response a client that can ask counts from nothing
+    pub along_anew : can_ask client ≡ true → Along t h client lines packed no_counts
+    along_anew ready = record {
+      stands = along.stands;
+      told = subst (λ (now : Bool). IsTold now h lines no_counts) (sym ready) (subst (λ (now : Bool). IsTold now h lines counts) ready along.told);
+      pack_is = along.pack_is;
+      within = omega arith;
+    }
+
+    -- a request was asked
+    pub along_asked : {broken : Bool} {new : Client A} {request : Request A} {writer out : Flow} → can_ask client ≡ true
+        → (step : AsksNext broken client new request writer out)
+        → Along t (record h { asked = h.asked ++ asked_of request ∷ []; given = h.given ++ step.given }) new
+        (lines ++ asked_line (command_asked (asked_of request))) packed no_counts
+    along_asked {request = request} ready step = record {
+      stands = step.goes t h along.stands;
+      told = subst (λ (can : Bool). IsTold can (record h { asked = h.asked ++ asked_of request ∷ []; given = h.given ++ step.given })
+          (lines ++ asked_line (command_asked (asked_of request))) no_counts) (sym step.not_ready)
+          (told_asked h (asked_of request) lines counts (subst (λ (can : Bool). IsTold can h lines counts) ready along.told));
+      pack_is = along.pack_is;
+      within = omega arith;
+    }
+
+    -- no count comes to its end by what a client hears
+    pub counts_on : {new : Client A} {used : List ℕ} {events : List EventValue} → HearsOn client used events new → CanCount counts events
+    counts_on {new = new} {used = used} {events = events} hears =
+        let few = few_events t (record h { used = h.used ++ used; events = h.events ++ events }) new (hears t h along.stands) in
+        let all = length-append h.events events in
+        record {
+          pack = omega (arith, few, all, along.within, bytes_fit events);
+          progress = omega (arith, few, all, along.within, bytes_fit events);
+        }
+
+    -- bytes were heard
+    pub along_heard : {broken : Bool} {new : Client A} {counts_after : Counts} {used : List ℕ} {out packs : Flow} → wants_input client ≡ true
+        → (step : HearsBytes broken client new counts counts_after used out packs)
+        → Along t (record h { used = h.used ++ used; events = h.events ++ step.events }) new
+        (lines ++ transcript_from [] counts.pack counts.progress step.events) (packed ++ pack_bytes step.events) counts_after
+    along_heard {new = new} {used = used} waits step =
+        let told : IsTold false h lines counts =
+        subst (λ (asks : Bool). IsTold asks h lines counts) (not_ready_where_due (phase_of client) waits) along.told in
+        subst (λ (after : Counts). Along t (record h { used = h.used ++ used; events = h.events ++ step.events }) new
+        (lines ++ transcript_from [] counts.pack counts.progress step.events) (packed ++ pack_bytes step.events) after)
+        (sym (step.counted (counts_on step.hears))) (record {
+          stands = step.hears t h along.stands;
+          told = lines_told (can_ask new) h used step.events lines counts told (turn_adds (can_ask new) step.events step.one_turn);
+          pack_is = ap (λ (l : List ℕ). l ++ pack_bytes step.events) along.pack_is ∙ sym (pack_bytes-append h.events step.events);
+          within = omega (arith, along.within, bytes_fit step.events, length-append h.events step.events);
+        })
 
   -- ---- the fault of the client
 

@@ -18,13 +18,13 @@ use Rattle.git_names.specs.declared.object_format.Format.{Format}
 use Rattle.git_pkt.proofs.EngineLemmas.{holds_at_fault}
 use Rattle.git_client.specs.Parts.{Terms}
 use Rattle.git_client.specs.Events.{EventValue, pack_bytes}
-use Rattle.git_client.specs.Transcript.{transcript_of}
+use Rattle.git_client.specs.Transcript.{transcript_from, transcript_of}
 use Rattle.git_client.specs.Turns.{takes_packets, fault_in, is_ready}
 use Rattle.git_client.specs.Client.{History, Converses, Leaves, nothing_yet, ask_checks, caps_of, ending_of, can_ask, fault_of, wants_input}
 use Rattle.git_client.specs.Client.{left_to_say, phase_of, request_of}
 use Rattle.git_pkt.specs.Streams.{Flow, flow, WrittenAs, Moves, is_broken}
-use Rattle.git_client.specs.RunSteps.{IsTold, Along, HearsBytes, HearsTo, Says, AsksNext, AsksTo, FaultsInTime, no_counts}
-use Rattle.git_client.specs.Runs.{leaves_last, HasSaid, IsInterrupted, IsWholeRun, EndsAs, Conversed}
+use Rattle.git_client.specs.RunSteps.{HearsFrom, HearsTo, Says, AsksNext, AsksTo, FaultsInTime, no_counts}
+use Rattle.git_client.specs.Runs.{leaves_last, HasSaid, IsBrokenRun, IsInterrupted, IsWholeRun, EndsAs, Conversed}
 use Rattle.git_client.specs.declared.phase.Phase.{Phase}
 use Rattle.git_client.specs.declared.phase.Phase.TheVariants.{Hearing, Ready, Failed}
 use Rattle.git_client.specs.declared.client.Client.{Client}
@@ -32,6 +32,7 @@ use Rattle.git_client.specs.declared.events.Ending.{Ending}
 use Rattle.git_client.specs.declared.events.Ending.TheVariants.{FlushOnly, ResponseEnd}
 use Rattle.git_client.specs.declared.hearing.Counts.{Counts}
 use Rattle.git_client.proofs.Alongs.{written_nothing, written_then, written_whole, in_part, in_time_where_sound, in_time_where_told}
+use Rattle.git_client.proofs.Alongs.{IsTold, Along, along_anew, along_asked, along_begun, along_heard, counts_on}
 use Rattle.git_client.proofs.Carries.{is_quiet, not_left, owes_nothing}
 use Rattle.git_client.proofs.Phases.{not_ready_where_due, sound_where_due, sound_where_ready}
 use Rattle.git_client.proofs.EventsHeard.{has_noted, awaits_more, is_whole, position_is, all_is_said}
@@ -128,6 +129,7 @@ module _ {A : Type 0} where
     pub lines : List ℕ
     pub packed : List ℕ
     pub along : Along t h client lines packed counts
+    pub stays : h.left ≡ false
     pub in_turn : AskedInTurn t h.asked h.used h.events front
     pub read : Consumes reader.before reader.after (h.used ++ unused)
     pub said : WrittenAs broken writer h.given
@@ -145,16 +147,22 @@ module _ {A : Type 0} where
     pub sent : WrittenAs broken pack (pack_bytes h.events)
 
   -- a run may end wherever it stands
+  pub ran_by : {broken : Bool} {t : Terms} {h : History} {front : List (Request A)} {client : Client A} {counts : Counts} {unused : List ℕ}
+      {reader writer out pack : Flow} (lines packed : List ℕ) → Along t h client lines packed counts → AskedInTurn t h.asked h.used h.events front
+      → Consumes reader.before reader.after (h.used ++ unused) → WrittenAs broken writer h.given → WrittenAs broken out lines
+      → WrittenAs broken pack packed → Ran broken t h front client unused reader writer out pack
+  ran_by {broken} {t} {h} {front} {client} {counts} {unused} {reader} {writer} {out} {pack} lines packed along in_turn read said told sent = record {
+    stands = along.stands;
+    in_turn = in_turn;
+    read = read;
+    said = said;
+    told = subst (WrittenAs broken out) (all_told (can_ask client) h lines counts along.told) told;
+    sent = subst (WrittenAs broken pack) along.pack_is sent;
+  }
+
   pub ran : {broken : Bool} {t : Terms} {front : List (Request A)} {client : Client A} {counts : Counts} {unused : List ℕ} {reader writer out pack : Flow}
       → (r : Running broken t front client counts unused reader writer out pack) → Ran broken t r.h front client unused reader writer out pack
-  ran {broken} {t} {front} {client} {counts} {unused} {reader} {writer} {out} {pack} r = record {
-    stands = r.along.stands;
-    in_turn = r.in_turn;
-    read = r.read;
-    said = r.said;
-    told = subst (WrittenAs broken out) (all_told (can_ask client) r.h r.lines counts r.along.told) r.told;
-    sent = subst (WrittenAs broken pack) r.along.pack_is r.sent;
-  }
+  ran r = ran_by r.lines r.packed r.along r.in_turn r.read r.said r.told r.sent
 
   -- ---- its steps
 
@@ -166,12 +174,8 @@ module _ {A : Type 0} where
       h = nothing_yet;
       lines = [];
       packed = [];
-      along = record {
-        stands = stands;
-        told = subst (λ (ready : Bool). IsTold ready nothing_yet [] no_counts) (sym (not_ready_where_due (phase_of client) due)) (λ later more. refl);
-        pack_is = refl;
-        within = omega arith;
-      };
+      along = along_begun t client due stands;
+      stays = refl;
       in_turn = none_in_turn t;
       read = Consumes-nil reader;
       said = Appends-kept writer writer flushed [] (written_nothing writer) kept;
@@ -187,13 +191,8 @@ module _ {A : Type 0} where
       h = r.h;
       lines = r.lines;
       packed = r.packed;
-      along = record {
-        stands = r.along.stands;
-        told = subst (λ (now : Bool). IsTold now r.h r.lines no_counts) (sym ready)
-            (subst (λ (now : Bool). IsTold now r.h r.lines counts) ready r.along.told);
-        pack_is = r.along.pack_is;
-        within = omega arith;
-      };
+      along = along_anew r.along ready;
+      stays = r.stays;
       in_turn = r.in_turn;
       read = r.read;
       said = r.said;
@@ -212,7 +211,8 @@ module _ {A : Type 0} where
           h = record r.h { asked = r.h.asked ++ asked_of request ∷ []; given = r.h.given ++ step.given };
           lines = _;
           packed = r.packed;
-          along = step.goes t r.h r.lines r.packed counts r.along;
+          along = along_asked r.along ready step;
+          stays = r.stays;
           in_turn = asked_in_turn t r.h old front request r.along.stands ready step.passes r.in_turn;
           read = r.read;
           said = written_then broken w0 w1 w2 r.h.given step.given r.said step.said;
@@ -224,21 +224,24 @@ module _ {A : Type 0} where
     pub hears_on : (broken : Bool) (front : List (Request A)) (old new : Client A) (waiting unused : List ℕ)
         {writer : Flow} {left_before left left_after out_before out_held out_after pack_before pack_held pack_after : Option (List ℕ)}
         → Running false t front old no_counts waiting (flow left_before left) writer (flow out_before out_held) (flow pack_before pack_held)
-        → (step : HearsBytes broken old new waiting unused (flow left left_after) (flow out_held out_after) (flow pack_held pack_after))
+        → wants_input old ≡ true
+        → (step : HearsFrom broken old new waiting unused (flow left left_after) (flow out_held out_after) (flow pack_held pack_after))
         → Running broken t front new step.counts unused (flow left_before left_after) writer (flow out_before out_after) (flow pack_before pack_after)
     hears_on broken front old new waiting unused {writer} {left_before = r0} {left = r1} {left_after = r2} {out_before = o0} {out_held = o1} {out_after = o2}
-        {pack_before = p0} {pack_held = p1} {pack_after = p2} r step =
-        let (events, along, risen) = step.goes t r.h r.lines r.packed r.along in
+        {pack_before = p0} {pack_held = p1} {pack_after = p2} r waits step =
+        let heard = step.bytes in
+        let lines = transcript_from [] 0 0 heard.events in
         record {
-          h = record r.h { used = r.h.used ++ step.used; events = r.h.events ++ events };
-          lines = r.lines ++ step.lines;
-          packed = r.packed ++ step.packed;
-          along = along;
-          in_turn = heard_in_turn t r.h.asked r.h.used step.used r.h.events events front r.in_turn;
+          h = record r.h { used = r.h.used ++ step.used; events = r.h.events ++ heard.events };
+          lines = r.lines ++ lines;
+          packed = r.packed ++ pack_bytes heard.events;
+          along = along_heard r.along waits heard;
+          stays = r.stays;
+          in_turn = heard_in_turn t r.h.asked r.h.used step.used r.h.events heard.events front r.in_turn;
           read = read_on r0 r1 r2 r.h.used waiting step.came step.used unused r.read step.read step.parts;
           said = written_whole broken writer r.h.given r.said;
-          told = written_then broken o0 o1 o2 r.lines step.lines r.told step.told;
-          sent = written_then broken p0 p1 p2 r.packed step.packed r.sent step.sent;
+          told = written_then broken o0 o1 o2 r.lines lines r.told (heard.told (counts_on r.along heard.hears));
+          sent = written_then broken p0 p1 p2 r.packed (pack_bytes heard.events) r.sent heard.sent;
         }
 
     -- the conversation was left, or a write failed while it was
@@ -359,35 +362,39 @@ module _ {A : Type 0} (t : Terms) where
         };
       }
 
+      -- a client that has not left
+      not_gone : (h : History) → h.left ≡ false → IsBrokenRun t rest h
+      not_gone h stays = record { left_last = λ left. absurd (cc) }
+
       -- a write failed
       pub breaks_off : (ended : Bool) (client : Client A) (counts : Counts) (unused : List ℕ) {reader writer out pack : Flow}
           → FaultsInTime client ended unused → Running true t front client counts unused reader writer out pack
           → RunEnds (Err WriteFault) ended client reader writer out pack
-      breaks_off ended client counts unused timely r = moves (Err WriteFault) ended r.h client unused (ran r) tt timely
+      breaks_off ended client counts unused timely r = moves (Err WriteFault) ended r.h client unused (ran r) (not_gone r.h r.stays) timely
 
       -- a flush failed
       pub breaks_unflushed : (ended : Bool) (client : Client A) (counts : Counts) (unused : List ℕ) {reader writer out pack : Flow}
           → fault_of client ≡ None → Running false t front client counts unused reader writer out pack
           → RunEnds (Err WriteFault) ended client reader writer out pack
       breaks_unflushed ended client counts unused sound r =
-          moves (Err WriteFault) ended r.h client unused (ran_in_part t (ran r)) tt (in_time_where_sound client ended unused sound)
+          moves (Err WriteFault) ended r.h client unused (ran_in_part t (ran r)) (not_gone r.h r.stays) (in_time_where_sound client ended unused sound)
 
       -- a response was not heard to its end
       pub hearing_stopped : (fault : RunFault) (ended : Bool) (old new : Client A) (waiting piece : List ℕ) {writer : Flow}
           {left_before left left_after out_before out_held out_after pack_before pack_held pack_after : Option (List ℕ)}
           → Running false t front old no_counts waiting (flow left_before left) writer (flow out_before out_held) (flow pack_before pack_held)
-          → HearsTo (Err fault) ended old new waiting piece (flow left left_after) (flow out_held out_after) (flow pack_held pack_after)
+          → wants_input old ≡ true → HearsTo (Err fault) ended old new waiting piece (flow left left_after) (flow out_held out_after) (flow pack_held pack_after)
           → RunEnds (Err fault) ended new (flow left_before left_after) writer (flow out_before out_after) (flow pack_before pack_after)
-      hearing_stopped ReadFault ended old new waiting piece r step =
-          let on = hears_on t false front old new waiting [] r step.hears in
+      hearing_stopped ReadFault ended old new waiting piece r waits step =
+          let on = hears_on t false front old new waiting [] r waits step.hears in
           moves (Err ReadFault) ended on.h new [] (ran on) (interrupted on.h new on.along.stands step.due) (due_in_time ended new step.due)
-      hearing_stopped WriteFault ended old new waiting piece r step =
-          breaks_off ended new step.hears.counts step.unused step.timely (hears_on t true front old new waiting step.unused r step.hears)
-      hearing_stopped ReadLimit ended old new waiting piece r step =
-          let on = hears_on t false front old new waiting [] r step.hears in
+      hearing_stopped WriteFault ended old new waiting piece r waits step =
+          breaks_off ended new step.hears.counts step.unused step.timely (hears_on t true front old new waiting step.unused r waits step.hears)
+      hearing_stopped ReadLimit ended old new waiting piece r waits step =
+          let on = hears_on t false front old new waiting [] r waits step.hears in
           moves (Err ReadLimit) ended on.h new [] (ran on) (interrupted on.h new on.along.stands step.due) (due_in_time ended new step.due)
-      hearing_stopped (Refused fault) ended old new waiting piece r step =
-          let on = hears_on t false front old new waiting step.unused r step.hears in
+      hearing_stopped (Refused fault) ended old new waiting piece r waits step =
+          let on = hears_on t false front old new waiting step.unused r waits step.hears in
           let quiet = quiet_where_failed (phase_of new) fault step.told in
           moves (Err (Refused fault)) ended on.h new step.unused (ran on) (
             inl (record { first = first_fault t on.h new fault on.along.stands step.told; timely = step.timely }),
@@ -448,7 +455,8 @@ module _ {A : Type 0} (t : Terms) where
           moves front [] split (Ok done) ended h client unused (ran_flushed t r kept) whole (in_time_where_sound client ended unused sound)
       finishes (Err fault) ended h client unused {reader} {out} {pack} {before} {held} {after} named r kept whole sound =
           subst (λ (f : RunFault). RunEnds (Err f) ended client reader (flow before after) out pack) (sym named)
-          (moves front [] split (Err WriteFault) ended h client unused (ran_in_part t (ran_flushed t r kept)) tt
+          (moves front [] split (Err WriteFault) ended h client unused (ran_in_part t (ran_flushed t r kept))
+          (record { left_last = λ left. (refl, whole.whole, sym whole.leaves ∙ left) })
           (in_time_where_sound client ended unused sound))
 
       -- each request has a connection of its own, and the client does not leave
@@ -468,11 +476,13 @@ module _ {A : Type 0} (t : Terms) where
 
       module _ (old mid new : Client A) (counts : Counts) (unused : List ℕ) (ready : can_ask old ≡ true) (leaving : Leaves old mid) where
         -- the client left, but a write failed
-        pub leaving_stopped : (ended : Bool) {reader out pack : Flow} {before held after : Option (List ℕ)}
+        pub leaving_stopped : (ended : Bool) {reader out pack : Flow} {before held after : Option (List ℕ)} → ending_of old ≡ FlushOnly
             → Running false t front old counts unused reader (flow before held) out pack → Says true mid new (flow held after)
             → RunEnds (Err WriteFault) ended new reader (flow before after) out pack
-        leaving_stopped ended r step =
-            moves front [] split (Err WriteFault) ended _ new unused (leaves_on t true front old mid new counts unused r leaving step) tt
+        leaving_stopped ended last r step =
+            let stands = r.along.stands in
+            moves front [] split (Err WriteFault) ended _ new unused (leaves_on t true front old mid new counts unused r leaving step)
+            (record { left_last = λ left. (refl, is_whole t r.h old stands ready, sym (ap leaves_last (sym last ∙ stands.ending_is))) })
             (in_time_where_sound new ended unused step.sound)
 
         -- the client left, and said so

@@ -1,7 +1,7 @@
 -- The counts of a response: how they rise by its events.
 use Rattle.std.proofs.Common.{arith, ◌≡◌, ℕ, ◌+◌, ◌≤◌, List, [], ◌∷◌, ◌++◌, length, refl, ap, ◌∙◌, length-append}
 use Rattle.git_client.specs.Events.{EventValue, pack, progress, pack_bytes}
-use Rattle.git_client.specs.RunSteps.{progress_bytes, counted}
+use Rattle.git_client.specs.RunSteps.{progress_bytes, counts_with, CanCount}
 use Rattle.git_client.specs.declared.hearing.Counts.{Counts}
 use Rattle.git_client.proofs.Packs.{pack_bytes-append}
 
@@ -23,12 +23,34 @@ progress_bytes-append [] later = refl
 progress_bytes-append (progress byte ∷ events) later = ap (λ (l : List ℕ). byte ∷ l) (progress_bytes-append events later)
 progress_bytes-append (event ∷ events) later = progress_bytes-append events later
 
--- no event changes counts that fit
-pub counted_nothing : (counts : Counts) → counts.pack + counts.progress ≤ 18446744073709551615 → counts ≡ counted counts []
-counted_nothing counts fit = same_counts counts.pack counts.progress _ _ (omega (arith, fit)) (omega (arith, fit))
+-- how many bytes of the pack, and of the progress, events and later ones have
+packs_together : (events later : List EventValue) → length (pack_bytes (events ++ later)) ≡ length (pack_bytes events) + length (pack_bytes later)
+packs_together events later = ap length (pack_bytes-append events later) ∙ length-append (pack_bytes events) (pack_bytes later)
+
+progress_together : (events later : List EventValue)
+    → length (progress_bytes (events ++ later)) ≡ length (progress_bytes events) + length (progress_bytes later)
+progress_together events later = ap length (progress_bytes-append events later) ∙ length-append (progress_bytes events) (progress_bytes later)
+
+-- no event changes no count
+pub counts_stay : (counts : Counts) → counts ≡ counts_with counts []
+counts_stay counts = same_counts counts.pack counts.progress _ _ (omega arith) (omega arith)
 
 -- events count on from those before them
-pub counted_then : (counts : Counts) (events later : List EventValue) → counted (counted counts events) later ≡ counted counts (events ++ later)
-counted_then counts events later = same_counts _ _ _ _
-    (omega (arith, ap length (pack_bytes-append events later), length-append (pack_bytes events) (pack_bytes later)))
-    (omega (arith, ap length (progress_bytes-append events later), length-append (progress_bytes events) (progress_bytes later)))
+pub counts_then : (counts : Counts) (events later : List EventValue)
+    → counts_with (counts_with counts events) later ≡ counts_with counts (events ++ later)
+counts_then counts events later =
+    same_counts _ _ _ _ (omega (arith, packs_together events later)) (omega (arith, progress_together events later))
+
+-- where all can be counted, so can those before and those after them
+pub can_count_then : (counts : Counts) (events later : List EventValue) → CanCount counts (events ++ later)
+    → CanCount counts events × CanCount (counts_with counts events) later
+can_count_then counts events later can = (
+  record {
+    pack = omega (arith, can.pack, packs_together events later);
+    progress = omega (arith, can.progress, progress_together events later);
+  },
+  record {
+    pack = omega (arith, can.pack, packs_together events later);
+    progress = omega (arith, can.progress, progress_together events later);
+  },
+)

@@ -14,13 +14,13 @@ use Rattle.git_pkt.specs.declared.fault.RunFault.TheVariants.{ReadFault, WriteFa
 use Rattle.git_pkt.specs.Streams.{Flow, flow, WrittenAs, IsTimely}
 use Rattle.git_pkt.proofs.EngineLemmas.{timely}
 use Rattle.git_client.specs.Client.{HearsOn, fault_of, phase_of, wants_input}
-use Rattle.git_client.specs.RunSteps.{no_counts, window_of, GoesAlong, HearsPiece, HearsPieceTo, HearsBytes, HearsBroken, HearsFault, HearsTo}
+use Rattle.git_client.specs.RunSteps.{no_counts, window_of, HearsPieceTo, HearsBytes, HearsFrom, HearsBroken, HearsFault, HearsTo}
 use Rattle.git_client.specs.declared.client.Client.{Client}
 use Rattle.git_client.specs.declared.hearing.Counts.{Counts}
 use Rattle.git_client.specs.declared.hearing.Window.{Window}
-use Rattle.git_client.proofs.Phases.{not_ready_where_failed}
-use Rattle.git_client.proofs.Alongs.{written_nothing, written_then, in_part, at_fault, along_nothing, along_then, in_time_where_sound}
-use Rattle.git_client.proofs.HearingSteps.{goes_quietly}
+use Rattle.git_client.proofs.Phases.{not_ready_where_due, not_ready_where_failed}
+use Rattle.git_client.proofs.Alongs.{written_nothing, at_fault, in_time_where_sound}
+use Rattle.git_client.proofs.HeardBytes.{heard_flushed, heard_quietly, heard_then, nothing_heard}
 
 -- ---- the bytes of a window
 
@@ -55,39 +55,25 @@ shown_in_time fault ended used piece shown =
 -- ---- all pieces so far
 
 module _ {A : Type 0} where
-  -- of the bytes that waited and those that came all but the last were heard, and what they say was written. The counts, which
-  -- `HearsBytes` hides, are named here: the next piece is heard with them.
+  -- of the bytes that waited and those that came all but the last were heard. The counts, which `HearsFrom` hides, are named here: the
+  -- next piece is heard with them.
   pub record HeardSoFar (broken : Bool) (old new : Client A) (counts : Counts) (waiting unused : List ℕ) (reader out packs : Flow) : Type 0 where
     pub came : List ℕ
     pub used : List ℕ
-    pub lines : List ℕ
-    pub packed : List ℕ
     pub read : Consumes reader.before reader.after came
     pub parts : waiting ++ came ≡ used ++ unused
-    pub told : WrittenAs broken out lines
-    pub sent : WrittenAs broken packs packed
-    pub goes : GoesAlong old new no_counts counts used lines packed
+    pub bytes : HearsBytes broken old new no_counts counts used out packs
 
-  pub hears_bytes : {broken : Bool} {old new : Client A} {counts : Counts} {waiting unused : List ℕ} {reader out packs : Flow}
-      → HeardSoFar broken old new counts waiting unused reader out packs → HearsBytes broken old new waiting unused reader out packs
-  hears_bytes so_far = record {
-    came = so_far.came;
-    used = so_far.used;
-    lines = so_far.lines;
-    packed = so_far.packed;
-    counts = _;
-    read = so_far.read;
-    parts = so_far.parts;
-    told = so_far.told;
-    sent = so_far.sent;
-    goes = so_far.goes;
-  }
+  pub hears_from : {broken : Bool} {old new : Client A} {counts : Counts} {waiting unused : List ℕ} {reader out packs : Flow}
+      → HeardSoFar broken old new counts waiting unused reader out packs → HearsFrom broken old new waiting unused reader out packs
+  hears_from so_far =
+      record { came = so_far.came; used = so_far.used; counts = _; read = so_far.read; parts = so_far.parts; bytes = so_far.bytes }
 
   -- a flush failed where the client has no fault
   pub hears_unflushed : {old new : Client A} {counts : Counts} {waiting unused : List ℕ} {reader out packs : Flow} (ended : Bool)
       → fault_of new ≡ None → HeardSoFar true old new counts waiting unused reader out packs → HearsBroken ended old new waiting reader out packs
   hears_unflushed {new = new} {unused = unused} ended sound so_far =
-      record { unused = unused; hears = hears_bytes so_far; timely = in_time_where_sound new ended unused sound }
+      record { unused = unused; hears = hears_from so_far; timely = in_time_where_sound new ended unused sound }
 
   -- what a `?` answers is the fault that it met
   pub hears_at : (result : Result Window RunFault) (fault met : RunFault) (ended : Bool) (old new : Client A) (waiting buffer : List ℕ)
@@ -97,63 +83,28 @@ module _ {A : Type 0} where
       at_fault result fault met (λ (r : Result Window RunFault). HearsTo r ended old new waiting buffer reader out packs) is answered hears
 
   -- before the first piece all that waits is left
-  pub heard_nothing : (client : Client A) (waiting : List ℕ) (left told sent : Option (List ℕ))
+  pub heard_nothing : (client : Client A) (waiting : List ℕ) (left told sent : Option (List ℕ)) → wants_input client ≡ true
       → HeardSoFar false client client no_counts waiting waiting (flow left left) (flow told told) (flow sent sent)
-  heard_nothing client waiting left told sent = record {
+  heard_nothing client waiting left told sent waits = record {
     came = [];
     used = [];
-    lines = [];
-    packed = [];
     read = Consumes-nil left;
     parts = append-nil waiting;
-    told = written_nothing told;
-    sent = written_nothing sent;
-    goes = along_nothing client no_counts;
+    bytes = nothing_heard client no_counts told sent (not_ready_where_due (phase_of client) waits);
   }
 
   module _ {old middle : Client A} {counts : Counts} {waiting unused : List ℕ} {left_before left told_before told sent_before sent : Option (List ℕ)}
       (so_far : HeardSoFar false old middle counts waiting unused (flow left_before left) (flow told_before told) (flow sent_before sent)) where
-    -- one more piece was heard, of what was left and what was read
-    pub heard_on : {broken : Bool} {new : Client A} {counts_after : Counts} {piece rest : List ℕ} {used : ℕ}
-        {left_after told_after sent_after : Option (List ℕ)} (came : List ℕ) → Consumes left left_after came → unused ++ came ≡ piece → drop used piece ≡ rest
-        → HearsPiece broken middle new counts counts_after piece used (flow told told_after) (flow sent sent_after)
-        → HeardSoFar broken old new counts_after waiting rest (flow left_before left_after) (flow told_before told_after) (flow sent_before sent_after)
-    heard_on {broken = broken} {new = new} {counts_after = counts_after} {piece = piece} {rest = rest} {used = used}
-        {left_after = left_after} {told_after = told_after} {sent_after = sent_after} came read is rest_is hears = record {
-          came = so_far.came ++ came;
-          used = so_far.used ++ take used piece;
-          lines = so_far.lines ++ hears.lines;
-          packed = so_far.packed ++ hears.packed;
-          read = Consumes-trans left_before left left_after so_far.came came so_far.read read;
-          parts =
-              sym (append_assoc waiting so_far.came came) ∙ ap (λ (l : List ℕ). l ++ came) so_far.parts ∙ append_assoc so_far.used unused came
-              ∙ ap (λ (l : List ℕ). so_far.used ++ l) (is ∙ sym (take-append-drop used piece))
-              ∙ sym (append_assoc so_far.used (take used piece) (drop used piece)) ∙ ap (λ (l : List ℕ). (so_far.used ++ take used piece) ++ l) rest_is;
-          told = written_then broken told_before told told_after so_far.lines hears.lines so_far.told hears.told;
-          sent = written_then broken sent_before sent sent_after so_far.packed hears.packed so_far.sent hears.sent;
-          goes = along_then old middle new no_counts counts counts_after so_far.used (take used piece) so_far.lines hears.lines so_far.packed hears.packed
-              so_far.goes hears.goes;
-        }
-
-    -- the transcript and the pack were flushed
-    pub heard_flushed : {told_after sent_after : Option (List ℕ)} → WrittenAs false (flow told told_after) [] → WrittenAs false (flow sent sent_after) []
-        → HeardSoFar false old middle counts waiting unused (flow left_before left) (flow told_before told_after) (flow sent_before sent_after)
-    heard_flushed flushed flushed_pack =
-        heard_on {used = 0} [] (Consumes-nil left) (append-nil unused) refl
-        (record { lines = []; packed = []; told = flushed; sent = flushed_pack; goes = along_nothing middle counts })
-
-    -- a write failed
-    pub heard_broken : HeardSoFar true old middle counts waiting unused (flow left_before left) (flow told_before told) (flow sent_before sent)
-    heard_broken = record {
+    -- the transcript and the pack were flushed, as far as that went
+    pub heard_and_flushed : (broken : Bool) {told_after sent_after : Option (List ℕ)} → WrittenAs false (flow told told_after) []
+        → WrittenAs false (flow sent sent_after) []
+        → HeardSoFar broken old middle counts waiting unused (flow left_before left) (flow told_before told_after) (flow sent_before sent_after)
+    heard_and_flushed broken flushed flushed_pack = record {
       came = so_far.came;
       used = so_far.used;
-      lines = so_far.lines;
-      packed = so_far.packed;
       read = so_far.read;
       parts = so_far.parts;
-      told = in_part (flow told_before told) so_far.lines so_far.told;
-      sent = in_part (flow sent_before sent) so_far.packed so_far.sent;
-      goes = so_far.goes;
+      bytes = heard_flushed so_far.bytes flushed flushed_pack;
     }
 
     -- a read failed
@@ -162,50 +113,58 @@ module _ {A : Type 0} where
     heard_unread {left_after = left_after} kept = record {
       came = so_far.came;
       used = so_far.used;
-      lines = so_far.lines;
-      packed = so_far.packed;
       read = Consumes-kept left_before left left_after so_far.came so_far.read kept;
       parts = so_far.parts;
-      told = so_far.told;
-      sent = so_far.sent;
-      goes = so_far.goes;
+      bytes = so_far.bytes;
     }
 
-    -- a fault ended a piece
-    pub heard_until : (fault : RunFault) (ended : Bool) (new : Client A) (counts_after : Counts) (came piece buffer : List ℕ)
-        (left_after told_after sent_after : Option (List ℕ)) → Consumes left left_after came → unused ++ came ≡ piece
-        → HearsPieceTo (Err fault) middle new counts counts_after piece (flow told told_after) (flow sent sent_after)
-        → HearsTo (Err fault) ended old new waiting buffer (flow left_before left_after) (flow told_before told_after) (flow sent_before sent_after)
-    heard_until ReadFault ended new counts_after came piece buffer left_after told_after sent_after read is step = absurd step
-    heard_until WriteFault ended new counts_after came piece buffer left_after told_after sent_after read is step = record {
-      unused = drop step.used piece;
-      hears = hears_bytes (heard_on came read is refl step.hears);
-      timely = λ fault failed. shown_in_time fault ended step.used piece (step.shown fault failed);
-    }
-    heard_until ReadLimit ended new counts_after came piece buffer left_after told_after sent_after read is step = absurd step
-    heard_until (Refused fault) ended new counts_after came piece buffer left_after told_after sent_after read is step = record {
-      unused = drop step.used piece;
-      hears = hears_bytes (heard_on came read is refl step.hears);
-      told = step.told;
-      timely = shown_in_time fault ended step.used piece step.shown;
-    }
+    module _ (waits : wants_input middle ≡ true) where
+      -- one more piece was heard, of what was left and what was read
+      pub heard_on : {broken : Bool} {new : Client A} {counts_after : Counts} {piece rest : List ℕ}
+          {left_after told_after sent_after : Option (List ℕ)} (used : ℕ) (came : List ℕ) → Consumes left left_after came → unused ++ came ≡ piece
+          → drop used piece ≡ rest → HearsBytes broken middle new counts counts_after (take used piece) (flow told told_after) (flow sent sent_after)
+          → HeardSoFar broken old new counts_after waiting rest (flow left_before left_after) (flow told_before told_after) (flow sent_before sent_after)
+      heard_on {piece = piece} {left_after = left_after} used came read is rest_is hears = record {
+        came = so_far.came ++ came;
+        used = so_far.used ++ take used piece;
+        read = Consumes-trans left_before left left_after so_far.came came so_far.read read;
+        parts =
+            sym (append_assoc waiting so_far.came came) ∙ ap (λ (l : List ℕ). l ++ came) so_far.parts ∙ append_assoc so_far.used unused came
+            ∙ ap (λ (l : List ℕ). so_far.used ++ l) (is ∙ sym (take-append-drop used piece))
+            ∙ sym (append_assoc so_far.used (take used piece) (drop used piece)) ∙ ap (λ (l : List ℕ). (so_far.used ++ take used piece) ++ l) rest_is;
+        bytes = heard_then (not_ready_where_due (phase_of middle) waits) so_far.bytes hears;
+      }
 
-    -- the input ended where more was due
-    pub heard_end : {fault : Fault} {ended : Bool} {new : Client A} {left_after : Option (List ℕ)} → unused ≡ [] → Consumes left left_after []
-        → ended ≡ true → wants_input middle ≡ true → fault.kind ≡ Truncated → fault_of new ≡ Some fault → HearsOn middle [] [] new
-        → HearsFault fault ended old new waiting (flow left_before left_after) (flow told_before told) (flow sent_before sent)
-    heard_end {fault = fault} {ended = ended} {new = new} all read at_end wants kind failed hears = record {
-      unused = [];
-      hears = hears_bytes (heard_on {used = 0} [] read (append-nil unused ∙ all) refl (record {
-        lines = [];
-        packed = [];
-        told = written_nothing told;
-        sent = written_nothing sent;
-        goes = goes_quietly middle new [] hears wants (not_ready_where_failed (phase_of new) fault failed) counts;
-      }));
-      told = failed;
-      timely = subst (λ (k : Kind). IsTimely k ended []) (sym kind) (refl, at_end);
-    }
+      -- a fault ended a piece
+      pub heard_until : (fault : RunFault) (ended : Bool) (new : Client A) (counts_after : Counts) (came piece buffer : List ℕ)
+          (left_after told_after sent_after : Option (List ℕ)) → Consumes left left_after came → unused ++ came ≡ piece
+          → HearsPieceTo (Err fault) middle new counts counts_after piece (flow told told_after) (flow sent sent_after)
+          → HearsTo (Err fault) ended old new waiting buffer (flow left_before left_after) (flow told_before told_after) (flow sent_before sent_after)
+      heard_until ReadFault ended new counts_after came piece buffer left_after told_after sent_after read is step = absurd step
+      heard_until WriteFault ended new counts_after came piece buffer left_after told_after sent_after read is step = record {
+        unused = drop step.used piece;
+        hears = hears_from (heard_on step.used came read is refl step.hears);
+        timely = λ fault failed. shown_in_time fault ended step.used piece (step.shown fault failed);
+      }
+      heard_until ReadLimit ended new counts_after came piece buffer left_after told_after sent_after read is step = absurd step
+      heard_until (Refused fault) ended new counts_after came piece buffer left_after told_after sent_after read is step = record {
+        unused = drop step.used piece;
+        hears = hears_from (heard_on step.used came read is refl step.hears);
+        told = step.told;
+        timely = shown_in_time fault ended step.used piece step.shown;
+      }
+
+      -- the input ended where more was due
+      pub heard_end : {fault : Fault} {ended : Bool} {new : Client A} {left_after : Option (List ℕ)} → unused ≡ [] → Consumes left left_after []
+          → ended ≡ true → fault.kind ≡ Truncated → fault_of new ≡ Some fault → HearsOn middle [] [] new
+          → HearsFault fault ended old new waiting (flow left_before left_after) (flow told_before told) (flow sent_before sent)
+      heard_end {fault = fault} {ended = ended} {new = new} all read at_end kind failed hears = record {
+        unused = [];
+        hears = hears_from (heard_on 0 [] read (append-nil unused ∙ all) refl
+            (heard_quietly counts hears (not_ready_where_failed (phase_of new) fault failed) (written_nothing told) (written_nothing sent)));
+        told = failed;
+        timely = subst (λ (k : Kind). IsTimely k ended []) (sym kind) (refl, at_end);
+      }
 
   -- before a read all that came was used, and the transcript and the pack were flushed
   pub heard_before_read : {old new : Client A} {counts : Counts} {waiting : List ℕ} {reader : Flow} {told_before told sent_before sent : Option (List ℕ)}
@@ -215,5 +174,5 @@ module _ {A : Type 0} where
       → HeardSoFar false old new counts waiting [] reader (flow told_before told_after) (flow sent_before sent_after)
   heard_before_read {old = old} {new = new} {counts = counts} {waiting = waiting} {reader = reader} {told_before = told_before} {told = told}
       {sent_before = sent_before} {sent = sent} window piece told_after sent_after all so_far flushed flushed_pack =
-      heard_flushed (subst (λ (unused : List ℕ). HeardSoFar false old new counts waiting unused reader (flow told_before told) (flow sent_before sent))
-      (none_left window piece all) so_far) flushed flushed_pack
+      heard_and_flushed (subst (λ (unused : List ℕ). HeardSoFar false old new counts waiting unused reader (flow told_before told) (flow sent_before sent))
+      (none_left window piece all) so_far) false flushed flushed_pack

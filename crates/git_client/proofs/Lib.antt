@@ -24,8 +24,10 @@ pub mod Packs
 pub mod EventsHeard
 pub mod Phases
 pub mod Counting
-pub mod Alongs
+pub mod OneTurn
 pub mod EventCounts
+pub mod Alongs
+pub mod HeardBytes
 pub mod Telling
 pub mod HearingSteps
 pub mod SayingSteps

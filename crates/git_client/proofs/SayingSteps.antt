@@ -1,26 +1,25 @@
 -- What a client that says a question comes to, one packet after another, and what asking does to its history.
-use Rattle.std.proofs.Common.{arith, ◌≡◌, ◌≢◌, ℕ, Bool, true, false, List, [], ◌∷◌, ◌++◌, Option, None}
+use Rattle.std.proofs.Common.{arith, ◌≡◌, ◌≢◌, inl, inr, ℕ, Bool, true, false, List, [], ◌∷◌, ◌++◌, Option, None}
 use Rattle.std.proofs.Common.{Result, Ok, Err, IfErr, refl, sym, ap, ◌∙◌, subst, append_assoc, append-nil}
-use Rattle.std.proofs.KnownBytes.{Appends-kept}
-use Rattle.std.specs.Io.KnownBytes.{Keeps}
-use Rattle.git_pkt.specs.Packets.{Pkt, payload}
+use Rattle.std.proofs.KnownBytes.{Appends-kept, Appends-nil, Appends-trans}
+use Rattle.std.specs.Io.KnownBytes.{Appends, Keeps}
+use Rattle.git_pkt.specs.Packets.{Pkt, payload, spelling_of}
 use Rattle.git_pkt.specs.declared.fault.RunFault.{RunFault}
 use Rattle.git_pkt.specs.declared.fault.RunFault.TheVariants.{WriteFault}
-use Rattle.git_msg.specs.Asked.{Asked, command_asked}
+use Rattle.git_msg.specs.Asked.{command_asked}
 use Rattle.git_msg.specs.HeldRequest.{asked_of}
 use Rattle.git_msg.specs.declared.requests.Request.{Request}
 use Rattle.git_pkt.specs.Streams.{Flow, flow, WrittenAs, is_broken}
-use Rattle.git_client.specs.Transcript.{asked_line, transcript_of}
+use Rattle.git_client.specs.Transcript.{asked_line}
 use Rattle.git_client.specs.Turns.{takes_packets, fault_in, is_ready, is_asking, has_left_in, left_in}
 use Rattle.git_client.specs.Client.{History, Converses, Asks, SaysOn, Pulls, TellsSent, given_by, can_ask, fault_of, has_left, left_to_say}
 use Rattle.git_client.specs.Client.{wants_input}
-use Rattle.git_client.specs.RunSteps.{IsTold, Says, AsksNext, AsksTo, no_counts}
+use Rattle.git_client.specs.RunSteps.{BreaksOff, Says, AsksNext, AsksTo}
 use Rattle.git_client.specs.declared.phase.Phase.{Phase}
 use Rattle.git_client.specs.declared.phase.Phase.TheVariants.{Hearing, Asking, Leaving, Left, Failed}
 use Rattle.git_client.specs.declared.client.Client.{Client}
 use Rattle.git_client.specs.declared.events.Sent.{Sent}
 use Rattle.git_client.specs.declared.events.Sent.TheVariants.{Packet, NeedInput, CanAsk, Finished, Failed as FailedSent}
-use Rattle.git_client.specs.declared.hearing.Counts.{Counts}
 use Rattle.git_client.proofs.Alongs.{written_nothing, written_then, written_whole, in_part}
 use denote.Ref.{Bor}
 
@@ -58,13 +57,33 @@ written_flushed : (broken : Bool) (before held after : Option (List ℕ)) (u : L
     → WrittenAs broken (flow before after) u
 written_flushed broken before held after u written kept = written_whole broken (flow before after) u (Appends-kept before held after u written kept)
 
--- ---- what is told of a question
+-- nothing was given
+nothing_broke : (held : Option (List ℕ)) → BreaksOff (flow held held) []
+nothing_broke held = record { whole = []; front = []; rest = []; parts = refl; written = Appends-nil held; one_packet = inl refl }
 
--- however it goes on after the question: the question's line comes next, and no byte of its response has come
-told_asked : (h : History) (question : Asked) (lines : List ℕ) (counts : Counts) → IsTold true h lines counts
-    → IsTold false (record h { asked = h.asked ++ question ∷ [] }) (lines ++ asked_line (command_asked question)) no_counts
-told_asked h question lines counts told later more =
-    ap (λ (asked : List Asked). transcript_of asked (h.events ++ more)) (append_assoc h.asked (question ∷ []) later) ∙ told (question ∷ later) more
+-- all that was given was written
+broke_after : (before after : Option (List ℕ)) (u : List ℕ) → Appends before after u → BreaksOff (flow before after) u
+broke_after before after u written = record {
+  whole = u;
+  front = [];
+  rest = [];
+  parts = sym (append-nil u);
+  written = subst (λ (bytes : List ℕ). Appends before after bytes) (sym (append-nil u)) written;
+  one_packet = inl refl;
+}
+
+-- packets that were written whole, and one of which a front was
+broke_then : (broken : Bool) (before held after : Option (List ℕ)) (u v : List ℕ) (packet : Pkt) → v ≡ spelling_of packet
+    → WrittenAs false (flow before held) u → WrittenAs broken (flow held after) v → broken ≡ true → BreaksOff (flow before after) (u ++ v)
+broke_then false before held after u v packet is first second e = absurd (cc)
+broke_then true before held after u v packet is first (front, rest, parts, appended) e = record {
+  whole = u;
+  front = front;
+  rest = rest;
+  parts = ap (λ (bytes : List ℕ). u ++ bytes) parts;
+  written = Appends-trans before held after u front first appended;
+  one_packet = inr (packet, sym parts ∙ is);
+}
 
 module _ {A : Type 0} where
   -- ---- what was said
@@ -73,6 +92,7 @@ module _ {A : Type 0} where
   pub record SaysSome (broken : Bool) (old new : Client A) (writer : Flow) : Type 0 where
     pub given : List ℕ
     pub written : WrittenAs broken writer given
+    pub last : broken ≡ true → BreaksOff writer given
     pub says : SaysOn old given new
     pub same_leaving : has_left new ≡ has_left old
     pub sound : fault_of new ≡ None
@@ -91,6 +111,7 @@ module _ {A : Type 0} where
   says_none_yet client held not_ready sound = record {
     given = [];
     written = written_nothing held;
+    last = λ e. absurd (cc);
     says = says_nothing client;
     same_leaving = refl;
     sound = sound;
@@ -117,6 +138,7 @@ module _ {A : Type 0} where
         record {
           given = so_far.given ++ bytes.now;
           written = written_then broken before held after so_far.given bytes.now so_far.written written;
+          last = broke_then broken before held after so_far.given bytes.now tells.packet tells.written so_far.written written;
           says = says_then old middle new so_far.given bytes.now so_far.says says;
           same_leaving = tells.same_leaving ∙ so_far.same_leaving;
           sound = tells.sound;
@@ -130,6 +152,7 @@ module _ {A : Type 0} where
         subst (λ (client : Client A). Says broken old client (flow before after)) (sym stays) (record {
           given = so_far.given;
           written = written_flushed broken before held after so_far.given so_far.written kept;
+          last = λ e. broke_after before after so_far.given (Appends-kept before held after so_far.given so_far.written kept);
           says = so_far.says;
           all = λ whole. all;
           same_leaving = so_far.same_leaving;
@@ -142,6 +165,7 @@ module _ {A : Type 0} where
   says_front old new writer some = record {
     given = some.given;
     written = some.written;
+    last = some.last;
     says = some.says;
     all = λ whole. absurd (cc);
     same_leaving = some.same_leaving;
@@ -151,34 +175,28 @@ module _ {A : Type 0} where
 
   -- ---- what asking does to the history
 
-  module _ (broken : Bool) (old middle new : Client A) (request : Request A) (writer out : Flow) (ready : can_ask old ≡ true)
-      (asks : Asks old request middle) where
+  module _ (broken : Bool) (old middle new : Client A) (request : Request A) (writer out : Flow) (asks : Asks old request middle) where
     -- the question was asked, its line written as far as that went, and these bytes of it given, and written as far as that went
     asks_giving : (given : List ℕ) → WrittenAs broken writer given → WrittenAs broken out (asked_line (command_asked (asked_of request)))
-        → SaysOn middle given new → fault_of new ≡ None → can_ask new ≡ false → AsksNext broken old new request writer out
-    asks_giving given said told says sound not_ready = record {
+        → (broken ≡ true → BreaksOff writer given) → SaysOn middle given new → fault_of new ≡ None → can_ask new ≡ false
+        → AsksNext broken old new request writer out
+    asks_giving given said told last says sound not_ready = record {
       passes = asks.passes;
       given = given;
       said = said;
       told = told;
+      last = last;
       sound = sound;
       not_ready = not_ready;
-      goes = λ t h lines packed counts along. record {
-        stands = says t (record h { asked = h.asked ++ asked_of request ∷ [] }) (asks.asks t h along.stands);
-        told = subst (λ (can : Bool). IsTold can (record h { asked = h.asked ++ asked_of request ∷ []; given = h.given ++ given })
-            (lines ++ asked_line (command_asked (asked_of request))) no_counts) (sym not_ready)
-            (told_asked h (asked_of request) lines counts (subst (λ (can : Bool). IsTold can h lines counts) ready along.told));
-        pack_is = along.pack_is;
-        within = omega arith;
-      };
+      goes = λ t h stands. says t (record h { asked = h.asked ++ asked_of request ∷ [] }) (asks.asks t h stands);
     }
 
   -- the question was taken, and a write of its line failed
-  pub asks_unsaid : (old middle : Client A) (request : Request A) (held : Option (List ℕ)) (out : Flow) → can_ask old ≡ true → Asks old request middle
+  pub asks_unsaid : (old middle : Client A) (request : Request A) (held : Option (List ℕ)) (out : Flow) → Asks old request middle
       → WrittenAs true out (asked_line (command_asked (asked_of request))) → AsksNext true old middle request (flow held held) out
-  asks_unsaid old middle request held out ready asks told =
-      asks_giving true old middle middle request (flow held held) out ready asks [] (in_part (flow held held) [] (written_nothing held)) told
-      (says_nothing middle) (sound_where_owed middle.phase middle.request _ _ asks.owes) asks.no_more
+  asks_unsaid old middle request held out asks told =
+      asks_giving true old middle middle request (flow held held) out asks [] (in_part (flow held held) [] (written_nothing held)) told
+      (λ e. nothing_broke held) (says_nothing middle) (sound_where_owed middle.phase middle.request _ _ asks.owes) asks.no_more
 
   -- all of the question was said, so its response is due
   pub hears_next : (old middle new : Client A) (request : Request A) (writer : Flow) → Asks old request middle → Says false middle new writer
@@ -188,22 +206,22 @@ module _ {A : Type 0} where
       (says.same_leaving ∙ owes_before_leaving middle.phase middle.request _ _ asks.owes) new.owes (says.all refl)
 
   -- the question was taken, its line written, and its packets said as far as that went
-  pub asks_said : (r : Result (Unit {0}) RunFault) (old middle new : Client A) (request : Request A) (writer out : Flow) → can_ask old ≡ true
+  pub asks_said : (r : Result (Unit {0}) RunFault) (old middle new : Client A) (request : Request A) (writer out : Flow)
       → Asks old request middle → WrittenAs false out (asked_line (command_asked (asked_of request))) → Says (is_broken r) middle new writer
       → IfErr r (λ fault. fault ≡ WriteFault) → AsksTo r old new request writer out
-  asks_said (Ok done) old middle new request writer out ready asks told says named = (
-    asks_giving false old middle new request writer out ready asks says.given says.written told says.says says.sound says.not_ready,
+  asks_said (Ok done) old middle new request writer out asks told says named = (
+    asks_giving false old middle new request writer out asks says.given says.written told (λ e. absurd (cc)) says.says says.sound says.not_ready,
     hears_next old middle new request writer asks says,
   )
-  asks_said (Err WriteFault) old middle new request writer out ready asks told says named =
-      asks_giving true old middle new request writer out ready asks says.given says.written (in_part out _ told) says.says says.sound
+  asks_said (Err WriteFault) old middle new request writer out asks told says named =
+      asks_giving true old middle new request writer out asks says.given says.written (in_part out _ told) says.last says.says says.sound
       says.not_ready
-  asks_said (Err fault) old middle new request writer out ready asks told says named = absurd (cc)
+  asks_said (Err fault) old middle new request writer out asks told says named = absurd (cc)
 
   -- the same where all of it was said: just what was given was said
-  pub asks_whole : (old middle new : Client A) (request : Request A) (writer out : Flow) → can_ask old ≡ true → Asks old request middle
+  pub asks_whole : (old middle new : Client A) (request : Request A) (writer out : Flow) → Asks old request middle
       → WrittenAs false out (asked_line (command_asked (asked_of request))) → (says : Says false middle new writer)
       → (step : AsksNext false old new request writer out) × (step.given ≡ says.given)
   unfolding asks_giving
-  asks_whole old middle new request writer out ready asks told says =
-      (asks_giving false old middle new request writer out ready asks says.given says.written told says.says says.sound says.not_ready, refl)
+  asks_whole old middle new request writer out asks told says =
+      (asks_giving false old middle new request writer out asks says.given says.written told (λ e. absurd (cc)) says.says says.sound says.not_ready, refl)

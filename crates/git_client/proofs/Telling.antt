@@ -1,5 +1,5 @@
 -- What one event comes to: its line, its bytes of the pack, and the counts after it.
-use Rattle.std.proofs.Common.{arith, ◌≡◌, ℕ, ◌+◌, ◌<◌, min, Bool, false, List, [], ◌∷◌, length, map, Bor}
+use Rattle.std.proofs.Common.{arith, ◌≡◌, ℕ, ◌+◌, min, Bool, false, List, [], ◌∷◌, length, map, Bor}
 use Rattle.std.proofs.Common.{Option, Result, Ok, Err, OnOk, OnErr, IfErr, refl, sym, ap, ◌∙◌, subst}
 use Rattle.std.specs.Io.KnownBytes.{Appends}
 use Rattle.git_pkt.specs.Told.{AppendsFront}
@@ -7,7 +7,7 @@ use Rattle.git_pkt.specs.declared.fault.RunFault.{RunFault}
 use Rattle.git_pkt.specs.declared.fault.RunFault.TheVariants.{WriteFault}
 use Rattle.git_client.specs.Events.{pack, progress, pack_bytes}
 use Rattle.git_pkt.specs.Streams.{flow, is_broken, WrittenAs}
-use Rattle.git_client.specs.RunSteps.{progress_bytes, counted}
+use Rattle.git_client.specs.RunSteps.{progress_bytes, counts_with, CanCount}
 use Rattle.git_client.specs.Transcript.{lines_of}
 use Rattle.git_client.specs.Turns.{values_of}
 use Rattle.git_client.specs.declared.events.Event.{Event}
@@ -57,12 +57,11 @@ module _ (e : Event) (bytes : Bor (List ℕ)) where
   pack_sent is = ap (λ (x : Event). pack_bytes (values_of x)) is ∙ (band_is (1 ∷ bytes.now) (map pack bytes.now) refl).1
 
   pub pack_counted : e ≡ Pack bytes → (counts : Counts) (n : ℕ) → n ≡ min (counts.pack + length bytes.now) 18446744073709551615
-      → counts.progress < 18446744073709551616 → counts_of n counts.progress ≡ counted counts (values_of e)
-  pack_counted is counts n total small =
+      → CanCount counts (values_of e) → counts_of n counts.progress ≡ counts_with counts (values_of e)
+  pack_counted is counts n total can =
       let none : length (progress_bytes (values_of e)) ≡ 0 =
       ap (λ (x : Event). length (progress_bytes (values_of x))) is ∙ no_progress_of_pack bytes.now in
-      same_counts n counts.progress _ _ (total ∙ ap (λ (k : ℕ). min (counts.pack + k) 18446744073709551615) (sym (ap length (pack_sent is))))
-      (omega (arith, none, small))
+      same_counts n counts.progress _ _ (omega (arith, total, can.pack, ap length (pack_sent is))) (omega (arith, none))
 
   pub progress_lines : e ≡ Progress bytes → (p q : ℕ) → lines_of (values_of e) p q ≡ []
   progress_lines is p q = ap (λ (x : Event). lines_of (values_of x) p q) is ∙ no_lines_of_progress bytes.now p q
@@ -71,9 +70,8 @@ module _ (e : Event) (bytes : Bor (List ℕ)) where
   progress_unsent is = ap (λ (x : Event). pack_bytes (values_of x)) is ∙ (band_is (2 ∷ bytes.now) (map progress bytes.now) refl).1
 
   pub progress_counted : e ≡ Progress bytes → (counts : Counts) (n : ℕ) → n ≡ min (counts.progress + length bytes.now) 18446744073709551615
-      → counts.pack < 18446744073709551616 → counts_of counts.pack n ≡ counted counts (values_of e)
-  progress_counted is counts n total small =
+      → CanCount counts (values_of e) → counts_of counts.pack n ≡ counts_with counts (values_of e)
+  progress_counted is counts n total can =
       let all : length (progress_bytes (values_of e)) ≡ length bytes.now =
       ap (λ (x : Event). length (progress_bytes (values_of x))) is ∙ ap length (progress_is bytes.now) in
-      same_counts counts.pack n _ _ (omega (arith, ap length (progress_unsent is), small))
-      (total ∙ ap (λ (k : ℕ). min (counts.progress + k) 18446744073709551615) (sym all))
+      same_counts counts.pack n _ _ (omega (arith, ap length (progress_unsent is))) (omega (arith, total, can.progress, all))

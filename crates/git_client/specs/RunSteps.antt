@@ -1,19 +1,20 @@
 -- What the steps of a run do: a client hears the next response, and says the next question.
-use Rattle.std.specs.Prelude.{◌≡◌, ℕ, ◌+◌, ◌-◌, ◌≤◌, ◌<◌, Bool, true, false, min, List, [], ◌∷◌, ◌++◌, length, take, drop, Some, None, Result, Ok, Err}
-use Rattle.std.specs.Io.KnownBytes.{Consumes}
+use Rattle.std.specs.Prelude.{◌≡◌, ◌⊎◌, ℕ, ◌+◌, ◌-◌, ◌≤◌, ◌<◌, Bool, true, false, List, [], ◌∷◌, ◌++◌, length, take, drop, Some, None, Result, Ok, Err}
+use Rattle.std.specs.Io.KnownBytes.{Appends, Consumes}
+use Rattle.git_pkt.specs.Packets.{Pkt, spelling_of}
 use Rattle.git_pkt.specs.Streams.{Flow, WrittenAs, IsTimely}
 use Rattle.git_pkt.specs.PacketReader.{ShownByFeed}
 use Rattle.git_pkt.specs.declared.fault.Fault.{Fault}
 use Rattle.git_pkt.specs.declared.fault.RunFault.{RunFault}
 use Rattle.git_pkt.specs.declared.fault.RunFault.TheVariants.{ReadFault, WriteFault, ReadLimit, Refused}
-use Rattle.git_msg.specs.Asked.{Asked, command_asked}
+use Rattle.git_msg.specs.Asked.{command_asked}
 use Rattle.git_msg.specs.Checks.{Passes, Refuses as RefusesBy}
 use Rattle.git_msg.specs.HeldRequest.{asked_of}
 use Rattle.git_msg.specs.declared.requests.Request.{Request}
 use Rattle.git_client.specs.Parts.{Terms}
-use Rattle.git_client.specs.Events.{EventValue, progress, pack_bytes}
-use Rattle.git_client.specs.Transcript.{transcript_of, transcript_from, next_asked, asked_line}
-use Rattle.git_client.specs.Client.{History, Converses, SaysOn, ask_checks, bytes_used, can_ask, caps_of, fault_of, format_of}
+use Rattle.git_client.specs.Events.{EventValue, offered, progress, ended as response_ended, pack_bytes}
+use Rattle.git_client.specs.Transcript.{transcript_from, asked_line}
+use Rattle.git_client.specs.Client.{History, Converses, HearsOn, SaysOn, ask_checks, bytes_used, can_ask, caps_of, fault_of, format_of}
 use Rattle.git_client.specs.Client.{has_left, left_to_say, wants_input}
 use Rattle.git_client.specs.declared.client.Client.{Client}
 use Rattle.git_client.specs.declared.hearing.Counts.{Counts}
@@ -28,53 +29,52 @@ progress_bytes (event ∷ events) = progress_bytes events
 abbrev pub no_counts : Counts
 no_counts = record { pack = 0; progress = 0 }
 
--- the counts after these events of a response, as far as a count can rise
-abbrev pub counted : Counts → List EventValue → Counts
-counted counts events = record {
-  pack = min (counts.pack + length (pack_bytes events)) 18446744073709551615;
-  progress = min (counts.progress + length (progress_bytes events)) 18446744073709551615;
+-- the counts after these events of a response
+abbrev pub counts_with : Counts → List EventValue → Counts
+counts_with counts events = record {
+  pack = counts.pack + length (pack_bytes events);
+  progress = counts.progress + length (progress_bytes events);
 }
 
--- however the conversation goes on, its transcript begins with these lines. Where the client can ask, the line of the next
--- question comes after them; else so many bytes of the pack and the progress of the response have come.
-abbrev pub IsTold : Bool → History → List ℕ → Counts → Type 0
-IsTold true h lines counts = (later : List Asked) (more : List EventValue)
-    → transcript_of (h.asked ++ later) (h.events ++ more) ≡ lines ++ next_asked later ++ transcript_from (drop 1 later) 0 0 more
-IsTold false h lines counts = (later : List Asked) (more : List EventValue)
-    → transcript_of (h.asked ++ later) (h.events ++ more) ≡ lines ++ transcript_from later counts.pack counts.progress more
+-- the counts do not come to their end by these events
+pub record CanCount (counts : Counts) (events : List EventValue) : Type 0 where
+  pub pack : counts.pack + length (pack_bytes events) ≤ 18446744073709551615
+  pub progress : counts.progress + length (progress_bytes events) ≤ 18446744073709551615
+
+-- the events are all of one response, or of the advertisement: its end is the last, and after it alone the client can ask
+abbrev pub IsOneTurn : List EventValue → Bool → Type 0
+IsOneTurn [] asks = asks ≡ false
+IsOneTurn (offered ∷ events) asks = (events ≡ []) × (asks ≡ true)
+IsOneTurn (response_ended ∷ events) asks = (events ≡ []) × (asks ≡ true)
+IsOneTurn (event ∷ events) asks = IsOneTurn events asks
 
 -- the bytes of a piece that nobody used yet
 abbrev pub window_of : Window → List ℕ → List ℕ
 window_of window piece = take (window.end - window.start) (drop window.start piece)
 
+-- of the packets given all before the last were written whole, and of that one a front
+pub record BreaksOff (stream : Flow) (given : List ℕ) : Type 0 where
+  pub whole : List ℕ
+  pub front : List ℕ
+  pub rest : List ℕ
+  pub parts : given ≡ whole ++ (front ++ rest)
+  pub written : Appends stream.before stream.after (whole ++ front)
+  pub one_packet : (front ++ rest ≡ []) ⊎ ((packet : Pkt) × (front ++ rest ≡ spelling_of packet))
+
 module _ {A : Type 0} where
-  -- after this history a client on these terms stands so, with these lines of the transcript, and these bytes of the pack
-  pub record Along (t : Terms) (h : History) (client : Client A) (lines packed : List ℕ) (counts : Counts) : Type 0 where
-    pub stands : Converses t h client
-    pub told : IsTold (can_ask client) h lines counts
-    pub pack_is : packed ≡ pack_bytes h.events
-    pub within : counts.pack + counts.progress ≤ length h.events
-
-  -- whatever the history was, it goes on by the bytes used, with these lines more, and these bytes of the pack; the counts rise by what
-  -- was heard
-  abbrev pub GoesAlong : Client A → Client A → Counts → Counts → List ℕ → List ℕ → List ℕ → Type 0
-  GoesAlong old new counts counts_after used lines packed =
-      (t : Terms) (h : History) (lines_before packed_before : List ℕ) → Along t h old lines_before packed_before counts
-      → (events : List EventValue)
-      × Along t (record h { used = h.used ++ used; events = h.events ++ events }) new (lines_before ++ lines) (packed_before ++ packed) counts_after
-      × (counts_after ≡ counted counts events)
-
-  -- so many bytes of the piece were heard, and what they say was written
-  pub record HearsPiece (broken : Bool) (old new : Client A) (counts counts_after : Counts) (piece : List ℕ) (used : ℕ) (out packs : Flow) : Type 0 where
-    pub lines : List ℕ
-    pub packed : List ℕ
-    pub told : WrittenAs broken out lines
-    pub sent : WrittenAs broken packs packed
-    pub goes : GoesAlong old new counts counts_after (take used piece) lines packed
+  -- these bytes were heard: the lines of the transcript that they say were written, after what was counted of the response before, and
+  -- their bytes of the pack
+  pub record HearsBytes (broken : Bool) (old new : Client A) (counts counts_after : Counts) (used : List ℕ) (out packs : Flow) : Type 0 where
+    pub events : List EventValue
+    pub hears : HearsOn old used events new
+    pub one_turn : IsOneTurn events (can_ask new)
+    pub counted : CanCount counts events → counts_after ≡ counts_with counts events
+    pub told : CanCount counts events → WrittenAs broken out (transcript_from [] counts.pack counts.progress events)
+    pub sent : WrittenAs broken packs (pack_bytes events)
 
   -- all of the piece was used, or the client can ask
   pub record HearsInPiece (old new : Client A) (counts counts_after : Counts) (piece : List ℕ) (used : ℕ) (out packs : Flow) : Type 0 where
-    pub hears : HearsPiece false old new counts counts_after piece used out packs
+    pub hears : HearsBytes false old new counts counts_after (take used piece) out packs
     pub within : used ≤ length piece
     pub all : wants_input new ≡ true → used ≡ length piece
     pub sound : fault_of new ≡ None
@@ -84,14 +84,14 @@ module _ {A : Type 0} where
   -- a fault was met in the piece
   pub record HearsToFault (fault : Fault) (old new : Client A) (counts counts_after : Counts) (piece : List ℕ) (out packs : Flow) : Type 0 where
     pub used : ℕ
-    pub hears : HearsPiece false old new counts counts_after piece used out packs
+    pub hears : HearsBytes false old new counts counts_after (take used piece) out packs
     pub told : fault_of new ≡ Some fault
     pub shown : ShownByFeed fault used piece
 
   -- a write or a flush failed; a fault that the client has is one that the piece shows
   pub record HearsPieceBroken (old new : Client A) (counts counts_after : Counts) (piece : List ℕ) (out packs : Flow) : Type 0 where
     pub used : ℕ
-    pub hears : HearsPiece true old new counts counts_after piece used out packs
+    pub hears : HearsBytes true old new counts counts_after (take used piece) out packs
     pub shown : (fault : Fault) → fault_of new ≡ Some fault → ShownByFeed fault used piece
 
   -- how a piece was heard
@@ -105,42 +105,38 @@ module _ {A : Type 0} where
   abbrev pub FaultsInTime : Client A → Bool → List ℕ → Type 0
   FaultsInTime client ended unused = (fault : Fault) → fault_of client ≡ Some fault → IsTimely fault.kind ended unused
 
-  -- of the bytes that waited and those that came, all but the last were heard, and what they say was written
-  pub record HearsBytes (broken : Bool) (old new : Client A) (waiting unused : List ℕ) (reader out packs : Flow) : Type 0 where
+  -- of the bytes that waited and those that came, all but the last were heard
+  pub record HearsFrom (broken : Bool) (old new : Client A) (waiting unused : List ℕ) (reader out packs : Flow) : Type 0 where
     pub came : List ℕ
     pub used : List ℕ
-    pub lines : List ℕ
-    pub packed : List ℕ
     pub counts : Counts
     pub read : Consumes reader.before reader.after came
     pub parts : waiting ++ came ≡ used ++ unused
-    pub told : WrittenAs broken out lines
-    pub sent : WrittenAs broken packs packed
-    pub goes : GoesAlong old new no_counts counts used lines packed
+    pub bytes : HearsBytes broken old new no_counts counts used out packs
 
   -- a response was heard whole
   pub record HearsWhole (window : Window) (old new : Client A) (waiting piece : List ℕ) (reader out packs : Flow) : Type 0 where
-    pub hears : HearsBytes false old new waiting (window_of window piece) reader out packs
+    pub hears : HearsFrom false old new waiting (window_of window piece) reader out packs
     pub ordered : window.start ≤ window.end
     pub within : window.end ≤ length piece
     pub can_ask_on : can_ask new ≡ true
 
   -- all bytes were heard, and more are due
   pub record HearsAll (old new : Client A) (waiting : List ℕ) (reader out packs : Flow) : Type 0 where
-    pub hears : HearsBytes false old new waiting [] reader out packs
+    pub hears : HearsFrom false old new waiting [] reader out packs
     pub due : wants_input new ≡ true
 
   -- a fault was met
   pub record HearsFault (fault : Fault) (ended : Bool) (old new : Client A) (waiting : List ℕ) (reader out packs : Flow) : Type 0 where
     pub unused : List ℕ
-    pub hears : HearsBytes false old new waiting unused reader out packs
+    pub hears : HearsFrom false old new waiting unused reader out packs
     pub told : fault_of new ≡ Some fault
     pub timely : IsTimely fault.kind ended unused
 
   -- a write or a flush failed; a fault that the client has came in time
   pub record HearsBroken (ended : Bool) (old new : Client A) (waiting : List ℕ) (reader out packs : Flow) : Type 0 where
     pub unused : List ℕ
-    pub hears : HearsBytes true old new waiting unused reader out packs
+    pub hears : HearsFrom true old new waiting unused reader out packs
     pub timely : FaultsInTime new ended unused
 
   -- how a response was heard
@@ -151,10 +147,11 @@ module _ {A : Type 0} where
   HearsTo (Err WriteFault) ended old new waiting piece reader out packs = HearsBroken ended old new waiting reader out packs
   HearsTo (Err (Refused fault)) ended old new waiting piece reader out packs = HearsFault fault ended old new waiting reader out packs
 
-  -- packets that were owed were given, and written; all of them, unless a write failed
+  -- packets that were owed were given, and written; all of them, unless a write failed, and then no more were given than that
   pub record Says (broken : Bool) (old new : Client A) (writer : Flow) : Type 0 where
     pub given : List ℕ
     pub written : WrittenAs broken writer given
+    pub last : broken ≡ true → BreaksOff writer given
     pub says : SaysOn old given new
     pub all : broken ≡ false → left_to_say new ≡ []
     pub same_leaving : has_left new ≡ has_left old
@@ -168,11 +165,11 @@ module _ {A : Type 0} where
     pub given : List ℕ
     pub said : WrittenAs broken writer given
     pub told : WrittenAs broken out (asked_line (command_asked (asked_of request)))
+    pub last : broken ≡ true → BreaksOff writer given
     pub sound : fault_of new ≡ None
     pub not_ready : can_ask new ≡ false
-    pub goes : (t : Terms) (h : History) (lines packed : List ℕ) (counts : Counts) → Along t h old lines packed counts
-        → Along t (record h { asked = h.asked ++ asked_of request ∷ []; given = h.given ++ given }) new
-        (lines ++ asked_line (command_asked (asked_of request))) packed no_counts
+    pub goes : (t : Terms) (h : History) → Converses t h old
+        → Converses t (record h { asked = h.asked ++ asked_of request ∷ []; given = h.given ++ given }) new
 
   -- the request was refused, and nothing is changed
   pub record AsksNot (fault : Fault) (old new : Client A) (request : Request A) (writer out : Flow) : Type 0 where

@@ -69,12 +69,16 @@ module _ {A : Type 0} where
     pub leaves : h.left ≡ leaves_last t.ending
     pub said : HasSaid t h
 
+  -- a write failed: the client has left only after the response to the last request, and not where each request has a connection of its own
+  pub record IsBrokenRun (t : Terms) (rest : List (Request A)) (h : History) : Type 0 where
+    pub left_last : h.left ≡ true → (rest ≡ []) × IsConversation t h.asked h.used h.events × (leaves_last t.ending ≡ true)
+
   -- how a run ended, where these requests were not asked
   abbrev pub EndsAs : Terms → Result (Unit {0}) RunFault → Bool → List ℕ → List (Request A) → History → Type 0
   EndsAs t (Ok done) ended unused rest h = IsWholeRun t rest h
   EndsAs t (Err ReadFault) ended unused rest h = IsInterrupted t unused h
   EndsAs t (Err ReadLimit) ended unused rest h = IsInterrupted t unused h
-  EndsAs t (Err WriteFault) ended unused rest h = Unit {0}
+  EndsAs t (Err WriteFault) ended unused rest h = IsBrokenRun t rest h
   EndsAs t (Err (Refused fault)) ended unused rest h =
       (IsMalformed t ended unused h fault ⊎ IsRefusedRequest t rest h fault) × (h.left ≡ false) × HasSaid t h
 

@@ -27,7 +27,8 @@ use std::io::{Read, Write};
 ///
 /// `Refused` with the first fault of what the server said, or with what [`Client::ask`] refused of a request, after the
 /// responses to those before it; `ReadFault` where a read fails, `WriteFault` where a write or a flush does, and
-/// `ReadLimit` where a further read than the `turns` that are allowed would be needed.
+/// `ReadLimit` where a further read than the `turns` that are allowed would be needed. After `WriteFault` the client is spent, since it may
+/// have heard or given more than was written.
 pub fn converse<R: Read, W: Write, O: Write, P: Write, A: Allocator + Copy>(
     reader: &mut Told<R>,
     writer: &mut Told<W>,

@@ -6,7 +6,7 @@ ghost use Rattle.git_pkt.specs.Engine.{FailsAs, IsShownBy, IsSpent};
 ghost use Rattle.git_pkt.specs.Streams.{flow, is_broken, WrittenAs};
 ghost use Rattle.git_client.specs.Client.{wants_input};
 ghost use Rattle.git_client.specs.Events.{pack_bytes};
-ghost use Rattle.git_client.specs.RunSteps.{counted, window_of, HearsPieceTo, HearsTo};
+ghost use Rattle.git_client.specs.RunSteps.{counts_with, window_of, CanCount, HearsPieceTo, HearsTo};
 ghost use Rattle.git_client.specs.Transcript.{lines_of};
 ghost use Rattle.git_client.specs.Turns.{values_of};
 
@@ -36,12 +36,14 @@ pub struct Counts {
     pub progress: u64,
 }
 
-/// Hears what is due, the advertisement or a response, from its first byte up to where the client can ask. What waits of the piece is heard
+/// Hears what is due, the advertisement or a response, or the rest of one, up to where the client can ask. What waits of the piece is heard
 /// first, and then what is read into it. The transcript's lines are written to `out` and the bytes of the pack to `pack`; both
-/// are flushed before each read and at the end. Answers what of the piece was not used.
+/// are flushed before each read and at the end. The line at a response's end counts what was heard by this call. Answers what of the
+/// piece was not used.
 ///
 /// `Refused` with the first fault of what was heard; `ReadFault` where a read fails, `WriteFault` where a write or a flush
-/// does, and `ReadLimit` where the reader has made as many reads as `turns` and needs one more.
+/// does, and `ReadLimit` where the reader has made as many reads as `turns` and needs one more. After `ReadFault` and `ReadLimit` the
+/// client waits for the rest; after `WriteFault` it is spent, since it may have heard more than was written.
 pub fn hear<R: Read, O: Write, P: Output, A: Allocator + Copy>(
     client: &mut Client<A>,
     reader: &mut Told<R>,
@@ -97,7 +99,8 @@ pub fn hear<R: Read, O: Write, P: Output, A: Allocator + Copy>(
 /// Hears what a piece says, up to where the client can ask, and counts on from `counts`, those of the response so far. Answers how
 /// many bytes were used. What was said before a fault is flushed.
 ///
-/// `Refused` with the first fault of what was heard, and `WriteFault` where a write or a flush fails.
+/// `Refused` with the first fault of what was heard, and `WriteFault` where a write or a flush fails: the client is spent then, since it
+/// may have heard more than was written.
 pub fn hear_piece<O: Write, P: Output, A: Allocator + Copy>(
     client: &mut Client<A>,
     counts: &mut Counts,
@@ -142,7 +145,7 @@ fn tell<O: Write, P: Output>(
         (lines_of (values_of event.now) counts.old.pack counts.old.progress) }
     ensures sent { WrittenAs (is_broken result) (flow (P.contents pack.old) (P.contents pack.new))
         (pack_bytes (values_of event.now)) }
-    ensures counts { counts.new ≡ counted counts.old (values_of event.now) }
+    ensures counts { CanCount counts.old (values_of event.now) → counts.new ≡ counts_with counts.old (values_of event.now) }
     ensures fault { IfErr result (λ fault. fault ≡ RunFault.WriteFault) }
     ensures failed { (has_failed out.new || P.failed pack.new) ≡ ((has_failed out.old || P.failed pack.old) || is_err result) }
 {

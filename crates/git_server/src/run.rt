@@ -69,8 +69,8 @@ fn serve_piece<W: Write, R: Repo, A: Allocator + Copy>(
 ///
 /// `ReadFault` where a read fails, `WriteFault` where a write or a flush does, and `ReadLimit` where a further read
 /// than the `turns` that are allowed would be needed. After `ReadFault` and `ReadLimit` the session goes on: the server waits for
-/// input, and may be run again over another reader. A session that a fault of the input ended is no such fault: it is the outcome
-/// `Refused`.
+/// input, and may be run again over another reader. After `WriteFault` the server is spent, since it may have given more than was written.
+/// A session that a fault of the input ended is no such fault: it is the outcome `Refused`.
 pub fn serve<In: Read, W: Write, R: Repo, A: Allocator + Copy>(
     reader: &mut Told<In>,
     writer: &mut Told<W>,

@@ -21,8 +21,8 @@ returns-in_err-left-clause-checked g c =
     c.new-client.ensures.converses in
     ends_at g.row.A.Denot t USUAL c.args.requests.now c.hear.new.reader c.from_residual.result (of_responses c.in_err-left.field-0.0) _ _ _
     c.from_residual.ensures.1
-    (hearing_stopped g.row.A.Denot t USUAL c.args.requests.now c.hear.new.reader [] c.new-client.result c.hear.new.client [] _ _ due c.in_err-left.field-0.0
-    c.hear.new.piece c.args.turns _ _ _ c.in_err-left.ensures.heard c.in_err-left.ensures.told c.in_err-left.ensures.fault)
+    (hearing_stopped g.row.A.Denot t USUAL c.args.requests.now c.hear.new.reader [] c.new-client.result c.hear.new.client [] _ _ due
+    c.new-client.ensures.waits c.in_err-left.field-0.0 c.hear.new.piece c.args.turns _ _ _ c.in_err-left.ensures.heard c.in_err-left.ensures.told c.in_err-left.ensures.fault)
 
 pub loop-asking-init : goal.loop-asking-init
 loop-asking-init g c =
@@ -34,7 +34,8 @@ loop-asking-init g c =
     c.new-client.ensures.converses in
     record {
       checking =
-          advertised t USUAL c.new-client.result c.hear.new.client c.new-asking.result c.in_ok-left.left c.hear.new.piece due heard c.new-asking.ensures.reads
+          advertised t USUAL c.new-client.result c.hear.new.client c.new-asking.result c.in_ok-left.left c.hear.new.piece due
+          c.new-client.ensures.waits heard c.new-asking.ensures.reads
           (c.new-asking.ensures.offer ∙ c.offer.ensures ∙ ap (λ (caps : Caps). noted_offer caps c.args.format) c.caps.ensures.value)
           c.new-asking.ensures.limit;
       wants = c.new-asking.ensures.waits;
@@ -90,8 +91,8 @@ returns-in_err-left-2-clause-checked g c =
     ends_at g.row.A.Denot t USUAL c.next_request.new.reader c.hear-in-Some.new.reader c.from_residual-in_err-left-2.result
     (of_responses c.in_err-left-2.field-0.0) _ _ _ c.from_residual-in_err-left-2.ensures.1
     (hearing_stopped g.row.A.Denot t USUAL c.next_request.new.reader c.hear-in-Some.new.reader (at.invariant.checking.front ++ request ∷ [])
-    c.ask_next.new.client c.hear-in-Some.new.client waiting _ _ due c.in_err-left-2.field-0.0 c.hear-in-Some.new.piece _ _ _ _ c.in_err-left-2.ensures.heard
-    c.in_err-left-2.ensures.told c.in_err-left-2.ensures.fault)
+    c.ask_next.new.client c.hear-in-Some.new.client waiting _ _ due c.in_ok-ask_next.ensures.asked.1 c.in_err-left-2.field-0.0 c.hear-in-Some.new.piece
+    _ _ _ _ c.in_err-left-2.ensures.heard c.in_err-left-2.ensures.told c.in_err-left-2.ensures.fault)
 
 pub loop-asking-smaller : goal.loop-asking-smaller
 loop-asking-smaller g c =
@@ -108,7 +109,7 @@ loop-asking-preserved g c =
           response_heard (terms_of c.args.format c.args.ending) USUAL at.client c.ask_next.new.client c.hear-in-Some.new.client at.asking
           c.next_request.new.stream c.in-Some.request (has_ended c.next_request.new.reader) (window_of at.waiting at.piece)
           (window_of c.next_request.new.waiting c.next_request.new.piece) (window_of at.left at.other_piece) c.in_ok-left-2.left
-          c.hear-in-Some.new.piece at.invariant.checking step c.in_ok-ask_next.ensures.asked.0 heard;
+          c.hear-in-Some.new.piece at.invariant.checking step c.in_ok-ask_next.ensures.asked.0 c.in_ok-ask_next.ensures.asked.1 heard;
       wants = step.onward;
       room = omega (arith, at.invariant.room, c.in_ok-request.ensures.room);
       ordered = c.in_ok-request.ensures.ordered;

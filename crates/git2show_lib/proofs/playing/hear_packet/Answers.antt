@@ -5,8 +5,8 @@ use Rattle.git_pkt.specs.Streams.{flow}
 use Rattle.git_client.specs.Client.{wants_input}
 use Rattle.git_client.specs.RunSteps.{HearsPieceTo}
 use Rattle.git_client.proofs.Alongs.{at_fault}
-use Rattle.git_client.proofs.HearingSteps.{nothing_heard}
-use Rattle.git_client.proofs.Phases.{sound_where_due}
+use Rattle.git_client.proofs.HeardBytes.{nothing_heard}
+use Rattle.git_client.proofs.Phases.{not_ready_where_due, sound_where_due}
 use Rattle.git2show_lib.proofs.PlayHearing.{heard_on, hearing_stopped}
 use Rattle.git2show_lib.proofs.PlayTelling.{piece_fits, piece_some}
 use Rattle.git2show_lib.proofs.playing.hear_packet.Goals as goal
@@ -19,7 +19,7 @@ loop-used-init g c = record {
   moves = λ none. let waits = c.requires.waits in absurd (cc);
   out_stays = search rules;
   pack_stays = search rules;
-  hears = nothing_heard _ _ _ _ _;
+  hears = nothing_heard _ _ _ _ (not_ready_where_due _ c.requires.waits);
 }
 
 pub loop-used-smaller : goal.loop-used-smaller
@@ -34,12 +34,13 @@ loop-used-smaller g c =
 pub returns-in_err-used-clause-heard : goal.returns-in_err-used-clause-heard
 returns-in_err-used-clause-heard g c =
     let at = c.loop-used in
+    let waits : wants_input at.client ≡ true = search rules in
     at_fault c.from_residual.result _ c.in_err-used.field-0.0 (λ result. HearsPieceTo result c.args.client.now c.hear_piece.new.client c.args.counts.now
     c.hear_piece.new.counts c.args.packet.now
     (flow (g.O.Write.contents (inner_of c.args.out.now)) (g.O.Write.contents (inner_of c.hear_piece.new.out)))
     (flow (g.P.Output.contents c.args.pack.now) (g.P.Output.contents c.hear_piece.new.pack))) refl c.from_residual.ensures.1
     (hearing_stopped c.args.packet.now at.used c.min.result at.invariant.within c.args.client.now at.client c.hear_piece.new.client c.args.counts.now
-    at.counts c.hear_piece.new.counts at.invariant.hears _ _ c.in_err-used.field-0.0 c.in_err-used.ensures.heard)
+    at.counts c.hear_piece.new.counts waits at.invariant.hears _ _ c.in_err-used.field-0.0 c.in_err-used.ensures.heard)
 
 pub loop-used-preserved : goal.loop-used-preserved
 loop-used-preserved g c =
@@ -47,6 +48,7 @@ loop-used-preserved g c =
     let less : at.used < length c.args.packet.now = search rules in
     let some = piece_some c.args.packet.now at.used c.min.result c.args.cut less c.requires.cut c.min.ensures in
     let step = c.in_ok-used.ensures.heard in
+    let waits : wants_input at.client ≡ true = search rules in
     record {
       within = piece_fits c.args.packet.now at.used c.min.result _ at.invariant.within step.within;
       sound = step.sound;
@@ -55,7 +57,7 @@ loop-used-preserved g c =
       out_stays = (or_parts _ _ c.in_ok-used.ensures.told.1).0;
       pack_stays = (or_parts _ _ c.in_ok-used.ensures.told.1).1;
       hears = heard_on c.args.packet.now at.used c.min.result at.invariant.within c.args.client.now at.client c.hear_piece.new.client c.args.counts.now
-          at.counts c.hear_piece.new.counts at.invariant.hears false _ step.within step.hears;
+          at.counts c.hear_piece.new.counts waits at.invariant.hears false _ step.within step.hears;
     }
 
 pub returns-else-wants_input-clause-heard : goal.returns-else-wants_input-clause-heard

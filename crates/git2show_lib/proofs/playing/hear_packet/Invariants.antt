@@ -1,9 +1,9 @@
 -- The client waits for input or can ask, and no writer has failed; what was said in the bytes used was written.
-use Rattle.std.proofs.Common.{◌≡◌, ◌-◌, ◌≤◌, ◌<◌, length, true, false, None}
+use Rattle.std.proofs.Common.{◌≡◌, ◌-◌, ◌≤◌, ◌<◌, length, take, true, false, None}
 use Rattle.git_pkt.specs.Told.{inner_of, has_failed}
 use Rattle.git_pkt.specs.Streams.{flow}
 use Rattle.git_client.specs.Client.{fault_of, can_ask, wants_input}
-use Rattle.git_client.specs.RunSteps.{HearsPiece}
+use Rattle.git_client.specs.RunSteps.{HearsBytes}
 use Rattle.git2show_lib.proofs.playing.hear_packet.Given as goal
 
 abbrev pub invariant-loop-used : goal.invariant-loop-used
@@ -14,7 +14,7 @@ invariant-loop-used g l = record {
   moves : wants_input l.client ≡ false → 0 < l.used;
   out_stays : has_failed l.out ≡ false;
   pack_stays : g.P.Output.failed l.pack ≡ false;
-  hears : HearsPiece false l.fn.client l.client l.fn.counts l.counts l.packet l.used
+  hears : HearsBytes false l.fn.client l.client l.fn.counts l.counts (take l.used l.packet)
       (flow (g.O.Write.contents (inner_of l.fn.out)) (g.O.Write.contents (inner_of l.out)))
       (flow (g.P.Output.contents l.fn.pack) (g.P.Output.contents l.pack));
 }

@@ -21,12 +21,12 @@ returns-in_err-write_asked-clause-asked g c =
     let told = flow (g.O.Write.contents (inner_of c.args.out.now)) (g.O.Write.contents (inner_of c.write_asked.new.out)) in
     at_fault c.from_residual.result _ _ (λ (result : Result (Unit {0}) RunFault). AsksTo result c.args.client.now c.ask.new.self c.args.request said told)
     c.in_err-write_asked.ensures.fault c.from_residual.ensures.1
-    (asks_unsaid _ _ _ _ told c.requires.ready c.in_default.ensures.asked
+    (asks_unsaid _ _ _ _ told c.in_default.ensures.asked
     (subst (λ (command : Command). WrittenAs true told (asked_line command)) c.command-command.ensures c.in_err-write_asked.ensures.err))
 
 pub returns-clause-asked : goal.returns-clause-asked
 returns-clause-asked g c =
     let told = flow (g.O.Write.contents (inner_of c.args.out.now)) (g.O.Write.contents (inner_of c.write_asked.new.out)) in
-    asks_said c.say.result _ c.ask.new.self _ _ _ told c.requires.ready c.in_default.ensures.asked
+    asks_said c.say.result _ c.ask.new.self _ _ _ told c.in_default.ensures.asked
     (subst (λ (command : Command). WrittenAs false told (asked_line command)) c.command-command.ensures c.in_ok-write_asked.ensures.ok)
     c.say.ensures.says c.say.ensures.fault

@@ -54,7 +54,7 @@ returns-in_err-waiting-clause-conversed g c =
     c.hear.new.piece
     (begins t c.args.client.now (g.R.Read.remaining (inner_of c.args.reader.now)) (g.W.Write.contents (inner_of c.args.writer.now))
     (g.W.Write.contents (inner_of c.flush.new.writer)) (g.O.Write.contents (inner_of c.args.out.now)) (g.P.Write.contents (inner_of c.args.pack.now))
-    c.requires.waits begun c.flush.ensures.bytes) c.in_err-waiting.ensures.heard)
+    c.requires.waits begun c.flush.ensures.bytes) c.requires.waits c.in_err-waiting.ensures.heard)
 
 pub loop-request-init : goal.loop-request-init
 loop-request-init g c =
@@ -66,7 +66,7 @@ loop-request-init g c =
           (hears_on t false [] c.args.client.now c.hear.new.client [] unused
           (begins t c.args.client.now (g.R.Read.remaining (inner_of c.args.reader.now)) (g.W.Write.contents (inner_of c.args.writer.now))
           (g.W.Write.contents (inner_of c.flush.new.writer)) (g.O.Write.contents (inner_of c.args.out.now)) (g.P.Write.contents (inner_of c.args.pack.now))
-          c.requires.waits begun c.flush.ensures.bytes) heard.hears);
+          c.requires.waits begun c.flush.ensures.bytes) c.requires.waits heard.hears);
       ready = heard.can_ask_on;
       left_to_ask = sym c.into_iter-request-iterator.ensures.into_iter_gives.0;
       counted = search rules;
@@ -124,7 +124,7 @@ returns-in_err-waiting-2-clause-conversed g c =
     (one_more c.args.requests.items at.yielded (into_iter_items at.request-iterator) later request at.invariant.left_to_ask c.in-Some.ensures.steps.0)
     c.in_err-waiting-2.field-0.0 _ c.ask_next.new.client c.hear-in-loop-request.new.client (window_of at.waiting at.piece) c.hear-in-loop-request.new.piece
     (asks_on t false at.yielded at.client c.ask_next.new.client request no_counts (window_of at.waiting at.piece) (at.invariant.runs t begun)
-    at.invariant.ready c.in_ok-ask_next.ensures.asked.0) c.in_err-waiting-2.ensures.heard)
+    at.invariant.ready c.in_ok-ask_next.ensures.asked.0) c.in_ok-ask_next.ensures.asked.1 c.in_err-waiting-2.ensures.heard)
 
 pub returns-in_err-waiting-2-clause-fault : goal.returns-in_err-waiting-2-clause-fault
 returns-in_err-waiting-2-clause-fault g c =
@@ -152,7 +152,7 @@ loop-request-preserved g c =
           counts_anew t (at.yielded ++ request ∷ []) c.hear-in-loop-request.new.client heard.hears.counts unused heard.can_ask_on
           (hears_on t false (at.yielded ++ request ∷ []) c.ask_next.new.client c.hear-in-loop-request.new.client waiting unused
           (asks_on t false at.yielded at.client c.ask_next.new.client request no_counts waiting (at.invariant.runs t begun)
-          at.invariant.ready c.in_ok-ask_next.ensures.asked.0) heard.hears);
+          at.invariant.ready c.in_ok-ask_next.ensures.asked.0) c.in_ok-ask_next.ensures.asked.1 heard.hears);
       ready = heard.can_ask_on;
       left_to_ask =
           one_more c.args.requests.items at.yielded (into_iter_items at.request-iterator) later request at.invariant.left_to_ask c.in-Some.ensures.steps.0;
@@ -178,7 +178,7 @@ returns-in_err-say-clause-conversed g c =
     (leaving_stopped t c.args.requests.items at.yielded
     (none_more c.args.requests.items at.yielded (into_iter_items at.request-iterator) at.invariant.left_to_ask
     (sym at.invariant.counted ∙ c.in-None.ensures.steps.0)) at.client c.leave.new.self c.say.new.client no_counts (window_of at.waiting at.piece)
-    at.invariant.ready c.leave.ensures _ (at.invariant.runs t begun)
+    at.invariant.ready c.leave.ensures _ (same_true the_type (search rules) _ _ (sym c.if-eq.ensures)) (at.invariant.runs t begun)
     (subst (λ (fault : RunFault). Says (write_broke fault) c.leave.new.self c.say.new.client
     (flow (g.W.Write.contents (inner_of at.writer)) (g.W.Write.contents (inner_of c.say.new.writer)))) c.in_err-say.ensures.fault c.in_err-say.ensures.says))
 

@@ -1,4 +1,4 @@
-use Rattle.std.proofs.Common.{arith, false}
+use Rattle.std.proofs.Common.{false}
 use Rattle.git_client.proofs.Telling.{left_alone, written_by, pack_lines, pack_sent, pack_counted, progress_lines, progress_unsent, progress_counted}
 use Rattle.git_client.proofs.hearing.tell.Goals as goal
 
@@ -10,7 +10,7 @@ returns-in-Pack-clause-sent g c = rw (pack_sent c.args.event.now c.in-Pack.bytes
     (written_by c.send.result _ _ _ c.send.ensures.ok c.send.ensures.err c.send.ensures.fault)
 
 pub returns-in-Pack-clause-counts : goal.returns-in-Pack-clause-counts
-returns-in-Pack-clause-counts g c = pack_counted _ c.in-Pack.bytes c.in-Pack.is c.args.counts.now _ c.saturating_add-counts.ensures (omega arith)
+returns-in-Pack-clause-counts g c can = pack_counted _ c.in-Pack.bytes c.in-Pack.is c.args.counts.now _ c.saturating_add-counts.ensures can
 
 pub returns-in-Progress-clause-told : goal.returns-in-Progress-clause-told
 returns-in-Progress-clause-told g c = left_alone false _ _ (progress_lines _ c.in-Progress.bytes c.in-Progress.is _ _)
@@ -19,5 +19,5 @@ pub returns-in-Progress-clause-sent : goal.returns-in-Progress-clause-sent
 returns-in-Progress-clause-sent g c = left_alone false _ _ (progress_unsent _ c.in-Progress.bytes c.in-Progress.is)
 
 pub returns-in-Progress-clause-counts : goal.returns-in-Progress-clause-counts
-returns-in-Progress-clause-counts g c =
-    progress_counted _ c.in-Progress.bytes c.in-Progress.is c.args.counts.now _ c.saturating_add-counts-in-Progress.ensures (omega arith)
+returns-in-Progress-clause-counts g c can =
+    progress_counted _ c.in-Progress.bytes c.in-Progress.is c.args.counts.now _ c.saturating_add-counts-in-Progress.ensures can

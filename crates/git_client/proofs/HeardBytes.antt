@@ -1,0 +1,116 @@
+-- Bytes of a response that were heard, one part after another: their events, their lines and their bytes of the pack.
+use Rattle.std.proofs.Common.{◌≡◌, ℕ, ◌+◌, Bool, true, false, List, [], ◌++◌, length, Option, refl, sym, ap, ◌∙◌, subst, append_assoc, append-nil}
+use Rattle.git_pkt.specs.Streams.{Flow, flow, WrittenAs}
+use Rattle.git_client.specs.Parts.{Terms}
+use Rattle.git_client.specs.Events.{EventValue, pack_bytes}
+use Rattle.git_client.specs.Transcript.{transcript_from}
+use Rattle.git_client.specs.Client.{History, Converses, HearsOn, can_ask}
+use Rattle.git_client.specs.RunSteps.{progress_bytes, counts_with, CanCount, IsOneTurn, HearsBytes}
+use Rattle.git_client.specs.declared.client.Client.{Client}
+use Rattle.git_client.specs.declared.hearing.Counts.{Counts}
+use Rattle.git_client.proofs.Alongs.{written_nothing, written_then, written_whole, in_part}
+use Rattle.git_client.proofs.Counting.{counts_stay, counts_then, can_count_then}
+use Rattle.git_client.proofs.OneTurn.{turn_then, turn_adds}
+use Rattle.git_client.proofs.Packs.{pack_bytes-append}
+
+-- the history with these bytes and events
+abbrev After : {A : Type 0} → Terms → History → List ℕ → List EventValue → Client A → Type 0
+After t h used events client = Converses t (record h { used = used; events = events }) client
+
+module _ {A : Type 0} where
+  -- ---- how a client goes on
+
+  pub hears_none : (c : Client A) → HearsOn c [] [] c
+  hears_none c t h stands =
+      subst (λ (used : List ℕ). After t h used (h.events ++ []) c) (sym (append-nil h.used))
+      (subst (λ (events : List EventValue). After t h h.used events c) (sym (append-nil h.events)) stands)
+
+  pub hears_both : (a b c : Client A) (u v : List ℕ) (events later : List EventValue) → HearsOn a u events b → HearsOn b v later c
+      → HearsOn a (u ++ v) (events ++ later) c
+  hears_both a b c u v events later first second t h stands =
+      subst (λ (used : List ℕ). After t h used (h.events ++ (events ++ later)) c) (append_assoc h.used u v)
+      (subst (λ (all : List EventValue). After t h ((h.used ++ u) ++ v) all c) (append_assoc h.events events later)
+      (second t (record h { used = h.used ++ u; events = h.events ++ events }) (first t h stands)))
+
+  -- ---- what was heard
+
+  -- bytes that say nothing were heard
+  pub heard_quietly : {broken : Bool} {old new : Client A} {used : List ℕ} {out packs : Flow} (counts : Counts) → HearsOn old used [] new
+      → can_ask new ≡ false → WrittenAs false out [] → WrittenAs false packs [] → HearsBytes broken old new counts counts used out packs
+  heard_quietly {broken = broken} {out = out} {packs = packs} counts hears quiet told sent = record {
+    events = [];
+    hears = hears;
+    one_turn = quiet;
+    counted = λ can. counts_stay counts;
+    told = λ can. written_whole broken out [] told;
+    sent = written_whole broken packs [] sent;
+  }
+
+  -- no byte was heard
+  pub nothing_heard : (c : Client A) (counts : Counts) (told sent : Option (List ℕ)) → can_ask c ≡ false
+      → HearsBytes false c c counts counts [] (flow told told) (flow sent sent)
+  nothing_heard c counts told sent quiet = heard_quietly counts (hears_none c) quiet (written_nothing told) (written_nothing sent)
+
+  module _ {a b c : Client A} {k l m : Counts} {u v : List ℕ} {told_before told told_after sent_before sent sent_after : Option (List ℕ)}
+      (quiet : can_ask b ≡ false) (first : HearsBytes false a b k l u (flow told_before told) (flow sent_before sent)) where
+    -- bytes were heard, and then others
+    pub heard_then : {broken : Bool} → HearsBytes broken b c l m v (flow told told_after) (flow sent sent_after)
+        → HearsBytes broken a c k m (u ++ v) (flow told_before told_after) (flow sent_before sent_after)
+    heard_then {broken = broken} second =
+        let events = first.events in
+        let later = second.events in
+        let now = counts_with k events in
+        let more_due : IsOneTurn events false = subst (IsOneTurn events) quiet first.one_turn in
+        record {
+          events = events ++ later;
+          hears = hears_both a b c u v events later first.hears second.hears;
+          one_turn = turn_then events later (can_ask c) more_due second.one_turn;
+          counted = λ can.
+              let (first_can, second_can) = can_count_then k events later can in
+              let same = first.counted first_can in
+              second.counted (subst (λ (n : Counts). CanCount n later) (sym same) second_can)
+              ∙ ap (λ (n : Counts). counts_with n later) same ∙ counts_then k events later;
+          told = λ can.
+              let (first_can, second_can) = can_count_then k events later can in
+              let same = first.counted first_can in
+              let lines = transcript_from [] k.pack k.progress events in
+              let more : WrittenAs broken (flow told told_after) (transcript_from [] now.pack now.progress later) =
+              subst (λ (n : Counts). WrittenAs broken (flow told told_after) (transcript_from [] n.pack n.progress later)) same
+              (second.told (subst (λ (n : Counts). CanCount n later) (sym same) second_can)) in
+              subst (WrittenAs broken (flow told_before told_after)) (sym (turn_adds false events more_due [] k.pack k.progress later))
+              (written_then broken told_before told told_after lines (transcript_from [] now.pack now.progress later) (first.told first_can) more);
+          sent = subst (WrittenAs broken (flow sent_before sent_after)) (sym (pack_bytes-append events later))
+              (written_then broken sent_before sent sent_after (pack_bytes events) (pack_bytes later) first.sent second.sent);
+        }
+
+  -- what was written whole counts as written where a flush failed
+  pub heard_in_part : {a b : Client A} {k l : Counts} {u : List ℕ} {out packs : Flow} → HearsBytes false a b k l u out packs
+      → HearsBytes true a b k l u out packs
+  heard_in_part {k = k} {out = out} {packs = packs} heard = record {
+    events = heard.events;
+    hears = heard.hears;
+    one_turn = heard.one_turn;
+    counted = heard.counted;
+    told = λ can. in_part out (transcript_from [] k.pack k.progress heard.events) (heard.told can);
+    sent = in_part packs (pack_bytes heard.events) heard.sent;
+  }
+
+  -- the transcript and the pack were flushed, as far as that went
+  pub heard_flushed : {broken : Bool} {a b : Client A} {k l : Counts} {u : List ℕ}
+      {told_before told told_after sent_before sent sent_after : Option (List ℕ)} → HearsBytes false a b k l u (flow told_before told) (flow sent_before sent)
+      → WrittenAs false (flow told told_after) [] → WrittenAs false (flow sent sent_after) []
+      → HearsBytes broken a b k l u (flow told_before told_after) (flow sent_before sent_after)
+  heard_flushed {broken = broken} {k = k} {told_before = told_before} {told = told} {told_after = told_after} {sent_before = sent_before} {sent = sent}
+      {sent_after = sent_after} heard flushed flushed_pack =
+      let then_nothing : (before held after : Option (List ℕ)) (bytes : List ℕ) → WrittenAs false (flow before held) bytes
+      → WrittenAs false (flow held after) [] → WrittenAs broken (flow before after) bytes = λ before held after bytes written kept.
+      written_whole broken (flow before after) bytes
+      (subst (WrittenAs false (flow before after)) (append-nil bytes) (written_then false before held after bytes [] written kept)) in
+      record {
+        events = heard.events;
+        hears = heard.hears;
+        one_turn = heard.one_turn;
+        counted = heard.counted;
+        told = λ can. then_nothing told_before told told_after (transcript_from [] k.pack k.progress heard.events) (heard.told can) flushed;
+        sent = then_nothing sent_before sent sent_after (pack_bytes heard.events) heard.sent flushed_pack;
+      }
