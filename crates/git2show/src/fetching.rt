@@ -4,7 +4,7 @@ use crate::{PIECE, TURNS, ending_of, file_fault, format_of, read_requests};
 use clap::ArgMatches;
 use git_client::{Client, converse};
 use git_msg::Request;
-use git_pkt::{Told, escape_into};
+use git_pkt::{Retries, Told, escape_into};
 use git2show_lib::ProgramFault;
 use std::alloc::Global;
 use std::fs::File;
@@ -44,7 +44,7 @@ fn fetch<O: Write + Drop>(
         |_| ProgramFault::OutOfMemory,
     )?;
     let done = converse(
-        &mut Told::new(rt.stdin()),
+        &mut Told::new(Retries::new(rt.stdin())),
         &mut Told::new(rt.stdout()),
         &mut [0; PIECE],
         &mut client,

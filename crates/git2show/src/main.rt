@@ -11,7 +11,7 @@ use clap::{Arg, ArgAction, ArgMatches, Command, Error, value_parser};
 use git_client::Ending;
 use git_msg::{Limits, Offer, Request};
 use git_names::Format;
-use git_pkt::{Discard, LONGEST_PACKET, RunFault, Told};
+use git_pkt::{Discard, LONGEST_PACKET, Retries, RunFault, Told};
 use git_repository::{RepositoryReader, TextFault};
 use git_server::{ListRepo, Outcome, Repo, Server, serve};
 use git2show_lib::{ProgramFault, check, play, read_script, report, show};
@@ -198,7 +198,7 @@ fn flag_argument<'a>(alloc: Global, name: &'a str) -> Arg<'a> {
 
 /// Shows the packets of standard input.
 fn run_show(rt: &HostRuntime) -> Result<(), ProgramFault> {
-    let mut reader = Told::new(rt.stdin());
+    let mut reader = Told::new(Retries::new(rt.stdin()));
     let mut writer = Told::new(rt.stdout());
     let mut piece = [0; PIECE];
     Ok(show(&mut reader, &mut writer, &mut piece, TURNS)?)
@@ -206,8 +206,8 @@ fn run_show(rt: &HostRuntime) -> Result<(), ProgramFault> {
 
 /// Checks the two files that are named, and writes the transcript to standard output.
 fn run_check(rt: &HostRuntime, matches: &ArgMatches<'_>) -> Result<(), ProgramFault> {
-    let mut requests = Told::new(open(rt, matches, "REQUESTS")?);
-    let mut responses = Told::new(open(rt, matches, "RESPONSES")?);
+    let mut requests = Told::new(Retries::new(open(rt, matches, "REQUESTS")?));
+    let mut responses = Told::new(Retries::new(open(rt, matches, "RESPONSES")?));
     let mut out = Told::new(buffered_output(rt)?);
     let mut piece = [0; PIECE];
     let mut other_piece = [0; PIECE];
@@ -302,14 +302,14 @@ fn run_serve(rt: &HostRuntime, matches: &ArgMatches<'_>) -> Result<(), ProgramFa
     let mut server = Server::new(rt.alloc(), repo, offer, limits_of(matches), advertise);
     let mut piece = [0; PIECE];
     if service == Service::Answer && server.wants_input() {
-        take_request(&mut Told::new(rt.stdin()), &mut piece, &mut server, TURNS)?;
+        take_request(&mut Told::new(Retries::new(rt.stdin())), &mut piece, &mut server, TURNS)?;
     }
     let turns = match service {
         Service::Session => TURNS,
         // All that is owed is written, and nothing is read for it.
         Service::Advertisement | Service::Answer => 0,
     };
-    let mut reader = Told::new(rt.stdin());
+    let mut reader = Told::new(Retries::new(rt.stdin()));
     let mut writer = Told::new(buffered_output(rt)?);
     match serve(&mut reader, &mut writer, &mut piece, &mut server, turns) {
         Ok(Outcome::Flush | Outcome::Closed) => Ok(()),
@@ -387,7 +387,8 @@ fn judge_repository(text: RepositoryReader, pack: Vec<u8>) -> Result<ListRepo, P
 }
 
 /// Reads the text of a repository by pieces.
-fn read_text(rt: &HostRuntime, mut file: File) -> Result<RepositoryReader, ProgramFault> {
+fn read_text(rt: &HostRuntime, file: File) -> Result<RepositoryReader, ProgramFault> {
+    let mut file = Retries::new(file);
     let mut reader = RepositoryReader::new(rt.alloc());
     let mut piece = [0; PIECE];
     for _ in 0..u64::MAX {
@@ -396,7 +397,6 @@ fn read_text(rt: &HostRuntime, mut file: File) -> Result<RepositoryReader, Progr
             Ok(count) => reader
                 .feed(&piece[..count])
                 .map_err(|_| ProgramFault::OutOfMemory)?,
-            Err(error) if error.kind() == io::ErrorKind::Interrupted => {}
             Err(error) => return Err(file_fault(error)),
         }
     }

@@ -1,5 +1,5 @@
-//! What a `Told` tells of calls that go well, fail, and go well again.
-use git_pkt::{Stops, Told};
+//! What a `Told` tells of calls that go well, fail, and go well again, and which reads a `Retries` makes again.
+use git_pkt::{Retries, Stops, Told};
 use std::io::{ErrorKind, Read, Write};
 use std::test::Fail;
 use test_streams::{Sink, Stream};
@@ -18,6 +18,33 @@ fn a_reader_that_fails_in_mid_stream_is_told_and_read_on(rt: HostRuntime) -> Res
     assert_eq!(rt; &piece[..2], b"cd".as_slice());
     assert_eq!(rt; reader.reads(), 3);
     assert!(rt; reader.failed() && !reader.ended());
+    Ok(())
+}
+
+#[test]
+fn an_interrupted_read_is_made_again(rt: HostRuntime) -> Result<(), Fail> {
+    let mut stream = Stream::new(b"abcdef", 2, 1);
+    stream.error = ErrorKind::Interrupted;
+    let mut reader = Told::new(Retries::new(&mut stream));
+    let mut piece = [0u8; 4];
+    assert_eq!(rt; reader.read(&mut piece)?, 2);
+    assert_eq!(rt; reader.read(&mut piece)?, 2);
+    assert_eq!(rt; &piece[..2], b"cd".as_slice());
+    assert!(rt; !reader.failed());
+    assert_eq!(rt; reader.reads(), 2);
+    assert_eq!(rt; stream.reads, 3);
+    Ok(())
+}
+
+#[test]
+fn a_read_that_fails_otherwise_is_not_made_again(rt: HostRuntime) -> Result<(), Fail> {
+    let mut stream = Stream::new(b"abcdef", 2, 0);
+    let mut reader = Retries::new(&mut stream);
+    let mut piece = [0u8; 4];
+    let kind = reader.read(&mut piece).map_err(|error| error.kind());
+    assert_eq!(rt; kind, Err(ErrorKind::ConnectionReset));
+    assert_eq!(rt; stream.reads, 1);
+    assert_eq!(rt; stream.rest, b"abcdef".as_slice());
     Ok(())
 }
 

@@ -20,5 +20,6 @@ pub mod FaultNames
 pub mod NameFaults
 pub mod Told
 pub mod Stops
+pub mod Retries
 pub mod Engine
 pub mod Streams

@@ -11,6 +11,7 @@ pub mod laws;
 mod output;
 mod packet;
 mod reader;
+mod retries;
 mod stops;
 mod told;
 
@@ -22,5 +23,6 @@ pub use hold::{Hold, LONGEST_PACKET, append};
 pub use output::{Discard, Output};
 pub use packet::{Packet, begin, front_packet, put, text};
 pub use reader::{BandFed, BandGot, Fed, Got, PacketReader};
+pub use retries::Retries;
 pub use stops::Stops;
 pub use told::Told;

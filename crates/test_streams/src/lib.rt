@@ -4,22 +4,24 @@
 use std::io;
 use std::io::{ErrorKind, Read, Write};
 
-/// Gives its bytes at most `step` at a read, and fails once, at the read numbered `failing` from 0.
+/// Gives its bytes at most `step` at a read, and fails once with `error`, at the read numbered `failing` from 0.
 #[derive(Drop)]
 pub struct Stream<'a> {
     pub rest: &'a [u8],
     pub step: usize,
     pub failing: u32,
+    pub error: ErrorKind,
     pub reads: u32,
 }
 
 impl<'a> Stream<'a> {
-    /// A reader of these bytes, of which no read was made yet.
+    /// A reader of these bytes, of which no read was made yet. It fails as a connection that was reset does.
     pub fn new(rest: &'a [u8], step: usize, failing: u32) -> Stream<'a> {
         Stream {
             rest,
             step,
             failing,
+            error: ErrorKind::ConnectionReset,
             reads: 0,
         }
     }
@@ -30,7 +32,7 @@ impl<'a> Read for Stream<'a> {
         let number = self.reads;
         self.reads = number.saturating_add(1);
         if number == self.failing {
-            return Err(io::Error::from(ErrorKind::ConnectionReset));
+            return Err(io::Error::from(self.error));
         }
         let count = self.rest.len().min(self.step).min(buf.len());
         buf[..count].copy_from_slice(&self.rest[..count]);

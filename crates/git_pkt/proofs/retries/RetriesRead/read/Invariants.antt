@@ -1,0 +1,7 @@
+-- An interrupted read takes no bytes.
+use Rattle.std.specs.Io.KnownBytes.{Keeps}
+use Rattle.git_pkt.specs.Retries.{inner_of}
+use Rattle.git_pkt.proofs.retries.RetriesRead.read.Given as goal
+
+abbrev pub invariant-loop : goal.invariant-loop
+invariant-loop g l = Keeps (g.R.Read.remaining (inner_of l.initial.self)) (g.R.Read.remaining (inner_of l.self))
