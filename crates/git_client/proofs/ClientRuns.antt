@@ -383,7 +383,8 @@ module _ {A : Type 0} (t : Terms) where
       pub hearing_stopped : (fault : RunFault) (ended : Bool) (old new : Client A) (waiting piece : List ℕ) {writer : Flow}
           {left_before left left_after out_before out_held out_after pack_before pack_held pack_after : Option (List ℕ)}
           → Running false t front old no_counts waiting (flow left_before left) writer (flow out_before out_held) (flow pack_before pack_held)
-          → wants_input old ≡ true → HearsTo (Err fault) ended old new waiting piece (flow left left_after) (flow out_held out_after) (flow pack_held pack_after)
+          → wants_input old ≡ true
+          → HearsTo (Err fault) ended old new waiting piece (flow left left_after) (flow out_held out_after) (flow pack_held pack_after)
           → RunEnds (Err fault) ended new (flow left_before left_after) writer (flow out_before out_after) (flow pack_before pack_after)
       hearing_stopped ReadFault ended old new waiting piece r waits step =
           let on = hears_on t false front old new waiting [] r waits step.hears in

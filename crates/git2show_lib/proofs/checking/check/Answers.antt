@@ -22,7 +22,8 @@ returns-in_err-left-clause-checked g c =
     ends_at g.row.A.Denot t USUAL c.args.requests.now c.hear.new.reader c.from_residual.result (of_responses c.in_err-left.field-0.0) _ _ _
     c.from_residual.ensures.1
     (hearing_stopped g.row.A.Denot t USUAL c.args.requests.now c.hear.new.reader [] c.new-client.result c.hear.new.client [] _ _ due
-    c.new-client.ensures.waits c.in_err-left.field-0.0 c.hear.new.piece c.args.turns _ _ _ c.in_err-left.ensures.heard c.in_err-left.ensures.told c.in_err-left.ensures.fault)
+    c.new-client.ensures.waits c.in_err-left.field-0.0 c.hear.new.piece c.args.turns _ _ _ c.in_err-left.ensures.heard
+    c.in_err-left.ensures.told c.in_err-left.ensures.fault)
 
 pub loop-asking-init : goal.loop-asking-init
 loop-asking-init g c =

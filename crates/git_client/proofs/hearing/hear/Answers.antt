@@ -13,9 +13,9 @@ use Rattle.git_client.proofs.hearing.hear.Goals as goal
 pub returns-in_err-left-clause-heard : goal.returns-in_err-left-clause-heard
 returns-in_err-left-clause-heard g c =
     hears_at c.from_residual.result c.in_err-left.field-0.0 _ _ _ _ _ _ _ _ _ c.from_residual.ensures.1 refl
-    (heard_until (heard_nothing c.args.client.now (window_of c.args.waiting c.args.piece.now) _ _ _ c.requires.waits) c.requires.waits c.in_err-left.field-0.0 _ _ c.hear_piece.new.counts
-    [] (window_of c.args.waiting c.args.piece.now) _ _ _ _ (Consumes-nil (g.R.Read.remaining (inner_of c.args.reader.now))) (append-nil _)
-    c.in_err-left.ensures.heard)
+    (heard_until (heard_nothing c.args.client.now (window_of c.args.waiting c.args.piece.now) _ _ _ c.requires.waits) c.requires.waits
+    c.in_err-left.field-0.0 _ _ c.hear_piece.new.counts [] (window_of c.args.waiting c.args.piece.now) _ _ _ _
+    (Consumes-nil (g.R.Read.remaining (inner_of c.args.reader.now))) (append-nil _) c.in_err-left.ensures.heard)
 
 pub loop-left-init : goal.loop-left-init
 loop-left-init g c =

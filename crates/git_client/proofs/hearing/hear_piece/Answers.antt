@@ -36,8 +36,8 @@ returns-in_err-flush_both-in-Failed-clause-heard g c =
     c.loop-used.counts c.args.piece.now
     (flow (g.O.Write.contents (inner_of c.args.out.now)) (g.O.Write.contents (inner_of c.flush_both.new.out)))
     (flow (g.P.Output.contents c.args.pack.now) (g.P.Output.contents c.flush_both.new.pack))) named c.from_residual.ensures.1
-    (heard_failed_unflushed c.args.piece.now c.loop-used.used waits c.loop-used.invariant.within c.loop-used.invariant.hears c.feed-heard.follows.holds-at-none.0
-    _ _ _ c.in-Failed.is c.flush_both.ensures.told c.flush_both.ensures.sent)
+    (heard_failed_unflushed c.args.piece.now c.loop-used.used waits c.loop-used.invariant.within c.loop-used.invariant.hears
+    c.feed-heard.follows.holds-at-none.0 _ _ _ c.in-Failed.is c.flush_both.ensures.told c.flush_both.ensures.sent)
 
 pub returns-in-Failed-clause-heard : goal.returns-in-Failed-clause-heard
 returns-in-Failed-clause-heard g c =
@@ -54,8 +54,9 @@ returns-in_err-tell-in-Event-clause-heard g c =
     (flow (g.O.Write.contents (inner_of c.args.out.now)) (g.O.Write.contents (inner_of c.tell.new.out)))
     (flow (g.P.Output.contents c.args.pack.now) (g.P.Output.contents c.tell.new.pack))) named
     c.from_residual-in_err-tell-in-Event.ensures.1
-    (heard_event_front c.args.piece.now c.loop-used.used waits c.loop-used.invariant.within c.loop-used.invariant.hears c.feed-heard.follows.holds-at-none.0 _ c.in-Event.is
-    c.tell.result _ _ _ _ c.in_err-tell-in-Event.was named c.tell.ensures.counts c.tell.ensures.told c.tell.ensures.sent)
+    (heard_event_front c.args.piece.now c.loop-used.used waits c.loop-used.invariant.within c.loop-used.invariant.hears
+    c.feed-heard.follows.holds-at-none.0 _ c.in-Event.is c.tell.result _ _ _ _ c.in_err-tell-in-Event.was named
+    c.tell.ensures.counts c.tell.ensures.told c.tell.ensures.sent)
 
 pub loop-used-preserved : goal.loop-used-preserved
 loop-used-preserved g c =
