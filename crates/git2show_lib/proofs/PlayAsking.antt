@@ -83,11 +83,11 @@ module _ {R A : Type 0} (state : R → RepoState) where
         })
 
   -- the request was taken, its line written, and all of it said
-  pub asks_server : (old middle new : Client A) (request : Request A) (server after : Server R A) (out : Flow) → can_ask old ≡ true
+  pub asks_server : (old middle new : Client A) (request : Request A) (server after : Server R A) (out : Flow)
       → Asks old request middle → WrittenAs false out (asked_line (command_asked (asked_of request))) → TellsAll state middle new server after
       → AsksServer state old new request server after out
-  asks_server old middle new request server after out ready asks told tells =
-      let (step, same) = asks_whole old middle new request silent out ready asks told tells.says in
+  asks_server old middle new request server after out asks told tells =
+      let (step, same) = asks_whole old middle new request silent out asks told tells.says in
       record {
         asks = step;
         waits = hears_next old middle new request silent asks tells.says;

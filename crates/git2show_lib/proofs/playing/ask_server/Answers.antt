@@ -15,12 +15,12 @@ returns-in_err-write_asked-clause-asked g c =
     let told = flow (g.O.Write.contents (inner_of c.args.out.now)) (g.O.Write.contents (inner_of c.write_asked.new.out)) in
     at_fault c.from_residual.result _ _ (λ (result : Result (Unit {0}) RunFault). AsksServerTo g.R.Repo.state result c.args.client.now c.ask.new.self
     c.args.request c.args.server.now c.args.server.now told) c.in_err-write_asked.ensures.fault c.from_residual.ensures.1
-    (asks_unsaid _ _ _ None told c.requires.ready c.in_default.ensures.asked
+    (asks_unsaid _ _ _ None told c.in_default.ensures.asked
     (subst (λ (command : Command). WrittenAs true told (asked_line command)) c.command-command.ensures c.in_err-write_asked.ensures.err))
 
 pub returns-clause-asked : goal.returns-clause-asked
 returns-clause-asked g c =
     let told = flow (g.O.Write.contents (inner_of c.args.out.now)) (g.O.Write.contents (inner_of c.write_asked.new.out)) in
-    asks_server g.R.Repo.state _ c.ask.new.self _ _ _ _ told c.requires.ready c.in_default.ensures.asked
+    asks_server g.R.Repo.state _ c.ask.new.self _ _ _ _ told c.in_default.ensures.asked
     (subst (λ (command : Command). WrittenAs false told (asked_line command)) c.command-command.ensures c.in_ok-write_asked.ensures.ok)
     c.tell_all.ensures.told
