@@ -128,12 +128,12 @@ case_library_calls_tell_what_the_header_says() {
     expect 0 /dev/null /dev/null
 }
 
-# The program prints how often each kind of handle asks for memory: once at the least.
+# The program prints how often each kind of handle asks for memory, and each that breaks off: once at the least.
 case_library_frees_all_where_memory_is_refused() {
     run refused_memory-watched
     expect_status 0
     expect_same 'standard error' /dev/null err
-    grep -q -x -E '[1-9][0-9]*( [1-9][0-9]*){6}' out || differs 'what was printed' out
+    grep -q -x -E '[1-9][0-9]*( [1-9][0-9]*){9}' out || differs 'what was printed' out
     under_valgrind bin/refused_memory
     expect_status 0
 }

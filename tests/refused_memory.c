@@ -82,8 +82,13 @@ static void expect_none_asked(long before, const char *what)
 
 #define TEXT(text) (const uint8_t *)(text), strlen(text)
 #define ONE "1111111111111111111111111111111111111111"
+#define TWO "2222222222222222222222222222222222222222"
 #define FETCH "0012command=fetch\n" "0001" "0032want " ONE "\n" "0032have " ONE "\n" "0016deepen-not refs/a\n" "0000"
 #define LS_REFS "0014command=ls-refs\n" "0001" "001bref-prefix refs/heads/\n" "0017ref-prefix refs/a/\n" "0000"
+#define REFUSED LS_REFS "0012command=fetch\n" "0001" "0032want " ONE "\n" "0016deepen-not refs/a\n" "0032want " TWO "\n"
+#define OFFERED "000eversion 2\n" "0012fetch=shallow\n" "0000"
+#define ANSWER "000dpackfile\n" "0007\001AB" "0008\002hi\n" "0008\003no\n"
+#define ALL_PACKETS 6 /* the command, the delimiter, a revision, an object that is wanted, that all was said, and the flush */
 
 static uint8_t room[GITWIRE_PACKET_ROOM];
 
@@ -274,6 +279,117 @@ static void run_client(void)
 	gitwire_request_free(&request);
 }
 
+/* A reader of requests is freed wherever its input breaks off: of two requests so many bytes come. */
+static void break_requests_off(size_t length)
+{
+	static const char *const said = LS_REFS FETCH;
+	gitwire_request_reader reader = GITWIRE_NONE;
+	gitwire_request request = GITWIRE_NONE;
+	gitwire_offer offer = { .shallow = true, .ref_in_want = true };
+	gitwire_told told = { .kind = GITWIRE_MORE };
+
+	if (is_made(gitwire_request_reader_new(&reader, offer, GITWIRE_USUAL_LIMIT), "a reader of requests that break off"))
+		for (size_t used = 0; used < length && (told.kind == GITWIRE_MORE || told.kind == GITWIRE_REQUEST); used += told.used)
+			told = gitwire_request_reader_feed(&reader, &request, (const uint8_t *)said + used, length - used);
+	expect(told.kind == GITWIRE_MORE || told.kind == GITWIRE_REQUEST || refused > 0, "requests that break off");
+	gitwire_request_reader_free(&reader);
+	gitwire_request_free(&request);
+	expect(live == 0, "what a reader of requests kept");
+}
+
+static void run_broken_requests(void)
+{
+	for (size_t length = 0; length < strlen(LS_REFS FETCH); length += 15)
+		break_requests_off(length);
+}
+
+/* A server is freed wherever its session breaks off, and after the last packet, which is refused once others were kept. */
+static void break_session_off(size_t length)
+{
+	static const char *const said = REFUSED;
+	gitwire_repository repository = GITWIRE_NONE;
+	gitwire_server server = GITWIRE_NONE;
+	gitwire_told told = { .kind = GITWIRE_NEED_INPUT };
+
+	if (make_repository(&repository) && is_made(gitwire_server_new(&server, &repository, 1000, false), "a server to break off")) {
+		for (size_t used = 0; used < length && told.kind == GITWIRE_NEED_INPUT;) {
+			used += gitwire_server_feed(&server, (const uint8_t *)said + used, length - used).used;
+			do
+				told = gitwire_server_pull(&server, room, sizeof room);
+			while (told.kind == GITWIRE_PACKET);
+		}
+		expect((told.kind == GITWIRE_NEED_INPUT && length < strlen(said))
+			|| (told.fault == GITWIRE_FAULT_NOT_OURS && length == strlen(said))
+			|| (told.fault == GITWIRE_FAULT_OUT_OF_MEMORY && refused > 0), "a session that breaks off");
+	}
+	gitwire_repository_free(&repository);
+	gitwire_server_free(&server);
+	expect(live == 0, "what a server kept");
+}
+
+static void run_broken_session(void)
+{
+	for (size_t length = 0; length < strlen(REFUSED); length += 15)
+		break_session_off(length);
+	break_session_off(strlen(REFUSED));
+}
+
+/* Feeds a client so many bytes, or those up to a fault. What is heard takes no memory. */
+static gitwire_event hear(gitwire_client *client, const char *said, size_t length)
+{
+	gitwire_event event = { .kind = GITWIRE_MORE };
+	long before = asked;
+
+	for (size_t used = 0; used < length && event.kind != GITWIRE_FAILED; used += event.used)
+		event = gitwire_client_feed(client, (const uint8_t *)said + used, length - used, room, sizeof room);
+	expect_none_asked(before, "memory for what is heard");
+	return event;
+}
+
+/* Says so many packets of what is asked, and then hears so many bytes of the answer. */
+static void ask_and_hear(gitwire_client *client, gitwire_request *request, int packets, size_t length)
+{
+	gitwire_event event;
+	long before;
+
+	hear(client, OFFERED, strlen(OFFERED));
+	before = asked;
+	expect(gitwire_client_ask(client, request).kind == GITWIRE_DONE, "a pack that is asked for");
+	while (packets-- > 0 && gitwire_client_pull(client, room, sizeof room).kind == GITWIRE_PACKET)
+		;
+	expect_none_asked(before, "memory for a pack that is asked for");
+	event = hear(client, ANSWER, length);
+	if (length < strlen(ANSWER))
+		return;
+	expect(event.kind == GITWIRE_FAILED && event.fault == GITWIRE_FAULT_REMOTE_FATAL, "the server's fault");
+	expect(gitwire_client_message(client, room, sizeof room).length == 3, "what the server says of it");
+	expect_none_asked(before, "memory for what a server says");
+}
+
+/* A client is freed wherever its conversation breaks off: while it asks, and in the answer, of which the last packet tells a fault. */
+static void break_conversation_off(int packets, size_t length)
+{
+	gitwire_client client = GITWIRE_NONE;
+	gitwire_request request = GITWIRE_NONE;
+
+	if (is_made(gitwire_client_new(&client, GITWIRE_SHA1, GITWIRE_ENDS_BY_FLUSH), "a client to break off")
+		&& is_made(gitwire_request_new(&request, GITWIRE_FETCH, GITWIRE_SHA1, 1000), "a request for a pack")
+		&& add(&request, "want " ONE) && add(&request, "deepen-not refs/a") && add(&request, "done"))
+		ask_and_hear(&client, &request, packets, length);
+	gitwire_client_free(&client);
+	gitwire_request_free(&request);
+	expect(live == 0, "what a client kept");
+}
+
+static void run_broken_conversation(void)
+{
+	for (int packets = 0; packets < ALL_PACKETS; packets++)
+		break_conversation_off(packets, 0);
+	for (size_t length = 0; length < strlen(ANSWER); length += 5)
+		break_conversation_off(ALL_PACKETS, length);
+	break_conversation_off(ALL_PACKETS, strlen(ANSWER));
+}
+
 /* Runs all, with this request for memory refused, and says whether there was one. */
 static bool run(void (*scenario)(void), long at, bool after)
 {
@@ -288,7 +404,7 @@ static bool run(void (*scenario)(void), long at, bool after)
 int main(void)
 {
 	static void (*const scenarios[])(void) = { run_packet_reader, run_writer, run_request_reader, run_request, run_repository,
-		run_server, run_client };
+		run_server, run_client, run_broken_requests, run_broken_session, run_broken_conversation };
 
 	for (size_t i = 0; i < sizeof scenarios / sizeof *scenarios; i++) {
 		long at = 0;

@@ -10,8 +10,9 @@ use Rattle.git_msg.specs.Texts.{parts_left, parts_of}
 use Rattle.git_msg.specs.declared.offers.Offer.{Offer}
 use Rattle.git_msg.proofs.TextParts.{bytes_left}
 use Rattle.git_repository.specs.RepositoryLines.{lines_of}
-use Rattle.git2show_lib.specs.Scripts.{ScriptLine, FollowAll, MayFollow, nearest}
-use Rattle.git2show_lib.specs.HeldScripts.{Held, Holds, TakesLine, nothing_held}
+use Rattle.git_repository.specs.declared.text_faults.LineFault.TheVariants.{Refused, OutOfMemory}
+use Rattle.git2show_lib.specs.Scripts.{ScriptLine, FollowAll, HasBadScriptLine, MayFollow, WantsScriptMemory, nearest}
+use Rattle.git2show_lib.specs.HeldScripts.{Held, Holds, IsLineFault, TakesLine, nothing_held}
 use Rattle.git2show_lib.proofs.ScriptLists.{follow_more}
 use Rattle.git2show_lib.proofs.Scripting.{holds_nothing}
 
@@ -85,4 +86,38 @@ module _ {A : Type 0} where
         holds = goes.holds;
         offer_is = goes.same_offer ∙ h.offer_is;
         limit_is = goes.same_limit ∙ h.limit_is;
+      }
+
+  -- a line that no other may follow is the first bad one
+  pub refused_at : (text left this : List ℕ) (offer : Offer) (limit : ℕ) (old : Held A) (line : ℕ) (next : Option (List ℕ))
+      → ReadsScript text offer limit old line (Some left) → parts_of 10 left ≡ this ∷ parts_left 10 next → IsLineFault old this Refused
+      → HasBadScriptLine offer limit (lines_of text) (line + 1)
+  refused_at text left this offer limit old line next h parts fault = record {
+    before = h.before;
+    bad = this;
+    others = parts_left 10 next;
+    whole = whole_at text left this h.before next h.whole parts;
+    at_number = ap (λ (n : ℕ). n + 1) h.count;
+    lines = h.lines;
+    follow = h.follow;
+    refused = λ one may. fault h.lines h.holds one
+        (follows_as offer old.offer limit old.limit (nearest h.lines []) this one (sym h.offer_is) (sym h.limit_is) may);
+  }
+
+  -- and one for which there is no memory is one that may follow
+  pub no_memory_at : (text left this : List ℕ) (offer : Offer) (limit : ℕ) (old : Held A) (line : ℕ) (next : Option (List ℕ))
+      → ReadsScript text offer limit old line (Some left) → parts_of 10 left ≡ this ∷ parts_left 10 next → IsLineFault old this OutOfMemory
+      → WantsScriptMemory offer limit (lines_of text)
+  no_memory_at text left this offer limit old line next h parts fault =
+      let f = fault h.lines h.holds in
+      record {
+        before = h.before;
+        at = this;
+        others = parts_left 10 next;
+        whole = whole_at text left this h.before next h.whole parts;
+        lines = h.lines;
+        follow = h.follow;
+        line = f.0;
+        may_follow = follows_as old.offer offer old.limit limit (nearest h.lines []) this f.0 h.offer_is h.limit_is f.1;
+        takes_memory = f.2;
       }

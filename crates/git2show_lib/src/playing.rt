@@ -184,7 +184,7 @@ fn ask_server<R: Repo, O: Write, A: Allocator + Copy>(
 pub fn play<R: Repo + Drop, O: Write, P: Output, A: Allocator + Copy>(
     alloc: A,
     repo: R,
-    requests: Vec<Request<A>>,
+    requests: Vec<Request<A>, A>,
     cut: usize,
     ending: Ending,
     out: &mut Told<O>,

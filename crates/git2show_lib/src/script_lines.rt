@@ -10,23 +10,23 @@ use git_msg::{Command, Limits, Offer, Request, read_argument};
 use git_names::{Format, Steps};
 use git_pkt::Kind;
 use git_repository::LineFault;
-use std::alloc::Global;
+use std::alloc::Allocator;
 
 /// What the lines said so far.
 #[derive(Drop)]
-pub(crate) struct Script {
+pub(crate) struct Script<A: Allocator + Copy> {
     offer: Offer,
     limits: Limits,
-    requests: Vec<Request<Global>>,
+    requests: Vec<Request<A>, A>,
     // Whether the last of them is open: no empty line came after it.
     is_open: bool,
 }
 
-impl Script {
+impl<A: Allocator + Copy> Script<A> {
     ghost use Rattle.git2show_lib.specs.ScriptLines.{held};
 
     /// Nothing yet.
-    pub(crate) fn new(alloc: Global, format: Format, limits: Limits) -> Script
+    pub(crate) fn new(alloc: A, format: Format, limits: Limits) -> Script<A>
         ensures { held result ≡ nothing_held (everything format) limits.args }
     {
         Script {
@@ -38,7 +38,7 @@ impl Script {
     }
 
     /// Takes a line, or answers that it may not stand after the lines before it.
-    pub(crate) fn take(&mut self, alloc: Global, text: &[u8]) -> Result<(), LineFault>
+    pub(crate) fn take(&mut self, alloc: A, text: &[u8]) -> Result<(), LineFault>
         ensures { MatchResult result (λ _. TakesLine (held self.old) text.now (held self.new)) (IsLineFault (held self.old) text.now) }
     {
         if text.is_empty() {
@@ -52,7 +52,7 @@ impl Script {
     }
 
     // Begins a request of the command that the text names.
-    fn begin(&mut self, alloc: Global, text: &[u8]) -> Result<(), LineFault>
+    fn begin(&mut self, alloc: A, text: &[u8]) -> Result<(), LineFault>
         ensures { MatchResult result (λ _. Begins (held self.old) text.now (held self.new)) (IsBeginFault text.now) }
     {
         let Some(command) = read_command(text) else {
@@ -89,7 +89,7 @@ impl Script {
     }
 
     /// The requests that the lines said.
-    pub(crate) fn finish(self) -> Vec<Request<Global>>
+    pub(crate) fn finish(self) -> Vec<Request<A>, A>
         ensures { result.items ≡ (held self).requests }
     {
         self.requests

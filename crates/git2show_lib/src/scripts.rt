@@ -7,7 +7,7 @@ use crate::script_lines::Script;
 use git_msg::{Limits, Request, split_at_first};
 use git_names::Format;
 use git_repository::{LineFault, TextFault};
-use std::alloc::Global;
+use std::alloc::Allocator;
 
 /// Reads the text of a script: the requests that a client is to ask, one after another.
 ///
@@ -15,14 +15,14 @@ use std::alloc::Global;
 /// arguments, as gitprotocol-v2(5) spells them and as one who offers everything reads them. An empty line or the end of
 /// the text ends it, and further empty lines are passed over. Lines are parted by LF, which the last may lack. The first
 /// line that is none of these, or whose argument has no room within the limit, is `Bad`. `OutOfMemory` is told at a line
-/// that may stand there, of a command or of an argument that takes memory. What is judged at the end of a request, as that
-/// a fetch wants nothing, is not judged here.
-pub fn read_script(
-    alloc: Global,
+/// that may stand there, of a command or of an argument that takes memory, and all memory comes from `alloc`. What is judged
+/// at the end of a request, as that a fetch wants nothing, is not judged here.
+pub fn read_script<A: Allocator + Copy>(
+    alloc: A,
     text: &[u8],
     format: Format,
     limits: Limits,
-) -> Result<Vec<Request<Global>>, TextFault>
+) -> Result<Vec<Request<A>, A>, TextFault>
     ensures { MatchResult result (λ requests. IsWholeScript format limits.args text.now requests.items)
         (IsScriptFault format limits.args text.now) }
 {

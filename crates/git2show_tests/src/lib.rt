@@ -1,4 +1,4 @@
-//! Tests that need code: memory that is refused, packs that come in parts or fail, readers and writers that fail or are
+//! Tests that need code: memory that is refused, and given back, packs that come in parts or fail, readers and writers that fail or are
 //! asked when they were flushed, bytes of a pack as they pass, many packets and prefixes at once, and the names and texts of
 //! faults. What a text can tell is a case of `worked_conversations`.
 #![tactic(auto)]
@@ -14,6 +14,8 @@ mod escapes;
 #[cfg(test)]
 mod faults;
 #[cfg(test)]
+mod freed_memory;
+#[cfg(test)]
 mod full_packets;
 #[cfg(test)]
 mod many_packets;
@@ -26,9 +28,13 @@ mod names;
 #[cfg(test)]
 mod packs;
 #[cfg(test)]
+mod playing_memory;
+#[cfg(test)]
 mod repository_text;
 #[cfg(test)]
 mod request_memory;
+#[cfg(test)]
+mod script_memory;
 #[cfg(test)]
 mod server_memory;
 #[cfg(test)]

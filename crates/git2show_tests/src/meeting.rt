@@ -5,7 +5,8 @@ use git_client::{Client, Ending, HeardGot, Sent};
 use git_names::{Format, Steps};
 use git_pkt::{Fault, Kind};
 use git_server::{ListRepo, Pulled, Server};
-use std::alloc::Global;
+use linked_list_allocator::LocalHeap;
+use std::alloc::{Allocator, Global};
 use std::process::Abort;
 use std::test::Fail;
 
@@ -13,7 +14,10 @@ use std::test::Fail;
 const PACKETS: usize = 100;
 
 /// Gives the client all that the server owes. The fault that ends the conversation, if one does.
-fn hear(server: &mut Server<ListRepo, Global>, client: &mut Client<Global>) -> Option<Fault> {
+fn hear<A: Allocator + Copy>(
+    server: &mut Server<ListRepo, A>,
+    client: &mut Client<Global>,
+) -> Option<Fault> {
     for _ in 0..PACKETS {
         let Pulled::Packet(bytes) = server.pull() else {
             return None;
@@ -26,7 +30,7 @@ fn hear(server: &mut Server<ListRepo, Global>, client: &mut Client<Global>) -> O
 }
 
 /// Gives the server all that the client has to say.
-fn say(client: &mut Client<Global>, server: &mut Server<ListRepo, Global>) {
+fn say<A: Allocator + Copy>(client: &mut Client<Global>, server: &mut Server<ListRepo, A>) {
     for _ in 0..PACKETS {
         let Sent::Packet(bytes) = client.pull() else {
             return;
@@ -59,5 +63,51 @@ fn a_client_hears_why_a_server_refuses(rt: HostRuntime) -> Result<(), Fail> {
     assert_eq!(rt; hear(&mut server, &mut client), Some(told));
     let message = client.message().expect(&rt, "a message");
     assert_eq!(rt; message, b"NotOurs at 62".as_slice());
+    Ok(())
+}
+
+/// Asks for a pack of a server that has so much memory, by a revision and an object name. Where the server refuses the request as
+/// OutOfMemory, which the client hears with its offset; or nothing where it answers.
+fn refused_within(rt: &(impl Abort + AllocGlobal), size: usize) -> Result<Option<u64>, Fail> {
+    let script = b"fetch\nwant aaaaaaaaaaaaaaaaaaaaaaaaaaaaaaaaaaaaaaaa\ndeepen-not v1\ndone\n";
+    let heap = LocalHeap::new(rt.alloc(), size)?;
+    let mut server = new_server(rt, &heap, advertising(Format::Sha1))?;
+    let mut client = Client::new(Format::Sha1, Ending::FlushOnly);
+    assert_eq!(rt; hear(&mut server, &mut client), None);
+    for request in requests(rt, script)? {
+        assert!(rt; client.can_ask());
+        assert!(rt; client.ask(request).is_ok());
+    }
+    say(&mut client, &mut server);
+    let heard = hear(&mut server, &mut client);
+    let Some(refused) = server.fault() else {
+        assert_eq!(rt; heard, None);
+        assert!(rt; client.can_ask());
+        return Ok(None);
+    };
+    assert_eq!(rt; refused.kind, Kind::OutOfMemory);
+    let told = Fault {
+        kind: Kind::RemoteError,
+        offset: 118,
+    };
+    assert_eq!(rt; heard, Some(told));
+    let message = format!(in rt.alloc(); "OutOfMemory at {}", refused.offset)?;
+    assert_eq!(rt; client.message(), Some(message.as_bytes()));
+    Ok(Some(refused.offset))
+}
+
+/// The revision comes before the object name. It takes two blocks of 16 bytes, and the places of four object names take nine.
+#[test]
+fn a_client_hears_where_a_server_has_no_memory(rt: HostRuntime) -> Result<(), Fail> {
+    for (size, refused) in [
+        (0, Some(62)),
+        (16, Some(62)),
+        (32, Some(80)),
+        (160, Some(80)),
+        (176, None),
+        (1_024, None),
+    ] {
+        assert_eq!(rt; refused_within(&rt, size)?, refused, "with {size} bytes");
+    }
     Ok(())
 }

@@ -6,7 +6,7 @@ use crate::script::{Given, Recording, Script};
 use crate::sessions::{Reads, Setup};
 use crate::tables::Table;
 use crate::trouble::Trouble;
-use crate::{checks, clients, runs};
+use crate::{checks, clients, plays, runs};
 use git_client::Ending;
 use git_msg::Command;
 use git_names::Format;
@@ -31,6 +31,7 @@ struct Files {
 #[derive(Drop)]
 enum Subject<'a> {
     End(End<'a>),
+    Play(plays::Setup<'a>),
     Table(Table),
     Asking(Asking),
 }
@@ -69,6 +70,14 @@ impl<'a> Words<'a> {
         match self.has("stateless") {
             true => Ending::ResponseEnd,
             false => Ending::FlushOnly,
+        }
+    }
+
+    // The word after which the file of a repository stands.
+    fn end(self) -> &'static str {
+        match self.has("play") {
+            true => "play",
+            false => "server",
         }
     }
 
@@ -171,6 +180,14 @@ fn check_of(words: Words<'_>) -> checks::Setup {
     }
 }
 
+// The two ends that play, of which the files set up the server.
+fn play_of<'a>(files: &'a Files) -> plays::Setup<'a> {
+    plays::Setup {
+        repository: files.repository.as_slice(),
+        pack: files.pack.as_slice(),
+    }
+}
+
 // The request that these words begin.
 fn asking_of(words: Words<'_>) -> Result<Asking, Trouble> {
     Ok(Asking {
@@ -202,6 +219,9 @@ fn subject_of<'a>(words: Words<'_>, files: &'a Files) -> Result<Subject<'a>, Tro
     }
     if words.text.split_whitespace().next() == Some("asking") {
         return Ok(Subject::Asking(asking_of(words)?));
+    }
+    if words.has("play") {
+        return Ok(Subject::Play(play_of(files)));
     }
     Ok(Subject::End(end_of(words, files)?))
 }
@@ -249,7 +269,7 @@ fn read_recording(
 // The files that these words name.
 fn read_files(rt: &HostRuntime, alloc: Global, words: Words<'_>) -> Result<Files, Trouble> {
     Ok(Files {
-        repository: file_after(rt, alloc, words, "server")?,
+        repository: file_after(rt, alloc, words, words.end())?,
         pack: file_after(rt, alloc, words, "pack")?,
         heard: file_after(rt, alloc, words, "after")?,
         recording: read_recording(rt, alloc, words)?,
@@ -271,6 +291,10 @@ fn goes(rt: &HostRuntime, alloc: Global, setup: &str, lines: &[&str]) -> Result<
                 }
             }
             runs::goes(alloc, &end, &script)
+        }
+        Subject::Play(setup) => {
+            let script = Script::read(alloc, lines, Given::Talk)?;
+            plays::goes(alloc, setup, &script)
         }
         Subject::Table(table) => {
             let script = Script::read(alloc, lines, Given::Lines)?;

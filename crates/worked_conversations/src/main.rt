@@ -10,6 +10,7 @@ mod ends;
 mod escapes;
 mod lists;
 mod packets;
+mod plays;
 mod questions;
 mod requests;
 mod runs;

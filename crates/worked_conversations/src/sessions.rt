@@ -36,9 +36,10 @@ pub struct Setup<'a> {
     pub advertises: bool,
 }
 
-fn repository(alloc: Global, setup: &Setup<'_>) -> Result<ListRepo, Trouble> {
-    let pack = Vec::from_slice(alloc, setup.pack)?;
-    match read_repo(alloc, setup.repository, pack) {
+/// The repository of a text and a pack.
+pub fn repository(alloc: Global, text: &[u8], pack: &[u8]) -> Result<ListRepo, Trouble> {
+    let pack = Vec::from_slice(alloc, pack)?;
+    match read_repo(alloc, text, pack) {
         Ok(repo) => Ok(repo),
         Err(TextFault::OutOfMemory) => Err(Trouble::OutOfMemory),
         Err(TextFault::Bad { .. }) => Err(Trouble::BadCase("no repository text")),
@@ -143,7 +144,7 @@ fn fed_to<R: Repo + Drop>(
 
 /// Feeds the pieces to a server, after which the input ends.
 pub fn fed(alloc: Global, setup: &Setup<'_>, pieces: &[&[u8]]) -> Result<Run, Trouble> {
-    let repo = repository(alloc, setup)?;
+    let repo = repository(alloc, setup.repository, setup.pack)?;
     match setup.reads {
         Some(Reads { fail_from, most }) => {
             let repo = Faulty::new(repo, fail_from, most.max(1));
@@ -177,7 +178,7 @@ fn served_by<R: Repo + Drop>(
 
 /// Serves the pieces.
 pub fn served(alloc: Global, setup: &Setup<'_>, pieces: &[&[u8]]) -> Result<Run, Trouble> {
-    let repo = repository(alloc, setup)?;
+    let repo = repository(alloc, setup.repository, setup.pack)?;
     match setup.reads {
         Some(Reads { fail_from, most }) => {
             let repo = Faulty::new(repo, fail_from, most.max(1));

@@ -1,22 +1,37 @@
-use Rattle.std.proofs.Common.{length}
+use Rattle.std.proofs.Common.{length, subst}
 use Rattle.std.specs.Option.{option_copied}
 use Rattle.git_msg.specs.Advertisement.{everything}
+use Rattle.git2show_lib.specs.HeldScripts.{IsLineFault}
 use Rattle.git2show_lib.specs.ScriptLines.{held}
-use Rattle.git2show_lib.proofs.ScriptReading.{room_at_all, room_behind, started, stepped}
+use Rattle.git2show_lib.proofs.ScriptReading.{no_memory_at, refused_at, room_at_all, room_behind, started, stepped}
 use Rattle.git2show_lib.proofs.scripts.read_script.Goals as goal
 
 pub lines-init : goal.lines-init
-lines-init c = record {
+lines-init g c = record {
   reading = started c.args.text.now c.text.result.now (everything c.args.format) c.args.limits.args (held c.new-script.result) c.text.ensures
       c.new-script.ensures;
   room = room_at_all c.args.text.now c.text.result.now c.text.ensures;
 }
 
 pub lines-preserved : goal.lines-preserved
-lines-preserved c =
+lines-preserved g c =
     let h = rw c.in-Some.is at c.lines.invariant in
     record {
       reading = stepped c.args.text.now c.in-Some.left.now c.split_at_first.result.0.now (everything c.args.format) c.args.limits.args (held c.lines.script)
           (held c.take.new.self) c.lines.line (option_copied c.split_at_first.result.1) h.reading c.split_at_first.ensures.parts c.in-Ok.ensures;
       room = room_behind (length c.args.text.now) c.lines.line c.in-Some.left.now c.split_at_first.result.1 h.room c.split_at_first.ensures.shorter;
     }
+
+pub returns-in-Err-Refused : goal.returns-in-Err-Refused
+returns-in-Err-Refused g c =
+    let h = rw c.in-Some.is at c.lines.invariant in
+    refused_at c.args.text.now c.in-Some.left.now c.split_at_first.result.0.now (everything c.args.format) c.args.limits.args (held c.lines.script)
+        c.lines.line (option_copied c.split_at_first.result.1) h.reading c.split_at_first.ensures.parts
+        (subst (IsLineFault (held c.lines.script) c.split_at_first.result.0.now) c.in-Err-Refused.field-0-is c.in-Err-Refused.ensures)
+
+pub returns-in-Err-OutOfMemory : goal.returns-in-Err-OutOfMemory
+returns-in-Err-OutOfMemory g c =
+    let h = rw c.in-Some.is at c.lines.invariant in
+    no_memory_at c.args.text.now c.in-Some.left.now c.split_at_first.result.0.now (everything c.args.format) c.args.limits.args (held c.lines.script)
+        c.lines.line (option_copied c.split_at_first.result.1) h.reading c.split_at_first.ensures.parts
+        (subst (IsLineFault (held c.lines.script) c.split_at_first.result.0.now) c.in-Err-OutOfMemory.field-0-is c.in-Err-OutOfMemory.ensures)

@@ -4,12 +4,12 @@ use Rattle.git2show_lib.proofs.Scripting.{no_bytes, said_argument, said_command,
 use Rattle.git2show_lib.proofs.script_lines.Script.take.Goals as goal
 
 pub returns-then-is_empty : goal.returns-then-is_empty
-returns-then-is_empty c = takes_blank (held c.args.self.now) c.args.text.now (no_bytes c.args.text.now (sym c.is_empty.ensures ∙ c.if-is_empty.true))
+returns-then-is_empty g c = takes_blank (held c.args.self.now) c.args.text.now (no_bytes c.args.text.now (sym c.is_empty.ensures ∙ c.if-is_empty.true))
 
 pub returns-then-self : goal.returns-then-self
-returns-then-self c = said_argument (held c.args.self.now) (held c.add.new.self) c.args.text.now c.add.result c.if-self.true
+returns-then-self g c = said_argument (held c.args.self.now) (held c.add.new.self) c.args.text.now c.add.result c.if-self.true
     (some_bytes c.args.text.now (sym c.is_empty.ensures ∙ c.if-is_empty.false)) c.add.ensures
 
 pub returns : goal.returns
-returns c = said_command (held c.args.self.now) (held c.begin.new.self) c.args.text.now c.begin.result c.if-self.false
+returns g c = said_command (held c.args.self.now) (held c.begin.new.self) c.args.text.now c.begin.result c.if-self.false
     (some_bytes c.args.text.now (sym c.is_empty.ensures ∙ c.if-is_empty.false)) c.begin.ensures

@@ -1,0 +1,211 @@
+//! Memory is given back: all that an end or a reader took, wherever its input ends and whichever growth is refused.
+use crate::servers::{new_server, usual};
+use git_client::{Client, Ending, HeardGot, Sent};
+use git_msg::{
+    Argument, Caps, Command, Limits, Offer, ReadGot, Request, RequestStream, RequestWriter,
+};
+use git_names::{Format, Oid, Steps};
+use git_pkt::Hold;
+use git_server::{ListRepo, Pulled, Server};
+use linked_list_allocator::LocalHeap;
+use std::process::Abort;
+use std::test::Fail;
+
+/// Two requests, and one that is refused once it has kept arguments of several kinds.
+const REFUSED: &[u8] =
+    b"0014command=ls-refs\n00010009peel\n001bref-prefix refs/heads/\n001aref-prefix refs/tags/\n0000\
+0012command=fetch\n00010032want aaaaaaaaaaaaaaaaaaaaaaaaaaaaaaaaaaaaaaaa\n0032have bbbbbbbbbbbbbbbbbbbbbbbbbbbbbbbbbbbbbbbb\n0000\
+0012command=fetch\n00010032want aaaaaaaaaaaaaaaaaaaaaaaaaaaaaaaaaaaaaaaa\n0012deepen-not v1\n0012want-ref HEAD\n000csymrefs\n0000";
+
+/// A request for an object that the server does not have, after others.
+const NOT_OURS: &[u8] =
+    b"0012command=fetch\n00010032want aaaaaaaaaaaaaaaaaaaaaaaaaaaaaaaaaaaaaaaa\n\
+0035shallow cccccccccccccccccccccccccccccccccccccccc\n0032want dddddddddddddddddddddddddddddddddddddddd\n0000";
+
+/// What a server says to a client: its advertisement, and a pack that breaks off.
+const BROKEN_OFF: &[u8] =
+    b"000eversion 2\n000cls-refs\n0012fetch=shallow\n0017object-format=sha1\n0000\
+0014acknowledgments\n0031ACK bbbbbbbbbbbbbbbbbbbbbbbbbbbbbbbbbbbbbbbb\n000aready\n0001000dpackfile\n0007\x01AB0008\x02hi\n0008\x03no\n";
+
+/// Whose memory it is.
+#[derive(Clone, Copy, Debug)]
+enum Of {
+    Server,
+    Client,
+    Reader,
+}
+
+/// Who is given which bytes.
+const GIVEN: [(Of, &[u8]); 5] = [
+    (Of::Server, REFUSED),
+    (Of::Server, NOT_OURS),
+    (Of::Client, BROKEN_OFF),
+    (Of::Reader, REFUSED),
+    (Of::Reader, NOT_OURS),
+];
+
+/// More memory than any of them takes.
+const ENOUGH: usize = 4_096;
+
+/// More packets than any of them gives.
+const PACKETS: usize = 100;
+
+/// Takes all that the server owes.
+fn drain(server: &mut Server<ListRepo, &LocalHeap>) {
+    for _ in 0..PACKETS {
+        if !matches!(server.pull(), Pulled::Packet(_)) {
+            return;
+        }
+    }
+}
+
+/// Feeds a server, and drops it. How much memory it had at the most.
+fn serve(rt: &(impl Abort + AllocGlobal), heap: &LocalHeap, input: &[u8]) -> Result<usize, Fail> {
+    let mut server = new_server(rt, heap, usual())?;
+    let mut rest = input;
+    let mut most = 0;
+    for _ in 0..PACKETS {
+        let used = server.feed(rest, &mut Steps::new());
+        rest = &rest[used..];
+        most = most.max(heap.used());
+        drain(&mut server);
+    }
+    Ok(most)
+}
+
+/// A request for a pack, where there is memory for it.
+fn request<'h>(rt: &impl Abort, heap: &'h LocalHeap) -> Option<Request<&'h LocalHeap>> {
+    let limits = Limits {
+        args: Limits::USUAL,
+    };
+    let mut request = Request::new(heap, Command::Fetch, Format::Sha1, limits);
+    let id = Oid::read(Format::Sha1, &[b'a'; 40], &mut Steps::new()).expect(rt, "an object name");
+    request.add(Argument::Want(id)).ok()?;
+    request.add(Argument::Have(id)).ok()?;
+    request.add(Argument::DeepenNot(b"v1")).ok()?;
+    Some(request)
+}
+
+/// Says so many packets of what the client owes.
+fn say(client: &mut Client<&LocalHeap>, packets: usize) {
+    for _ in 0..packets {
+        if !matches!(client.pull(), Sent::Packet(_)) {
+            return;
+        }
+    }
+}
+
+/// Feeds a client that asks as soon as it can, and says so many packets of that, and drops it. How much memory its request took.
+fn ask(rt: &impl Abort, heap: &LocalHeap, input: &[u8], packets: usize) -> usize {
+    let mut client = Client::new(Format::Sha1, Ending::FlushOnly);
+    let mut rest = input;
+    let mut most = 0;
+    for _ in 0..PACKETS {
+        let heard = client.feed(rest, &mut Steps::new());
+        let is_over = matches!(heard.got, HeardGot::Failed(_));
+        rest = &rest[heard.used.min(rest.len())..];
+        if is_over {
+            break;
+        }
+        if client.can_ask() {
+            let Some(request) = request(rt, heap) else {
+                break;
+            };
+            assert!(rt; client.ask(request).is_ok());
+            most = most.max(heap.used());
+            say(&mut client, packets);
+        }
+    }
+    most
+}
+
+/// Feeds a reader of requests, lets each request go, and drops it. How much memory there was at the most.
+fn read(heap: &LocalHeap, input: &[u8]) -> usize {
+    let offer = Offer::everything(Format::Sha1);
+    let limits = Limits {
+        args: Limits::USUAL,
+    };
+    let mut reader = RequestStream::new(heap, offer, limits);
+    let mut rest = input;
+    let mut most = 0;
+    for _ in 0..PACKETS {
+        let heard = reader.feed(rest);
+        rest = &rest[heard.used.min(rest.len())..];
+        most = most.max(heap.used());
+        if matches!(heard.got, ReadGot::Failed(_)) {
+            break;
+        }
+    }
+    most
+}
+
+/// How much memory one took that was given the bytes, and was let go.
+fn taken(
+    rt: &(impl Abort + AllocGlobal),
+    of: Of,
+    heap: &LocalHeap,
+    input: &[u8],
+) -> Result<usize, Fail> {
+    match of {
+        Of::Server => serve(rt, heap, input),
+        Of::Client => Ok(ask(rt, heap, input, PACKETS)),
+        Of::Reader => Ok(read(heap, input)),
+    }
+}
+
+#[test]
+fn all_is_given_back_wherever_the_input_ends(rt: HostRuntime) -> Result<(), Fail> {
+    for (of, input) in GIVEN {
+        let mut most = 0;
+        for end in 0..=input.len() {
+            let heap = LocalHeap::new(rt.alloc(), ENOUGH)?;
+            most = most.max(taken(&rt, of, &heap, &input[..end])?);
+            assert_eq!(rt; heap.used(), 0, "{of:?} after {end} bytes");
+        }
+        assert!(rt; 0 < most, "{of:?} took nothing");
+    }
+    Ok(())
+}
+
+#[test]
+fn all_is_given_back_where_a_growth_is_refused(rt: HostRuntime) -> Result<(), Fail> {
+    for (of, input) in GIVEN {
+        for size in (0..ENOUGH).step_by(16) {
+            let heap = LocalHeap::new(rt.alloc(), size)?;
+            taken(&rt, of, &heap, input)?;
+            assert_eq!(rt; heap.used(), 0, "{of:?} of {size} bytes");
+        }
+    }
+    Ok(())
+}
+
+#[test]
+fn a_request_is_given_back_wherever_it_breaks_off(rt: HostRuntime) -> Result<(), Fail> {
+    for packets in 0..8 {
+        let heap = LocalHeap::new(rt.alloc(), ENOUGH)?;
+        let most = ask(&rt, &heap, BROKEN_OFF, packets);
+        assert!(rt; 0 < most);
+        assert_eq!(rt; heap.used(), 0, "after {packets} packets");
+    }
+    Ok(())
+}
+
+#[test]
+fn a_request_is_written_without_memory(rt: HostRuntime) -> Result<(), Fail> {
+    let heap = LocalHeap::new(rt.alloc(), ENOUGH)?;
+    let request = request(&rt, &heap).expect(&rt, "a request");
+    let before = heap.used();
+    let mut writer = RequestWriter::new(&request, &Caps::new());
+    let mut hold = Hold::new();
+    let mut packets = 0u32;
+    for _ in 0..PACKETS {
+        if !writer.pull(&request, &mut hold) {
+            break;
+        }
+        packets = packets.saturating_add(1);
+        assert_eq!(rt; heap.used(), before);
+    }
+    // The command, the delimiter, the revision, the object that is wanted, the one that is had, and the flush.
+    assert_eq!(rt; packets, 6);
+    Ok(())
+}

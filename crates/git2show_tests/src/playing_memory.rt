@@ -1,0 +1,110 @@
+//! Both ends in one memory, which has room for what the client asks and not for what the server keeps of it.
+use crate::servers::repository;
+use git_client::Ending;
+use git_msg::{Limits, Request};
+use git_names::Format;
+use git_pkt::{Fault, Kind, RunFault, Told};
+use git2show_lib::{play, read_script};
+use linked_list_allocator::LocalHeap;
+use std::process::Abort;
+use std::test::Fail;
+
+/// What the client asks: a pack for an object name and a text, which both ends keep.
+const SCRIPT: &[u8] =
+    b"fetch\nwant aaaaaaaaaaaaaaaaaaaaaaaaaaaaaaaaaaaaaaaa\ndeepen-not v1\ndone\n";
+
+/// The transcript of what the server offers, and of the request.
+const ASKED: &[u8] =
+    b"capability agent=git2/1\ncapability ls-refs\ncapability fetch=shallow ref-in-want\n\
+capability server-option\ncapability object-format=sha1\ncapability object-info\noffered\nrequest fetch\n";
+
+/// And of the response.
+const ANSWERED: &[u8] = b"end 5 0\n";
+
+/// Where the first response begins.
+const OFFERED: u64 = 134;
+
+/// More memory than both ends take.
+const ENOUGH: usize = 8_192;
+
+/// How a play ended, and what its two writers got.
+#[derive(Drop)]
+struct Played {
+    ended: Result<(), RunFault>,
+    out: Vec<u8>,
+    pack: Vec<u8>,
+}
+
+/// The requests of the script, where the heap has room for them.
+fn requests(heap: &LocalHeap) -> Option<Vec<Request<&LocalHeap>, &LocalHeap>> {
+    let limits = Limits {
+        args: Limits::USUAL,
+    };
+    read_script(heap, SCRIPT, Format::Sha1, limits).ok()
+}
+
+/// Plays the requests, in small pieces.
+fn play_within(
+    rt: &(impl Abort + AllocGlobal),
+    heap: &LocalHeap,
+    requests: Vec<Request<&LocalHeap>, &LocalHeap>,
+    ending: Ending,
+) -> Result<Played, Fail> {
+    let repo = repository(rt, Format::Sha1)?;
+    let mut out = Vec::new(rt.alloc());
+    let mut pack = Vec::new(rt.alloc());
+    let ended = play(
+        heap,
+        repo,
+        requests,
+        7,
+        ending,
+        &mut Told::new(&mut out),
+        &mut Told::new(&mut pack),
+    );
+    Ok(Played { ended, out, pack })
+}
+
+/// That the client was told of an error of the server, or got the pack. Whether it was an error.
+fn is_refused(rt: &impl Abort, played: &Played) -> bool {
+    assert!(rt; played.out.as_slice().starts_with(ASKED));
+    let rest = &played.out.as_slice()[ASKED.len().min(played.out.len())..];
+    match played.ended {
+        Ok(()) => {
+            assert_eq!(rt; rest, ANSWERED);
+            assert_eq!(rt; played.pack.as_slice(), b"PACK!".as_slice());
+            false
+        }
+        Err(fault) => {
+            let told = RunFault::Refused(Fault {
+                kind: Kind::RemoteError,
+                offset: OFFERED,
+            });
+            assert_eq!(rt; fault, told);
+            assert_eq!(rt; rest.len(), 0);
+            assert_eq!(rt; played.pack.len(), 0);
+            true
+        }
+    }
+}
+
+#[test]
+fn a_play_whose_server_has_no_memory_is_told_of_its_error(rt: HostRuntime) -> Result<(), Fail> {
+    for ending in [Ending::FlushOnly, Ending::ResponseEnd] {
+        let mut refused = 0u32;
+        let mut is_whole = false;
+        for size in (0..ENOUGH).step_by(16) {
+            let heap = LocalHeap::new(rt.alloc(), size)?;
+            if let Some(requests) = requests(&heap) {
+                let played = play_within(&rt, &heap, requests, ending)?;
+                let came = is_refused(&rt, &played);
+                assert!(rt; !(is_whole && came), "with {size} bytes");
+                is_whole = !came;
+                refused = refused.saturating_add(u32::from(came));
+            }
+            assert_eq!(rt; heap.used(), 0, "of {size} bytes");
+        }
+        assert!(rt; 0 < refused && is_whole);
+    }
+    Ok(())
+}

@@ -1,0 +1,147 @@
+//! Both ends against each other in memory: in pieces of each length, and whether one server answers all or each request has its own.
+
+ghost use Rattle.std.specs.Prelude.{◌<◌};
+
+use crate::runs::{Due, Known, Run, compare};
+use crate::script::Script;
+use crate::sessions::repository;
+use crate::setup::limits;
+use crate::trouble::Trouble;
+use git_client::Ending;
+use git_msg::Limits;
+use git_pkt::{RunFault, Told};
+use git_repository::TextFault;
+use git_server::Repo;
+use git2show_lib::{play, read_script};
+use std::alloc::{AllocError, Global};
+use test_streams::Sink;
+
+/// The bytes go over in pieces of at most so many, from 1 on.
+const SHORT: usize = 65;
+
+/// And in the longest pieces of the program.
+const LONGEST: usize = 65_536;
+
+/// How many bytes a response end has.
+const RESPONSE_END: u64 = 4;
+
+/// What a server gives.
+#[derive(Clone, Copy)]
+pub struct Setup<'a> {
+    /// The text of its repository.
+    pub repository: &'a [u8],
+    /// Its pack.
+    pub pack: &'a [u8],
+}
+
+fn ending_of(alloc: Global, ended: Result<(), RunFault>) -> Result<String, AllocError> {
+    match ended {
+        Ok(()) => String::from_str(alloc, "closed\n"),
+        Err(fault) => format!(in alloc; "refused {fault}\n"),
+    }
+}
+
+// Plays what the script says.
+fn played(
+    alloc: Global,
+    setup: Setup<'_>,
+    script: &Script,
+    cut: usize,
+    ending: Ending,
+) -> Result<Run, Trouble>
+    requires { 0 < cut }
+{
+    let repo = repository(alloc, setup.repository, setup.pack)?;
+    let mut out = Sink::new(Vec::new(alloc), usize::MAX, u32::MAX);
+    let mut pack = Sink::new(Vec::new(alloc), usize::MAX, u32::MAX);
+    let text = script.input.as_slice();
+    let requests = match read_script(alloc, text, repo.format(), limits(Limits::USUAL)) {
+        Ok(requests) => requests,
+        Err(TextFault::OutOfMemory) => return Err(Trouble::OutOfMemory),
+        Err(TextFault::Bad { line }) => {
+            let ending = format!(in alloc; "bad line {line}\n")?;
+            return Ok(Run::new(alloc, out.taken, ending, None));
+        }
+    };
+    let ended = play(
+        alloc,
+        repo,
+        requests,
+        cut,
+        ending,
+        &mut Told::new(&mut out),
+        &mut Told::new(&mut pack),
+    );
+    let is_flushed = out.flushed == out.taken.len() && pack.flushed == pack.taken.len();
+    if ended.is_ok() && !is_flushed {
+        return Err(Trouble::Breaks("play leaves something unflushed"));
+    }
+    let mut run = Run::new(alloc, out.taken, ending_of(alloc, ended)?, None);
+    run.pack = pack.taken;
+    Ok(run)
+}
+
+// How many bytes of response ends the client has heard before a fault, where there are such: one for each response that was whole.
+fn response_ends(given: &[u8], ending: Ending) -> u64 {
+    let mut bytes = 0u64;
+    for line in given.split(|byte| *byte == b'\n') {
+        if ending == Ending::ResponseEnd && line.starts_with(b"end ") {
+            bytes = bytes.saturating_add(RESPONSE_END);
+        }
+    }
+    bytes
+}
+
+// How a play ends: as the script says, and a fault stands after the response ends.
+fn due_ending(alloc: Global, script: &Script, ending: Ending) -> Result<String, Trouble> {
+    let line = script.ending.as_str();
+    let Some((fault, offset)) = line.trim_end().split_once(" at ") else {
+        return Ok(String::from_str(alloc, line)?);
+    };
+    let Ok(offset) = offset.parse::<u64>() else {
+        return Err(Trouble::BadCase("no offset"));
+    };
+    let offset = offset.saturating_add(response_ends(script.given.as_slice(), ending));
+    Ok(format!(in alloc; "{fault} at {offset}\n")?)
+}
+
+fn due(alloc: Global, script: &Script, ending: Ending) -> Result<Due, Trouble> {
+    Ok(Due {
+        given: script.given.clone()?,
+        pack: script.pack.clone()?,
+        progress: Vec::new(alloc),
+        ending: due_ending(alloc, script, ending)?,
+        used: 0,
+        known: Known::All,
+    })
+}
+
+// Plays it in pieces of each length. Answers how many runs were made.
+fn goes_with(
+    alloc: Global,
+    setup: Setup<'_>,
+    script: &Script,
+    ending: Ending,
+) -> Result<usize, Trouble> {
+    let due = due(alloc, script, ending)?;
+    let mut runs = 0usize;
+    for cut in 1..=SHORT {
+        compare(
+            alloc,
+            &played(alloc, setup, script, cut, ending)?,
+            &due,
+            cut,
+        )?;
+        runs = runs.saturating_add(1);
+    }
+    let run = played(alloc, setup, script, LONGEST, ending)?;
+    compare(alloc, &run, &due, LONGEST)?;
+    Ok(runs.saturating_add(1))
+}
+
+/// The play goes as the script says, with either ending of the responses. Answers how many runs were made.
+pub fn goes(alloc: Global, setup: Setup<'_>, script: &Script) -> Result<usize, Trouble> {
+    let by_flush = goes_with(alloc, setup, script, Ending::FlushOnly)?;
+    let by_response_end = goes_with(alloc, setup, script, Ending::ResponseEnd)?;
+    Ok(by_flush.saturating_add(by_response_end))
+}
