@@ -36,7 +36,7 @@ struct Played {
 }
 
 /// The requests of the script, where the heap has room for them.
-fn requests(heap: &LocalHeap) -> Option<Vec<Request<&LocalHeap>, &LocalHeap>> {
+fn requests<'h>(heap: &'h LocalHeap) -> Option<Vec<Request<&'h LocalHeap>, &'h LocalHeap>> {
     let limits = Limits {
         args: Limits::USUAL,
     };
@@ -44,10 +44,10 @@ fn requests(heap: &LocalHeap) -> Option<Vec<Request<&LocalHeap>, &LocalHeap>> {
 }
 
 /// Plays the requests, in small pieces.
-fn play_within(
+fn play_within<'h>(
     rt: &(impl Abort + AllocGlobal),
-    heap: &LocalHeap,
-    requests: Vec<Request<&LocalHeap>, &LocalHeap>,
+    heap: &'h LocalHeap,
+    requests: Vec<Request<&'h LocalHeap>, &'h LocalHeap>,
     ending: Ending,
 ) -> Result<Played, Fail> {
     let repo = repository(rt, Format::Sha1)?;
