@@ -803,8 +803,8 @@ case_a_daemon_in_c_lists_beside_many_prefixes() {
     end_daemon
 }
 
-# A hundred and twenty-eight that say nothing have all its places, until they are closed.
-case_a_daemon_in_c_lets_others_wait() {
+# A hundred and twenty-eight that say nothing have all its places, until another comes.
+case_a_daemon_in_c_makes_room() {
     local i connection
     patience=10
     start_daemon history-sha1
@@ -813,7 +813,48 @@ case_a_daemon_in_c_lets_others_wait() {
     done
     ls_remote "$address"
     expect_same 'the list' <(git ls-remote ./history-sha1) out
-    [ "$(grep -c 'too slow' daemon.err)" -ge 1 ] || differs 'nobody who had to go' daemon.err
+    expect_same 'what the daemon told' <(echo 'daemon: a client made room for another') daemon.err
+    end_daemon
+}
+
+# A hundred and twenty-eight that have been greeted, and begin a request by a byte a second, keep nobody out: of them one goes, and the
+# others stay.
+case_a_daemon_in_c_serves_beside_those_who_drip() {
+    local dripping
+    printf "$(greeting here version=2)" > drop
+    start_daemon history-sha1
+    rm -f dripping
+    "$top/tests/dripping.py" "$port" 128 drop dripping 2> dripping.err &
+    dripping=$!
+    wait_for dripping
+    ls_remote "$address"
+    expect_same 'the list' <(git ls-remote ./history-sha1) out
+    clone "$address" ours
+    clone_from_git history-sha1
+    same_clones
+    ls_remote "$address"
+    expect_same 'the list' <(git ls-remote ./history-sha1) out
+    expect_same 'what the daemon told' <(echo 'daemon: a client made room for another') daemon.err
+    kill $dripping || differs 'clients that did not go on' dripping.err
+    end_daemon
+}
+
+# Who has an answer to take keeps its place, whoever comes, and the daemon does not look over and over for who could go.
+case_a_daemon_in_c_keeps_who_takes_an_answer() {
+    local i connection before after
+    start_daemon heavy
+    fetch "$(git -C heavy rev-parse main)" > asked
+    for i in {1..128}; do
+        exec {connection}<> "/dev/tcp/127.0.0.1/$port"
+        { printf "$(greeting here version=2)" && cat asked; } >&$connection
+    done
+    sleep 3
+    before=$(ticks)
+    run timeout 3 git -c protocol.version=2 ls-remote "$address"
+    after=$(ticks)
+    expect_status 124
+    [ $((after - before)) -lt 100 ] || differs "$((after - before)) hundredths of a second of three for nothing"
+    expect_same 'what the daemon told' /dev/null daemon.err
     end_daemon
 }
 
