@@ -6,6 +6,7 @@ PREFIX ?= /usr/local
 PROGRAM ?= crates/git2show/out/git2show
 LIBRARY ?= crates/gitwire/out/libgitwire.a
 KIT = $(shell dirname "$$($(RT) doc)")
+VERSION = 0.1.0
 
 .PHONY: run library install test test-program audit cases bench
 
@@ -18,29 +19,42 @@ run:
 library:
 	@cd crates/gitwire && $(RT) lib
 
-# Installs the program with its manual page, and the library with its header, what the header names (the page on the protocol, the
+# Installs the program with its manual page, and the library with its own, its header, what that names (the page on the protocol, the
 # script that writes a repository text, the examples), and what pkg-config tells of it: a C program is then built with
-# `pkg-config --cflags --libs gitwire` and nothing of this folder. What was built is taken as it is.
+# `pkg-config --cflags --libs gitwire` and nothing of this folder. It has the library twice: as an archive, and as a shared library of
+# the same objects, which shows the calls of the header alone. What was built is taken as it is; what was not is proved first, and each
+# is told.
 install: prefix = $(abspath $(PREFIX))
 install: to = $(DESTDIR)$(prefix)
 install: $(PROGRAM) $(LIBRARY)
+	@for it in "$(PROGRAM)" "$(LIBRARY)"; do \
+		newer=$$(find crates/*/src -name '*.rt' -newer "$$it" -print -quit); \
+		echo "make install: takes $$it as it was built$${newer:+, though $$newer is newer}"; \
+	done
 	@install -D -m 755 "$(PROGRAM)" "$(to)/bin/git2show"
 	@install -D -m 644 docs/git2show.1 "$(to)/share/man/man1/git2show.1"
+	@install -D -m 644 docs/gitwire.3 "$(to)/share/man/man3/gitwire.3"
 	@install -D -m 644 include/gitwire.h "$(to)/include/gitwire.h"
 	@install -D -m 644 docs/PROTOCOL.md "$(to)/share/doc/gitwire/PROTOCOL.md"
 	@install -D -m 755 sample/repository-text.sh "$(to)/share/doc/gitwire/repository-text.sh"
-	@install -D -m 644 -t "$(to)/share/doc/gitwire/examples" $(filter-out %.sh,$(wildcard examples/*))
-	@install -D -m 755 -t "$(to)/share/doc/gitwire/examples" $(wildcard examples/*.sh)
+	@install -D -m 644 -t "$(to)/share/doc/gitwire/examples" $(filter-out %.sh %.py,$(wildcard examples/*))
+	@install -D -m 755 -t "$(to)/share/doc/gitwire/examples" $(wildcard examples/*.sh examples/*.py)
 	@install -D -m 644 gitwire.pc.in "$(to)/lib/pkgconfig/gitwire.pc"
 	@sed -i 's|@PREFIX@|$(prefix)|' "$(to)/lib/pkgconfig/gitwire.pc"
 	@install -D -m 644 "$(LIBRARY)" "$(to)/lib/libgitwire.a"
 	@objects=$$(mktemp -d) && (cd "$$objects" && ar x "$(KIT)/c/liblibc_c.a") && \
 		ar qs "$(to)/lib/libgitwire.a" "$$objects"/*.o && rm -r "$$objects"
+	@$(CC) -shared -o "$(to)/lib/libgitwire.so.$(VERSION)" -Wl,-soname,libgitwire.so.0,--version-script=gitwire.map \
+		-Wl,-z,defs,-z,relro,-z,now,--whole-archive "$(to)/lib/libgitwire.a" -Wl,--no-whole-archive
+	@ln -sf libgitwire.so.$(VERSION) "$(to)/lib/libgitwire.so.0"
+	@ln -sf libgitwire.so.0 "$(to)/lib/libgitwire.so"
 
 $(PROGRAM):
+	@echo "make install: $@ is not there: it is proved with all that it stands on, and built, which can take half an hour and more"
 	@cd crates/git2show && $(RT) run -- --version > /dev/null
 
 $(LIBRARY):
+	@echo "make install: $@ is not there: it is proved with all that it stands on, and built, which can take half an hour and more"
 	@cd crates/gitwire && $(RT) lib
 
 # The merge gate: every proof from nothing, the edits that must fail, the tests and the programs. Its last line is the

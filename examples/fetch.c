@@ -168,7 +168,7 @@ static int converse(struct fetch *fetch)
 }
 
 /* Fetches into the file of this name. Answers the program's status. */
-static int fetch_into(struct fetch *fetch, const char *folder, const char *name)
+static int fetch_into(struct fetch *fetch, char *folder, const char *name)
 {
 	int status;
 

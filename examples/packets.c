@@ -12,21 +12,9 @@
 #include <stdio.h>
 #include <stdlib.h>
 
-#define MOST_PIECE 65536
+#include "shown.h"
 
-static void show_bytes(const uint8_t *bytes, size_t length)
-{
-	for (size_t i = 0; i < length; i++) {
-		if (bytes[i] == '\n')
-			fputs("\\n", stdout);
-		else if (bytes[i] == '\\')
-			fputs("\\\\", stdout);
-		else if (bytes[i] >= 0x20 && bytes[i] <= 0x7e)
-			putchar(bytes[i]);
-		else
-			printf("\\x%02x", bytes[i]);
-	}
-}
+#define MOST_PIECE 65536
 
 static void show(gitwire_told packet, const uint8_t *payload)
 {
@@ -43,7 +31,7 @@ static void show(gitwire_told packet, const uint8_t *payload)
 		return;
 	}
 	printf("data %zu%s", packet.length, packet.length > 0 ? " " : "");
-	show_bytes(payload, packet.length);
+	show_bytes(stdout, payload, packet.length);
 	putchar('\n');
 }
 

@@ -1,6 +1,6 @@
 // Lists the packets of standard input, as packets.c does, from Go, through cgo:
 //
-//	PKG_CONFIG_PATH=PREFIX/lib/pkgconfig go run packets.go
+//	PKG_CONFIG_PATH=PREFIX/lib/pkgconfig LD_LIBRARY_PATH=PREFIX/lib go run packets.go
 //
 // A handle lies in C's memory, since the library keeps it from call to call; pieces and rooms lie in Go's, for one call each.
 package main

@@ -12,7 +12,7 @@ write_examples() {
     local name
     make -s -C "$top" install PREFIX="$installed" PROGRAM="$program" LIBRARY="$library" RT="${RT:-rt}" >&2 ||
         stop 'what was built could not be installed'
-    for name in daemon fetch host list packets; do
+    for name in daemon fetch host list packets watch; do
         compile "$name" "$top/examples/$name.c"
     done
     compile library_calls "$top/tests/library_calls.c"
@@ -23,16 +23,20 @@ write_examples() {
 of_library() {
     if command -v pkg-config > /dev/null; then
         PKG_CONFIG_PATH=$installed/lib/pkgconfig pkg-config "$@" gitwire
-    else
-        echo "-I$installed/include -L$installed/lib -lgitwire"
+        return
     fi
+    case $* in
+    --cflags) echo "-I$installed/include" ;;
+    --variable=archive) echo "$installed/lib/libgitwire.a" ;;
+    *) echo "-I$installed/include -L$installed/lib -lgitwire" ;;
+    esac
 }
 
-# compile NAME SOURCE [OPTION..]: builds a C program, and a watched one.
+# compile NAME SOURCE [OPTION..]: builds a C program over the static library, and a watched one.
 compile() {
     local name=$1 source=$2 flags
     shift 2
-    read -r -a flags <<< "$(of_library --cflags --libs)"
+    read -r -a flags <<< "$(of_library --cflags) $(of_library --variable=archive)"
     {
         gcc -O2 -g -Wall -Wextra -Werror -o "bin/$name" "$source" "$@" "${flags[@]}" &&
             gcc -O1 -g -Wall -Wextra -Werror -fsanitize=address,undefined -fno-sanitize-recover=undefined -o "bin/$name-watched" \
@@ -51,18 +55,20 @@ under_valgrind() {
 
 case_library_is_installed_whole() {
     local file line
-    for file in bin/git2show lib/libgitwire.a include/gitwire.h lib/pkgconfig/gitwire.pc share/man/man1/git2show.1 \
-        share/doc/gitwire/PROTOCOL.md share/doc/gitwire/repository-text.sh share/doc/gitwire/examples/{common.h,daemon.c,fetch.c,host.c,list.c,packets.c,upload_pack.h,http-backend.sh}; do
+    for file in bin/git2show lib/libgitwire.a lib/libgitwire.so include/gitwire.h lib/pkgconfig/gitwire.pc share/man/man1/git2show.1 \
+        share/man/man3/gitwire.3 share/doc/gitwire/PROTOCOL.md share/doc/gitwire/repository-text.sh \
+        $(cd "$top" && printf 'share/doc/gitwire/%s ' examples/*); do
         [ -s "$installed/$file" ] || differs "no $file"
     done
-    for file in bin/git2show share/doc/gitwire/{repository-text.sh,examples/http-backend.sh}; do
+    for file in bin/git2show share/doc/gitwire/{repository-text.sh,examples/http-backend.sh,examples/packets.py}; do
         [ -x "$installed/$file" ] || differs "no program $file"
     done
     run "$installed/bin/git2show" --version
     expect 0 <(echo 'git2show 0.1.0') /dev/null
     expect_same 'the library of pkg-config' <(echo "-I$installed/include -L$installed/lib -lgitwire") \
         <(of_library --cflags --libs | sed 's/ *$//')
-    for line in "prefix=$installed" 'libdir=${prefix}/lib' 'includedir=${prefix}/include' 'Version: 0.1.0' \
+    expect_same 'the archive of pkg-config' <(echo "$installed/lib/libgitwire.a") <(of_library --variable=archive)
+    for line in "prefix=$installed" 'libdir=${prefix}/lib' 'includedir=${prefix}/include' 'archive=${libdir}/libgitwire.a' 'Version: 0.1.0' \
         'Libs: -L${libdir} -lgitwire' 'Cflags: -I${includedir}'; do
         expect_line 'what pkg-config tells' "$line" "$installed/lib/pkgconfig/gitwire.pc"
     done
@@ -74,16 +80,75 @@ case_library_is_installed_whole() {
 # DESTDIR stands before each path, and in no file.
 case_library_is_installed_below_another_folder() {
     run make -s -C "$top" install DESTDIR="$room/staged" PREFIX=/usr PROGRAM="$program" LIBRARY="$library" RT="${RT:-rt}"
-    expect 0 /dev/null /dev/null
+    expect_status 0
+    expect_same 'standard error' /dev/null err
+    expect_same 'what is told' <(printf 'make install: takes %s as it was built\n' "$program" "$library") \
+        <(sed 's/, though .* is newer$//' out)
     expect_line 'what pkg-config tells' prefix=/usr staged/usr/lib/pkgconfig/gitwire.pc
-    expect_same 'what is installed' <(cd "$installed" && find . -type f | sort) <(cd staged/usr && find . -type f | sort)
+    expect_same 'what is installed' <(cd "$installed" && find . ! -type d | sort) <(cd staged/usr && find . ! -type d | sort)
+}
+
+# What is not there is built, and that is told before. This `rt` makes a file where it lies in a library's folder, and else where a program
+# would be run.
+case_library_that_is_not_built_is_told() {
+    local told='is not there: it is proved with all that it stands on, and built, which can take half an hour and more'
+    mkdir -p unbuilt/crates/{git2show,gitwire}/src
+    cp -r "$top"/{Makefile,gitwire.map,gitwire.pc.in,docs,include,sample,examples} unbuilt
+    printf '%s\n' '#!/bin/sh' 'case $1 in' "doc) exec ${RT:-rt} doc ;;" "lib) it=libgitwire.a from=$library ;;" \
+        "run) it=git2show from=$program ;;" esac 'mkdir -p out && cp "$from" "out/$it"' > bin/no-rt
+    chmod +x bin/no-rt
+    run make -s -C unbuilt install PREFIX="$room/built" RT="$room/bin/no-rt"
+    expect_status 0
+    expect_same 'what is told' <(
+        printf "make install: %s $told\n" crates/git2show/out/git2show crates/gitwire/out/libgitwire.a
+        printf 'make install: takes %s as it was built\n' crates/git2show/out/git2show crates/gitwire/out/libgitwire.a
+    ) out
+    expect_same 'what is installed' <(cd "$installed" && find . ! -type d | sort) <(cd built && find . ! -type d | sort)
+}
+
+# calls_of_the_header: their names.
+calls_of_the_header() {
+    sed -n 's/^[a-z_0-9]* \(gitwire_[a-z_]*\)(.*/\1/p' "$installed/include/gitwire.h" | sort
 }
 
 case_library_has_the_calls_of_its_header() {
-    sed -n 's/^[a-z_0-9]* \(gitwire_[a-z_]*\)(.*/\1/p' "$installed/include/gitwire.h" | sort > wanted
+    calls_of_the_header > wanted
     nm -g --defined-only "$installed/lib/libgitwire.a" | awk '$2 == "T" && $3 ~ /^gitwire_/ { print $3 }' | sort > written
     [ -s wanted ] || differs 'no call in the header'
     expect_same 'the calls of the library' wanted written
+}
+
+# The shared library has a name by which programs find it, shows the calls of the header and nothing else, and stands on the C library
+# alone. No code of it is written to where it is loaded.
+case_shared_library_shows_the_calls_of_its_header_alone() {
+    local it=$installed/lib/libgitwire.so
+    nm -D --defined-only "$it" | awk '{ print $NF }' | sort > written
+    expect_same 'what the shared library shows' <(calls_of_the_header) written
+    objdump -p "$it" > parts
+    expect_same 'what it is called' <(echo libgitwire.so.0) <(awk '$1 == "SONAME" { print $2 }' parts)
+    expect_same 'what it needs' <(echo libc.so.6) <(awk '$1 == "NEEDED" { print $2 }' parts)
+    ! grep -q TEXTREL parts || differs 'code that is written to' parts
+    expect_same 'the links to it' <(printf '%s\n' libgitwire.so.0 libgitwire.so.0.1.0) \
+        <(readlink "$it" "$installed/lib/libgitwire.so.0")
+}
+
+# shared COMMAND..: runs a program over the shared library.
+shared() {
+    LD_LIBRARY_PATH=$installed/lib run "$@"
+}
+
+# Each call is made over the shared library too.
+case_programs_take_the_shared_library() {
+    local flags
+    read -r -a flags <<< "$(of_library --cflags --libs)"
+    gcc -O2 -o bin/library_calls-shared "$top/tests/library_calls.c" "${flags[@]}"
+    gcc -O2 -o bin/list-shared "$top/examples/list.c" "${flags[@]}"
+    shared ldd bin/list-shared
+    grep -q -F "libgitwire.so.0 => $installed/lib/libgitwire.so.0 " out || differs 'a program without the shared library' out
+    shared library_calls-shared
+    expect 0 /dev/null /dev/null
+    shared list-shared history-sha1
+    expect 0 <(git ls-remote --symref ./history-sha1) /dev/null
 }
 
 case_library_header_stands_alone() {
@@ -99,7 +164,7 @@ case_library_header_stands_alone() {
 
 case_library_programs_compile_without_a_word() {
     local name
-    for name in daemon fetch host list packets library_calls refused_memory; do
+    for name in daemon fetch host list packets watch library_calls refused_memory; do
         expect_same "what the compiler says of $name" /dev/null "$name.said"
     done
 }
@@ -115,10 +180,21 @@ case_manual_page_has_each_option() {
             [ "$option" = --help ] || grep -q -e "$option" part || differs "a part on $command without $option" part
         done < options
     done
+    is_well_written man1/git2show.1
+}
+
+# is_well_written PAGE: that `man` has nothing to say of a manual page.
+is_well_written() {
     command -v man > /dev/null || return 0
-    run env MANWIDTH=80 man --warnings -l "$installed/share/man/man1/git2show.1"
+    run env MANWIDTH=80 man --warnings -l "$installed/share/man/$1"
     expect_status 0
-    expect_same 'what man says of the manual page' /dev/null err
+    expect_same "what man says of $1" /dev/null err
+}
+
+case_manual_page_has_each_call() {
+    expect_same 'the calls of the manual page' <(calls_of_the_header) \
+        <(sed -n 's/^\.BR \(gitwire_[a-z_]*\) ().*/\1/p' "$installed/share/man/man3/gitwire.3" | sort)
+    is_well_written man3/gitwire.3
 }
 
 case_library_calls_tell_what_the_header_says() {
@@ -210,8 +286,12 @@ case_packets_are_listed_by_a_program_in_go() {
     go version && command -v pkg-config || return 0
     PKG_CONFIG_PATH=$installed/lib/pkgconfig GOPATH=$room/go GOCACHE=$room/go/cache GOFLAGS=-mod=mod \
         go build -o bin/packets-go "$top/examples/packets.go"
-    lists_as_show packets-go
+    lists_as_show env LD_LIBRARY_PATH="$installed/lib" packets-go
     chmod -R u+w go
+}
+
+case_packets_are_listed_by_a_program_in_python() {
+    lists_as_show env LD_LIBRARY_PATH="$installed/lib" "$installed/share/doc/gitwire/examples/packets.py"
 }
 
 # lists_from_git FOLDER WORD..: that our client lists what Git does of a repository, and ends well.
@@ -803,17 +883,57 @@ case_a_daemon_in_c_lists_beside_many_prefixes() {
     end_daemon
 }
 
-# A hundred and twenty-eight that say nothing have all its places, until they are closed.
-case_a_daemon_in_c_lets_others_wait() {
+# A hundred and twenty-eight that say nothing have all its places, until another comes.
+case_a_daemon_in_c_makes_room() {
     local i connection
-    patience=10
     start_daemon history-sha1
     for i in {1..128}; do
         exec {connection}<> "/dev/tcp/127.0.0.1/$port"
     done
     ls_remote "$address"
     expect_same 'the list' <(git ls-remote ./history-sha1) out
-    [ "$(grep -c 'too slow' daemon.err)" -ge 1 ] || differs 'nobody who had to go' daemon.err
+    expect_same 'what the daemon told' <(echo 'daemon: a client made room for another') daemon.err
+    end_daemon
+}
+
+# A hundred and twenty-eight that have been greeted, and begin a request by a byte a second, keep nobody out: of them one goes, and the
+# others stay.
+case_a_daemon_in_c_serves_beside_those_who_drip() {
+    local dripping
+    printf "$(greeting here version=2)" > drop
+    start_daemon history-sha1
+    rm -f dripping
+    "$top/tests/dripping.py" "$port" 128 drop dripping 2> dripping.err &
+    dripping=$!
+    wait_for dripping
+    ls_remote "$address"
+    expect_same 'the list' <(git ls-remote ./history-sha1) out
+    clone "$address" ours
+    clone_from_git history-sha1
+    same_clones
+    ls_remote "$address"
+    expect_same 'the list' <(git ls-remote ./history-sha1) out
+    expect_same 'what the daemon told' <(echo 'daemon: a client made room for another') daemon.err
+    kill $dripping || differs 'clients that did not go on' dripping.err
+    end_daemon
+}
+
+# Who has an answer to take keeps its place, whoever comes, and the daemon does not look over and over for who could go.
+case_a_daemon_in_c_keeps_who_takes_an_answer() {
+    local i connection before after
+    start_daemon heavy
+    fetch "$(git -C heavy rev-parse main)" > asked
+    for i in {1..128}; do
+        exec {connection}<> "/dev/tcp/127.0.0.1/$port"
+        { printf "$(greeting here version=2)" && cat asked; } >&$connection
+    done
+    sleep 3
+    before=$(ticks)
+    run timeout 3 git -c protocol.version=2 ls-remote "$address"
+    after=$(ticks)
+    expect_status 124
+    [ $((after - before)) -lt 100 ] || differs "$((after - before)) hundredths of a second of three for nothing"
+    expect_same 'what the daemon told' /dev/null daemon.err
     end_daemon
 }
 

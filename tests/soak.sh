@@ -16,7 +16,8 @@ descriptors_are() {
     differs "$(ls "/proc/$daemon/fd" | wc -l) descriptors in place of $1"
 }
 
-# A first round has used each place of the daemon: what came later would be what is never given back.
+# A first round has used each place of the daemon, and a second one each place by many kinds: what came later would be what is never given
+# back.
 case_a_daemon_in_c_is_the_same_after_a_thousand_lies() {
     local descriptors memory
     patience=3
@@ -24,6 +25,7 @@ case_a_daemon_in_c_is_the_same_after_a_thousand_lies() {
     start_daemon heavy daemon
     descriptors=$(ls "/proc/$daemon/fd" | wc -l)
     timeout 300 "$top/tests/soak.py" daemon "$port" 512 lie asks deaf garbage
+    timeout 300 "$top/tests/soak.py" daemon "$port" 1000 lie asks
     descriptors_are "$descriptors"
     memory=$(memory_of VmRSS)
     timeout 300 "$top/tests/soak.py" daemon "$port" 1000 lie asks

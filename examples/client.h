@@ -1,0 +1,199 @@
+/*
+ * A client of daemon.c: what is kept of it, and its turn, in which it hears and is answered.
+ *
+ * Whatever it does, it takes a `struct client`, a buffer of one packet in the library, what MOST_KEPT bytes of a request's arguments take
+ * there, and nothing else.
+ */
+#include <gitwire.h>
+
+#include <errno.h>
+#include <poll.h>
+#include <stdio.h>
+#include <sys/socket.h>
+#include <time.h>
+#include <unistd.h>
+
+#include "greeting.h"
+
+/*
+ * What a request may keep: some 23,000 lines `want` or `have`. One with more is refused. While one client's packet is made the
+ * others wait: at the longest for as long as it takes to put in order the prefixes that this has room for, some hundredths of a
+ * second, or to compare each `unshallow` line of the text with each `shallow` of the request: of many such lines less is better.
+ */
+enum { MOST_KEPT = 1048576 };
+
+/* How many packets are made for a client before the others have their turn: a small request can be answered by a flush alone. */
+enum { MOST_PULLS = 64 };
+
+struct client {
+	enum { NOBODY, GREETING, SERVING, ENDING, LEAVING } phase;
+	int connection;
+	time_t deadline;
+	time_t since;                             /* since when a whole request of it is waited for */
+	bool wants_input, input_ended;            /* what has come is used, and more is due; no more comes */
+	gitwire_packet_reader packets;            /* while GREETING */
+	gitwire_server server;                    /* from SERVING on */
+	size_t in_at, in_end, out_at, out_end;    /* what is not yet used, and not yet sent */
+	uint8_t in[16384], out[2 * GITWIRE_PACKET_ROOM];
+};
+
+static gitwire_repository repository = GITWIRE_NONE; /* one for all */
+static gitwire_writer writer = GITWIRE_NONE; /* of error packets */
+static time_t patience;
+
+static time_t seconds(void)
+{
+	struct timespec moment;
+
+	clock_gettime(CLOCK_MONOTONIC, &moment);
+	return moment.tv_sec;
+}
+
+/* A fault by its name and offset, until the next one is asked for. */
+static const char *text_of(gitwire_told told)
+{
+	static char text[GITWIRE_FAULT_TEXT_ROOM + 1];
+
+	text[gitwire_fault_text(told.fault, told.offset, (uint8_t *)text, GITWIRE_FAULT_TEXT_ROOM)] = 0;
+	return text;
+}
+
+/* Tells on standard error what became of a client, unless that would wait for somebody who does not read it. */
+static void tell(const char *what, const char *why)
+{
+	struct pollfd errors = { .fd = STDERR_FILENO, .events = POLLOUT };
+
+	if (poll(&errors, 1, 0) == 1 && errors.revents & POLLOUT)
+		fprintf(stderr, "daemon: %s%s\n", what, why);
+}
+
+static void forget(struct client *c)
+{
+	gitwire_packet_reader_free(&c->packets);
+	gitwire_server_free(&c->server);
+	close(c->connection);
+	c->phase = NOBODY;
+}
+
+/* Makes an error packet the last that is sent. */
+static void refuse(struct client *c, const char *why)
+{
+	tell("refused: ", why);
+	c->out_end = gitwire_put_error(&writer, (const uint8_t *)why, strlen(why), c->out, sizeof c->out).length;
+	c->phase = ENDING;
+}
+
+/* Reads on to the end of the first packet, whose payload comes to where the answer will stand. */
+static void greet(struct client *c)
+{
+	gitwire_told told = gitwire_packet_reader_feed(&c->packets, c->in + c->in_at, c->in_end - c->in_at, c->out, sizeof c->out);
+	const char *why;
+
+	c->in_at += told.used;
+	if (told.kind == GITWIRE_MORE && !c->input_ended)
+		return;
+	if (told.kind == GITWIRE_MORE)
+		told = gitwire_packet_reader_close(&c->packets);
+	gitwire_packet_reader_free(&c->packets);
+	if (told.kind == GITWIRE_DONE) { /* nothing was asked */
+		c->phase = ENDING;
+	} else if (told.kind == GITWIRE_FAILED) {
+		refuse(c, text_of(told));
+	} else if ((why = why_not((const char *)c->out, told.length)) != NULL) {
+		refuse(c, why);
+	} else if (gitwire_server_new(&c->server, &repository, MOST_KEPT, true) != GITWIRE_DONE) {
+		refuse(c, "no memory");
+	} else {
+		c->phase = SERVING;
+	}
+}
+
+/* Gives what the server owes, as long as there is room for a whole packet and the turn lasts, and feeds it what has come. */
+static void serve(struct client *c)
+{
+	c->wants_input = false;
+	for (int i = 0; i < MOST_PULLS && sizeof c->out - c->out_end >= GITWIRE_PACKET_ROOM && !c->wants_input; i++) {
+		gitwire_told told = gitwire_server_pull(&c->server, c->out + c->out_end, sizeof c->out - c->out_end);
+
+		if (told.kind == GITWIRE_PACKET) {
+			c->out_end += told.length;
+		} else if (told.kind != GITWIRE_NEED_INPUT) {
+			c->phase = ENDING;
+			if (told.kind == GITWIRE_FAILED)
+				tell("a session ended with ", text_of(told));
+			return;
+		} else if (c->in_at < c->in_end) {
+			c->in_at += gitwire_server_feed(&c->server, c->in + c->in_at, c->in_end - c->in_at).used;
+		} else if (c->input_ended) {
+			gitwire_server_close(&c->server);
+		} else {
+			c->wants_input = true;
+		}
+	}
+}
+
+/* What a client is waited for: that it takes what is owed, and only then that it says more. */
+static short awaited(const struct client *c)
+{
+	return c->wants_input && c->out_end == 0 ? POLLIN : POLLOUT;
+}
+
+/* Whether so many bytes went over, by which a client in its session has its time again. One whose connection is broken is forgotten. */
+static bool has_moved(struct client *c, ssize_t count)
+{
+	if (count < 0 && errno != EAGAIN && errno != EINTR)
+		forget(c);
+	if (count >= 0 && c->phase != GREETING && c->phase != LEAVING)
+		c->deadline = seconds() + patience;
+	return count >= 0;
+}
+
+/* One turn of a client: one read, MOST_PULLS packets and one write at the most, so that what one sends or takes holds up no other. */
+static void turn(struct client *c)
+{
+	ssize_t count;
+
+	if (awaited(c) == POLLIN) {
+		count = recv(c->connection, c->in, sizeof c->in, 0);
+		if (!has_moved(c, count))
+			return;
+		c->in_at = 0;
+		c->in_end = (size_t)count;
+		c->input_ended = count == 0;
+	}
+	if (c->phase == GREETING)
+		greet(c);
+	if (c->phase == SERVING)
+		serve(c);
+	if (c->out_end > 0) {
+		count = send(c->connection, c->out + c->out_at, c->out_end - c->out_at, 0);
+		if (!has_moved(c, count))
+			return;
+		c->out_at += (size_t)count;
+		if (c->out_at < c->out_end)
+			return;
+		c->out_at = c->out_end = 0;
+		c->since = seconds();
+	}
+	if (c->phase == ENDING) { /* all is sent: what the client still says is read and dropped, so that it can read to the end */
+		c->phase = LEAVING;
+		c->wants_input = true;
+		shutdown(c->connection, SHUT_WR);
+	}
+	if (c->phase == LEAVING && c->input_ended)
+		forget(c);
+}
+
+/* Begins with who has connected. */
+static void begin(struct client *c, int connection)
+{
+	c->phase = GREETING;
+	c->connection = connection;
+	c->since = seconds();
+	c->deadline = c->since + patience;
+	c->wants_input = true;
+	c->input_ended = false;
+	c->in_at = c->in_end = c->out_at = c->out_end = 0;
+	if (gitwire_packet_reader_new(&c->packets) != GITWIRE_DONE)
+		refuse(c, "no memory");
+}

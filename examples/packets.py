@@ -1,0 +1,146 @@
+#!/usr/bin/env python3
+"""Lists the packets of standard input, as packets.c does, from Python, through ctypes and the shared library:
+
+    LD_LIBRARY_PATH=PREFIX/lib packets.py [PIECE]
+
+PIECE is how many bytes are read at a time: 65,536 at the most, and where it is left out. LD_LIBRARY_PATH is not needed where the
+library lies in a folder that the system's loader knows.
+"""
+
+import signal
+import sys
+from ctypes import CDLL, POINTER, Structure, byref, c_bool, c_size_t, c_uint8, c_uint64, c_void_p, create_string_buffer
+
+MOST_PIECE = 65536
+
+# The numbers of gitwire.h.
+DONE, MORE, FAILED, FLUSH, DELIM, RESPONSE_END = 0, 1, 2, 10, 11, 12
+PAYLOAD_ROOM = 65516
+FAULT_TEXT_ROOM = 64
+
+
+class Handle(Structure):
+    """One of the library's handles, which begins as zeros."""
+
+    _fields_ = [("at", c_void_p), ("is_made", c_bool)]
+
+
+class Told(Structure):
+    """What one call did."""
+
+    _fields_ = [("used", c_size_t), ("offset", c_uint64), ("length", c_size_t), ("kind", c_uint8), ("fault", c_uint8)]
+
+
+def load_library():
+    """The library, and what its calls take and give. A text is a pointer and a length, and so is a room."""
+    library = CDLL("libgitwire.so.0")
+    takes = {
+        "packet_reader_new": (c_uint8, [POINTER(Handle)]),
+        "packet_reader_feed": (Told, [POINTER(Handle), c_void_p, c_size_t, c_void_p, c_size_t]),
+        "packet_reader_close": (Told, [POINTER(Handle)]),
+        "packet_reader_free": (None, [POINTER(Handle)]),
+        "fault_text": (c_size_t, [c_uint8, c_uint64, c_void_p, c_size_t]),
+    }
+    for name, (gives, wants) in takes.items():
+        call = getattr(library, "gitwire_" + name)
+        call.restype, call.argtypes = gives, wants
+    return library
+
+
+class Refused(Exception):
+    """A packet that is malformed, or an input that cannot be read."""
+
+
+class PacketReader:
+    """A reader of packets, which lends its room: `room[: told.length]` is a packet's payload until the next feed."""
+
+    def __init__(self, library):
+        self.library = library
+        self.handle = Handle()
+        self.room = create_string_buffer(PAYLOAD_ROOM)
+        if library.gitwire_packet_reader_new(byref(self.handle)) != DONE:
+            raise Refused("no memory")
+
+    def __enter__(self):
+        return self
+
+    def __exit__(self, *_):
+        self.library.gitwire_packet_reader_free(byref(self.handle))
+
+    def judged(self, told):
+        """What was told, unless it is a fault."""
+        if told.kind == FAILED:
+            text = create_string_buffer(FAULT_TEXT_ROOM)
+            length = self.library.gitwire_fault_text(told.fault, told.offset, text, len(text))
+            raise Refused(text[:length].decode())
+        return told
+
+    def feed(self, piece, start, end):
+        """Reads on to the end of a packet, or of this part of the piece."""
+        part = byref(piece, start), end - start
+        return self.judged(self.library.gitwire_packet_reader_feed(byref(self.handle), *part, self.room, len(self.room)))
+
+    def close(self):
+        """Tells that the input ends here."""
+        return self.judged(self.library.gitwire_packet_reader_close(byref(self.handle)))
+
+
+SHOWN = [chr(byte) if 0x20 <= byte <= 0x7E else f"\\x{byte:02x}" for byte in range(256)]
+SHOWN[ord("\n")] = "\\n"
+SHOWN[ord("\\")] = "\\\\"
+
+
+def line(told, room):
+    """A packet's line: its offset, its kind, and the length and bytes of its payload."""
+    kinds = {FLUSH: "flush", DELIM: "delim", RESPONSE_END: "end"}
+    if told.kind in kinds:
+        return f"{told.offset} {kinds[told.kind]}\n"
+    payload = "".join(SHOWN[byte] for byte in room[: told.length])
+    return f"{told.offset} data {told.length}{' ' if payload else ''}{payload}\n"
+
+
+def read_into(piece):
+    """Fills the piece from the input. How many bytes came: fewer at the end alone."""
+    try:
+        return sys.stdin.buffer.readinto(piece)
+    except OSError:
+        raise Refused("the input cannot be read") from None
+
+
+def list_packets(reader, most):
+    """Prints a line for each packet."""
+    piece = create_string_buffer(most)
+    while length := read_into(piece):
+        used = 0
+        while used < length:
+            told = reader.feed(piece, used, length)
+            used += told.used
+            if told.kind != MORE:
+                sys.stdout.write(line(told, reader.room))
+    reader.close()
+
+
+def number_of(word):
+    """The number that a word is, or 0."""
+    return int(word) if word.isascii() and word.isdecimal() else 0
+
+
+def main():
+    """Answers the program's status. Where nobody reads its output it ends, as other programs do."""
+    signal.signal(signal.SIGPIPE, signal.SIG_DFL)
+    most = number_of(sys.argv[1]) if len(sys.argv) > 1 else MOST_PIECE
+    if not 1 <= most <= MOST_PIECE:
+        print("usage: packets [PIECE]", file=sys.stderr)
+        return 2
+    try:
+        with PacketReader(load_library()) as reader:
+            list_packets(reader, most)
+    except Refused as why:
+        sys.stdout.flush()
+        print(f"packets: {why}", file=sys.stderr)
+        return 1
+    sys.stdout.flush()
+    return 0
+
+
+sys.exit(main())

@@ -1,0 +1,31 @@
+/* A program behind two pipes, as the programs of this folder have a server there. */
+#include <signal.h>
+#include <sys/types.h>
+#include <unistd.h>
+
+/* Starts the program of these words, of which the last is NULL. It hears on `*to`, and speaks on `*from`. -1 where it cannot be started. */
+static pid_t start_program(char *const *words, int *to, int *from)
+{
+	int asked[2], answered[2];
+	pid_t program;
+
+	if (pipe(asked) != 0 || pipe(answered) != 0)
+		return -1;
+	program = fork();
+	if (program == 0) {
+		dup2(asked[0], STDIN_FILENO);
+		dup2(answered[1], STDOUT_FILENO);
+		for (int i = 0; i < 2; i++) { /* it is to have each pipe once, so that it can end it */
+			close(asked[i]);
+			close(answered[i]);
+		}
+		execvp(words[0], words);
+		_exit(127);
+	}
+	signal(SIGPIPE, SIG_IGN); /* a program that is gone is told by a write that fails */
+	close(asked[0]);
+	close(answered[1]);
+	*to = asked[1];
+	*from = answered[0];
+	return program;
+}

@@ -1,0 +1,290 @@
+/*
+ * Stands between a client and its server, passes on what either says, and prints the transcript of both:
+ *
+ *     watch [--sha256] [--transcript FILE] COMMAND [WORD..]
+ *
+ * The client is on standard input and output, and COMMAND starts the server. The transcript (judge.h) goes to standard error, or to the
+ * file that is named. A packet goes on once it is whole and judged. The first that is malformed, or may not stand where it does, is told
+ * by name and offset, to the client too; it does not go on, nor does what comes after it, and the conversation ends.
+ *
+ *     git clone --upload-pack "watch git -c lsrefs.unborn=ignore upload-pack" FOLDER CLONE
+ *
+ * The client has its turn until a request is whole, and the server until it has answered: what one says before its turn waits. For each
+ * end there is a buffer of one packet, and one in the library; beside them the library keeps what the arguments of one request take.
+ * Nobody is hurried: a host that strangers reach gives each turn a time.
+ */
+#define _POSIX_C_SOURCE 200809L
+#include "judge.h"
+#include "start_program.h"
+
+#include <errno.h>
+#include <limits.h>
+#include <poll.h>
+#include <stdlib.h>
+#include <sys/wait.h>
+
+/* What one end says to the other. */
+struct stream {
+	const char *name;
+	int from, to;                       /* -1 once it has ended; once nobody takes it any more */
+	gitwire_packet_reader packets;
+	uint64_t offset;                    /* where the packet begins that is to be judged */
+	size_t sent, judged, read, end;     /* of the bytes here: what went on, what may go on, what packets were read of, what came */
+	uint8_t bytes[GITWIRE_PACKET_ROOM];
+};
+
+static struct stream requests = { .name = "requests", .from = STDIN_FILENO };
+static struct stream responses = { .name = "responses", .to = STDOUT_FILENO };
+static struct judge judge;
+
+static int tell(const char *what)
+{
+	fprintf(stderr, "watch: %s\n", what);
+	return 1;
+}
+
+/* Gives up the bytes that went on, once these are all that may. */
+static void make_room(struct stream *stream)
+{
+	if (stream->sent < stream->judged)
+		return;
+	stream->read -= stream->judged;
+	stream->end -= stream->judged;
+	memmove(stream->bytes, stream->bytes + stream->judged, stream->end);
+	stream->sent = stream->judged = 0;
+}
+
+/* Takes what has come, for which there is room, or that no more comes. */
+static void take_in(struct stream *stream)
+{
+	ssize_t count = read(stream->from, stream->bytes + stream->end, sizeof stream->bytes - stream->end);
+
+	if (count > 0)
+		stream->end += (size_t)count;
+	else if (count == 0 || (errno != EINTR && errno != EAGAIN)) {
+		close(stream->from);
+		stream->from = -1;
+	}
+}
+
+/* Writes what may go on, as much as a pipe takes without a wait. Whether somebody takes it. */
+static bool pass_on(struct stream *stream)
+{
+	size_t part = stream->judged - stream->sent;
+	ssize_t count = write(stream->to, stream->bytes + stream->sent, part < PIPE_BUF ? part : PIPE_BUF);
+
+	if (count < 0)
+		return errno == EINTR || errno == EAGAIN;
+	stream->sent += (size_t)count;
+	make_room(stream);
+	return true;
+}
+
+/* Whether the next packet of a stream may be judged: at its turn, and an error packet of the server at any time. */
+static bool has_turn(const struct stream *stream)
+{
+	const uint8_t *text = stream->bytes + stream->judged + 4;
+	uint8_t next = due(&judge);
+
+	if (stream == &requests)
+		return next == GITWIRE_CAN_ASK;
+	return next == GITWIRE_NEED_INPUT || (stream->end - stream->judged >= 8 && memcmp(text, "ERR ", 4) == 0);
+}
+
+/* Judges the packet that ends where packets were read of. */
+static gitwire_told judge_packet(struct stream *stream)
+{
+	struct packet packet = { stream->bytes + stream->judged, stream->read - stream->judged, stream->offset };
+	gitwire_told told = stream == &requests ? judge_request(&judge, packet) : judge_response(&judge, packet);
+
+	if (told.kind != GITWIRE_FAILED || tells_an_error(told)) {
+		stream->judged = stream->read;
+		stream->offset += packet.length;
+	}
+	return told;
+}
+
+/* Judges the packets that have come whole, and that none is left over. FAILED, with the fault and its offset, or anything else. */
+static gitwire_told judge_packets(struct stream *stream)
+{
+	static uint8_t payload[GITWIRE_PAYLOAD_ROOM];
+	gitwire_told told = { .kind = GITWIRE_MORE };
+
+	while (stream->read < stream->end && (stream->read > stream->judged || has_turn(stream))) {
+		told = gitwire_packet_reader_feed(&stream->packets, stream->bytes + stream->read, stream->end - stream->read, payload,
+			sizeof payload);
+		stream->read += told.used;
+		if (told.kind != GITWIRE_FAILED && told.kind != GITWIRE_MORE)
+			told = judge_packet(stream);
+		if (told.kind == GITWIRE_FAILED)
+			return told;
+	}
+	if (stream == &responses && stream->read < stream->end && due(&judge) == GITWIRE_FINISHED)
+		return refusal(GITWIRE_FAULT_UNEXPECTED_PACKET, stream->offset);
+	return told;
+}
+
+/* Judges the end of a stream of which all packets are judged, where it is its turn. */
+static gitwire_told judge_end(struct stream *stream)
+{
+	gitwire_told told = gitwire_packet_reader_close(&stream->packets);
+
+	if (told.kind == GITWIRE_FAILED || !has_turn(stream))
+		return told;
+	return stream == &requests ? judge_last_request(&judge) : judge_last_response(&judge);
+}
+
+/* Judges what has come of a stream, and its end. */
+static gitwire_told judge_stream(struct stream *stream)
+{
+	gitwire_told told = judge_packets(stream);
+
+	if (told.kind == GITWIRE_FAILED || stream->from >= 0 || stream->read < stream->end)
+		return told;
+	return judge_end(stream);
+}
+
+/* Tells the client by what its user is told why the conversation ends: within a pack that is a side band, and else an error packet. */
+static void tell_client(const uint8_t *text, size_t length)
+{
+	gitwire_writer writer = GITWIRE_NONE;
+	gitwire_told told;
+
+	if (gitwire_writer_new(&writer) != GITWIRE_DONE)
+		return;
+	if (judge.pack + judge.progress > 0)
+		told = gitwire_put_band(&writer, GITWIRE_BAND_FATAL, text, length, room, sizeof room);
+	else
+		told = gitwire_put_error(&writer, text, length, room, sizeof room);
+	if (told.kind == GITWIRE_DONE && write(responses.to, room, told.length) < 0)
+		tell("the client is gone");
+	gitwire_writer_free(&writer);
+}
+
+/* Ends the conversation: what was judged goes on, and an error that one end told the other. */
+static int refuse(struct stream *stream, gitwire_told told)
+{
+	uint8_t text[GITWIRE_FAULT_TEXT_ROOM];
+	size_t length = gitwire_fault_text(told.fault, told.offset, text, sizeof text);
+
+	fflush(judge.transcript);
+	fprintf(stderr, "watch: %s: %.*s\n", stream->name, (int)length, (const char *)text);
+	while (responses.sent < responses.judged && pass_on(&responses))
+		continue;
+	if (!tells_an_error(told))
+		tell_client(text, length);
+	while (tells_an_error(told) && requests.sent < requests.judged && pass_on(&requests))
+		continue;
+	return 1;
+}
+
+/* What is waited for: bytes, where there is room for them, and somebody who takes those that may go on. */
+static void await(struct stream *stream, struct pollfd *polled)
+{
+	polled[0] = (struct pollfd){ .fd = stream->end < sizeof stream->bytes ? stream->from : -1, .events = POLLIN };
+	polled[1] = (struct pollfd){ .fd = stream->sent < stream->judged ? stream->to : -1, .events = POLLOUT };
+}
+
+/* The server hears no more: what the client says now goes nowhere. */
+static void close_server(void)
+{
+	if (requests.to >= 0)
+		close(requests.to);
+	requests.to = -1;
+	requests.sent = requests.judged;
+	make_room(&requests);
+}
+
+/* Whether the server has ended, where nothing more was due of it, and all that it said has gone on. */
+static bool is_over(void)
+{
+	return responses.from < 0 && responses.end == 0 && due(&judge) != GITWIRE_NEED_INPUT;
+}
+
+/* Passes on what both say until the server ends. Answers the program's status. */
+static int watch(void)
+{
+	for (;;) {
+		struct pollfd polled[4];
+		gitwire_told told;
+
+		told = judge_stream(&requests);
+		if (told.kind == GITWIRE_FAILED)
+			return refuse(&requests, told);
+		told = judge_stream(&responses);
+		if (told.kind == GITWIRE_FAILED)
+			return refuse(&responses, told);
+		if (is_over())
+			return 0;
+		if (requests.to < 0 || (requests.sent == requests.judged && due(&judge) == GITWIRE_FINISHED))
+			close_server();
+		await(&requests, polled);
+		await(&responses, polled + 2);
+		fflush(judge.transcript);
+		if (poll(polled, 4, -1) < 0 && errno != EINTR)
+			return tell(strerror(errno));
+		if (polled[0].revents)
+			take_in(&requests);
+		if (polled[1].revents && !pass_on(&requests))
+			close_server();
+		if (polled[2].revents)
+			take_in(&responses);
+		if (polled[3].revents && !pass_on(&responses))
+			return tell("the client is gone");
+	}
+}
+
+/* Watches the server that this command starts. Answers the program's status. */
+static int watch_server(char **command)
+{
+	pid_t server = start_program(command, &requests.to, &responses.from);
+	int status;
+
+	if (server < 0)
+		return tell("no server");
+	status = watch();
+	close_server();
+	if (responses.from >= 0)
+		close(responses.from);
+	if (status != 0)
+		kill(server, SIGTERM); /* it may wait for a client that is not there any more */
+	waitpid(server, NULL, 0);
+	return status;
+}
+
+int main(int count, char **words)
+{
+	uint8_t format = GITWIRE_SHA1;
+	const char *name = NULL;
+	FILE *transcript = stderr;
+	int status, at = 1;
+
+	for (; at < count && strncmp(words[at], "--", 2) == 0; at++) {
+		if (strcmp(words[at], "--sha256") == 0)
+			format = GITWIRE_SHA256;
+		else if (strcmp(words[at], "--transcript") == 0 && at + 1 < count)
+			name = words[++at];
+		else
+			break;
+	}
+	if (at == count || words[at][0] == '-') {
+		fputs("usage: watch [--sha256] [--transcript FILE] COMMAND [WORD..]\n", stderr);
+		return 2;
+	}
+	if (name != NULL && (transcript = fopen(name, "w")) == NULL)
+		return tell("the transcript cannot be opened");
+	setvbuf(transcript, NULL, _IOFBF, BUFSIZ); /* it is written out before each wait */
+	if (!begin_judge(&judge, format, transcript) || gitwire_packet_reader_new(&requests.packets) != GITWIRE_DONE
+		|| gitwire_packet_reader_new(&responses.packets) != GITWIRE_DONE)
+		status = tell("no memory");
+	else
+		status = watch_server(words + at);
+	end_judge(&judge);
+	gitwire_packet_reader_free(&requests.packets);
+	gitwire_packet_reader_free(&responses.packets);
+	if (fflush(transcript) != 0 || ferror(transcript))
+		status = tell("the transcript cannot be written");
+	if (name != NULL)
+		fclose(transcript);
+	return status;
+}
