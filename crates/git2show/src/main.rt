@@ -302,7 +302,12 @@ fn run_serve(rt: &HostRuntime, matches: &ArgMatches<'_>) -> Result<(), ProgramFa
     let mut server = Server::new(rt.alloc(), repo, offer, limits_of(matches), advertise);
     let mut piece = [0; PIECE];
     if service == Service::Answer && server.wants_input() {
-        take_request(&mut Told::new(Retries::new(rt.stdin())), &mut piece, &mut server, TURNS)?;
+        take_request(
+            &mut Told::new(Retries::new(rt.stdin())),
+            &mut piece,
+            &mut server,
+            TURNS,
+        )?;
     }
     let turns = match service {
         Service::Session => TURNS,
