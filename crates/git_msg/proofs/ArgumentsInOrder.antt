@@ -10,7 +10,8 @@ use Rattle.git_msg.specs.Arguments.{Arg, symrefs, peel, ref_prefix, want, have, 
 use Rattle.git_msg.specs.Arguments.{shallow, deepen, deepen_relative, deepen_since, deepen_not, want_ref, size, object_id, unborn, wait_for_done}
 use Rattle.git_msg.specs.Asked.{Asked, ls_refs, fetch, object_info, LsRefsAsked, FetchAsked, ObjectInfoAsked, is_symrefs, is_peel, prefix_in}
 use Rattle.git_msg.specs.Asked.{want_in, have_in, is_done, is_thin_pack, is_no_progress, is_include_tag, is_ofs_delta}
-use Rattle.git_msg.specs.Asked.{shallow_in, deepen_in, is_deepen_relative, deepen_since_in, deepen_not_in, want_ref_in, is_size, object_id_in, is_unborn, is_wait_for_done}
+use Rattle.git_msg.specs.Asked.{shallow_in, deepen_in, is_deepen_relative, deepen_since_in, deepen_not_in}
+use Rattle.git_msg.specs.Asked.{want_ref_in, is_size, object_id_in, is_unborn, is_wait_for_done}
 use Rattle.git_msg.specs.Asked.{command_asked, nothing_asked, asked_by, with_argument, where_asked, where_given}
 use Rattle.git_msg.specs.Asked.{pack_arguments, shallow_arguments, object_arguments, arguments_in}
 

@@ -1,5 +1,6 @@
 -- A request some of whose prefixes are dropped, and the others moved: it is counted as before.
-use Rattle.std.proofs.Common.{◌≡◌, ℕ, ◌+◌, ◌≤◌, ◌<◌, Bool, true, false, if◌then◌else◌, List, [], ◌∷◌, ◌++◌, All, length, map, ap, sym, ◌∙◌, subst, arith, append_assoc}
+use Rattle.std.proofs.Common.{◌≡◌, ℕ, ◌+◌, ◌≤◌, ◌<◌, Bool, true, false, if◌then◌else◌, List, [], ◌∷◌, ◌++◌, All, length, map}
+use Rattle.std.proofs.Common.{ap, sym, ◌∙◌, subst, arith, append_assoc}
 use Rattle.std.specs.List.{dedup, dedup_from, sum_by}
 use Rattle.std.specs.List.Sorted.{IsPermutation}
 use Rattle.std.proofs.lemmas.List.{get_or-map, length-map}
@@ -84,8 +85,9 @@ flags q = where_asked q.peel peel ++ (where_asked q.symrefs symrefs ++ where_ask
 after_flags : (q : LsRefsAsked) (ps : List (List ℕ)) → arguments_in (ls_refs (record q { ref_prefixes = ps })) ≡ flags q ++ map ref_prefix ps
 unfolding flags
 after_flags q ps =
-    sym (append_assoc (where_asked q.peel peel) (where_asked q.symrefs symrefs ++ where_asked q.unborn unborn) (map ref_prefix ps)
-    ∙ ap (λ (args : List Arg). where_asked q.peel peel ++ args) (append_assoc (where_asked q.symrefs symrefs) (where_asked q.unborn unborn) (map ref_prefix ps)))
+    let prefixes : List Arg = map ref_prefix ps in
+    sym (append_assoc (where_asked q.peel peel) (where_asked q.symrefs symrefs ++ where_asked q.unborn unborn) prefixes
+    ∙ ap (λ (args : List Arg). where_asked q.peel peel ++ args) (append_assoc (where_asked q.symrefs symrefs) (where_asked q.unborn unborn) prefixes))
 
 pub counted_pruned : (format : Format) (q : LsRefsAsked) (ps : List (List ℕ)) (kept : ℕ) → Prunes q.ref_prefixes ps → IsCounted format (ls_refs q) kept
     → IsCounted format (ls_refs (record q { ref_prefixes = ps })) kept

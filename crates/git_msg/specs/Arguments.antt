@@ -11,7 +11,8 @@ use Rattle.git_msg.specs.declared.arguments.Command.{Command}
 use Rattle.git_msg.specs.declared.arguments.Command.TheVariants.{LsRefs, Fetch, ObjectInfo}
 use Rattle.git_msg.specs.declared.arguments.Argument.{Argument}
 use Rattle.git_msg.specs.declared.arguments.Argument.TheVariants.{Symrefs, Peel, RefPrefix, Want, Have, IsDone, ThinPack, NoProgress, IncludeTag, OfsDelta}
-use Rattle.git_msg.specs.declared.arguments.Argument.TheVariants.{Shallow, Deepen, DeepenRelative, DeepenSince, DeepenNot, WantRef, Size, ObjectId, Unborn, WaitForDone}
+use Rattle.git_msg.specs.declared.arguments.Argument.TheVariants.{Shallow, Deepen, DeepenRelative, DeepenSince, DeepenNot, WantRef, Size, ObjectId}
+use Rattle.git_msg.specs.declared.arguments.Argument.TheVariants.{Unborn, WaitForDone}
 use Rattle.git_msg.specs.declared.offers.Offer.{Offer}
 use Rattle.git_msg.specs.Numbers.{IsNumber}
 use Rattle.git_msg.specs.Texts.{Follows, IsNoneOf, BeginsWithNone}

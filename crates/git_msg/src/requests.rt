@@ -78,8 +78,8 @@ impl<A: Allocator + Copy> Request<A> {
     }
 
     /// Judges what the request asks for, at its end: `DeepenConflict` for a fetch that cuts the history off by a depth and
-    /// by a time or a revision too, and then `NoWants` for one that wants nothing; `NoSize` for an object-info that does not
-    /// ask for sizes.
+    /// by a time or a revision too, and then `NoWants` for one that wants nothing, unless it negotiates alone; `NoSize` for
+    /// an object-info that does not ask for sizes.
     pub fn check_end(&self) -> Result<(), Kind>
         ensures { MatchResult result (λ _. Passes (end_checks (asked_of self.now))) (Refuses (end_checks (asked_of self.now))) }
     {
