@@ -25,6 +25,7 @@ pub mod SessionLaws
 pub mod Flushes
 pub mod PackPackets
 pub mod FullParts
+pub mod FeatureLines
 pub mod FetchPackets
 pub mod Dropped
 pub mod WantedLines

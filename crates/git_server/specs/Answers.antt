@@ -1,5 +1,5 @@
 -- What a server gives: its advertisement, the answer to each request, and what it writes of a fault.
-use Rattle.std.specs.Prelude.{◌≡◌, ◌≤◌, length, ℕ, Bool, if◌then◌else◌, None, List, [], ◌∷◌, ◌++◌, true, false, codes, filter, map}
+use Rattle.std.specs.Prelude.{◌≡◌, ◌≤◌, length, ℕ, Bool, if◌then◌else◌, Some, None, List, [], ◌∷◌, ◌++◌, true, false, codes, filter, map}
 use Rattle.std.specs.List.{flat_map}
 use Rattle.git_pkt.specs.Packets.{Pkt, flush, spelling_of, body_of, longest_payload}
 use Rattle.git_pkt.specs.FaultNames.{fault_text}
@@ -9,6 +9,7 @@ use Rattle.git_pkt.specs.declared.fault.Kind.TheVariants.{RemoteError}
 use Rattle.git_msg.specs.declared.offers.Offer.{Offer}
 use Rattle.git_names.specs.ObjectName.{ObjectName}
 use Rattle.git_msg.specs.Asked.{Asked, LsRefsAsked, ObjectInfoAsked, ls_refs, fetch, object_info}
+use Rattle.git_msg.specs.Features.{capability_text, fetch_features, ls_refs_features}
 use Rattle.git_msg.specs.WrittenRequest.{text_line, agent_line, format_line}
 use Rattle.git_msg.specs.References.{Ref, reference_text}
 use Rattle.git_msg.specs.ResponseLines.{info_text}
@@ -30,21 +31,18 @@ AllFit (p ∷ ps) = (length (body_of p) ≤ longest_payload) × AllFit ps
 abbrev pub offered_line : Bool → List ℕ → List Pkt
 offered_line offered text = if offered then text_line text ∷ [] else []
 
--- the words of the line for fetch: the command, and those of its features that are offered
-abbrev pub fetch_words : (shallow ref_in_want : Bool) → List ℕ
-fetch_words false false = codes "fetch"
-fetch_words true false = codes "fetch=shallow"
-fetch_words false true = codes "fetch=ref-in-want"
-fetch_words true true = codes "fetch=shallow ref-in-want"
+-- the line for ls-refs, with those of its features that are offered
+abbrev pub ls_refs_line : Offer → Pkt
+ls_refs_line offer = text_line (capability_text (codes "ls-refs") (ls_refs_features offer))
 
 -- the line for fetch
 abbrev pub fetch_line : Offer → Pkt
-fetch_line offer = text_line (fetch_words offer.shallow offer.ref_in_want)
+fetch_line offer = text_line (capability_text (codes "fetch") (fetch_features offer))
 
 -- what a server says first
 abbrev pub advertisement_of : Offer → List Pkt
 advertisement_of offer =
-    text_line (codes "version 2") ∷ agent_line ∷ text_line (codes "ls-refs") ∷ fetch_line offer
+    text_line (codes "version 2") ∷ agent_line ∷ ls_refs_line offer ∷ fetch_line offer
     ∷ (offered_line offer.server_option (codes "server-option")
     ++ format_line offer.format ∷ (offered_line offer.object_info (codes "object-info") ++ flush ∷ []))
 
@@ -55,7 +53,7 @@ shown_refs prefixes refs = filter (λ entry. is_shown prefixes entry.name) refs
 -- what is shown of a reference: what was asked for of its target and its peeled object
 abbrev pub shown_line : (symrefs peel : Bool) → Entry → Ref
 shown_line symrefs peel entry = record {
-  id = entry.id;
+  id = Some entry.id;
   name = entry.name;
   target = if symrefs then entry.target else None;
   peeled = if peel then entry.peeled else None;

@@ -137,7 +137,7 @@ fn shown<'a, A: Allocator + Copy>(entry: &'a RefEntry, listing: &Listing<A>) -> 
     ensures writable { IsWritable (shown_reference result) }
 {
     Reference {
-        id: entry.id(),
+        id: Some(entry.id()),
         name: entry.name(),
         target: shown_target(entry, listing.symrefs()),
         peeled: shown_peeled(entry, listing.peel()),
