@@ -35,3 +35,5 @@ pub mod RunLemmas
 pub mod OneOutcome
 pub mod AtRest
 pub mod Calls
+pub mod Listed
+pub mod UnbornHead
