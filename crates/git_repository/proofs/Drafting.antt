@@ -7,12 +7,11 @@ use Rattle.std.proofs.lemmas.List.Elements.{All-push}
 use Rattle.git_names.specs.declared.object_format.Format.{Format}
 use Rattle.git_names.specs.ObjectName.{ObjectName}
 use Rattle.git_msg.specs.declared.Boundary.{Boundary}
-use Rattle.git_msg.specs.References.{Ref}
 use Rattle.git_server.specs.Repository.{Entry, IsOfFormat, IsRising, comes_before}
 use Rattle.git_server.specs.Objects.{AreRising, object_of, precedes}
 use Rattle.git_server.specs.Lists.{Lists}
 use Rattle.git_repository.specs.RepositoryLines.{Said, reference, object, ready, boundary}
-use Rattle.git_repository.specs.RepositoryText.{MayStand, boundaries_in, counts_in, entry_of, first_of, lists_said, objects_in, refs_in}
+use Rattle.git_repository.specs.RepositoryText.{MayStand, boundaries_in, counts_in, first_of, lists_said, objects_in, refs_in}
 use Rattle.git_repository.specs.Drafts.{Adds, AddsBoundary, AddsCount, AddsObject, AddsReference, AddsSaid, ComesLast, ComesLastObject, Holds, IsFit}
 use Rattle.git_repository.specs.Drafts.{IsLineFault, with_boundary, with_count, with_object, with_ref}
 use Rattle.git_repository.specs.declared.text_faults.LineFault.{LineFault}
@@ -21,28 +20,28 @@ use Rattle.git_repository.proofs.Rising.{last_rises, rising_more}
 
 refs_more : (said : List Said) (next : Said) → refs_in (said ++ next ∷ []) ≡ refs_in said ++ refs_in (next ∷ [])
 refs_more [] next = refl
-refs_more (reference ref ∷ more) next = ap (λ (xs : List Entry). entry_of ref ∷ xs) (refs_more more next)
+refs_more (reference entry ∷ more) next = ap (λ (xs : List Entry). entry ∷ xs) (refs_more more next)
 refs_more (object id size ∷ more) next = refs_more more next
 refs_more (ready count ∷ more) next = refs_more more next
 refs_more (boundary line ∷ more) next = refs_more more next
 
 objects_more : (said : List Said) (next : Said) → objects_in (said ++ next ∷ []) ≡ objects_in said ++ objects_in (next ∷ [])
 objects_more [] next = refl
-objects_more (reference ref ∷ more) next = objects_more more next
+objects_more (reference entry ∷ more) next = objects_more more next
 objects_more (object id size ∷ more) next = ap (λ (xs : List (ObjectName × ℕ)). (id, size) ∷ xs) (objects_more more next)
 objects_more (ready count ∷ more) next = objects_more more next
 objects_more (boundary line ∷ more) next = objects_more more next
 
 counts_more : (said : List Said) (next : Said) → counts_in (said ++ next ∷ []) ≡ counts_in said ++ counts_in (next ∷ [])
 counts_more [] next = refl
-counts_more (reference ref ∷ more) next = counts_more more next
+counts_more (reference entry ∷ more) next = counts_more more next
 counts_more (object id size ∷ more) next = counts_more more next
 counts_more (ready count ∷ more) next = ap (λ (xs : List ℕ). count ∷ xs) (counts_more more next)
 counts_more (boundary line ∷ more) next = counts_more more next
 
 boundaries_more : (said : List Said) (next : Said) → boundaries_in (said ++ next ∷ []) ≡ boundaries_in said ++ boundaries_in (next ∷ [])
 boundaries_more [] next = refl
-boundaries_more (reference ref ∷ more) next = boundaries_more more next
+boundaries_more (reference entry ∷ more) next = boundaries_more more next
 boundaries_more (object id size ∷ more) next = boundaries_more more next
 boundaries_more (ready count ∷ more) next = boundaries_more more next
 boundaries_more (boundary line ∷ more) next = ap (λ (xs : List Boundary). line ∷ xs) (boundaries_more more next)
@@ -56,6 +55,7 @@ lists_from format refs objects ready_after boundaries = record {
   ready_after = ready_after;
   boundaries = boundaries;
   pack = [];
+  unborn = None;
 }
 
 same_lists : (format : Format) (refs others : List Entry) (objects those : List (ObjectName × ℕ)) (a b : Option ℕ) (lines more : List Boundary)
@@ -93,8 +93,9 @@ ready_of_draft said lists h = ap (λ (l : Lists). l.ready_after) h.lists_are
 boundaries_of_draft : (said : List Said) (lists : Lists) → Holds said lists → lists.boundaries ≡ boundaries_in said
 boundaries_of_draft said lists h = ap (λ (l : Lists). l.boundaries) h.lists_are
 
-pack_of_draft : (said : List Said) (lists : Lists) → Holds said lists → lists.pack ≡ []
-pack_of_draft said lists h = ap (λ (l : Lists). l.pack) h.lists_are
+-- no pack is said, and no unborn `HEAD`
+rest_of_draft : (said : List Said) (lists : Lists) → Holds said lists → (lists.pack ≡ []) × (lists.unborn ≡ None)
+rest_of_draft said lists h = (ap (λ (l : Lists). l.pack) h.lists_are, ap (λ (l : Lists). l.unborn) h.lists_are)
 
 -- lists of these parts are what was said
 lists_more : (said : List Said) (next : Said) (format : Format) (refs : List Entry) (objects : List (ObjectName × ℕ)) (a : Option ℕ) (lines : List Boundary)
@@ -108,11 +109,13 @@ lists_more said next format refs objects a lines e f g h =
     (e ∙ sym (refs_more said next)) (f ∙ sym (objects_more said next)) (g ∙ ap first_of (sym (counts_more said next))) (h ∙ sym (boundaries_more said next))
 
 packless : (lists : Lists) (format : Format) (refs : List Entry) (objects : List (ObjectName × ℕ)) (a : Option ℕ) (lines : List Boundary) (pack : List ℕ)
-    → pack ≡ [] → lists ≡ record { format = format; refs = refs; objects = objects; ready_after = a; boundaries = lines; pack = pack }
+    (unborn : Option (List ℕ)) → (pack ≡ []) × (unborn ≡ None)
+    → lists ≡ record { format = format; refs = refs; objects = objects; ready_after = a; boundaries = lines; pack = pack; unborn = unborn }
     → lists ≡ lists_from format refs objects a lines
 unfolding lists_from
-packless lists format refs objects a lines pack e is =
-    is ∙ ap (λ (p : List ℕ). record { format = format; refs = refs; objects = objects; ready_after = a; boundaries = lines; pack = p }) e
+packless lists format refs objects a lines pack unborn e is =
+    is ∙ ap (λ (p : List ℕ). record { format = format; refs = refs; objects = objects; ready_after = a; boundaries = lines; pack = p; unborn = unborn }) e.0
+    ∙ ap (λ (u : Option (List ℕ)). record { format = format; refs = refs; objects = objects; ready_after = a; boundaries = lines; pack = []; unborn = u }) e.1
 
 first_more : (counts : List ℕ) → first_of (counts ++ []) ≡ first_of counts
 first_more counts = ap first_of (append-nil counts)
@@ -127,25 +130,25 @@ some_yet (x ∷ []) count h = absurd (omega (arith, h))
 some_yet (x ∷ y ∷ xs) count h = absurd (omega (arith, h))
 
 -- a reference more
-pub adds_reference : (old new : Lists) (ref : Ref) → IsFit old.format (reference ref) → new ≡ with_ref old (entry_of ref) → ComesLast old.refs ref.name
-    → Adds old (reference ref) new
-adds_reference old new ref fit is last = subst (Adds old (reference ref)) (sym is) (record {
+pub adds_reference : (old new : Lists) (entry : Entry) → IsFit old.format (reference entry) → new ≡ with_ref old entry → ComesLast old.refs entry.name
+    → Adds old (reference entry) new
+adds_reference old new entry fit is last = subst (Adds old (reference entry)) (sym is) (record {
   same_format = refl;
   holds = λ said h. record {
     lists_are =
-        packless (with_ref old (entry_of ref)) old.format (old.refs ++ entry_of ref ∷ []) old.objects old.ready_after old.boundaries old.pack
-        (pack_of_draft said old h) refl
-        ∙ lists_more said (reference ref) old.format (old.refs ++ entry_of ref ∷ []) old.objects old.ready_after old.boundaries
-        (ap (λ (xs : List Entry). xs ++ entry_of ref ∷ []) (refs_of_draft said old h))
+        packless (with_ref old entry) old.format (old.refs ++ entry ∷ []) old.objects old.ready_after old.boundaries old.pack old.unborn
+        (rest_of_draft said old h) refl
+        ∙ lists_more said (reference entry) old.format (old.refs ++ entry ∷ []) old.objects old.ready_after old.boundaries
+        (ap (λ (xs : List Entry). xs ++ entry ∷ []) (refs_of_draft said old h))
         (objects_of_draft said old h ∙ sym (append-nil (objects_in said)))
         (ready_of_draft said old h ∙ sym (first_more (counts_in said)))
         (boundaries_of_draft said old h ∙ sym (append-nil (boundaries_in said)));
-    may_stand = stand_more said (reference ref)
-        (rising_more (λ a b. comes_before a.name b.name ≡ true) (refs_in said) (entry_of ref) h.may_stand.rising_refs
-        (subst (λ (xs : List Entry). ComesLast xs ref.name) (refs_of_draft said old h) last))
+    may_stand = stand_more said (reference entry)
+        (rising_more (λ a b. comes_before a.name b.name ≡ true) (refs_in said) entry h.may_stand.rising_refs
+        (subst (λ (xs : List Entry). ComesLast xs entry.name) (refs_of_draft said old h) last))
         (no_objects said h.may_stand) (no_counts said h.may_stand);
     of_format = record {
-      by_refs = All-push (IsOfFormat old.format) old.refs (entry_of ref) h.of_format.by_refs fit.0;
+      by_refs = All-push (IsOfFormat old.format) old.refs entry h.of_format.by_refs fit.0;
       by_objects = h.of_format.by_objects;
       by_boundaries = h.of_format.by_boundaries;
     };
@@ -158,8 +161,8 @@ adds_object old new id size fit is last = subst (Adds old (object id size)) (sym
   same_format = refl;
   holds = λ said h. record {
     lists_are =
-        packless (with_object old (id, size)) old.format old.refs (old.objects ++ (id, size) ∷ []) old.ready_after old.boundaries old.pack
-        (pack_of_draft said old h) refl
+        packless (with_object old (id, size)) old.format old.refs (old.objects ++ (id, size) ∷ []) old.ready_after old.boundaries old.pack old.unborn
+        (rest_of_draft said old h) refl
         ∙ lists_more said (object id size) old.format old.refs (old.objects ++ (id, size) ∷ []) old.ready_after old.boundaries
         (refs_of_draft said old h ∙ sym (append-nil (refs_in said)))
         (ap (λ (xs : List (ObjectName × ℕ)). xs ++ (id, size) ∷ []) (objects_of_draft said old h))
@@ -187,7 +190,7 @@ adds_count old new count is none = subst (Adds old (ready count)) (sym is) (reco
   holds = λ said h.
       let more = one_more (counts_in said) count (none_yet (counts_in said) (sym (ready_of_draft said old h) ∙ none)) in
       record {
-        lists_are = packless (with_count old count) old.format old.refs old.objects (Some count) old.boundaries old.pack (pack_of_draft said old h) refl
+        lists_are = packless (with_count old count) old.format old.refs old.objects (Some count) old.boundaries old.pack old.unborn (rest_of_draft said old h) refl
             ∙ lists_more said (ready count) old.format old.refs old.objects (Some count) old.boundaries
             (refs_of_draft said old h ∙ sym (append-nil (refs_in said)))
             (objects_of_draft said old h ∙ sym (append-nil (objects_in said)))
@@ -203,8 +206,8 @@ adds_boundary old new line fit is = subst (Adds old (boundary line)) (sym is) (r
   same_format = refl;
   holds = λ said h. record {
     lists_are =
-        packless (with_boundary old line) old.format old.refs old.objects old.ready_after (old.boundaries ++ line ∷ []) old.pack
-        (pack_of_draft said old h) refl
+        packless (with_boundary old line) old.format old.refs old.objects old.ready_after (old.boundaries ++ line ∷ []) old.pack old.unborn
+        (rest_of_draft said old h) refl
         ∙ lists_more said (boundary line) old.format old.refs old.objects old.ready_after (old.boundaries ++ line ∷ [])
         (refs_of_draft said old h ∙ sym (append-nil (refs_in said)))
         (objects_of_draft said old h ∙ sym (append-nil (objects_in said)))
@@ -219,10 +222,10 @@ adds_boundary old new line fit is = subst (Adds old (boundary line)) (sym is) (r
   };
 })
 
-refused_reference : (old : Lists) (ref : Ref) → (ComesLast old.refs ref.name → ⊥) → IsLineFault old (reference ref) Refused
-refused_reference old ref never said h may =
-    never (subst (λ (xs : List Entry). ComesLast xs ref.name) (sym (refs_of_draft said old h))
-    (last_rises (λ a b. comes_before a.name b.name ≡ true) (refs_in said) (entry_of ref) (subst IsRising (refs_more said (reference ref)) may.rising_refs)))
+refused_reference : (old : Lists) (entry : Entry) → (ComesLast old.refs entry.name → ⊥) → IsLineFault old (reference entry) Refused
+refused_reference old entry never said h may =
+    never (subst (λ (xs : List Entry). ComesLast xs entry.name) (sym (refs_of_draft said old h))
+    (last_rises (λ a b. comes_before a.name b.name ≡ true) (refs_in said) entry (subst IsRising (refs_more said (reference entry)) may.rising_refs)))
 
 refused_object : (old : Lists) (id : ObjectName) (size : ℕ) → (ComesLastObject old.objects id → ⊥) → IsLineFault old (object id size) Refused
 refused_object old id size never said h may =
@@ -234,12 +237,12 @@ refused_count old count never said h may =
     never (ready_of_draft said old h ∙ some_yet (counts_in said) count (subst (λ (xs : List ℕ). length xs ≤ 1) (counts_more said (ready count)) may.one_count))
 
 -- the answers of the parts, as answers of the whole
-pub said_reference : (old new : Lists) (ref : Ref) (result : Result (Unit {0}) LineFault) → IsFit old.format (reference ref)
-    → AddsReference old (entry_of ref) new result → AddsSaid old (reference ref) new result
-said_reference old new ref (Ok u) fit h = adds_reference old new ref fit h.0 h.1
-said_reference old new ref (Err Refused) fit h = refused_reference old ref h
-said_reference old new ref (Err OutOfMemory) fit h =
-    (tt, λ said holds. ((adds_reference old (with_ref old (entry_of ref)) ref fit refl h).holds said holds).may_stand)
+pub said_reference : (old new : Lists) (entry : Entry) (result : Result (Unit {0}) LineFault) → IsFit old.format (reference entry)
+    → AddsReference old entry new result → AddsSaid old (reference entry) new result
+said_reference old new entry (Ok u) fit h = adds_reference old new entry fit h.0 h.1
+said_reference old new entry (Err Refused) fit h = refused_reference old entry h
+said_reference old new entry (Err OutOfMemory) fit h =
+    (tt, λ said holds. ((adds_reference old (with_ref old entry) entry fit refl h).holds said holds).may_stand)
 
 pub said_object : (old new : Lists) (id : ObjectName) (size : ℕ) (result : Result (Unit {0}) LineFault) → IsFit old.format (object id size)
     → AddsObject old (id, size) new result → AddsSaid old (object id size) new result

@@ -69,7 +69,7 @@ length_all format (l ∷ ls) [] h = absurd h
 
 length_said : (said : List Said) → length said ≡ length (refs_in said) + length (objects_in said) + length (counts_in said) + length (boundaries_in said)
 length_said [] = refl
-length_said (reference ref ∷ more) = let h = length_said more in omega (arith, h)
+length_said (reference entry ∷ more) = let h = length_said more in omega (arith, h)
 length_said (object id size ∷ more) = let h = length_said more in omega (arith, h)
 length_said (ready count ∷ more) = let h = length_said more in omega (arith, h)
 length_said (boundary line ∷ more) = let h = length_said more in omega (arith, h)

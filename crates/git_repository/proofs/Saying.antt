@@ -1,7 +1,6 @@
 -- What lines say: one thing at the most.
-use Rattle.std.proofs.Common.{arith, ◌≡◌, ℕ, ◌+◌, ◌*◌, Option, Some, None, List, [], ◌∷◌, ◌++◌, refl, ap, sym, ◌∙◌, subst, get_or, length, codes}
+use Rattle.std.proofs.Common.{arith, ◌≡◌, ℕ, ◌+◌, ◌*◌, Option, Some, None, List, [], ◌∷◌, ◌++◌, refl, ap, sym, ◌∙◌, subst, get_or, length, codes, unwrap_or}
 use Rattle.git_names.proofs.ObjectNames.{one_object_name}
-use Rattle.git_msg.proofs.ReferenceFaults.{reference_or_fault}
 use Rattle.git_msg.proofs.ReferenceLaws.{one_reference}
 use Rattle.git_msg.proofs.LastValues.{last_value}
 use Rattle.git_msg.specs.Numbers.{IsNumber}
@@ -9,11 +8,11 @@ use Rattle.git_repository.specs.Drafts.{IsFit}
 use Rattle.git_names.specs.declared.object_format.Format.{Format}
 use Rattle.git_names.specs.ObjectName.{ObjectName, IsObjectName}
 use Rattle.git_names.specs.RefName.{IsRefName}
-use Rattle.git_pkt.specs.declared.fault.Kind.{Kind}
+use Rattle.git_server.specs.Repository.{Entry}
 use Rattle.git_msg.specs.declared.Boundary.TheVariants.{Shallow, Unshallow}
 use Rattle.git_msg.specs.Texts.{last_of}
-use Rattle.git_msg.specs.References.{IsReferenceFault, IsMaybeObjectName, IsReferenceLine, values_of}
-use Rattle.git_repository.specs.RepositoryLines.{Said, reference, object, ready, boundary, IsSizedObject, Says, SaysNothing}
+use Rattle.git_msg.specs.References.{Ref, IsMaybeObjectName, IsReferenceLine, values_of}
+use Rattle.git_repository.specs.RepositoryLines.{Said, reference, object, ready, boundary, IsSizedObject, Says, SaysNothing, ref_of}
 
 byte_at : (k : ℕ) (a b : List ℕ) → a ≡ b → get_or a k 0 ≡ get_or b k 0
 byte_at k a b e = ap (λ (xs : List ℕ). get_or xs k 0) e
@@ -24,23 +23,37 @@ same_rest_ref a b e = cc
 same_rest_object : (a b : List ℕ) → codes "object " ++ a ≡ codes "object " ++ b → a ≡ b
 same_rest_object a b e = cc
 
--- a reference line that is refused
-pub no_reference : (format : Format) (line text : List ℕ) (kind : Kind) → line ≡ codes "ref " ++ text → IsReferenceFault format text kind
-    → SaysNothing format line
-no_reference format line text kind e fault (reference ref) is =
-    reference_or_fault format text ref kind (subst (λ (t : List ℕ). IsReferenceLine format t ref)
-    (same_rest_ref is.value text (sym is.spelled ∙ e)) is.holds) fault
-no_reference format line text kind e fault (object id size) is = let h = byte_at 0 _ _ (sym is.spelled ∙ e) in omega (arith, h)
-no_reference format line text kind e fault (ready count) is = let h = byte_at 2 _ _ (sym is.spelled ∙ e) in omega (arith, h)
-no_reference format line text kind e fault (boundary (Shallow id)) is = let h = byte_at 0 _ _ (sym is.spelled ∙ e) in omega (arith, h)
-no_reference format line text kind e fault (boundary (Unshallow id)) is = let h = byte_at 0 _ _ (sym is.spelled ∙ e) in omega (arith, h)
+-- a text that is no line of a reference with an object
+pub no_reference : (format : Format) (line text : List ℕ) → line ≡ codes "ref " ++ text
+    → ((entry : Entry) → IsReferenceLine format text (ref_of entry) → ⊥) → SaysNothing format line
+no_reference format line text e none (reference entry) is =
+    none entry (subst (λ (t : List ℕ). IsReferenceLine format t (ref_of entry)) (same_rest_ref is.value text (sym is.spelled ∙ e)) is.holds)
+no_reference format line text e none (object id size) is = let h = byte_at 0 _ _ (sym is.spelled ∙ e) in omega (arith, h)
+no_reference format line text e none (ready count) is = let h = byte_at 2 _ _ (sym is.spelled ∙ e) in omega (arith, h)
+no_reference format line text e none (boundary (Shallow id)) is = let h = byte_at 0 _ _ (sym is.spelled ∙ e) in omega (arith, h)
+no_reference format line text e none (boundary (Unshallow id)) is = let h = byte_at 0 _ _ (sym is.spelled ∙ e) in omega (arith, h)
+
+-- a line of a reference without an object tells none with one
+pub without_object : (format : Format) (text : List ℕ) (ref : Ref) → ref.id ≡ None → IsReferenceLine format text ref
+    → (entry : Entry) → IsReferenceLine format text (ref_of entry) → ⊥
+without_object format text ref none is entry also =
+    let same : ref.id ≡ Some entry.id = ap (λ (r : Ref). r.id) (one_reference format text ref (ref_of entry) is also) in
+    cc (none, same)
+
+-- the entry whose line this is
+entry_with : ObjectName → Ref → Entry
+entry_with id ref = record { name = ref.name; id = unwrap_or ref.id id; target = ref.target; peeled = ref.peeled }
+
+one_entry : (a b : Entry) → ref_of a ≡ ref_of b → a ≡ b
+unfolding entry_with
+one_entry a b e = ap (entry_with a.id) e
 
 -- an object line that is refused
 pub no_object : (format : Format) (line text : List ℕ) → line ≡ codes "object " ++ text
     → ((id : ObjectName) (size : ℕ) → IsSizedObject format id size text → ⊥) → SaysNothing format line
 no_object format line text e fault (object id size) is =
     fault id size (subst (λ (t : List ℕ). IsSizedObject format id size t) (same_rest_object is.value text (sym is.spelled ∙ e)) is.holds)
-no_object format line text e fault (reference ref) is = let h = byte_at 0 _ _ (sym is.spelled ∙ e) in omega (arith, h)
+no_object format line text e fault (reference entry) is = let h = byte_at 0 _ _ (sym is.spelled ∙ e) in omega (arith, h)
 no_object format line text e fault (ready count) is = let h = byte_at 0 _ _ (sym is.spelled ∙ e) in omega (arith, h)
 no_object format line text e fault (boundary (Shallow id)) is = let h = byte_at 0 _ _ (sym is.spelled ∙ e) in omega (arith, h)
 no_object format line text e fault (boundary (Unshallow id)) is = let h = byte_at 0 _ _ (sym is.spelled ∙ e) in omega (arith, h)
@@ -50,7 +63,7 @@ bytes_two line = get_or line 0 0 * 256 + get_or line 2 0
 
 -- two bytes of the first word, by which it differs from the others
 mark : Said → ℕ
-mark (reference ref) = 29286
+mark (reference entry) = 29286
 mark (object id size) = 28522
 mark (ready count) = 29281
 mark (boundary (Shallow id)) = 29537
@@ -58,7 +71,7 @@ mark (boundary (Unshallow id)) = 30067
 
 marked : (format : Format) (line : List ℕ) (said : Said) → Says format line said → bytes_two line ≡ mark said
 unfolding bytes_two mark
-marked format line (reference ref) is = ap bytes_two is.spelled
+marked format line (reference entry) is = ap bytes_two is.spelled
 marked format line (object id size) is = ap bytes_two is.spelled
 marked format line (ready count) is = ap bytes_two is.spelled
 marked format line (boundary (Shallow id)) is = ap bytes_two is.spelled
@@ -98,8 +111,9 @@ one_object format text id other size count h k =
 one_of_mark : (format : Format) (line : List ℕ) (a b : Said) → mark a ≡ mark b → Says format line a → Says format line b → a ≡ b
 unfolding mark
 one_of_mark format line (reference a) (reference b) e h k =
-    ap reference (one_reference format k.value a b (subst (λ (t : List ℕ). IsReferenceLine format t a)
-    (same_rest_ref h.value k.value (sym h.spelled ∙ k.spelled)) h.holds) k.holds)
+    let there : IsReferenceLine format k.value (ref_of a) =
+    subst (λ (t : List ℕ). IsReferenceLine format t (ref_of a)) (same_rest_ref h.value k.value (sym h.spelled ∙ k.spelled)) h.holds in
+    ap reference (one_entry a b (one_reference format k.value (ref_of a) (ref_of b) there k.holds))
 one_of_mark format line (object id size) (object other count) e h k =
     let same =
     one_object format k.value id other size count (subst (IsSizedObject format id size)
@@ -145,12 +159,12 @@ maybe_format format (Some text) id h x e = let same : h.0 ≡ x = cc in subst (�
 
 -- what a line says is of the format
 pub fit_of_says : (format : Format) (line : List ℕ) (said : Said) → Says format line said → IsFit format said
-fit_of_says format line (reference ref) is =
+fit_of_says format line (reference entry) is =
     let parts = is.holds.attributes_are in (
       record {
         by_id = is.holds.id_is.of_format;
         by_peeled = λ x e. maybe_format format
-            (last_of (values_of (codes "peeled:") is.holds.attributes)) ref.peeled parts.peeled_is x e;
+            (last_of (values_of (codes "peeled:") is.holds.attributes)) entry.peeled parts.peeled_is x e;
       },
       record {
         by_name = is.holds.name_is;

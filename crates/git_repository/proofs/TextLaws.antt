@@ -13,7 +13,7 @@ use Rattle.git_server.specs.Lists.{Lists}
 use Rattle.git_msg.proofs.ReferenceLaws.{same_heads}
 use Rattle.git_repository.specs.RepositoryLines.{Said, reference, object, ready, boundary, Says, format_line, lines_of}
 use Rattle.git_repository.specs.RepositoryText.{Begins, HasBadLine, HasNoFormat, IsFirstBad, IsRepositoryText}
-use Rattle.git_repository.specs.RepositoryText.{MayStand, SayAll, counts_in, entry_of, lists_said, objects_in, refs_in}
+use Rattle.git_repository.specs.RepositoryText.{MayStand, SayAll, counts_in, lists_said, objects_in, refs_in}
 use Rattle.git_repository.proofs.Saying.{one_said}
 
 one_format : (f g : Format) → format_line f ≡ format_line g → f ≡ g
@@ -60,21 +60,21 @@ module _ {X : Type 0} where
 
 refs_joined : (a b : List Said) → refs_in (a ++ b) ≡ refs_in a ++ refs_in b
 refs_joined [] b = refl
-refs_joined (reference ref ∷ more) b = ap (λ (xs : List Entry). entry_of ref ∷ xs) (refs_joined more b)
+refs_joined (reference entry ∷ more) b = ap (λ (xs : List Entry). entry ∷ xs) (refs_joined more b)
 refs_joined (object id size ∷ more) b = refs_joined more b
 refs_joined (ready count ∷ more) b = refs_joined more b
 refs_joined (boundary line ∷ more) b = refs_joined more b
 
 objects_joined : (a b : List Said) → objects_in (a ++ b) ≡ objects_in a ++ objects_in b
 objects_joined [] b = refl
-objects_joined (reference ref ∷ more) b = objects_joined more b
+objects_joined (reference entry ∷ more) b = objects_joined more b
 objects_joined (object id size ∷ more) b = ap (λ (xs : List (ObjectName × ℕ)). (id, size) ∷ xs) (objects_joined more b)
 objects_joined (ready count ∷ more) b = objects_joined more b
 objects_joined (boundary line ∷ more) b = objects_joined more b
 
 counts_joined : (a b : List Said) → counts_in (a ++ b) ≡ counts_in a ++ counts_in b
 counts_joined [] b = refl
-counts_joined (reference ref ∷ more) b = counts_joined more b
+counts_joined (reference entry ∷ more) b = counts_joined more b
 counts_joined (object id size ∷ more) b = counts_joined more b
 counts_joined (ready count ∷ more) b = ap (λ (xs : List ℕ). count ∷ xs) (counts_joined more b)
 counts_joined (boundary line ∷ more) b = counts_joined more b

@@ -1,5 +1,5 @@
 -- What a clause sees of a `Draft`.
-use Rattle.std.specs.Prelude.{[]}
+use Rattle.std.specs.Prelude.{None, []}
 use Rattle.git_server.specs.Lists.{Lists}
 use Rattle.git_repository.specs.declared.drafts.Draft.{Draft}
 
@@ -12,4 +12,5 @@ drafted draft = record {
   ready_after = draft.ready_after;
   boundaries = draft.boundaries.items;
   pack = [];
+  unborn = None;
 }

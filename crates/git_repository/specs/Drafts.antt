@@ -7,7 +7,7 @@ use Rattle.git_server.specs.Repository.{Entry, IsNamed, IsOfFormat, comes_before
 use Rattle.git_server.specs.Objects.{object_of, precedes}
 use Rattle.git_server.specs.Lists.{Lists, AreOfFormat}
 use Rattle.git_repository.specs.RepositoryLines.{Said, reference, object, ready, boundary}
-use Rattle.git_repository.specs.RepositoryText.{MayStand, TakesMemory, entry_of, lists_said}
+use Rattle.git_repository.specs.RepositoryText.{MayStand, TakesMemory, lists_said}
 use Rattle.git_repository.specs.declared.text_faults.LineFault.{LineFault}
 use Rattle.git_repository.specs.declared.text_faults.LineFault.TheVariants.{Refused, OutOfMemory}
 
@@ -15,14 +15,7 @@ abbrev pub empty_lists : Format → Lists
 empty_lists format = lists_said format [] []
 
 abbrev pub with_pack : Lists → List ℕ → Lists
-with_pack lists pack = record {
-  format = lists.format;
-  refs = lists.refs;
-  objects = lists.objects;
-  ready_after = lists.ready_after;
-  boundaries = lists.boundaries;
-  pack = pack;
-}
+with_pack lists pack = record lists { pack = pack }
 
 -- the name comes after those of the references
 abbrev pub ComesLast : List Entry → List ℕ → Type 0
@@ -32,44 +25,16 @@ abbrev pub ComesLastObject : List (ObjectName × ℕ) → ObjectName → Type 0
 ComesLastObject objects id = (d : ObjectName × ℕ) → 0 < length objects → precedes (slice_index_or objects (length objects - 1) d).0 id ≡ true
 
 abbrev pub with_ref : Lists → Entry → Lists
-with_ref lists entry = record {
-  format = lists.format;
-  refs = lists.refs ++ entry ∷ [];
-  objects = lists.objects;
-  ready_after = lists.ready_after;
-  boundaries = lists.boundaries;
-  pack = lists.pack;
-}
+with_ref lists entry = record lists { refs = lists.refs ++ entry ∷ [] }
 
 abbrev pub with_object : Lists → ObjectName × ℕ → Lists
-with_object lists sized = record {
-  format = lists.format;
-  refs = lists.refs;
-  objects = lists.objects ++ sized ∷ [];
-  ready_after = lists.ready_after;
-  boundaries = lists.boundaries;
-  pack = lists.pack;
-}
+with_object lists sized = record lists { objects = lists.objects ++ sized ∷ [] }
 
 abbrev pub with_count : Lists → ℕ → Lists
-with_count lists count = record {
-  format = lists.format;
-  refs = lists.refs;
-  objects = lists.objects;
-  ready_after = Some count;
-  boundaries = lists.boundaries;
-  pack = lists.pack;
-}
+with_count lists count = record lists { ready_after = Some count }
 
 abbrev pub with_boundary : Lists → Boundary → Lists
-with_boundary lists line = record {
-  format = lists.format;
-  refs = lists.refs;
-  objects = lists.objects;
-  ready_after = lists.ready_after;
-  boundaries = lists.boundaries ++ line ∷ [];
-  pack = lists.pack;
-}
+with_boundary lists line = record lists { boundaries = lists.boundaries ++ line ∷ [] }
 
 -- why a line is not kept: it may not stand there, or it may and there was no memory
 abbrev pub IsFaultOf : Type 0 → LineFault → Type 0
@@ -93,7 +58,7 @@ AddsBoundary old line new result = MatchResult result (λ _. new ≡ with_bounda
 
 -- what a line says is of the format, and its names are names
 abbrev pub IsFit : Format → Said → Type 0
-IsFit format (reference ref) = IsOfFormat format (entry_of ref) × IsNamed ref.name ref.target
+IsFit format (reference entry) = IsOfFormat format entry × IsNamed entry.name entry.target
 IsFit format (object id size) = id.format ≡ format
 IsFit format (ready count) = Unit {0}
 IsFit format (boundary line) = (object_of line).format ≡ format

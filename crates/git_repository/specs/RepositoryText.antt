@@ -3,7 +3,6 @@ use Rattle.std.specs.Prelude.{◌≡◌, ◌≢◌, ◌⊎◌, ℕ, ◌+◌, ◌
 use Rattle.git_names.specs.declared.object_format.Format.{Format}
 use Rattle.git_names.specs.ObjectName.{ObjectName}
 use Rattle.git_msg.specs.declared.Boundary.{Boundary}
-use Rattle.git_msg.specs.References.{Ref}
 use Rattle.git_server.specs.Repository.{Entry, IsRising}
 use Rattle.git_server.specs.Objects.{AreRising}
 use Rattle.git_server.specs.Lists.{Lists}
@@ -15,13 +14,10 @@ SayAll format [] [] = Unit {0}
 SayAll format (line ∷ lines) (said ∷ more) = Says format line said × SayAll format lines more
 SayAll format _ _ = ⊥
 
-abbrev pub entry_of : Ref → Entry
-entry_of ref = record { name = ref.name; id = ref.id; target = ref.target; peeled = ref.peeled }
-
 -- the references that are said, in order
 abbrev pub refs_in : List Said → List Entry
 refs_in [] = []
-refs_in (reference ref ∷ more) = entry_of ref ∷ refs_in more
+refs_in (reference entry ∷ more) = entry ∷ refs_in more
 refs_in (object id size ∷ more) = refs_in more
 refs_in (ready count ∷ more) = refs_in more
 refs_in (boundary line ∷ more) = refs_in more
@@ -29,7 +25,7 @@ refs_in (boundary line ∷ more) = refs_in more
 -- the objects with their sizes
 abbrev pub objects_in : List Said → List (ObjectName × ℕ)
 objects_in [] = []
-objects_in (reference ref ∷ more) = objects_in more
+objects_in (reference entry ∷ more) = objects_in more
 objects_in (object id size ∷ more) = (id, size) ∷ objects_in more
 objects_in (ready count ∷ more) = objects_in more
 objects_in (boundary line ∷ more) = objects_in more
@@ -37,7 +33,7 @@ objects_in (boundary line ∷ more) = objects_in more
 -- the counts of ready lines
 abbrev pub counts_in : List Said → List ℕ
 counts_in [] = []
-counts_in (reference ref ∷ more) = counts_in more
+counts_in (reference entry ∷ more) = counts_in more
 counts_in (object id size ∷ more) = counts_in more
 counts_in (ready count ∷ more) = count ∷ counts_in more
 counts_in (boundary line ∷ more) = counts_in more
@@ -45,7 +41,7 @@ counts_in (boundary line ∷ more) = counts_in more
 -- the lines of the boundary
 abbrev pub boundaries_in : List Said → List Boundary
 boundaries_in [] = []
-boundaries_in (reference ref ∷ more) = boundaries_in more
+boundaries_in (reference entry ∷ more) = boundaries_in more
 boundaries_in (object id size ∷ more) = boundaries_in more
 boundaries_in (ready count ∷ more) = boundaries_in more
 boundaries_in (boundary line ∷ more) = line ∷ boundaries_in more
@@ -69,6 +65,7 @@ lists_said format said pack = record {
   ready_after = first_of (counts_in said);
   boundaries = boundaries_in said;
   pack = pack;
+  unborn = None;
 }
 
 -- lines that begin a text: a format, and what the others say
@@ -111,7 +108,7 @@ IsFirstBad text number = HasNoFormat (lines_of text) number ⊎ HasBadLine (line
 
 -- what a line says is kept in memory
 abbrev pub TakesMemory : Said → Type 0
-TakesMemory (reference ref) = Unit {0}
+TakesMemory (reference entry) = Unit {0}
 TakesMemory (object id size) = Unit {0}
 TakesMemory (ready count) = ⊥
 TakesMemory (boundary line) = Unit {0}

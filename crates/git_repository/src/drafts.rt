@@ -4,15 +4,14 @@ ghost use Rattle.std.specs.Prelude.{◌≡◌, ◌↔◌, ◌+◌, ◌++◌, ◌
 ghost use Rattle.git_server.specs.ListRepo.{lists_of};
 ghost use Rattle.git_server.specs.Objects.{AreRising, object_of};
 ghost use Rattle.git_server.specs.Repository.{IsNamed, IsOfFormat, IsRising};
-ghost use Rattle.git_msg.specs.References.{shown_reference};
-ghost use Rattle.git_repository.specs.RepositoryLines.{shown};
-ghost use Rattle.git_repository.specs.RepositoryText.{entry_of};
+ghost use Rattle.std.specs.Option.{option_copied};
+ghost use Rattle.git_repository.specs.RepositoryLines.{shown, shown_entry};
 ghost use Rattle.git_repository.specs.Drafts.{AddsBoundary, AddsCount, AddsObject, AddsReference, AddsSaid};
 ghost use Rattle.git_repository.specs.Drafts.{ComesLast, ComesLastObject, IsFit, empty_lists, with_pack};
 
-use crate::repository_lines::{Item, read_item};
+use crate::repository_lines::{Item, LineEntry, read_item};
 use crate::text_faults::{LineFault, TextFault};
-use git_msg::{Boundary, Reference};
+use git_msg::Boundary;
 use git_names::{Format, Oid};
 use git_server::{ListRepo, RefEntry};
 use std::alloc::{AllocError, Global};
@@ -87,25 +86,25 @@ impl Draft {
         ensures { AddsSaid (drafted self.old) (shown item.now) (drafted self.new) result }
     {
         match item {
-            Item::Reference(reference) => self.keep_reference(alloc, reference),
+            Item::Reference(entry) => self.keep_reference(alloc, entry),
             Item::Object(id, size) => self.keep_object(*id, *size),
             Item::ReadyAfter(count) => self.keep_count(*count),
             Item::BoundaryLine(boundary) => self.keep_boundary(*boundary),
         }
     }
 
-    fn keep_reference(&mut self, alloc: Global, reference: &Reference<'_>) -> Result<(), LineFault>
-        requires named { IsNamed (shown_reference reference.now).name (shown_reference reference.now).target }
-        requires of_format { IsOfFormat (drafted self.old).format (entry_of (shown_reference reference.now)) }
-        ensures { AddsReference (drafted self.old) (entry_of (shown_reference reference.now)) (drafted self.new) result }
+    fn keep_reference(&mut self, alloc: Global, entry: &LineEntry<'_>) -> Result<(), LineFault>
+        requires named { IsNamed entry.now.name.now (option_copied entry.now.target) }
+        requires of_format { IsOfFormat (drafted self.old).format (shown_entry entry.now) }
+        ensures { AddsReference (drafted self.old) (shown_entry entry.now) (drafted self.new) result }
     {
-        if !comes_last(&self.refs, reference.name) {
+        if !comes_last(&self.refs, entry.name) {
             return Err(LineFault::Refused);
         }
-        let Ok(entry) = make_entry(alloc, reference) else {
+        let Ok(made) = make_entry(alloc, entry) else {
             return Err(LineFault::OutOfMemory);
         };
-        match self.refs.push(entry) {
+        match self.refs.push(made) {
             Ok(()) => Ok(()),
             Err(_) => Err(LineFault::OutOfMemory),
         }
@@ -155,22 +154,16 @@ impl Draft {
             ready_after,
             boundaries,
         } = self;
-        ListRepo::of_lists(format, refs, objects, ready_after, boundaries, pack)
+        ListRepo::of_lists(format, refs, objects, ready_after, boundaries, pack, None)
     }
 }
 
 /// The entry of a reference, whose texts are copied.
-fn make_entry(alloc: Global, reference: &Reference<'_>) -> Result<RefEntry, AllocError>
-    requires { IsNamed (shown_reference reference.now).name (shown_reference reference.now).target }
-    ensures { IfOk result (λ entry. entry ≡ entry_of (shown_reference reference.now)) }
+fn make_entry(alloc: Global, entry: &LineEntry<'_>) -> Result<RefEntry, AllocError>
+    requires { IsNamed entry.now.name.now (option_copied entry.now.target) }
+    ensures { IfOk result (λ made. made ≡ shown_entry entry.now) }
 {
-    RefEntry::copied(
-        alloc,
-        reference.name,
-        reference.id,
-        reference.target,
-        reference.peeled,
-    )
+    RefEntry::copied(alloc, entry.name, entry.id, entry.target, entry.peeled)
 }
 
 /// Whether the name comes after those of the references.

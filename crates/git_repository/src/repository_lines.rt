@@ -3,19 +3,30 @@
 ghost use Rattle.std.specs.Prelude.{◌≡◌, ◌≢◌, ℕ, MatchOption};
 ghost use Rattle.git_names.specs.declared.object_format.Format.{Format};
 ghost use Rattle.git_names.specs.ObjectName.{ObjectName};
-ghost use Rattle.git_repository.specs.RepositoryLines.{IsCount, IsSizedObject, Says, SaysNothing, format_line, shown};
+ghost use Rattle.git_repository.specs.RepositoryLines.{IsCount, IsSizedObject, Says, SaysNothing, format_line, ref_of, shown, shown_entry};
+ghost use Rattle.git_msg.specs.References.{IsReferenceLine};
+ghost use Rattle.git_server.specs.Repository.{Entry};
 
-use git_msg::{Boundary, Reference, after, read_number, read_reference};
+use git_msg::{Boundary, after, read_number, read_reference};
 use git_names::{Format, Oid, Steps};
 
 /// The most common objects that a repository may want before it is ready.
 const MOST_COMMON: u64 = 2_147_483_647;
 
+/// A reference of the repository, as its line tells it, whose texts are lent.
+#[derive(Clone, Copy, Debug)]
+pub(crate) struct LineEntry<'a> {
+    pub(crate) id: Oid,
+    pub(crate) name: &'a [u8],
+    pub(crate) target: Option<&'a [u8]>,
+    pub(crate) peeled: Option<Oid>,
+}
+
 /// What a line says of the repository.
 #[derive(Clone, Copy, Debug)]
 pub(crate) enum Item<'a> {
     /// It has this reference.
-    Reference(Reference<'a>),
+    Reference(LineEntry<'a>),
     /// It has this object, of this size in bytes.
     Object(Oid, u64),
     /// It is ready after so many common objects.
@@ -36,9 +47,9 @@ pub(crate) fn read_item(format: Format, line: &[u8]) -> Option<Item<'_>>
     ensures { MatchOption result (SaysNothing format line.now) (λ item. Says format line.now (shown item)) }
 {
     if let Some(text) = after(line, b"ref ") {
-        return match read_reference(format, text, &mut Steps::new()) {
-            Ok(reference) => Some(Item::Reference(reference)),
-            Err(_) => None,
+        return match read_entry(format, text) {
+            Some(entry) => Some(Item::Reference(entry)),
+            None => None,
         };
     }
     if let Some(text) = after(line, b"object ") {
@@ -58,6 +69,24 @@ pub(crate) fn read_item(format: Format, line: &[u8]) -> Option<Item<'_>>
         return Some(Item::BoundaryLine(Boundary::Unshallow(id)));
     }
     None
+}
+
+/// A reference line, of a reference with an object.
+fn read_entry(format: Format, text: &[u8]) -> Option<LineEntry<'_>>
+    ensures { MatchOption result ((entry : Entry) → ¬ IsReferenceLine format text.now (ref_of entry))
+        (λ entry. IsReferenceLine format text.now (ref_of (shown_entry entry))) }
+{
+    let reference = match read_reference(format, text, &mut Steps::new()) {
+        Ok(reference) => reference,
+        Err(_) => return None,
+    };
+    let id = reference.id?;
+    Some(LineEntry {
+        id,
+        name: reference.name,
+        target: reference.target,
+        peeled: reference.peeled,
+    })
 }
 
 /// An object name, a space and a size.

@@ -1,7 +1,6 @@
 use Rattle.std.proofs.Common.{rules, true, ◌≡◌, List, refl, sym, subst}
 use Rattle.std.specs.Prelude.{All}
 use Rattle.std.proofs.lemmas.List.Elements.{All-push}
-use Rattle.git_msg.specs.References.{shown_reference}
 use Rattle.git_server.specs.Repository.{Entry, IsNamed, IsOfFormat, IsRising, comes_before}
 use Rattle.git_repository.specs.Drafts.{ComesLast}
 use Rattle.git_repository.proofs.Drafting.{pushed}
@@ -15,13 +14,13 @@ returns c = elim c.match-push.branch [ in-Ok-push w ↦ rw w.result-is (search r
 pub invariant_of-self : goal.invariant_of-self
 invariant_of-self c =
     let old = c.args.self.now in
-    let entry = c.in-Ok.entry in
+    let entry = c.in-Ok.made in
     let came = λ (P : List Entry → Type 0). pushed P _ old.refs.items c.push.new.self.items entry c.push.ensures.items in
     let is = sym c.in-Ok.ensures in
     let named : IsNamed entry.name entry.target = subst (λ (e : Entry). IsNamed e.name e.target) is c.requires.named in
     let of_format : IsOfFormat old.format entry = subst (IsOfFormat old.format) is c.requires.of_format in
-    let behind : ComesLast old.refs.items (shown_reference c.args.reference.now).name =
-    subst (λ (refs : List Entry). ComesLast refs (shown_reference c.args.reference.now).name) c.deref.ensures.value (c.if-not-comes_last.ensures.0 refl) in
+    let behind : ComesLast old.refs.items c.args.entry.now.name.now =
+    subst (λ (refs : List Entry). ComesLast refs c.args.entry.now.name.now) c.deref.ensures.value (c.if-not-comes_last.ensures.0 refl) in
     let last : ComesLast old.refs.items entry.name = subst (λ (e : Entry). ComesLast old.refs.items e.name) is behind in
     record {
       rising = came IsRising old.rising (rising_more (λ a b. comes_before a.name b.name ≡ true) old.refs.items entry old.rising last);
