@@ -3,10 +3,11 @@
 ghost use Rattle.std.specs.Prelude.{◌≡◌, ◌↔◌, ◌+◌, ◌++◌, ◌∷◌, [], ℕ, List, All, IsTrue, IfOk, MatchResult};
 ghost use Rattle.git_server.specs.ListRepo.{lists_of};
 ghost use Rattle.git_server.specs.Objects.{AreRising, object_of};
-ghost use Rattle.git_server.specs.Repository.{IsNamed, IsOfFormat, IsRising};
-ghost use Rattle.std.specs.Option.{option_copied};
+ghost use Rattle.git_server.specs.Repository.{IsNamed, IsOfFormat, IsRising, IsUnbornHead, bytes_of};
+ghost use Rattle.std.specs.Option.{option_copied, ForSome};
+ghost use Rattle.git_names.specs.RefName.{IsRefName};
 ghost use Rattle.git_repository.specs.RepositoryLines.{shown, shown_entry};
-ghost use Rattle.git_repository.specs.Drafts.{AddsBoundary, AddsCount, AddsObject, AddsReference, AddsSaid};
+ghost use Rattle.git_repository.specs.Drafts.{AddsBoundary, AddsCount, AddsObject, AddsReference, AddsSaid, AddsUnborn, names_of};
 ghost use Rattle.git_repository.specs.Drafts.{ComesLast, ComesLastObject, IsFit, empty_lists, with_pack};
 
 use crate::repository_lines::{Item, LineEntry, read_item};
@@ -24,12 +25,14 @@ pub(crate) struct Draft {
     objects: Vec<(Oid, u64)>,
     ready_after: Option<u32>,
     boundaries: Vec<Boundary>,
+    unborn: Option<Vec<u8>>,
     ghost rising: { IsRising refs.items },
     ghost rising_objects: { AreRising objects.items },
     ghost named: { All (λ ref. IsNamed ref.name ref.target) refs.items },
     ghost of_format: { All (IsOfFormat format) refs.items },
     ghost of_objects: { All (λ object. object.0.format ≡ format) objects.items },
     ghost of_boundaries: { All (λ boundary. (object_of boundary).format ≡ format) boundaries.items },
+    ghost unborn_head: { ForSome (bytes_of unborn) (IsUnbornHead refs.items) },
 }
 
 impl Draft {
@@ -47,6 +50,7 @@ impl Draft {
             objects: Vec::new(alloc),
             ready_after: None,
             boundaries: Vec::new(alloc),
+            unborn: None,
         }
     }
 
@@ -61,7 +65,11 @@ impl Draft {
         let refs = self.refs.as_slice().len() as u64;
         let objects = self.objects.as_slice().len() as u64;
         let boundaries = self.boundaries.as_slice().len() as u64;
-        refs + objects + boundaries + ready + 2
+        let unborn: u64 = match self.unborn {
+            Some(_) => 1,
+            None => 0,
+        };
+        refs + objects + boundaries + ready + unborn + 2
     }
 
     /// Keeps what a further line says, or tells why it is the first that is refused.
@@ -87,10 +95,21 @@ impl Draft {
     {
         match item {
             Item::Reference(entry) => self.keep_reference(alloc, entry),
+            Item::Unborn(target) => self.keep_unborn(alloc, target),
             Item::Object(id, size) => self.keep_object(*id, *size),
             Item::ReadyAfter(count) => self.keep_count(*count),
             Item::BoundaryLine(boundary) => self.keep_boundary(*boundary),
         }
+    }
+
+    // Whether the name comes after those of the references, and after `HEAD` where that is unborn.
+    fn comes_last(&self, name: &[u8]) -> bool
+        ensures { IsTrue result ↔ ComesLast (names_of (drafted self.now)) name.now }
+    {
+        if self.refs.is_empty() {
+            return self.unborn.is_none() || b"HEAD".as_slice().cmp(name).is_lt();
+        }
+        self.refs[self.refs.len() - 1].name().cmp(name).is_lt()
     }
 
     fn keep_reference(&mut self, alloc: Global, entry: &LineEntry<'_>) -> Result<(), LineFault>
@@ -98,7 +117,7 @@ impl Draft {
         requires of_format { IsOfFormat (drafted self.old).format (shown_entry entry.now) }
         ensures { AddsReference (drafted self.old) (shown_entry entry.now) (drafted self.new) result }
     {
-        if !comes_last(&self.refs, entry.name) {
+        if !self.comes_last(entry.name) {
             return Err(LineFault::Refused);
         }
         let Ok(made) = make_entry(alloc, entry) else {
@@ -106,6 +125,22 @@ impl Draft {
         };
         match self.refs.push(made) {
             Ok(()) => Ok(()),
+            Err(_) => Err(LineFault::OutOfMemory),
+        }
+    }
+
+    fn keep_unborn(&mut self, alloc: Global, target: &[u8]) -> Result<(), LineFault>
+        requires { IsRefName target.now }
+        ensures { AddsUnborn (drafted self.old) target.now (drafted self.new) result }
+    {
+        if !self.comes_last(b"HEAD") {
+            return Err(LineFault::Refused);
+        }
+        match Vec::from_slice(alloc, target) {
+            Ok(copy) => {
+                self.unborn = Some(copy);
+                Ok(())
+            }
             Err(_) => Err(LineFault::OutOfMemory),
         }
     }
@@ -153,8 +188,9 @@ impl Draft {
             objects,
             ready_after,
             boundaries,
+            unborn,
         } = self;
-        ListRepo::of_lists(format, refs, objects, ready_after, boundaries, pack, None)
+        ListRepo::of_lists(format, refs, objects, ready_after, boundaries, pack, unborn)
     }
 }
 
@@ -164,16 +200,6 @@ fn make_entry(alloc: Global, entry: &LineEntry<'_>) -> Result<RefEntry, AllocErr
     ensures { IfOk result (λ made. made ≡ shown_entry entry.now) }
 {
     RefEntry::copied(alloc, entry.name, entry.id, entry.target, entry.peeled)
-}
-
-/// Whether the name comes after those of the references.
-fn comes_last(refs: &[RefEntry], name: &[u8]) -> bool
-    ensures { IsTrue result ↔ ComesLast refs.now name.now }
-{
-    if refs.is_empty() {
-        return true;
-    }
-    refs[refs.len() - 1].name().cmp(name).is_lt()
 }
 
 /// Whether the object name comes after those of the objects.
