@@ -13,7 +13,8 @@ use Rattle.git_server.specs.Objects.{AreRising, object_of, precedes}
 use Rattle.git_server.specs.Lists.{Lists}
 use Rattle.git_repository.specs.RepositoryLines.{Said, reference, unborn, object, ready, boundary}
 use Rattle.git_repository.specs.RepositoryText.{MayStand, NamesRise, boundaries_in, counts_in, first_of, lists_said, names_in, objects_in, refs_in, unborn_in}
-use Rattle.git_repository.specs.Drafts.{Adds, AddsBoundary, AddsCount, AddsObject, AddsReference, AddsSaid, AddsUnborn, ComesLast, ComesLastObject, Holds, IsFit}
+use Rattle.git_repository.specs.Drafts.{Adds, AddsBoundary, AddsCount, AddsObject, AddsReference, AddsSaid, AddsUnborn}
+use Rattle.git_repository.specs.Drafts.{ComesLast, ComesLastObject, Holds, IsFit}
 use Rattle.git_repository.specs.Drafts.{IsLineFault, head_names, names_of, with_boundary, with_count, with_object, with_ref, with_unborn}
 use Rattle.git_repository.specs.declared.text_faults.LineFault.{LineFault}
 use Rattle.git_repository.specs.declared.text_faults.LineFault.TheVariants.{Refused, OutOfMemory}
@@ -207,7 +208,8 @@ no_unborn lists e = none_there lists.unborn e
     none_there None is = refl
     none_there (Some target) is = absurd (cc)
 
-stands_unborn : (said : List Said) (old : Lists) (target : List ℕ) → Holds said old → ComesLast (names_of old) (codes "HEAD") → MayStand (said ++ unborn target ∷ [])
+stands_unborn : (said : List Said) (old : Lists) (target : List ℕ) → Holds said old → ComesLast (names_of old) (codes "HEAD")
+    → MayStand (said ++ unborn target ∷ [])
 stands_unborn said old target h last =
     stand_more said (unborn target)
     (rising_more (λ a b. comes_before a b ≡ true) (names_in said) (codes "HEAD") h.may_stand.rising_names

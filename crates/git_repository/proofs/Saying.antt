@@ -1,5 +1,6 @@
 -- What lines say: one thing at the most.
-use Rattle.std.proofs.Common.{arith, ◌≡◌, ℕ, ◌+◌, ◌*◌, Option, Some, None, List, [], ◌∷◌, ◌++◌, refl, ap, sym, ◌∙◌, subst, get_or, length, codes, unwrap_or, MatchOption}
+use Rattle.std.proofs.Common.{arith, ◌≡◌, ℕ, ◌+◌, ◌*◌, Option, Some, None, List, [], ◌∷◌, ◌++◌, refl, ap, sym, ◌∙◌, subst}
+use Rattle.std.proofs.Common.{get_or, length, codes, unwrap_or, MatchOption}
 use Rattle.git_names.proofs.ObjectNames.{one_object_name}
 use Rattle.git_msg.proofs.ReferenceLaws.{one_reference}
 use Rattle.git_msg.proofs.LastValues.{last_value}
@@ -177,7 +178,8 @@ one_of_mark : (format : Format) (line : List ℕ) (a b : Said) → mark a ≡ ma
 unfolding mark
 one_of_mark format line (reference a) (reference b) e h k =
     ap reference (one_entry a b (one_line format line (ref_of a) (ref_of b) h k))
-one_of_mark format line (unborn a) (unborn b) e h k = ap unborn (some_same a b (ap (λ (r : Ref). r.target) (one_line format line (unborn_ref a) (unborn_ref b) h k)))
+one_of_mark format line (unborn a) (unborn b) e h k =
+    ap unborn (some_same a b (ap (λ (r : Ref). r.target) (one_line format line (unborn_ref a) (unborn_ref b) h k)))
 one_of_mark format line (reference a) (unborn b) e h k =
     let other = ap (λ (r : Ref). r.id) (one_line format line (ref_of a) (unborn_ref b) h k) in absurd (cc)
 one_of_mark format line (unborn a) (reference b) e h k =

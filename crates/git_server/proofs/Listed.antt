@@ -24,7 +24,8 @@ module _ (repo : Repository) (old new : Kept LsRefsAsked) (place after : Referen
   listed_later broken later h = absurd h
 
   -- the packet is the next one of the answer
-  pub listed : {A : Type 0} (answer : Answer A) → answer ≡ References old place
-      → IsNext (λ manner a later. IsAnswerFrom manner repo a later) (most_from repo) answer Part (References new after) packet
-  listed {A} answer is = subst (λ (a : Answer A). IsNext (λ manner b later. IsAnswerFrom manner repo b later) (most_from repo) a Part (References new after) packet)
-      (sym is) (listed_later, omega (arith, ap length one_listed))
+  abbrev IsBefore : {A : Type 0} → Answer A → Type 0
+  IsBefore answer = IsNext (λ manner a later. IsAnswerFrom manner repo a later) (most_from repo) answer Part (References new after) packet
+
+  pub listed : {A : Type 0} (answer : Answer A) → answer ≡ References old place → IsBefore answer
+  listed {A} answer is = subst (λ (a : Answer A). IsBefore a) (sym is) (listed_later, omega (arith, ap length one_listed))

@@ -25,6 +25,9 @@ returns-in-Progress-clause-ok g c =
 
 pub returns-in-Reference-clause-err : goal.returns-in-Reference-clause-err
 returns-in-Reference-clause-err g c =
-    let ref = reference_of (option_copied c.in-Reference.id) c.in-Reference.name.now (option_copied c.in-Reference.target) (option_copied c.in-Reference.peeled) in
+    let event = c.in-Reference in
+    let ref = reference_of (option_copied event.id) event.name.now (option_copied event.target) (option_copied event.peeled) in
+    let before = g.W.Write.contents (inner_of c.args.out.now) in
+    let after = g.W.Write.contents (inner_of c.write_reference.new.out) in
     rw c.in-Reference.is (on_err_weaker c.write_reference.result
-    (λ now. subst (λ (l : List ℕ). AppendsFront (g.W.Write.contents (inner_of c.args.out.now)) (g.W.Write.contents (inner_of c.write_reference.new.out)) l) (sym (append-nil (reference_shown ref))) now) c.write_reference.ensures.err)
+    (λ now. subst (λ (l : List ℕ). AppendsFront before after l) (sym (append-nil (reference_shown ref))) now) c.write_reference.ensures.err)

@@ -9,7 +9,8 @@ use Rattle.git_repository.proofs.drafts.Draft.comes_last.Goals as goal
 
 pub returns-else-is_none : goal.returns-else-is_none
 returns-else-is_none c =
-    after_unborn (drafted c.args.self.now) c.args.name.now c.is_lt.result (nil_from_length c.args.self.now.refs.items (search rules)) (search rules) (search rules)
+    after_unborn (drafted c.args.self.now) c.args.name.now c.is_lt.result
+    (nil_from_length c.args.self.now.refs.items (search rules)) (search rules) (search rules)
 
 pub returns : goal.returns
 returns c =
