@@ -6,7 +6,7 @@ PREFIX ?= /usr/local
 PROGRAM ?= crates/git2show/out/git2show
 LIBRARY ?= crates/gitwire/out/libgitwire.a
 KIT = $(shell dirname "$$($(RT) doc)")
-VERSION = 0.1.0
+VERSION = 0.2.0
 
 .PHONY: run library install test test-program audit cases bench
 

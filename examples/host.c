@@ -18,7 +18,7 @@
 #include <string.h>
 #include <unistd.h>
 
-static const gitwire_offer offer = { .format = GITWIRE_SHA1, .server_option = true };
+static const gitwire_offer offer = { .format = GITWIRE_SHA1, .features = GITWIRE_FEATURE_SERVER_OPTION };
 static gitwire_writer writer = GITWIRE_NONE;
 static uint8_t room[GITWIRE_PACKET_ROOM];
 

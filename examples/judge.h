@@ -116,11 +116,9 @@ static bool begin_requests(struct judge *judge)
 	gitwire_caps caps;
 	gitwire_offer offer = { .format = judge->format };
 
-	gitwire_client_caps(&judge->client, &caps);
-	offer.shallow = caps.shallow;
-	offer.ref_in_want = caps.ref_in_want;
-	offer.object_info = caps.object_info;
-	offer.server_option = caps.server_option;
+	if (gitwire_client_caps(&judge->client, &caps) != GITWIRE_DONE)
+		return false;
+	offer.features = caps.features;
 	return gitwire_request_reader_new(&judge->requests, offer, GITWIRE_USUAL_LIMIT) == GITWIRE_DONE;
 }
 
@@ -144,6 +142,8 @@ static void show_event(struct judge *judge, gitwire_event event, uint64_t offset
 	fprintf(to, "< %" PRIu64 " %s", offset, words[event.kind]);
 	if (event.id_length > 0)
 		show_part(to, " ", id, event.id_length);
+	else if (event.kind == GITWIRE_REFERENCE)
+		fputs(" unborn", to);
 	if (event.name_length > 0)
 		show_part(to, " ", name, event.name_length);
 	if (event.has_text)

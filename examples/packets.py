@@ -38,7 +38,7 @@ def load_library():
         "packet_reader_new": (c_uint8, [POINTER(Handle)]),
         "packet_reader_feed": (Told, [POINTER(Handle), c_void_p, c_size_t, c_void_p, c_size_t]),
         "packet_reader_close": (Told, [POINTER(Handle)]),
-        "packet_reader_free": (None, [POINTER(Handle)]),
+        "packet_reader_clear": (None, [POINTER(Handle)]),
         "fault_text": (c_size_t, [c_uint8, c_uint64, c_void_p, c_size_t]),
     }
     for name, (gives, wants) in takes.items():
@@ -65,7 +65,7 @@ class PacketReader:
         return self
 
     def __exit__(self, *_):
-        self.library.gitwire_packet_reader_free(byref(self.handle))
+        self.library.gitwire_packet_reader_clear(byref(self.handle))
 
     def judged(self, told):
         """What was told, unless it is a fault."""

@@ -44,7 +44,7 @@ extern "C" {
         room_length: usize,
     ) -> Told;
     fn gitwire_packet_reader_close(reader: *mut Handle) -> Told;
-    fn gitwire_packet_reader_free(reader: *mut Handle);
+    fn gitwire_packet_reader_clear(reader: *mut Handle);
     fn gitwire_fault_text(fault: u8, offset: u64, room: *mut u8, room_length: usize) -> usize;
 }
 
@@ -80,7 +80,7 @@ impl PacketReader {
 
 impl Drop for PacketReader {
     fn drop(&mut self) {
-        unsafe { gitwire_packet_reader_free(&mut self.0) }
+        unsafe { gitwire_packet_reader_clear(&mut self.0) }
     }
 }
 

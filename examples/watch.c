@@ -7,7 +7,7 @@
  * file that is named. A packet goes on once it is whole and judged. The first that is malformed, or may not stand where it does, is told
  * by name and offset, to the client too; it does not go on, nor does what comes after it, and the conversation ends.
  *
- *     git clone --upload-pack "watch git -c lsrefs.unborn=ignore upload-pack" FOLDER CLONE
+ *     git clone --upload-pack "watch git upload-pack" FOLDER CLONE
  *
  * The client has its turn until a request is whole, and the server until it has answered: what one says before its turn waits. For each
  * end there is a buffer of one packet, and one in the library; beside them the library keeps what the arguments of one request take.

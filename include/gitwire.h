@@ -19,8 +19,8 @@
  *
  *   - It returns, whatever the bytes are. What is not allowed at a moment, a room that is too small, a number that stands
  *     for nothing and a handle with nothing in it are told by a code, and then nothing was used or changed: by false of
- *     gitwire_request_flag, and by 0 of gitwire_fault_name and gitwire_fault_text. A feed that is not due uses nothing, and
- *     tells MORE, or the fault that there was: so no loop goes on until all is used.
+ *     gitwire_request_flag, and by 0 of gitwire_fault_name, gitwire_fault_text and gitwire_kind_name. A feed that is not due
+ *     uses nothing, and tells NOT_NOW, or the fault that there was: so no loop goes on until all is used.
  *   - A text is a pointer and a length, and has no NUL at its end. A room is where a call writes: a pointer and how many
  *     bytes are there. What it writes stands at the front of the room, and it says how many bytes that are; those after
  *     them stay as they were.
@@ -30,7 +30,7 @@
  *   - A handle begins as GITWIRE_NONE, or as memory of zeros, which is the same. Its fields are touched by nobody else. It may
  *     be moved, as by realloc; of two copies only one is used from then on, and freed. It is freed once it is no more needed;
  *     to free it twice does no harm, and a call on what was freed tells NO_HANDLE.
- *   - No pointer to a handle or to a gitwire_caps is NULL, nor that of a call `_free`.
+ *   - No pointer to a handle or to a gitwire_caps is NULL, but for those of calls `_free`.
  *   - A handle is used by one thread at a time. Each call writes to each handle that it is given, also one that only asks: so
  *     two threads that make servers of one repository's handle need a lock. A handle may go from one thread to another, by a
  *     lock, a thread's start or end, or an atomic of sequentially consistent order. Servers of one repository may be used at
@@ -45,6 +45,12 @@
  *     signal handler, nor in the child of a fork of a process with more than one thread.
  *
  * This header is for C11, C++11 and later.
+ *
+ * Since 0.1.0: what a server offers, and what a client noted of that, is a set of bits (GITWIRE_FEATURE_*) in place of a field
+ * each, so that a further feature breaks no program; `unborn` and `wait-for-done` are known, and a reference may have no object
+ * (`id_length` 0, in gitwire_put_reference too); a feed that is not due tells NOT_NOW, where it told MORE; gitwire_kind_name;
+ * calls `_free` take NULL; calls that no program should make with NULL, or whose answer none should pass over, are marked for the
+ * compilers that can tell.
  */
 #ifndef GITWIRE_H
 #define GITWIRE_H
@@ -60,10 +66,19 @@ extern "C" {
 #define GITWIRE_STATIC_ASSERT _Static_assert
 #endif
 
+/* What compilers can tell of a call: its handle is given, and its answer is looked at. */
+#if defined(__GNUC__)
+#define GITWIRE_GIVEN __attribute__((nonnull(1)))
+#define GITWIRE_LOOKED_AT __attribute__((nonnull(1), warn_unused_result))
+#else
+#define GITWIRE_GIVEN
+#define GITWIRE_LOOKED_AT
+#endif
+
 /* The version, which is that of the library beside which this header is installed. */
-#define GITWIRE_VERSION "0.1.0"
+#define GITWIRE_VERSION "0.2.0"
 #define GITWIRE_VERSION_MAJOR 0
-#define GITWIRE_VERSION_MINOR 1
+#define GITWIRE_VERSION_MINOR 2
 #define GITWIRE_VERSION_PATCH 0
 
 /* How many bytes a payload has at the most, and a packet, with its four digits. Rooms of these sizes always suffice. */
@@ -75,6 +90,7 @@ extern "C" {
 #define GITWIRE_REFERENCE_NAME_ROOM 32000   /* a reference name, and each other item of a request's lists */
 #define GITWIRE_FAULT_NAME_ROOM 32          /* what gitwire_fault_name writes */
 #define GITWIRE_FAULT_TEXT_ROOM 64          /* what gitwire_fault_text writes */
+#define GITWIRE_KIND_NAME_ROOM 32           /* what gitwire_kind_name writes */
 #define GITWIRE_ADVERTISEMENT_ROOM 200      /* what gitwire_put_advertisement writes */
 
 /* How many bytes the texts of a request's argument lines may have together: a usual limit, and the greatest one. */
@@ -181,13 +197,21 @@ typedef struct {
 	uint8_t fault;
 } gitwire_told;
 
-/* What a server offers, beside `agent` and the commands `ls-refs` and `fetch`, which are in every offer. Each field is set. */
+/* What a server may offer beside `agent` and the commands `ls-refs` and `fetch`, which are in every offer: a bit for each. */
+enum {
+	GITWIRE_FEATURE_UNBORN = 1,          /* of `ls-refs` */
+	GITWIRE_FEATURE_SHALLOW = 2,         /* of `fetch` */
+	GITWIRE_FEATURE_REF_IN_WANT = 4,     /* of `fetch` */
+	GITWIRE_FEATURE_WAIT_FOR_DONE = 8,   /* of `fetch` */
+	GITWIRE_FEATURE_SERVER_OPTION = 16,
+	GITWIRE_FEATURE_OBJECT_INFO = 32,
+	GITWIRE_FEATURES_ALL = 63
+};
+
+/* What a server offers. A bit that stands for no feature is a BAD_VALUE. */
 typedef struct {
+	uint32_t features;
 	uint8_t format;    /* the object format that is spoken */
-	bool shallow;
-	bool ref_in_want;
-	bool object_info;
-	bool server_option;
 } gitwire_offer;
 
 /* The handles. Their fields are the library's own. */
@@ -205,8 +229,16 @@ typedef struct { void *at_; bool is_made_; } gitwire_writer;
  *
  * A call `_new` frees what the handle had, and makes it a new one: DONE. OUT_OF_MEMORY where memory for it cannot be had, and
  * then the handle has nothing. BAD_VALUE, and NO_HANDLE where another handle that it needs has nothing: then it stays as it was.
- * A call `_free` frees what it has, and then it has nothing; where it had nothing, nothing happens.
+ * A call `_free` frees what it has, and then it has nothing; where it had nothing, and for NULL, nothing happens. It is a function of
+ * this header over the library's call `_clear`, which does the same but for NULL.
  */
+#define GITWIRE_FREES(handle) \
+	void handle##_clear(handle *it) GITWIRE_GIVEN; \
+	static inline void handle##_free(handle *it) \
+	{ \
+		if (it != NULL) \
+			handle##_clear(it); \
+	}
 
 /*
  * Packets: the packets and offsets given are those of the one split of the bytes fed, however these were cut. The first
@@ -215,6 +247,7 @@ typedef struct { void *at_; bool is_made_; } gitwire_writer;
  */
 
 /* A reader of a stream of which nothing has come. */
+GITWIRE_LOOKED_AT
 uint8_t gitwire_packet_reader_new(gitwire_packet_reader *reader);
 
 /*
@@ -225,6 +258,7 @@ uint8_t gitwire_packet_reader_new(gitwire_packet_reader *reader);
  * RESPONSE_END: these packets. `offset` is that of the packet's first digit. FAILED: BadDigit, BadLength, TooLong, and
  * after a close Truncated; StreamTooLong at the byte after 2^63 - 1 others. NO_HANDLE, ROOM_TOO_SMALL.
  */
+GITWIRE_LOOKED_AT
 gitwire_told gitwire_packet_reader_feed(gitwire_packet_reader *reader, const uint8_t *piece, size_t piece_length,
 	uint8_t *room, size_t room_length);
 
@@ -232,9 +266,10 @@ gitwire_told gitwire_packet_reader_feed(gitwire_packet_reader *reader, const uin
  * Tells that the input ends here. DONE between two packets, and nothing changes. FAILED inside one, with Truncated where
  * the last whole packet ended, and of a reader that has refused, with its fault. NO_HANDLE.
  */
+GITWIRE_GIVEN
 gitwire_told gitwire_packet_reader_close(gitwire_packet_reader *reader);
 
-void gitwire_packet_reader_free(gitwire_packet_reader *reader);
+GITWIRE_FREES(gitwire_packet_reader)
 
 /*
  * Requests out of bytes: those handed out are the whole requests of the bytes fed, in order, however these were cut. The
@@ -243,22 +278,24 @@ void gitwire_packet_reader_free(gitwire_packet_reader *reader);
 
 /*
  * A reader against this offer. `limit` is how many bytes the texts of a request's argument lines may have together. BAD_VALUE for
- * a format that is none and for a limit above GITWIRE_MOST_LIMIT.
+ * a format or a feature that is none and for a limit above GITWIRE_MOST_LIMIT.
  */
+GITWIRE_LOOKED_AT
 uint8_t gitwire_request_reader_new(gitwire_request_reader *reader, gitwire_offer offer, uint32_t limit);
 
 /*
  * Reads on to the end of a request, a flush in the place of one, the end of the piece or the first fault, whichever comes
  * first: `used` says how many bytes. It is to be called again with those that were not used.
  *
- * MORE: the piece is used up; or the other end has left, and nothing is used. REQUEST: a whole request, which is what
- * the request handle has now; what it had is freed. STOP: the other end leaves, and nothing is read after it. FAILED: what
- * refuses a request, by its first bad packet. OUT_OF_MEMORY: there is no memory for what the request handle has to have
+ * MORE: the piece is used up. REQUEST: a whole request, which is what the request handle has now; what it had is freed. STOP: the
+ * other end leaves, and nothing is read after it: NOT_NOW from then on. FAILED: what refuses a request, by its first bad packet,
+ * and again from then on. OUT_OF_MEMORY: there is no memory for what the request handle has to have
  * before anything is read; nothing was used or changed, and the call can be made again. NO_HANDLE.
  *
- * No other answer than REQUEST gives the request handle a request that was read. After MORE, STOP and FAILED one that had nothing
- * has an empty request, which nobody asked.
+ * No other answer than REQUEST gives the request handle a request that was read. After MORE, NOT_NOW, STOP and FAILED one that had
+ * nothing has an empty request, which nobody asked.
  */
+GITWIRE_LOOKED_AT
 gitwire_told gitwire_request_reader_feed(gitwire_request_reader *reader, gitwire_request *request,
 	const uint8_t *piece, size_t piece_length);
 
@@ -266,9 +303,10 @@ gitwire_told gitwire_request_reader_feed(gitwire_request_reader *reader, gitwire
  * Tells that the input ends here. DONE between two requests, and nothing changes. FAILED inside one, with Truncated where
  * the last whole packet ended. NOT_NOW after a fault, and once the other end has left. NO_HANDLE.
  */
+GITWIRE_GIVEN
 gitwire_told gitwire_request_reader_close(gitwire_request_reader *reader);
 
-void gitwire_request_reader_free(gitwire_request_reader *reader);
+GITWIRE_FREES(gitwire_request_reader)
 
 /*
  * A request: what a reader of requests hands out, or what a client is to ask. One that is made has no arguments. One that a
@@ -279,6 +317,7 @@ void gitwire_request_reader_free(gitwire_request_reader *reader);
  * An empty request. `limit` is how many bytes the texts of its argument lines may have together. BAD_VALUE for a command or a
  * format that is none, and for a limit above GITWIRE_MOST_LIMIT.
  */
+GITWIRE_LOOKED_AT
 uint8_t gitwire_request_new(gitwire_request *request, uint8_t command, uint8_t format, uint32_t limit);
 
 /*
@@ -286,16 +325,20 @@ uint8_t gitwire_request_new(gitwire_request *request, uint8_t command, uint8_t f
  * DONE. FAILED: what refuses the line, at offset 0, TooMuchKept and OutOfMemory among them, and the request is as it was.
  * NO_HANDLE.
  */
+GITWIRE_LOOKED_AT
 gitwire_told gitwire_request_add(gitwire_request *request, const uint8_t *line, size_t line_length);
 
 /*
  * Checks what a reader checks where a request ends, and changes nothing. DONE, or FAILED, at offset 0, with DeepenConflict, NoWants
  * or NoSize. NO_HANDLE.
  */
+GITWIRE_LOOKED_AT
 gitwire_told gitwire_request_end(gitwire_request *request);
 
 /* DONE with `offset` the number of its command; of its object format. NO_HANDLE. */
+GITWIRE_LOOKED_AT
 gitwire_told gitwire_request_command(gitwire_request *request);
+GITWIRE_LOOKED_AT
 gitwire_told gitwire_request_format(gitwire_request *request);
 
 /* Whether a flag is set. false for a flag that its command does not have, a number that is none, and where there is no request. */
@@ -308,8 +351,11 @@ enum {
 	GITWIRE_FLAG_INCLUDE_TAG = 5,
 	GITWIRE_FLAG_OFS_DELTA = 6,
 	GITWIRE_FLAG_DEEPEN_RELATIVE = 7,
-	GITWIRE_FLAG_SIZE = 8
+	GITWIRE_FLAG_SIZE = 8,
+	GITWIRE_FLAG_UNBORN = 9,
+	GITWIRE_FLAG_WAIT_FOR_DONE = 10
 };
+GITWIRE_LOOKED_AT
 bool gitwire_request_flag(gitwire_request *request, uint8_t flag);
 
 /*
@@ -317,6 +363,7 @@ bool gitwire_request_flag(gitwire_request *request, uint8_t flag);
  * `offset`; of several the last counts. NOTHING where it gives none. BAD_VALUE, NO_HANDLE.
  */
 enum { GITWIRE_NUMBER_DEEPEN = 0, GITWIRE_NUMBER_DEEPEN_SINCE = 1 };
+GITWIRE_LOOKED_AT
 gitwire_told gitwire_request_number(gitwire_request *request, uint8_t which);
 
 /*
@@ -333,9 +380,10 @@ enum {
 	GITWIRE_LIST_WANT_REFS = 5,
 	GITWIRE_LIST_OIDS = 6
 };
+GITWIRE_LOOKED_AT
 gitwire_told gitwire_request_item(gitwire_request *request, uint8_t list, size_t index, uint8_t *room, size_t room_length);
 
-void gitwire_request_free(gitwire_request *request);
+GITWIRE_FREES(gitwire_request)
 
 /*
  * A repository: a few lists in memory, read from a text, and one pack, which is the same for every fetch and is not looked into.
@@ -348,10 +396,11 @@ void gitwire_request_free(gitwire_request *request);
  * FAILED: the text is refused, with `offset` the number of its first bad line, from 1, and `fault` 0. OUT_OF_MEMORY. After these
  * two the handle has nothing.
  */
+GITWIRE_LOOKED_AT
 gitwire_told gitwire_repository_new(gitwire_repository *repository, const uint8_t *text, size_t text_length,
 	const uint8_t *pack, size_t pack_length);
 
-void gitwire_repository_free(gitwire_repository *repository);
+GITWIRE_FREES(gitwire_repository)
 
 /*
  * The server's end of a conversation, over a repository: however the input is cut, the output is exactly the session that
@@ -363,20 +412,22 @@ void gitwire_repository_free(gitwire_repository *repository);
  * `shallow-info` compares each `unshallow` line of the repository with each `shallow` of the request. The limit bounds how many
  * prefixes and `shallow` lines these can be: a program that serves many in one thread gives a low one.
  *
- * It offers what `git2show serve` does: `shallow`, `ref-in-want`, `server-option`, `object-info`, and the repository's format.
+ * It offers what `git2show serve` does: all features, and the repository's format.
  */
 
 /*
  * A server at the beginning of a session, which gives its advertisement first where `advertise` is set. NO_HANDLE where the
  * repository's handle has nothing, BAD_VALUE for a limit above GITWIRE_MOST_LIMIT. What the repository's handle has stays there.
  */
+GITWIRE_LOOKED_AT
 uint8_t gitwire_server_new(gitwire_server *server, gitwire_repository *repository, uint32_t limit, bool advertise);
 
 /*
  * Takes bytes of the input: MORE, and `used` says how many, those up to the end of a request, a flush in the place of
- * one, or a fault, or all. None is used while a packet waits to be pulled, nor after the end: so pull until NEED_INPUT before
- * you feed the others. NO_HANDLE.
+ * one, or a fault, or all. NOT_NOW, and none is used, while a packet waits to be pulled and after the end: so pull until NEED_INPUT
+ * before you feed the others. NO_HANDLE.
  */
+GITWIRE_LOOKED_AT
 gitwire_told gitwire_server_feed(gitwire_server *server, const uint8_t *piece, size_t piece_length);
 
 /*
@@ -384,6 +435,7 @@ gitwire_told gitwire_server_feed(gitwire_server *server, const uint8_t *piece, s
  * is owed; inside one it is refused as Truncated, and the error packet that tells so is to be pulled. NOT_NOW where a packet
  * waits to be pulled and after the end, NO_HANDLE.
  */
+GITWIRE_GIVEN
 uint8_t gitwire_server_close(gitwire_server *server);
 
 /*
@@ -395,9 +447,10 @@ uint8_t gitwire_server_close(gitwire_server *server);
  * an error packet that tells the fault, or, where the client itself had sent an error packet (RemoteError), there was none.
  * NO_HANDLE, ROOM_TOO_SMALL.
  */
+GITWIRE_LOOKED_AT
 gitwire_told gitwire_server_pull(gitwire_server *server, uint8_t *room, size_t room_length);
 
-void gitwire_server_free(gitwire_server *server);
+GITWIRE_FREES(gitwire_server)
 
 /*
  * The client's end of a conversation: for every cutting of the advertisement and the responses, the events handed out are
@@ -406,13 +459,15 @@ void gitwire_server_free(gitwire_server *server);
  */
 
 /* A client before the first byte. BAD_VALUE for a format or an ending that is none. */
+GITWIRE_LOOKED_AT
 uint8_t gitwire_client_new(gitwire_client *client, uint8_t format, uint8_t ending);
 
 /*
  * One event. Its parts lie in the room one after another: id, name, text, peeled, of these lengths, 0 for a part that it has not.
  *
  *   CAPABILITY   the name is its key, the text its value, where it has one
- *   REFERENCE    id, name, the target of a symbolic reference (text), what an annotated tag stands for (peeled)
+ *   REFERENCE    id, name, the target of a symbolic reference (text), what an annotated tag stands for (peeled); no id where it is
+ *                unborn, as HEAD is while its branch has no commit
  *   ACK, SHALLOW, UNSHALLOW   id
  *   WANTED_REF   id, name
  *   INFO         id; the size, where the server has the object (`has_size`)
@@ -437,11 +492,12 @@ typedef struct {
 
 /*
  * Reads on to an event, the end of the piece or the first fault, whichever comes first: `used` says how many bytes. It is to be
- * called again with those that were not used. A client that waits for no input uses nothing, and tells MORE, or its fault again;
- * gitwire_client_pull says what it waits for. The room has GITWIRE_PAYLOAD_ROOM bytes at least.
+ * called again with those that were not used. A client that waits for no input uses nothing, and tells NOT_NOW, or its fault
+ * again; gitwire_client_pull says what it waits for. The room has GITWIRE_PAYLOAD_ROOM bytes at least.
  *
- * MORE, an event, or FAILED. NO_HANDLE, ROOM_TOO_SMALL.
+ * MORE, an event, or FAILED. NOT_NOW, NO_HANDLE, ROOM_TOO_SMALL.
  */
+GITWIRE_LOOKED_AT
 gitwire_event gitwire_client_feed(gitwire_client *client, const uint8_t *piece, size_t piece_length,
 	uint8_t *room, size_t room_length);
 
@@ -449,6 +505,7 @@ gitwire_event gitwire_client_feed(gitwire_client *client, const uint8_t *piece, 
  * The same, but the bytes of PACK and PROGRESS are not copied: they are the last `text_length` of those used, so they begin at
  * `piece + used - text_length`, and the room stays as it was. The texts of all other events lie in the room.
  */
+GITWIRE_LOOKED_AT
 gitwire_event gitwire_client_feed_in_place(gitwire_client *client, const uint8_t *piece, size_t piece_length,
 	uint8_t *room, size_t room_length);
 
@@ -457,6 +514,7 @@ gitwire_event gitwire_client_feed_in_place(gitwire_client *client, const uint8_t
  * of the server are due. CAN_ASK: a request can be asked, or the conversation be left. FINISHED: all was said. FAILED: the
  * conversation was refused. The room has GITWIRE_PACKET_ROOM bytes at least. NO_HANDLE, ROOM_TOO_SMALL.
  */
+GITWIRE_LOOKED_AT
 gitwire_told gitwire_client_pull(gitwire_client *client, uint8_t *room, size_t room_length);
 
 /*
@@ -465,41 +523,43 @@ gitwire_told gitwire_client_pull(gitwire_client *client, uint8_t *room, size_t r
  * NotAdvertised, and what gitwire_request_end refuses; the client and the request stay as they were. NOT_NOW where none
  * can be asked. NO_HANDLE where either handle has nothing.
  */
+GITWIRE_LOOKED_AT
 gitwire_told gitwire_client_ask(gitwire_client *client, gitwire_request *request);
 
 /* Leaves: the flush that ends the conversation is to be pulled, and nothing is asked any more. DONE, NOT_NOW, NO_HANDLE. */
+GITWIRE_GIVEN
 uint8_t gitwire_client_leave(gitwire_client *client);
 
 /*
  * Tells that the input ends here, where more was due: FAILED with Truncated, where the last whole packet ended. NOT_NOW where
  * no bytes are due, NO_HANDLE.
  */
+GITWIRE_GIVEN
 gitwire_told gitwire_client_close(gitwire_client *client);
 
 /*
  * What the server said of the fault that ended the conversation, RemoteError or RemoteFatal: DONE with `length` bytes in the room,
  * of which GITWIRE_PAYLOAD_ROOM always suffice. NOTHING after another fault and before any. ROOM_TOO_SMALL, NO_HANDLE.
  */
+GITWIRE_LOOKED_AT
 gitwire_told gitwire_client_message(gitwire_client *client, uint8_t *room, size_t room_length);
 
 /* What the advertisement had, of all that is known here: what some line of it names. */
 typedef struct {
+	uint32_t features;    /* as those of a gitwire_offer */
 	bool agent;
 	bool ls_refs;
 	bool fetch;
-	bool shallow;         /* a word of `fetch` */
-	bool ref_in_want;     /* a word of `fetch` */
-	bool server_option;
-	bool object_info;
 	bool object_format;   /* with any value or none */
 	bool sha1;            /* the line `object-format=sha1` */
 	bool sha256;          /* the line `object-format=sha256` */
 } gitwire_caps;
 
 /* What was noted of the advertisement so far: DONE. NO_HANDLE, and then nothing is written. */
+GITWIRE_LOOKED_AT
 uint8_t gitwire_client_caps(gitwire_client *client, gitwire_caps *caps);
 
-void gitwire_client_free(gitwire_client *client);
+GITWIRE_FREES(gitwire_client)
 
 /*
  * Packets for a host that keeps its references and packs in its own way: each call puts one whole packet at the front of the
@@ -510,49 +570,61 @@ void gitwire_client_free(gitwire_client *client);
  */
 
 /* A writer: a buffer of GITWIRE_PACKET_ROOM bytes, in which each packet is made. What a call writes depends on no call before. */
+GITWIRE_LOOKED_AT
 uint8_t gitwire_writer_new(gitwire_writer *writer);
 
-void gitwire_writer_free(gitwire_writer *writer);
+GITWIRE_FREES(gitwire_writer)
 
 /* The packet of a kind PAYLOAD, FLUSH, DELIM or RESPONSE_END: a payload of more than 65,516 bytes is TooLong, and bytes of
  * another kind BAD_VALUE. A payload without bytes is written as `0004`, which Git's documents say should not be sent. */
+GITWIRE_LOOKED_AT
 gitwire_told gitwire_put_packet(gitwire_writer *writer, uint8_t kind, const uint8_t *payload, size_t payload_length,
 	uint8_t *room, size_t room_length);
 
 /* All packets of an advertisement, below GITWIRE_ADVERTISEMENT_ROOM bytes. */
+GITWIRE_LOOKED_AT
 gitwire_told gitwire_put_advertisement(gitwire_writer *writer, gitwire_offer offer, uint8_t *room, size_t room_length);
 
-/* A reference, with the target of a symbolic one and what an annotated tag stands for; a length of 0 is none. */
+/* A reference, with its object, the target of a symbolic one and what an annotated tag stands for; a length of 0 is none: a
+ * reference without an object is unborn. */
+GITWIRE_LOOKED_AT
 gitwire_told gitwire_put_reference(gitwire_writer *writer, uint8_t format, const uint8_t *id, size_t id_length,
 	const uint8_t *name, size_t name_length, const uint8_t *target, size_t target_length, const uint8_t *peeled,
 	size_t peeled_length, uint8_t *room, size_t room_length);
 
 /* `ACK` and an object that both ends have. */
+GITWIRE_LOOKED_AT
 gitwire_told gitwire_put_ack(gitwire_writer *writer, uint8_t format, const uint8_t *id, size_t id_length, uint8_t *room,
 	size_t room_length);
 
 /* A commit at the boundary: `shallow`, or else `unshallow`. */
+GITWIRE_LOOKED_AT
 gitwire_told gitwire_put_boundary(gitwire_writer *writer, uint8_t format, bool shallow, const uint8_t *id, size_t id_length,
 	uint8_t *room, size_t room_length);
 
 /* A reference that was wanted by its name. */
+GITWIRE_LOOKED_AT
 gitwire_told gitwire_put_wanted(gitwire_writer *writer, uint8_t format, const uint8_t *id, size_t id_length,
 	const uint8_t *name, size_t name_length, uint8_t *room, size_t room_length);
 
 /* An object, and its size where the host has it (`has_size`). */
+GITWIRE_LOOKED_AT
 gitwire_told gitwire_put_info(gitwire_writer *writer, uint8_t format, const uint8_t *id, size_t id_length, bool has_size,
 	uint64_t size, uint8_t *room, size_t room_length);
 
 /* Bytes on a side band: of the pack, of progress, or of a fatal error, after which nothing comes. More than 65,515 are TooLong. */
 enum { GITWIRE_BAND_PACK = 1, GITWIRE_BAND_PROGRESS = 2, GITWIRE_BAND_FATAL = 3 };
+GITWIRE_LOOKED_AT
 gitwire_told gitwire_put_band(gitwire_writer *writer, uint8_t band, const uint8_t *bytes, size_t bytes_length,
 	uint8_t *room, size_t room_length);
 
 /* The error packet: `ERR `, the text and LF. A text of more than 65,511 bytes is BadLine. */
+GITWIRE_LOOKED_AT
 gitwire_told gitwire_put_error(gitwire_writer *writer, const uint8_t *text, size_t text_length, uint8_t *room,
 	size_t room_length);
 
 /* A text and LF, as `NAK`, `ready` and `packfile` are written. A text of more than 65,515 bytes is BadLine. */
+GITWIRE_LOOKED_AT
 gitwire_told gitwire_put_line(gitwire_writer *writer, const uint8_t *text, size_t text_length, uint8_t *room,
 	size_t room_length);
 
@@ -562,6 +634,12 @@ gitwire_told gitwire_put_line(gitwire_writer *writer, const uint8_t *text, size_
  */
 size_t gitwire_fault_name(uint8_t fault, uint8_t *room, size_t room_length);
 size_t gitwire_fault_text(uint8_t fault, uint64_t offset, uint8_t *room, size_t room_length);
+
+/*
+ * The name of a `kind` of what is told, as `NeedInput`, for messages: how many bytes are in the room; 0 where there is no such kind,
+ * or the room is too small. GITWIRE_KIND_NAME_ROOM bytes suffice.
+ */
+size_t gitwire_kind_name(uint8_t kind, uint8_t *room, size_t room_length);
 
 /* The layout that the library has: a handle is a pointer and a bool, and its allocator takes no bytes. */
 #define GITWIRE_IS_HANDLE(type) \
@@ -574,12 +652,13 @@ GITWIRE_IS_HANDLE(gitwire_server);
 GITWIRE_IS_HANDLE(gitwire_client);
 GITWIRE_IS_HANDLE(gitwire_writer);
 #undef GITWIRE_IS_HANDLE
+#undef GITWIRE_FREES
 GITWIRE_STATIC_ASSERT(sizeof(size_t) == 8 && sizeof(void *) == 8 && sizeof(bool) == 1, "the library is of 64 bits");
-GITWIRE_STATIC_ASSERT(sizeof(gitwire_offer) == 5 && offsetof(gitwire_offer, server_option) == 4, "gitwire_offer");
+GITWIRE_STATIC_ASSERT(sizeof(gitwire_offer) == 8 && offsetof(gitwire_offer, format) == 4, "gitwire_offer");
 GITWIRE_STATIC_ASSERT(sizeof(gitwire_told) == 32 && offsetof(gitwire_told, fault) == 25, "gitwire_told");
 GITWIRE_STATIC_ASSERT(sizeof(gitwire_event) == 64 && offsetof(gitwire_event, kind) == 56
 	&& offsetof(gitwire_event, has_size) == 59, "gitwire_event");
-GITWIRE_STATIC_ASSERT(sizeof(gitwire_caps) == 10 && offsetof(gitwire_caps, sha256) == 9, "gitwire_caps");
+GITWIRE_STATIC_ASSERT(sizeof(gitwire_caps) == 12 && offsetof(gitwire_caps, sha256) == 9, "gitwire_caps");
 
 #ifdef __cplusplus
 }

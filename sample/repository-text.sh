@@ -4,11 +4,20 @@
 # objects are also what `git pack-objects --all --stdout < /dev/null` packs, for `--pack`.
 set -eu -o pipefail
 export LC_ALL=C
+# What stands in an object's place is not looked at: each object is served as it is.
+export GIT_NO_REPLACE_OBJECTS=1
 
+if [ "$(git rev-parse --is-shallow-repository)" = true ]; then
+    echo "repository-text.sh: a shallow repository cannot be served whole" >&2
+    exit 1
+fi
 echo "format $(git rev-parse --show-object-format)"
+target=$(git symbolic-ref --quiet HEAD || true)
 if head=$(git rev-parse --quiet --verify HEAD); then
-    target=$(git symbolic-ref --quiet HEAD || true)
     echo "ref $head HEAD${target:+ symref-target:$target}"
+elif [ -n "$target" ]; then
+    # The branch has no commit yet.
+    echo "ref unborn HEAD symref-target:$target"
 fi
 # The object, name and target of each reference, and beside them what it peels to.
 paste -d ' ' \

@@ -43,14 +43,15 @@ offer() {
     git -C "$1" pack-objects -q --all --stdout < /dev/null > "$1.pack"
 }
 
-# Our program does not tell of a branch without a commit, so Git is not to tell of it either.
+# The branch of an empty repository: one without a commit, of a name that is not all ASCII.
+unborn=$'k\xc3\xbcnftig'
+
 write_histories() {
     local format
     for format in sha1 sha256; do
         write_history "history-$format" "$format"
         offer "history-$format"
-        git init -q -b main --object-format="$format" "empty-$format"
-        git -C "empty-$format" config lsrefs.unborn ignore
+        git init -q -b "$unborn" --object-format="$format" "empty-$format"
         offer "empty-$format"
     done
     write_heavy
@@ -196,15 +197,60 @@ case_git_clones_a_tag() {
     has_references 11
 }
 
-case_git_clones_an_empty_repository() {
-    clones empty-sha1
+# ends_on_its_branch: that the clone of an empty repository ends on that repository's own branch.
+ends_on_its_branch() {
     has_references 0
     expect_line 'what Git told' 'warning: You appear to have cloned an empty repository.' err
+    expect_same 'the branch' <(echo "refs/heads/$unborn") <(git -C ours symbolic-ref HEAD)
+}
+
+case_git_clones_an_empty_repository() {
+    clones empty-sha1
+    ends_on_its_branch
+    sent unborn
 }
 
 case_git_clones_an_empty_repository_of_sha256() {
     clones empty-sha256
-    has_references 0
+    ends_on_its_branch
+}
+
+# Git asks for what is unborn, and has no line for it.
+case_git_lists_an_empty_repository_with_its_branch() {
+    rm -f "$trace"
+    GIT_TRACE_PACKET=$trace run git -c protocol.version=2 -c protocol.ext.allow=always ls-remote --symref "$(offered empty-sha1)"
+    expect 0 /dev/null /dev/null
+    sent unborn symrefs
+    # Git's trace has the other bytes of the name in a form of its own.
+    grep -q 'unborn HEAD symref-target:refs/heads/k' "$trace" || differs 'what our program told of HEAD' "$trace"
+}
+
+# negotiate ADDRESS: asks a server which commits it has too, of those that the main branch of `ours` reaches.
+negotiate() {
+    rm -f "$trace"
+    GIT_TRACE_PACKET=$trace run git -C ours -c protocol.version=2 -c protocol.ext.allow=always fetch --negotiate-only \
+        --negotiation-tip=origin/main "$1"
+}
+
+# Our program says what Git's own server says.
+case_git_negotiates_alone() {
+    clones history-sha1
+    negotiate "file://$room/history-sha1"
+    mv out common
+    negotiate "$(offered history-sha1)"
+    expect 0 common /dev/null
+    expect_line 'what is common' "$(git -C ours rev-parse origin/main)" common
+    sent wait-for-done
+    expect_same 'the packs that came' /dev/null <(grep 'packfile' "$trace")
+}
+
+# Nothing is common, so Git asks once more without a word of what it has.
+case_git_negotiates_alone_with_nothing_in_common() {
+    clones history-sha1
+    negotiate "$(offered empty-sha1)"
+    expect 0 /dev/null /dev/null
+    sent wait-for-done
+    expect_line 'what our program told' NAK <(sed -n 's/^[^<]*< //p' "$trace")
 }
 
 case_git_clones_where_no_branch_is_checked_out() {

@@ -64,17 +64,17 @@ case_library_is_installed_whole() {
         [ -x "$installed/$file" ] || differs "no program $file"
     done
     run "$installed/bin/git2show" --version
-    expect 0 <(echo 'git2show 0.1.0') /dev/null
+    expect 0 <(echo 'git2show 0.2.0') /dev/null
     expect_same 'the library of pkg-config' <(echo "-I$installed/include -L$installed/lib -lgitwire") \
         <(of_library --cflags --libs | sed 's/ *$//')
     expect_same 'the archive of pkg-config' <(echo "$installed/lib/libgitwire.a") <(of_library --variable=archive)
-    for line in "prefix=$installed" 'libdir=${prefix}/lib' 'includedir=${prefix}/include' 'archive=${libdir}/libgitwire.a' 'Version: 0.1.0' \
+    for line in "prefix=$installed" 'libdir=${prefix}/lib' 'includedir=${prefix}/include' 'archive=${libdir}/libgitwire.a' 'Version: 0.2.0' \
         'Libs: -L${libdir} -lgitwire' 'Cflags: -I${includedir}'; do
         expect_line 'what pkg-config tells' "$line" "$installed/lib/pkgconfig/gitwire.pc"
     done
     printf '#include <gitwire.h>\nGITWIRE_VERSION %s\n' 'GITWIRE_VERSION_MAJOR GITWIRE_VERSION_MINOR GITWIRE_VERSION_PATCH' |
         gcc -E -P -I"$installed/include" - > preprocessed
-    expect_same 'the version of the header' <(echo '"0.1.0" 0 1 0') <(tail -n 1 preprocessed)
+    expect_same 'the version of the header' <(echo '"0.2.0" 0 2 0') <(tail -n 1 preprocessed)
 }
 
 # DESTDIR stands before each path, and in no file.
@@ -106,13 +106,16 @@ case_library_that_is_not_built_is_told() {
     expect_same 'what is installed' <(cd "$installed" && find . ! -type d | sort) <(cd built && find . ! -type d | sort)
 }
 
-# calls_of_the_header: their names.
+# calls_of_the_header FREEING: their names. What frees a handle ends with that: `_clear` is the library's, and `_free` the header's over it.
 calls_of_the_header() {
-    sed -n 's/^[a-z_0-9]* \(gitwire_[a-z_]*\)(.*/\1/p' "$installed/include/gitwire.h" | sort
+    {
+        sed -n 's/^[a-z_0-9]* \(gitwire_[a-z_]*\)(.*/\1/p' "$installed/include/gitwire.h"
+        sed -n "s/^GITWIRE_FREES(\(gitwire_[a-z_]*\))\$/\1$1/p" "$installed/include/gitwire.h"
+    } | sort
 }
 
 case_library_has_the_calls_of_its_header() {
-    calls_of_the_header > wanted
+    calls_of_the_header _clear > wanted
     nm -g --defined-only "$installed/lib/libgitwire.a" | awk '$2 == "T" && $3 ~ /^gitwire_/ { print $3 }' | sort > written
     [ -s wanted ] || differs 'no call in the header'
     expect_same 'the calls of the library' wanted written
@@ -123,12 +126,12 @@ case_library_has_the_calls_of_its_header() {
 case_shared_library_shows_the_calls_of_its_header_alone() {
     local it=$installed/lib/libgitwire.so
     nm -D --defined-only "$it" | awk '{ print $NF }' | sort > written
-    expect_same 'what the shared library shows' <(calls_of_the_header) written
+    expect_same 'what the shared library shows' <(calls_of_the_header _clear) written
     objdump -p "$it" > parts
     expect_same 'what it is called' <(echo libgitwire.so.0) <(awk '$1 == "SONAME" { print $2 }' parts)
     expect_same 'what it needs' <(echo libc.so.6) <(awk '$1 == "NEEDED" { print $2 }' parts)
     ! grep -q TEXTREL parts || differs 'code that is written to' parts
-    expect_same 'the links to it' <(printf '%s\n' libgitwire.so.0 libgitwire.so.0.1.0) \
+    expect_same 'the links to it' <(printf '%s\n' libgitwire.so.0 libgitwire.so.0.2.0) \
         <(readlink "$it" "$installed/lib/libgitwire.so.0")
 }
 
@@ -192,7 +195,7 @@ is_well_written() {
 }
 
 case_manual_page_has_each_call() {
-    expect_same 'the calls of the manual page' <(calls_of_the_header) \
+    expect_same 'the calls of the manual page' <(calls_of_the_header _free) \
         <(sed -n 's/^\.BR \(gitwire_[a-z_]*\) ().*/\1/p' "$installed/share/man/man3/gitwire.3" | sort)
     is_well_written man3/gitwire.3
 }
@@ -521,6 +524,20 @@ case_a_daemon_in_c_serves_git_sha256() {
     same_clones
     sent object-format=sha256
     end_daemon
+}
+
+# serves_an_empty_repository FORMAT: that a clone from the daemon ends on the branch of the repository.
+serves_an_empty_repository() {
+    start_daemon "empty-$1"
+    clone "$address" ours
+    ends_on_its_branch
+    end_daemon
+    expect_same 'what the daemon told' /dev/null daemon.err
+}
+
+case_a_daemon_in_c_serves_an_empty_repository() {
+    serves_an_empty_repository sha1
+    serves_an_empty_repository sha256
 }
 
 case_a_daemon_in_c_serves_fetches() {

@@ -199,7 +199,7 @@ static void try_a_reader_of_requests(void)
 {
 	gitwire_request_reader reader = GITWIRE_NONE;
 	gitwire_request request = GITWIRE_NONE;
-	gitwire_offer offer = { .format = GITWIRE_SHA1 }, bad = { .format = 2 };
+	gitwire_offer offer = { .format = GITWIRE_SHA1 }, bad = { .format = 2 }, unknown = { .features = GITWIRE_FEATURES_ALL + 1 };
 	const uint8_t *whole = (const uint8_t *)LS_REFS LS_REFS;
 	const size_t first = strlen(LS_REFS);
 
@@ -208,6 +208,7 @@ static void try_a_reader_of_requests(void)
 	EXPECT(tells(gitwire_request_reader_close(&reader), GITWIRE_NO_HANDLE, 0, 0, 0));
 	EXPECT(gitwire_request_end(&request).kind == GITWIRE_NO_HANDLE);
 	EXPECT(gitwire_request_reader_new(&reader, bad, 0) == GITWIRE_BAD_VALUE);
+	EXPECT(gitwire_request_reader_new(&reader, unknown, 0) == GITWIRE_BAD_VALUE);
 	EXPECT(gitwire_request_reader_new(&reader, offer, GITWIRE_MOST_LIMIT + 1) == GITWIRE_BAD_VALUE);
 	EXPECT(gitwire_request_reader_new(&reader, offer, 100) == GITWIRE_DONE);
 	EXPECT(gitwire_request_reader_new(&reader, bad, 0) == GITWIRE_BAD_VALUE); /* the handle stays as it was */
@@ -221,13 +222,13 @@ static void try_a_reader_of_requests(void)
 	EXPECT(tells(gitwire_request_add(&request, TEXT("ref-prefix " LONG_ONE)), GITWIRE_DONE, 0, 0, 0));
 	EXPECT(tells_fault(gitwire_request_add(&request, TEXT("ref-prefix " LONG_ONE)), GITWIRE_FAULT_TOO_MUCH_KEPT, 0, 0));
 	EXPECT(tells(gitwire_request_reader_feed(&reader, &request, TEXT("0000")), GITWIRE_STOP, 4, 0, 0));
-	EXPECT(tells(gitwire_request_reader_feed(&reader, &request, TEXT("0000")), GITWIRE_MORE, 0, 0, 0));
+	EXPECT(tells(gitwire_request_reader_feed(&reader, &request, TEXT("0000")), GITWIRE_NOT_NOW, 0, 0, 0));
 	EXPECT(tells(gitwire_request_reader_close(&reader), GITWIRE_NOT_NOW, 0, 0, 0));
 	/* What is offered is taken, and nothing else. */
 	EXPECT(gitwire_request_reader_new(&reader, offer, 100) == GITWIRE_DONE);
 	EXPECT(tells_fault(gitwire_request_reader_feed(&reader, &request, TEXT(OBJECT_INFO)), GITWIRE_FAULT_NOT_ADVERTISED, 24, 0));
 	EXPECT(tells(gitwire_request_reader_close(&reader), GITWIRE_NOT_NOW, 0, 0, 0));
-	offer.object_info = true;
+	offer.features = GITWIRE_FEATURE_OBJECT_INFO;
 	EXPECT(gitwire_request_reader_new(&reader, offer, 100) == GITWIRE_DONE);
 	EXPECT(tells(gitwire_request_reader_feed(&reader, &request, TEXT(OBJECT_INFO)), GITWIRE_REQUEST, strlen(OBJECT_INFO), 0, 0));
 	EXPECT(tells(gitwire_request_command(&request), GITWIRE_DONE, 0, GITWIRE_OBJECT_INFO, 0));
@@ -274,8 +275,8 @@ static void try_a_server(void)
 	gitwire_repository_free(&repository);
 	EXPECT(gitwire_server_new(&server, &repository, 100, false) == GITWIRE_NO_HANDLE); /* the handle stays as it was */
 	EXPECT(tells(gitwire_server_pull(&server, room, GITWIRE_PACKET_ROOM - 1), GITWIRE_ROOM_TOO_SMALL, 0, 0, 0));
-	EXPECT(tells(gitwire_server_feed(&server, TEXT(LS_REFS)), GITWIRE_MORE, 0, 0, 0));
-	EXPECT(tells(gitwire_server_feed(&server, NULL, 0), GITWIRE_MORE, 0, 0, 0));
+	EXPECT(tells(gitwire_server_feed(&server, TEXT(LS_REFS)), GITWIRE_NOT_NOW, 0, 0, 0));
+	EXPECT(tells(gitwire_server_feed(&server, NULL, 0), GITWIRE_NOT_NOW, 0, 0, 0));
 	EXPECT(gitwire_server_close(&server) == GITWIRE_NOT_NOW);
 	told = gitwire_server_pull(&server, ROOM);
 	EXPECT(tells(told, GITWIRE_PACKET, 0, 0, 14) && memcmp(room, "000eversion 2\n#", 15) == 0);
@@ -289,7 +290,7 @@ static void try_a_server(void)
 		told = gitwire_server_pull(&server, ROOM);
 	EXPECT(tells(gitwire_server_feed(&server, TEXT("0000")), GITWIRE_MORE, 4, 0, 0));
 	EXPECT(tells(gitwire_server_pull(&server, ROOM), GITWIRE_ENDED_BY_FLUSH, 0, 0, 0));
-	EXPECT(tells(gitwire_server_feed(&server, TEXT("0000")), GITWIRE_MORE, 0, 0, 0));
+	EXPECT(tells(gitwire_server_feed(&server, TEXT("0000")), GITWIRE_NOT_NOW, 0, 0, 0));
 	EXPECT(gitwire_server_close(&server) == GITWIRE_NOT_NOW);
 	gitwire_server_free(&server);
 	gitwire_server_free(&server);
@@ -430,12 +431,13 @@ static void try_a_conversation(void)
 	EXPECT(ask(&t, GITWIRE_LS_REFS, nothing).kind == GITWIRE_NOT_NOW);
 	EXPECT(go_on(&t) == GITWIRE_CAN_ASK);
 	t.heard[t.length] = 0;
-	EXPECT(strcmp(t.heard, "capability agent git2/1 has-text\n" "capability ls-refs\n"
-		"capability fetch shallow ref-in-want has-text\n" "capability server-option\n" "capability object-format sha1 has-text\n"
+	EXPECT(strcmp(t.heard, "capability agent git2/1 has-text\n" "capability ls-refs unborn has-text\n"
+		"capability fetch shallow ref-in-want wait-for-done has-text\n" "capability server-option\n"
+		"capability object-format sha1 has-text\n"
 		"capability object-info\n" "offered\n") == 0);
 	EXPECT(gitwire_client_caps(&t.client, &caps) == GITWIRE_DONE);
-	EXPECT(caps.agent && caps.ls_refs && caps.fetch && caps.shallow && caps.ref_in_want && caps.server_option
-		&& caps.object_info && caps.object_format && caps.sha1 && !caps.sha256);
+	EXPECT(caps.features == GITWIRE_FEATURES_ALL && caps.agent && caps.ls_refs && caps.fetch && caps.object_format && caps.sha1
+		&& !caps.sha256);
 	EXPECT(gitwire_client_close(&t.client).kind == GITWIRE_NOT_NOW);
 	EXPECT(gitwire_client_message(&t.client, ROOM).kind == GITWIRE_NOTHING);
 	EXPECT(hears(&t, GITWIRE_LS_REFS, references, "reference " ONE " HEAD refs/heads/main has-text\n"
@@ -553,7 +555,7 @@ static void try_refusals_of_a_client(void)
 	event = gitwire_client_feed(&client, TEXT("0000"), ROOM);
 	EXPECT(event.kind == GITWIRE_OFFERED && event.used == 4);
 	event = gitwire_client_feed(&client, TEXT("0000"), ROOM); /* it waits for no input */
-	EXPECT(event.kind == GITWIRE_MORE && event.used == 0);
+	EXPECT(event.kind == GITWIRE_NOT_NOW && event.used == 0);
 	EXPECT(gitwire_client_ask(&client, &request).kind == GITWIRE_NO_HANDLE);
 	EXPECT(gitwire_request_new(&request, GITWIRE_LS_REFS, GITWIRE_SHA1, 0) == GITWIRE_DONE);
 	EXPECT(tells_fault(gitwire_client_ask(&client, &request), GITWIRE_FAULT_NOT_ADVERTISED, 0, 27));
@@ -580,7 +582,7 @@ static void try_refusals_of_a_client(void)
 	memset(room, '#', sizeof room);
 }
 
-/* Each line is noted in its own fields, and in no other. */
+/* Each line is noted in its own fields and bits, and in no other. */
 static void try_what_is_noted(void)
 {
 	static const struct {
@@ -588,8 +590,12 @@ static void try_what_is_noted(void)
 		gitwire_caps caps;
 	} cases[] = {
 		{ "agent=git/2", { .agent = true } }, { "ls-refs", { .ls_refs = true } }, { "fetch", { .fetch = true } },
-		{ "fetch=shallow", { .fetch = true, .shallow = true } }, { "fetch=ref-in-want", { .fetch = true, .ref_in_want = true } },
-		{ "server-option", { .server_option = true } }, { "object-info", { .object_info = true } },
+		{ "ls-refs=unborn", { .ls_refs = true, .features = GITWIRE_FEATURE_UNBORN } },
+		{ "fetch=shallow", { .fetch = true, .features = GITWIRE_FEATURE_SHALLOW } },
+		{ "fetch=ref-in-want", { .fetch = true, .features = GITWIRE_FEATURE_REF_IN_WANT } },
+		{ "fetch=wait-for-done", { .fetch = true, .features = GITWIRE_FEATURE_WAIT_FOR_DONE } },
+		{ "server-option", { .features = GITWIRE_FEATURE_SERVER_OPTION } },
+		{ "object-info", { .features = GITWIRE_FEATURE_OBJECT_INFO } },
 		{ "object-format", { .object_format = true } }, { "object-format=sha1", { .object_format = true, .sha1 = true } },
 		{ "object-format=sha256", { .object_format = true, .sha256 = true } },
 	};
@@ -659,38 +665,43 @@ static void try_writers_of_packets(void)
 
 static void try_writers_of_advertisements(void)
 {
-	gitwire_offer offer = { .format = GITWIRE_SHA256, .shallow = true, .object_info = true };
+	gitwire_offer offer = { .format = GITWIRE_SHA256, .features = GITWIRE_FEATURE_SHALLOW | GITWIRE_FEATURE_OBJECT_INFO };
 
 	EXPECT(wrote(gitwire_put_advertisement(&writer, offer, ROOM), "000eversion 2\n" "0011agent=git2/1\n" "000cls-refs\n"
 		"0012fetch=shallow\n" "0019object-format=sha256\n" "0010object-info\n" "0000"));
-	offer = (gitwire_offer){ .ref_in_want = true, .server_option = true };
+	offer = (gitwire_offer){ .features = GITWIRE_FEATURE_REF_IN_WANT | GITWIRE_FEATURE_SERVER_OPTION };
 	EXPECT(wrote(gitwire_put_advertisement(&writer, offer, ROOM), "000eversion 2\n" "0011agent=git2/1\n" "000cls-refs\n"
 		"0016fetch=ref-in-want\n" "0012server-option\n" "0017object-format=sha1\n" "0000"));
 	EXPECT(gitwire_put_advertisement(&writer, offer, room, 20).kind == GITWIRE_ROOM_TOO_SMALL);
-	offer = (gitwire_offer){ GITWIRE_SHA256, true, true, true, true };
+	offer = (gitwire_offer){ .format = GITWIRE_SHA256, .features = GITWIRE_FEATURES_ALL };
 	EXPECT(gitwire_put_advertisement(&writer, offer, room, GITWIRE_ADVERTISEMENT_ROOM).kind == GITWIRE_DONE);
 	memset(room, '#', sizeof room);
+	offer.features++;
+	EXPECT(gitwire_put_advertisement(&writer, offer, ROOM).kind == GITWIRE_BAD_VALUE);
+	offer.features--;
 	offer.format = 2;
 	EXPECT(gitwire_put_advertisement(&writer, offer, ROOM).kind == GITWIRE_BAD_VALUE);
 }
 
-/* Each field of the offer is where the library looks for it. */
+/* Each field and bit of the offer is where the library looks for it. */
 static void try_offers_of_one_thing(void)
 {
 	static const struct {
 		gitwire_offer offer;
 		const char *lines;
 	} cases[] = {
-		{ { .format = GITWIRE_SHA256 }, "000afetch\n" "0019object-format=sha256\n" },
-		{ { .shallow = true }, "0012fetch=shallow\n" "0017object-format=sha1\n" },
-		{ { .ref_in_want = true }, "0016fetch=ref-in-want\n" "0017object-format=sha1\n" },
-		{ { .object_info = true }, "000afetch\n" "0017object-format=sha1\n" "0010object-info\n" },
-		{ { .server_option = true }, "000afetch\n" "0012server-option\n" "0017object-format=sha1\n" },
+		{ { .format = GITWIRE_SHA256 }, "000cls-refs\n" "000afetch\n" "0019object-format=sha256\n" },
+		{ { .features = GITWIRE_FEATURE_UNBORN }, "0013ls-refs=unborn\n" "000afetch\n" "0017object-format=sha1\n" },
+		{ { .features = GITWIRE_FEATURE_SHALLOW }, "000cls-refs\n" "0012fetch=shallow\n" "0017object-format=sha1\n" },
+		{ { .features = GITWIRE_FEATURE_REF_IN_WANT }, "000cls-refs\n" "0016fetch=ref-in-want\n" "0017object-format=sha1\n" },
+		{ { .features = GITWIRE_FEATURE_WAIT_FOR_DONE }, "000cls-refs\n" "0018fetch=wait-for-done\n" "0017object-format=sha1\n" },
+		{ { .features = GITWIRE_FEATURE_OBJECT_INFO }, "000cls-refs\n" "000afetch\n" "0017object-format=sha1\n" "0010object-info\n" },
+		{ { .features = GITWIRE_FEATURE_SERVER_OPTION }, "000cls-refs\n" "000afetch\n" "0012server-option\n" "0017object-format=sha1\n" },
 	};
 	char wanted[GITWIRE_ADVERTISEMENT_ROOM];
 
 	for (size_t i = 0; i < sizeof cases / sizeof *cases; i++) {
-		snprintf(wanted, sizeof wanted, "000eversion 2\n" "0011agent=git2/1\n" "000cls-refs\n" "%s" "0000", cases[i].lines);
+		snprintf(wanted, sizeof wanted, "000eversion 2\n" "0011agent=git2/1\n" "%s" "0000", cases[i].lines);
 		EXPECT(wrote(gitwire_put_advertisement(&writer, cases[i].offer, ROOM), wanted));
 	}
 }
@@ -743,8 +754,8 @@ static void try_each_value(void)
 				EXPECT(gitwire_request_new(&request, commands[j], formats[i], limits[k]) == GITWIRE_DONE);
 			for (int j = 0; j < 2; j++)
 				EXPECT(gitwire_server_new(&server, &repository, limits[k], j == 1) == GITWIRE_DONE);
-			for (int offered = 0; offered < 16; offered++) {
-				gitwire_offer offer = { formats[i], offered & 1, offered & 2, offered & 4, offered & 8 };
+			for (uint32_t features = 0; features <= GITWIRE_FEATURES_ALL; features++) {
+				gitwire_offer offer = { features, formats[i] };
 
 				EXPECT(gitwire_request_reader_new(&reader, offer, limits[k]) == GITWIRE_DONE);
 			}

@@ -50,7 +50,7 @@ case_play_of_no_request() {
 
 # Where the server refuses a request the client hears an error packet in the place of its answer.
 expect_refused_want() {
-    expect 1 <(offer_told; echo 'request fetch') <(fault 'RemoteError at 134')
+    expect 1 <(offer_told; echo 'request fetch') <(fault 'RemoteError at 155')
 }
 
 case_play_tells_what_the_server_refuses() {
@@ -59,7 +59,7 @@ case_play_tells_what_the_server_refuses() {
 
 # A request that the client can't ask has no line.
 expect_unasked() {
-    expect 1 <(offer_told) <(fault 'NoWants at 134')
+    expect 1 <(offer_told) <(fault 'NoWants at 155')
 }
 
 case_play_tells_what_the_client_refuses() {

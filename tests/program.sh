@@ -9,8 +9,8 @@ packet() {
 advertisement() {
     packet 'version 2'
     packet agent=git2/1
-    packet ls-refs
-    packet 'fetch=shallow ref-in-want'
+    packet ls-refs=unborn
+    packet 'fetch=shallow ref-in-want wait-for-done'
     packet server-option
     packet "object-format=$1"
     packet object-info
@@ -123,7 +123,7 @@ case_help_goes_to_standard_output() {
 
 case_version_goes_to_standard_output() {
     run git2show --version
-    expect 0 <(echo 'git2show 0.1.0') /dev/null
+    expect 0 <(echo 'git2show 0.2.0') /dev/null
 }
 
 case_words_that_are_no_command_are_refused() {
@@ -396,7 +396,7 @@ case_show_tells_an_input_that_cannot_be_read() {
 
 # capabilities FORMAT: what `check` shows of an advertisement before its end.
 capabilities() {
-    printf 'capability %s\n' agent=git2/1 ls-refs "fetch=shallow ref-in-want" server-option "object-format=$1" object-info
+    printf 'capability %s\n' agent=git2/1 ls-refs=unborn "fetch=shallow ref-in-want wait-for-done" server-option "object-format=$1" object-info
 }
 
 case_check_ends_well() {

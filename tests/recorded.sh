@@ -1,13 +1,12 @@
 # Cases in which all that the real Git's client and its server say to each other is recorded, and `git2show check` judges it: whole, and
 # damaged in many places.
 
-# record FOLDER [OPTION..]: a server of Git, each of whose streams is copied to a file. Our requests know no `unborn`, so Git is not to
-# offer it.
+# record FOLDER [OPTION..]: a server of Git, each of whose streams is copied to a file.
 write_recorder() {
     cat > bin/record << 'EOF'
 #!/bin/bash
 cd "${0%/*}/.."
-tee requests | GIT_PROTOCOL=version=2 git -c lsrefs.unborn=ignore "${@:2}" upload-pack "$1" | tee responses
+tee requests | GIT_PROTOCOL=version=2 git "${@:2}" upload-pack "$1" | tee responses
 EOF
     chmod +x bin/record
 }
@@ -17,7 +16,7 @@ write_stateless_recorder() {
     write_stateless
     cat > bin/stateless-server << 'EOF'
 serve() {
-    GIT_PROTOCOL=version=2 git -c lsrefs.unborn=ignore upload-pack "$@" "$name"
+    GIT_PROTOCOL=version=2 git upload-pack "$@" "$name"
 }
 
 advertise() {

@@ -145,7 +145,7 @@ static void run_request_reader(void)
 {
 	gitwire_request_reader reader = GITWIRE_NONE;
 	gitwire_request request = GITWIRE_NONE;
-	gitwire_offer offer = { .shallow = true, .ref_in_want = true };
+	gitwire_offer offer = { .features = GITWIRE_FEATURE_SHALLOW | GITWIRE_FEATURE_REF_IN_WANT };
 
 	if (is_made(gitwire_request_reader_new(&reader, offer, GITWIRE_USUAL_LIMIT), "a reader of requests")) {
 		hear_request(&reader, &request, FETCH);
@@ -285,7 +285,7 @@ static void break_requests_off(size_t length)
 	static const char *const said = LS_REFS FETCH;
 	gitwire_request_reader reader = GITWIRE_NONE;
 	gitwire_request request = GITWIRE_NONE;
-	gitwire_offer offer = { .shallow = true, .ref_in_want = true };
+	gitwire_offer offer = { .features = GITWIRE_FEATURE_SHALLOW | GITWIRE_FEATURE_REF_IN_WANT };
 	gitwire_told told = { .kind = GITWIRE_MORE };
 
 	if (is_made(gitwire_request_reader_new(&reader, offer, GITWIRE_USUAL_LIMIT), "a reader of requests that break off"))

@@ -167,7 +167,7 @@ case_a_watcher_passes_on_an_early_error() {
 case_a_watcher_is_taken_for_upload_pack() {
     rm -rf ours
     run git -c protocol.version=2 clone -q "file://$room/history-sha1" ours \
-        --upload-pack "watch-watched --transcript $room/watched.transcript git -c lsrefs.unborn=ignore upload-pack"
+        --upload-pack "watch-watched --transcript $room/watched.transcript git upload-pack"
     clone_from_git history-sha1
     same_clones
     expect_line 'the transcript' offered <(told_by_the_watcher)
@@ -264,7 +264,7 @@ refuses_the_client() {
 
 case_a_watcher_refuses_a_client() {
     write_recorder
-    GIT_PROTOCOL=version=2 git -c lsrefs.unborn=ignore upload-pack --http-backend-info-refs history-sha1 > advertised
+    GIT_PROTOCOL=version=2 git upload-pack --http-backend-info-refs history-sha1 > advertised
     refuses_the_client 'BadDigit at 0' zzzz ''
     refuses_the_client 'UnknownCommand at 0' '0011command=push\n0000' ''
     refuses_the_client 'NoWants at 22' '0012command=fetch\n00010000' '0012command=fetch\n0001'

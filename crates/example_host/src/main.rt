@@ -46,8 +46,10 @@ fn main(rt: HostRuntime) -> io::Result<ExitCode> {
     };
     let offer = Offer {
         format: repo.format(),
+        unborn: false,
         shallow: false,
         ref_in_want: false,
+        wait_for_done: false,
         object_info: false,
         server_option: false,
     };

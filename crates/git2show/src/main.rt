@@ -47,7 +47,7 @@ static FORMATS: [&str; 2] = ["sha1", "sha256"];
 /// What the words after the program's name may be.
 fn command<'a>(alloc: Global) -> Result<Command<'a>, AllocError> {
     Command::new(alloc, "git2show")
-        .version("0.1.0")
+        .version("0.2.0")
         .about(
             "Shows, checks, serves, fetches and plays conversations of Git's wire protocol, version 2",
         )

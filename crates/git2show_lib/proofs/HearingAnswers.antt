@@ -1,8 +1,8 @@
 -- Each answer, section by section, as a client hears it.
-use Rattle.std.proofs.Common.{arith, ◌≡◌, ℕ, ◌<◌, Bool, true, false, not, ◌&&◌, All, length, map, List, [], ◌∷◌, ◌++◌, Option, Some, None, codes, refl, ap}
+use Rattle.std.proofs.Common.{arith, ◌≡◌, ℕ, ◌<◌, Bool, true, false, not, ◌&&◌, ◌||◌, All, length, map, List, [], ◌∷◌, ◌++◌, Option, Some, None, codes, refl, ap}
 use Rattle.std.proofs.Common.{sym, ◌∙◌, subst, append_assoc, slice_index, cond}
 use Rattle.std.specs.List.{filter_map, cons_option}
-use Rattle.std.specs.Option.{option_map}
+use Rattle.std.specs.Option.{ForSome, option_map}
 use Rattle.std.specs.Str.{bytes_eq}
 use Rattle.std.proofs.lemmas.List.{get_or_append_left}
 use Rattle.std.proofs.lemmas.List.Elements.{All-cons, All-filter, All-head, All-nil, All-tail}
@@ -22,7 +22,7 @@ use Rattle.git_msg.specs.declared.Boundary.TheVariants.{Shallow, Unshallow}
 use Rattle.git_msg.specs.Arguments.{IsNameIn}
 use Rattle.git_msg.specs.Asked.{Asked, FetchAsked, LsRefsAsked, ObjectInfoAsked, fetch, is_empty, ls_refs, object_info}
 use Rattle.git_msg.specs.declared.response_lines.Info.{Info}
-use Rattle.git_msg.specs.References.{IsWritable, reference_text}
+use Rattle.git_msg.specs.References.{IsWritable, reference_of, reference_text}
 use Rattle.git_msg.specs.ResponseLines.{IsSize, Wanted, ack_text, boundary_text, info_text, object_of, wanted_of, wanted_text}
 use Rattle.git_msg.specs.Texts.{IsErrorText}
 use Rattle.git_msg.specs.WrittenRequest.{text_line}
@@ -42,13 +42,15 @@ use Rattle.git_client.specs.declared.sections.Told.{Told}
 use Rattle.git_client.proofs.Questions.{due_said}
 use Rattle.git_client.proofs.Sequences.{gives_more}
 use Rattle.git_server.specs.Answers.{IsAnswer, reference_packet, info_packet, is_shown, ls_refs_answer, object_info_answer, shown_line, shown_refs}
+use Rattle.git_server.specs.Answers.{asks_for_unborn, unborn_packet, unborn_packets}
 use Rattle.git_server.specs.FetchAnswers.{EndsWithBoundary, EndsWithRefs, IsFetchAnswerBy, IsNegotiated, ack_packet, acknowledgments, boundary_packet, common}
-use Rattle.git_server.specs.FetchAnswers.{nak_or_acks, negotiates, ready_lines, shallow_info, wanted_packet, wanted_refs}
+use Rattle.git_server.specs.FetchAnswers.{is_ready_for, nak_or_acks, negotiates, ready_lines, shallow_info, wanted_packet, wanted_refs}
 use Rattle.git_server.specs.Objects.{object_of as boundary_object}
 use Rattle.git_server.specs.Packs.{IsPackfile, whole}
-use Rattle.git_server.specs.Repository.{Entry, IsNamed, IsOfFormat, IsSound, Repository, found_ref}
+use Rattle.git_server.specs.Repository.{Entry, IsNamed, IsOfFormat, IsSound, IsUnbornHead, Repository, found_ref}
+use Rattle.git_server.proofs.UnbornHead.{unborn_is_writable}
 use Rattle.git2show_lib.specs.ToldAnswers.{AsksIn, CanBeWritten, IsEntryOfNames, end_packets, found_refs, packets_of}
-use Rattle.git2show_lib.specs.ToldAnswers.{told_boundary, told_by, told_common, told_fetch, told_pack, told_ready, told_refs, told_sizes}
+use Rattle.git2show_lib.specs.ToldAnswers.{told_boundary, told_by, told_common, told_fetch, told_pack, told_ready, told_refs, told_sizes, told_unborn}
 use Rattle.git2show_lib.proofs.Hearing.{AnswerGives, bands_give, caps_at, end_gives, given_give, given_whole, header_gives}
 use Rattle.git2show_lib.proofs.Hearing.{lines_give, no_error, of_text, packet_gives}
 
@@ -89,12 +91,32 @@ reference_line format symrefs peel entry named of_format names =
     let writable : IsWritable ref = record {
       name = named.by_name;
       target = λ name e. named.by_target name (chosen symrefs entry.target name e);
-      peeled = λ id e. of_format.by_peeled id (chosen peel entry.peeled id e) ∙ sym of_format.by_id;
+      one_format = (
+        format,
+        record {
+          by_id = λ id e. let same : entry.id ≡ id = cc in sym (ap (λ (o : ObjectName). o.format) same) ∙ of_format.by_id;
+          by_peeled = λ id e. of_format.by_peeled id (chosen peel entry.peeled id e);
+        },
+      );
     } in
     record {
       no_error = name_no_error format entry.id _ in_format;
-      says = reference_reads_back format ref in_format (λ id e. names.by_peeled id (chosen peel entry.peeled id e)) writable;
+      says = reference_reads_back format ref (λ id e. let same : entry.id ≡ id = cc in subst (IsNameIn format) same in_format)
+          (λ id e. record {
+            of_format = of_format.by_peeled id (chosen peel entry.peeled id e);
+            is_oid = names.by_peeled id (chosen peel entry.peeled id e);
+          }) writable;
     }
+
+-- the line of an unborn `HEAD`
+unborn_line : (format : Format) (target : List ℕ) → IsRefName target
+    → GivesLine references format (reference_text (reference_of None (codes "HEAD") (Some target) None))
+    (reference (reference_of None (codes "HEAD") (Some target) None) ∷ [])
+unborn_line format target named = record {
+  no_error = no_error (reference_text (reference_of None (codes "HEAD") (Some target) None)) (λ e. omega arith);
+  says = reference_reads_back format (reference_of None (codes "HEAD") (Some target) None) (λ id e. absurd (cc)) (λ id e. absurd (cc))
+      (unborn_is_writable target named);
+}
 
 -- a line of the shallow boundary
 boundary_line : (format : Format) (line : Boundary) → (boundary_object line).format ≡ format → IsOid (object_of line)
@@ -366,28 +388,50 @@ module _ (t : Terms) (asked : List Asked) (repo : Repository) (sound : IsSound r
       → IsFetchAnswerBy negotiates whole repo q packets
       → AnswerGives t asked before (packets ++ end_packets t.ending) (told_fetch negotiates repo q ++ ended ∷ [])
   fetch_gives true q allowed before packets may may_boundary may_refs is haves answer =
-      negotiated_gives (repo.is_ready q) q allowed before packets (may refl) is haves answer
+      negotiated_gives (is_ready_for repo q) q allowed before packets (may refl) is haves answer
   fetch_gives false q allowed before packets may may_boundary may_refs is haves answer =
       rest_gives q allowed before packets answer may_boundary may_refs is
 
   -- ---- references
 
+  -- an unborn `HEAD`, where there is one that is asked for, and then the others
+  unborn_gives : (q : LsRefsAsked) (head : Option (List ℕ)) (before ps : List Pkt) (later : List EventValue) → ForSome head (IsUnbornHead repo.refs)
+      → IsDue t asked before References → ((behind : List Pkt) → IsDue t asked behind References → AnswerGives t asked behind ps later)
+      → AnswerGives t asked before (unborn_packets q head ++ ps) (told_unborn q head ++ later)
+  unborn_gives q None before ps later sound is others = others before is
+  unborn_gives q (Some target) before ps later sound is others = go (asks_for_unborn q) where
+    go : (asks : Bool) → AnswerGives t asked before (cond asks (unborn_packet target ∷ []) [] ++ ps)
+        (cond asks (reference (reference_of None (codes "HEAD") (Some target) None) ∷ []) [] ++ later)
+    go false = others before is
+    go true =
+        let text = λ (to : List ℕ). reference_text (reference_of None (codes "HEAD") (Some to) None) in
+        let event = λ (to : List ℕ). reference (reference_of None (codes "HEAD") (Some to) None) in
+        let line_gives = λ (to : List ℕ). GivesLine references t.format (text to) (event to ∷ []) in
+        lines_give t asked text event References tt (target ∷ []) before ps later is
+        (λ caps. All-cons line_gives target [] (unborn_line t.format target (sound target refl).named) (All-nil line_gives)) others
+
   -- the answer to ls-refs
-  listing_gives : (q : LsRefsAsked) (before packets : List Pkt) → IsDue t asked before References → packets ≡ ls_refs_answer q repo.refs
+  listing_gives : (q : LsRefsAsked) (before packets : List Pkt) → IsDue t asked before References → packets ≡ ls_refs_answer q repo
       → AnswerGives t asked before (packets ++ end_packets t.ending) (told_refs repo q ++ ended ∷ [])
   listing_gives q before packets is answer =
       let line = λ (entry : Entry). reference_text (shown_line q.symrefs q.peel entry) in
       let event = λ (entry : Entry). reference (shown_line q.symrefs q.peel entry) in
       let shown = shown_refs q.ref_prefixes repo.refs in
+      let lines = map (reference_packet q.symrefs q.peel) shown in
+      let last = end_packets t.ending in
+      let head = unborn_packets q repo.unborn_head in
       let all : All (λ entry. GivesLine references t.format (line entry) (event entry ∷ [])) repo.refs =
       λ k d within. reference_line t.format q.symrefs q.peel _ (sound.named k d within) (of_format _ (sound.of_format k d within)) (written.refs k d within) in
-      let parts : packets ++ end_packets t.ending ≡ map (reference_packet q.symrefs q.peel) shown ++ (flush ∷ end_packets t.ending) =
-      ap (λ (ps : List Pkt). ps ++ end_packets t.ending) answer
-      ∙ append_assoc (map (reference_packet q.symrefs q.peel) shown) (flush ∷ []) (end_packets t.ending) in
+      let parts : packets ++ last ≡ head ++ (lines ++ (flush ∷ last)) =
+      ap (λ (ps : List Pkt). ps ++ last) answer ∙ append_assoc head (lines ++ flush ∷ []) last
+      ∙ ap (λ (ps : List Pkt). head ++ ps) (append_assoc lines (flush ∷ []) last) in
+      let told = append_assoc (told_unborn q repo.unborn_head) (map event shown) (ended ∷ []) in
       subst (λ (ps : List Pkt). AnswerGives t asked before ps (told_refs repo q ++ ended ∷ [])) (sym parts)
-      (lines_give t asked line event References tt shown before (flush ∷ end_packets t.ending) (ended ∷ []) is
+      (subst (λ (l : List EventValue). AnswerGives t asked before (head ++ (lines ++ (flush ∷ last))) l) (sym told)
+      (unborn_gives q repo.unborn_head before (lines ++ (flush ∷ last)) (map event shown ++ ended ∷ []) sound.unborn is
+      (λ behind is. lines_give t asked line event References tt shown behind (flush ∷ last) (ended ∷ []) is
       (λ caps. All-filter (λ entry. is_shown q.ref_prefixes entry.name) (λ entry. GivesLine references t.format (line entry) (event entry ∷ [])) repo.refs all)
-      (λ behind is. end_gives t.format t.ending asked behind References tt is))
+      (λ after is. end_gives t.format t.ending asked after References tt is))))
 
   -- ---- sizes
 
@@ -414,7 +458,7 @@ module _ (t : Terms) (asked : List Asked) (repo : Repository) (sound : IsSound r
       → AnswerGives t asked before (packets ++ end_packets t.ending) (told_by repo q ++ ended ∷ [])
   answer_gives (ls_refs q) before packets is asks answer = listing_gives q before packets is answer
   answer_gives (fetch q) before packets is asks answer =
-      fetch_gives (negotiates q) q (allowed_after q.done []) before packets (not_done (not (is_empty q.haves)) q.done) refl refl is asks answer
+      fetch_gives (negotiates q) q (allowed_after q.done []) before packets (not_done (not (is_empty q.haves) || q.wait_for_done) q.done) refl refl is asks answer
   answer_gives (object_info q) before packets is asks answer = sizes_give q before packets is asks answer
 
 -- what an answer gives, wherever it stands, and that the next one may come after it

@@ -11,7 +11,7 @@ use Rattle.git_pkt.specs.Splits.{Given}
 use Rattle.git_msg.specs.declared.Boundary.{Boundary}
 use Rattle.git_msg.specs.declared.Boundary.TheVariants.{Shallow, Unshallow}
 use Rattle.git_msg.specs.Asked.{Asked}
-use Rattle.git_msg.specs.References.{IsMaybeObjectName, IsReferenceLine, Ref}
+use Rattle.git_msg.specs.References.{IsMaybeObjectName, IsReferenceLine}
 use Rattle.git_msg.specs.ResponseLines.{IsSize, object_of}
 use Rattle.git_client.specs.Client.{AreWhole}
 use Rattle.git_client.specs.Conversation.{GiveAll}
@@ -27,8 +27,8 @@ use Rattle.git_server.specs.Objects.{object_cmp, size_among}
 use Rattle.git_server.specs.Repository.{Entry, IsSound, Repository}
 use Rattle.git_server.specs.Sessions.{AreAnswers}
 use Rattle.git_server.specs.declared.list_repo.ListRepo.{ListRepo}
-use Rattle.git_repository.specs.RepositoryLines.{Said, boundary, object, ready, reference}
-use Rattle.git_repository.specs.RepositoryText.{IsRepositoryText, SayAll, boundaries_in, entry_of, objects_in, refs_in}
+use Rattle.git_repository.specs.RepositoryLines.{Said, boundary, object, ready, ref_of, reference, unborn}
+use Rattle.git_repository.specs.RepositoryText.{IsRepositoryText, SayAll, boundaries_in, objects_in, refs_in}
 use Rattle.git_client.proofs.Sequences.{give_all_append, nearest-append}
 use Rattle.git2show_lib.specs.ToldAnswers.{AsksIn, IsEntryOfNames, CanBeWritten, end_packets, packets_of, told_all, told_by}
 use Rattle.git2show_lib.proofs.HearingAnswers.{heard, whole_after}
@@ -98,10 +98,10 @@ module _ (t : Terms) (repo : Repository) (sound : IsSound repo) (written : CanBe
 -- ---- what a text says can be written
 
 -- the object names of a reference line are names
-names_of : (format : Format) (line : List ℕ) (ref : Ref) → IsReferenceLine format line ref → IsEntryOfNames (entry_of ref)
-names_of format line ref h = record {
-  by_id = IsOid-of_text format h.id ref.id h.id_is;
-  by_peeled = λ id e. peeled _ ref.peeled id h.attributes_are.peeled_is e;
+names_of : (format : Format) (line : List ℕ) (entry : Entry) → IsReferenceLine format line (ref_of entry) → IsEntryOfNames entry
+names_of format line entry h = record {
+  by_id = IsOid-of_text format h.id entry.id h.id_is;
+  by_peeled = λ id e. peeled _ entry.peeled id h.attributes_are.peeled_is e;
 } where
   peeled : (text : Option (List ℕ)) (found : Option ObjectName) (id : ObjectName) → IsMaybeObjectName format text found → found ≡ Some id → IsOid id
   peeled None found id none e = absurd (cc)
@@ -114,8 +114,9 @@ refs_written : (format : Format) (lines : List (List ℕ)) (said : List Said) �
 refs_written format [] [] h = All-nil IsEntryOfNames
 refs_written format [] (s ∷ said) h = absurd h
 refs_written format (line ∷ lines) [] h = absurd h
-refs_written format (line ∷ lines) (reference ref ∷ said) (now, h) =
-    All-cons IsEntryOfNames (entry_of ref) (refs_in said) (names_of format now.value ref now.holds) (refs_written format lines said h)
+refs_written format (line ∷ lines) (reference entry ∷ said) (now, h) =
+    All-cons IsEntryOfNames entry (refs_in said) (names_of format now.value entry now.holds) (refs_written format lines said h)
+refs_written format (line ∷ lines) (unborn target ∷ said) (now, h) = refs_written format lines said h
 refs_written format (line ∷ lines) (object id size ∷ said) (now, h) = refs_written format lines said h
 refs_written format (line ∷ lines) (ready count ∷ said) (now, h) = refs_written format lines said h
 refs_written format (line ∷ lines) (boundary b ∷ said) (now, h) = refs_written format lines said h
@@ -125,7 +126,8 @@ sizes_written : (format : Format) (lines : List (List ℕ)) (said : List Said) �
 sizes_written format [] [] h = All-nil (λ (object : ObjectName × ℕ). IsSize object.1)
 sizes_written format [] (s ∷ said) h = absurd h
 sizes_written format (line ∷ lines) [] h = absurd h
-sizes_written format (line ∷ lines) (reference ref ∷ said) (now, h) = sizes_written format lines said h
+sizes_written format (line ∷ lines) (reference entry ∷ said) (now, h) = sizes_written format lines said h
+sizes_written format (line ∷ lines) (unborn target ∷ said) (now, h) = sizes_written format lines said h
 sizes_written format (line ∷ lines) (object id size ∷ said) (now, h) =
     All-cons (λ (object : ObjectName × ℕ). IsSize object.1) (id, size) (objects_in said) now.holds.in_range (sizes_written format lines said h)
 sizes_written format (line ∷ lines) (ready count ∷ said) (now, h) = sizes_written format lines said h
@@ -137,7 +139,8 @@ boundaries_written : (format : Format) (lines : List (List ℕ)) (said : List Sa
 boundaries_written format [] [] h = All-nil (λ line. IsOid (object_of line))
 boundaries_written format [] (s ∷ said) h = absurd h
 boundaries_written format (line ∷ lines) [] h = absurd h
-boundaries_written format (line ∷ lines) (reference ref ∷ said) (now, h) = boundaries_written format lines said h
+boundaries_written format (line ∷ lines) (reference entry ∷ said) (now, h) = boundaries_written format lines said h
+boundaries_written format (line ∷ lines) (unborn target ∷ said) (now, h) = boundaries_written format lines said h
 boundaries_written format (line ∷ lines) (object id size ∷ said) (now, h) = boundaries_written format lines said h
 boundaries_written format (line ∷ lines) (ready count ∷ said) (now, h) = boundaries_written format lines said h
 boundaries_written format (line ∷ lines) (boundary (Shallow id) ∷ said) (now, h) =

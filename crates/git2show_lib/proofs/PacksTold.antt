@@ -1,15 +1,18 @@
 -- The packs of the answers.
-use Rattle.std.proofs.Common.{◌≡◌, ℕ, Bool, true, false, not, ◌||◌, cond, flat_map, map, List, [], ◌∷◌, ◌++◌, refl, ap, ◌∙◌}
+use Rattle.std.proofs.Common.{◌≡◌, ℕ, Bool, true, false, not, ◌||◌, cond, flat_map, map, List, [], ◌∷◌, ◌++◌, Option, Some, None}
+use Rattle.std.proofs.Common.{codes, refl, ap, ◌∙◌}
 use Rattle.std.proofs.lemmas.List.{append-nil}
 use Rattle.git_names.specs.ObjectName.{ObjectName}
 use Rattle.git_msg.specs.declared.Boundary.{Boundary}
 use Rattle.git_msg.specs.declared.Boundary.TheVariants.{Shallow, Unshallow}
-use Rattle.git_msg.specs.Asked.{Asked, FetchAsked, fetch, ls_refs, object_info}
+use Rattle.git_msg.specs.Asked.{Asked, FetchAsked, LsRefsAsked, fetch, ls_refs, object_info}
+use Rattle.git_msg.specs.References.{reference_of}
 use Rattle.git_client.specs.Events.{EventValue, ack, ended, info, pack, pack_bytes, reference, wanted_ref}
-use Rattle.git_server.specs.Answers.{shown_line, shown_refs}
-use Rattle.git_server.specs.FetchAnswers.{common, negotiates}
-use Rattle.git_server.specs.Repository.{Repository}
+use Rattle.git_server.specs.Answers.{asks_for_unborn, shown_line, shown_refs}
+use Rattle.git_server.specs.FetchAnswers.{common, is_ready_for, negotiates}
+use Rattle.git_server.specs.Repository.{Entry, Repository}
 use Rattle.git2show_lib.specs.ToldAnswers.{answered_pack, found_refs, told_all, told_boundary, told_by, told_common, told_fetch, told_pack, told_ready}
+use Rattle.git2show_lib.specs.ToldAnswers.{told_unborn}
 
 -- the pack of two lists of events
 packs-append : (events later : List EventValue) → pack_bytes (events ++ later) ≡ pack_bytes events ++ pack_bytes later
@@ -31,6 +34,13 @@ pack_is (byte ∷ bytes) = ap (λ (l : List ℕ). byte ∷ l) (pack_is bytes)
 no_boundary : (line : Boundary) (later : List EventValue) → pack_bytes (told_boundary line ∷ later) ≡ pack_bytes later
 no_boundary (Shallow id) later = refl
 no_boundary (Unshallow id) later = refl
+
+no_unborn_pack : (q : LsRefsAsked) (head : Option (List ℕ)) → pack_bytes (told_unborn q head) ≡ []
+no_unborn_pack q None = refl
+no_unborn_pack q (Some target) = go (asks_for_unborn q) where
+  go : (asks : Bool) → pack_bytes (cond asks (reference (reference_of None (codes "HEAD") (Some target) None) ∷ []) []) ≡ []
+  go true = refl
+  go false = refl
 
 common_packs : (ids : List ObjectName) → pack_bytes (told_common ids) ≡ []
 common_packs [] = refl
@@ -54,15 +64,18 @@ module _ (repo : Repository) where
   ready_packs false q = refl
 
   fetch_packs : (is_negotiated : Bool) (q : FetchAsked)
-      → pack_bytes (told_fetch is_negotiated repo q) ≡ cond (not is_negotiated || repo.is_ready q) (repo.pack q) []
+      → pack_bytes (told_fetch is_negotiated repo q) ≡ cond (not is_negotiated || is_ready_for repo q) (repo.pack q) []
   fetch_packs true q =
-      after_none (told_common (common repo.has q.haves)) (told_ready (repo.is_ready q) repo q) (cond (repo.is_ready q) (repo.pack q) [])
-      (common_packs (common repo.has q.haves)) (ready_packs (repo.is_ready q) q)
+      after_none (told_common (common repo.has q.haves)) (told_ready (is_ready_for repo q) repo q) (cond (is_ready_for repo q) (repo.pack q) [])
+      (common_packs (common repo.has q.haves)) (ready_packs (is_ready_for repo q) q)
   fetch_packs false q = packfile_packs q
 
   -- that of one answer
   one_pack : (q : Asked) → pack_bytes (told_by repo q) ≡ answered_pack repo q
-  one_pack (ls_refs q) = no_pack (λ entry. reference (shown_line q.symrefs q.peel entry)) (λ x later. refl) (shown_refs q.ref_prefixes repo.refs)
+  one_pack (ls_refs q) =
+      let shown = map (λ (entry : Entry). reference (shown_line q.symrefs q.peel entry)) (shown_refs q.ref_prefixes repo.refs) in
+      after_none (told_unborn q repo.unborn_head) shown [] (no_unborn_pack q repo.unborn_head)
+      (no_pack (λ entry. reference (shown_line q.symrefs q.peel entry)) (λ x later. refl) (shown_refs q.ref_prefixes repo.refs))
   one_pack (fetch q) = fetch_packs (negotiates q) q
   one_pack (object_info q) = no_pack (λ id. info (record { id = id; size = repo.object_size id })) (λ x later. refl) q.oids
 

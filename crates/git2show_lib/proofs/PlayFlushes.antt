@@ -11,8 +11,8 @@ use Rattle.git_msg.specs.declared.offers.Caps.{Caps}
 use Rattle.git_msg.specs.declared.offers.Offer.{Offer}
 use Rattle.git_client.specs.Client.{questions_of}
 use Rattle.git_client.specs.Parts.{nearest}
-use Rattle.git_server.specs.Answers.{advertisement_of, offered_line, fetch_line, IsAnswer}
-use Rattle.git_server.specs.FetchAnswers.{EndsWithBoundary, EndsWithRefs, IsAfter, IsFetchAnswerBy, IsNegotiated, acknowledgments, negotiates}
+use Rattle.git_server.specs.Answers.{advertisement_of, offered_line, fetch_line, ls_refs_line, IsAnswer, reference_packet, shown_refs, unborn_packets}
+use Rattle.git_server.specs.FetchAnswers.{EndsWithBoundary, EndsWithRefs, IsAfter, IsFetchAnswerBy, IsNegotiated, acknowledgments, is_ready_for, negotiates}
 use Rattle.git_server.specs.Packs.{IsPackfile, packfile_header, whole}
 use Rattle.git_server.specs.Repository.{Repository}
 use Rattle.git_msg.specs.Asked.{FetchAsked}
@@ -127,11 +127,14 @@ negotiated_last true repo q lines packets h = after_last _ (EndsWithBoundary who
 negotiated_last false repo q lines packets h = record { front = lines; is = h }
 
 fetch_last : (repo : Repository) (q : FetchAsked) (b : Bool) (packets : List Pkt) → IsFetchAnswerBy b whole repo q packets → LastFlush packets
-fetch_last repo q true packets h = negotiated_last (repo.is_ready q) repo q (acknowledgments repo q) packets h
+fetch_last repo q true packets h = negotiated_last (is_ready_for repo q) repo q (acknowledgments repo q) packets h
 fetch_last repo q false packets h = boundary_last repo q packets h
 
 answer_last : (repo : Repository) (q : Asked) (packets : List Pkt) → IsAnswer repo q packets → LastFlush packets
-answer_last repo (ls_refs q) packets h = record { front = _; is = h }
+answer_last repo (ls_refs q) packets h =
+    let unborn = unborn_packets q repo.unborn_head in
+    let shown = map (reference_packet q.symrefs q.peel) (shown_refs q.ref_prefixes repo.refs) in
+    record { front = unborn ++ shown; is = h ∙ sym (append_assoc unborn shown (flush ∷ [])) }
 answer_last repo (object_info q) packets h = record { front = _ ∷ _; is = h }
 answer_last repo (fetch q) packets h = fetch_last repo q (negotiates q) packets h
 
@@ -146,8 +149,8 @@ offered_last offer =
     let format : List Pkt = format_line offer.format ∷ ends in
     let option : List Pkt = offered_line offer.server_option (codes "server-option") ++ format in
     let last = last_after (offered_line offer.object_info (codes "object-info")) (flush ∷ []) (record { front = []; is = refl }) in
-    last_more (text_line (codes "version 2")) (agent_line ∷ text_line (codes "ls-refs") ∷ fetch_line offer ∷ option)
-    (last_more agent_line (text_line (codes "ls-refs") ∷ fetch_line offer ∷ option) (last_more (text_line (codes "ls-refs")) (fetch_line offer ∷ option)
+    last_more (text_line (codes "version 2")) (agent_line ∷ ls_refs_line offer ∷ fetch_line offer ∷ option)
+    (last_more agent_line (ls_refs_line offer ∷ fetch_line offer ∷ option) (last_more (ls_refs_line offer) (fetch_line offer ∷ option)
     (last_more (fetch_line offer) option
     (last_after (offered_line offer.server_option (codes "server-option")) format (last_more (format_line offer.format) ends last)))))
 

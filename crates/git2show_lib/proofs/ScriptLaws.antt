@@ -33,9 +33,9 @@ no_command ObjectInfo e = cc
 
 -- and is no argument
 nothing : (c : Command) → IsNoArgument c []
-nothing LsRefs = (((λ e. cc), ((λ e. cc), tt)), ((λ rest e. cc), tt))
+nothing LsRefs = (((λ e. cc), ((λ e. cc), ((λ e. cc), tt))), ((λ rest e. cc), tt))
 nothing Fetch = (
-  ((λ e. cc), ((λ e. cc), ((λ e. cc), ((λ e. cc), ((λ e. cc), ((λ e. cc), tt)))))),
+  ((λ e. cc), ((λ e. cc), ((λ e. cc), ((λ e. cc), ((λ e. cc), ((λ e. cc), ((λ e. cc), tt))))))),
   ((λ rest e. cc), ((λ rest e. cc), ((λ rest e. cc), ((λ rest e. cc), ((λ rest e. cc), ((λ rest e. cc), ((λ rest e. cc), tt))))))),
 )
 nothing ObjectInfo = (((λ e. cc), tt), ((λ rest e. cc), tt))

@@ -13,17 +13,25 @@ use Rattle.git_msg.specs.declared.Boundary.{Boundary}
 use Rattle.git_msg.specs.declared.Boundary.TheVariants.{Shallow, Unshallow}
 use Rattle.git_msg.specs.Arguments.{IsNameIn}
 use Rattle.git_msg.specs.Asked.{Asked, FetchAsked, LsRefsAsked, ObjectInfoAsked, ls_refs, fetch, object_info}
+use Rattle.git_msg.specs.Features.{features_value, fetch_features, ls_refs_features}
+use Rattle.git_msg.specs.References.{reference_of}
 use Rattle.git_msg.specs.ResponseLines.{IsSize, Wanted, object_of, wanted_of}
 use Rattle.git_client.specs.Events.{EventValue, capability, offered, reference, ack, nak, ready, shallow, unshallow, wanted_ref, pack, info, ended}
 use Rattle.git_client.specs.declared.events.Ending.{Ending}
 use Rattle.git_client.specs.declared.events.Ending.TheVariants.{FlushOnly, ResponseEnd}
-use Rattle.git_server.specs.Answers.{shown_line, shown_refs}
-use Rattle.git_server.specs.FetchAnswers.{common, negotiates}
+use Rattle.git_server.specs.Answers.{asks_for_unborn, shown_line, shown_refs}
+use Rattle.git_server.specs.FetchAnswers.{common, is_ready_for, negotiates}
 use Rattle.git_server.specs.Repository.{Entry, Repository, found_ref}
 
--- the references that are shown
+-- `HEAD` where it is unborn, with what it points to, where that is asked for
+abbrev pub told_unborn : LsRefsAsked → Option (List ℕ) → List EventValue
+told_unborn q None = []
+told_unborn q (Some target) = if asks_for_unborn q then reference (reference_of None (codes "HEAD") (Some target) None) ∷ [] else []
+
+-- and then the references that are shown
 abbrev pub told_refs : Repository → LsRefsAsked → List EventValue
-told_refs repo q = map (λ entry. reference (shown_line q.symrefs q.peel entry)) (shown_refs q.ref_prefixes repo.refs)
+told_refs repo q =
+    told_unborn q repo.unborn_head ++ map (λ entry. reference (shown_line q.symrefs q.peel entry)) (shown_refs q.ref_prefixes repo.refs)
 
 -- the objects that both ends have, or that there is none
 abbrev pub told_common : List ObjectName → List EventValue
@@ -43,14 +51,14 @@ found_refs repo names = filter_map (λ name. option_map (λ id. wanted_of id nam
 abbrev pub told_pack : Repository → FetchAsked → List EventValue
 told_pack repo q = map told_boundary (repo.boundaries q) ++ map wanted_ref (found_refs repo q.want_refs) ++ map pack (repo.pack q)
 
--- what follows the objects that both ends have: the pack, where the repository is ready, or else nothing
+-- what follows the objects that both ends have: the pack, or nothing
 abbrev pub told_ready : Bool → Repository → FetchAsked → List EventValue
 told_ready true repo q = ready ∷ told_pack repo q
 told_ready false repo q = []
 
 -- the answer to a fetch that negotiates or not
 abbrev pub told_fetch : Bool → Repository → FetchAsked → List EventValue
-told_fetch true repo q = told_common (common repo.has q.haves) ++ told_ready (repo.is_ready q) repo q
+told_fetch true repo q = told_common (common repo.has q.haves) ++ told_ready (is_ready_for repo q) repo q
 told_fetch false repo q = told_pack repo q
 
 -- the sizes of the objects that were asked about
@@ -97,18 +105,11 @@ told_all repo asked = flat_map (λ q. told_by repo q ++ ended ∷ []) asked
 abbrev pub told_where : Bool → List ℕ → List EventValue
 told_where is_offered key = if is_offered then capability key None ∷ [] else []
 
--- the features of fetch that are offered
-abbrev pub fetch_features : (shallow ref_in_want : Bool) → Option (List ℕ)
-fetch_features false false = None
-fetch_features true false = Some (codes "shallow")
-fetch_features false true = Some (codes "ref-in-want")
-fetch_features true true = Some (codes "shallow ref-in-want")
-
 -- what the advertisement of an offer tells
 abbrev pub told_offer : Offer → List EventValue
 told_offer offer =
-    capability (codes "agent") (Some (codes "git2/1")) ∷ capability (codes "ls-refs") None
-    ∷ capability (codes "fetch") (fetch_features offer.shallow offer.ref_in_want)
+    capability (codes "agent") (Some (codes "git2/1")) ∷ capability (codes "ls-refs") (features_value (ls_refs_features offer))
+    ∷ capability (codes "fetch") (features_value (fetch_features offer))
     ∷ (told_where offer.server_option (codes "server-option")
     ++ capability (codes "object-format") (Some (format_name offer.format)) ∷ (told_where offer.object_info (codes "object-info") ++ offered ∷ []))
 
@@ -116,8 +117,8 @@ told_offer offer =
 abbrev pub told_play : Format → Repository → List Asked → List EventValue
 told_play format repo asked = told_offer (everything format) ++ told_all repo asked
 
--- the pack of an answer: that of a fetch which does not negotiate, or for which the repository is ready
+-- the pack of an answer: that of a fetch which does not negotiate, or for which the repository is ready to send it
 abbrev pub answered_pack : Repository → Asked → List ℕ
 answered_pack repo (ls_refs q) = []
-answered_pack repo (fetch q) = if not (negotiates q) || repo.is_ready q then repo.pack q else []
+answered_pack repo (fetch q) = if not (negotiates q) || is_ready_for repo q then repo.pack q else []
 answered_pack repo (object_info q) = []

@@ -38,6 +38,7 @@ fn repository(rt: &(impl Abort + AllocGlobal), pack: Vec<u8>) -> Result<ListRepo
         None,
         Vec::new(rt.alloc()),
         pack,
+        None,
     );
     Ok(repo.expect(rt, "a repository"))
 }

@@ -42,6 +42,7 @@ fn repository(rt: &(impl Abort + AllocGlobal)) -> Result<ListRepo, Fail> {
         None,
         boundaries,
         Vec::new(rt.alloc()),
+        None,
     );
     Ok(repo.expect(rt, "a repository"))
 }
@@ -81,8 +82,10 @@ fn check_answer(rt: &(impl Abort + AllocGlobal), order: Order) -> Result<(), Fai
     let repo = repository(rt)?;
     let offer = Offer {
         format: repo.format(),
+        unborn: false,
         shallow: false,
         ref_in_want: false,
+        wait_for_done: false,
         object_info: false,
         server_option: false,
     };

@@ -19,6 +19,7 @@ fn repository(rt: &(impl Abort + AllocGlobal)) -> Result<ListRepo, Fail> {
         None,
         Vec::new(rt.alloc()),
         Vec::from_slice(rt.alloc(), PACK)?,
+        None,
     );
     Ok(repo.expect(rt, "a repository"))
 }

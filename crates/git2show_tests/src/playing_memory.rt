@@ -15,14 +15,14 @@ const SCRIPT: &[u8] =
 
 /// The transcript of what the server offers, and of the request.
 const ASKED: &[u8] =
-    b"capability agent=git2/1\ncapability ls-refs\ncapability fetch=shallow ref-in-want\n\
+    b"capability agent=git2/1\ncapability ls-refs=unborn\ncapability fetch=shallow ref-in-want wait-for-done\n\
 capability server-option\ncapability object-format=sha1\ncapability object-info\noffered\nrequest fetch\n";
 
 /// And of the response.
 const ANSWERED: &[u8] = b"end 5 0\n";
 
 /// Where the first response begins.
-const OFFERED: u64 = 134;
+const OFFERED: u64 = 155;
 
 /// More memory than both ends take.
 const ENOUGH: usize = 8_192;

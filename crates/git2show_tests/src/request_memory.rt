@@ -12,8 +12,10 @@ use std::process::Abort;
 /// An offer of all but `object-info`, in SHA-1.
 const OFFER: Offer = Offer {
     format: Format::Sha1,
+    unborn: true,
     shallow: true,
     ref_in_want: true,
+    wait_for_done: true,
     object_info: false,
     server_option: true,
 };

@@ -73,7 +73,15 @@ pub fn repository(rt: &(impl Abort + AllocGlobal), format: Format) -> Result<Lis
     objects.push((a, 12))?;
     objects.push((b, 30))?;
     let pack = Vec::from_slice(rt.alloc(), b"PACK!")?;
-    let repo = ListRepo::new(format, refs, objects, None, Vec::new(rt.alloc()), pack);
+    let repo = ListRepo::new(
+        format,
+        refs,
+        objects,
+        None,
+        Vec::new(rt.alloc()),
+        pack,
+        None,
+    );
     Ok(repo.expect(rt, "a repository"))
 }
 
@@ -85,11 +93,8 @@ pub fn new_server<A: Allocator + Copy>(
 ) -> Result<Server<ListRepo, A>, Fail> {
     let repo = repository(rt, setup.format)?;
     let offer = Offer {
-        format: repo.format(),
-        shallow: true,
-        ref_in_want: true,
         object_info: false,
-        server_option: true,
+        ..Offer::everything(repo.format())
     };
     Ok(Server::new(alloc, repo, offer, setup.limits, setup.advertise))
 }

@@ -18,7 +18,7 @@ use Rattle.git_msg.specs.Capability.{IsCapability}
 use Rattle.git_msg.specs.ResponseLines.{Wanted, IsWantedLine}
 use Rattle.git_msg.specs.declared.response_lines.Boundary.{Boundary}
 use Rattle.git_msg.specs.declared.response_lines.Boundary.TheVariants.{Shallow, Unshallow}
-use Rattle.git_msg.specs.References.{Ref, IsReferenceLine, IsMaybeObjectName, value_behind, values_of}
+use Rattle.git_msg.specs.References.{Ref, IsIdText, id_length, IsReferenceLine, IsMaybeObjectName, value_behind, values_of}
 use Rattle.git_msg.specs.Texts.{last_of, spaced_words}
 use Rattle.git_msg.proofs.ReferenceWords.{value_spelled}
 use Rattle.git_client.specs.Places.{Place, version, capabilities, references, header, acknowledgments, shallow_info, wanted_refs, packfile}
@@ -120,14 +120,19 @@ peeled_fits format None id h = rw h (omega arith)
 peeled_fits format (Some text) id (named, is, e) = rw (e, is.of_format) (omega (arith, is.count))
 
 abbrev ref_length : Ref → ℕ
-ref_length ref = digits_of ref.id.format + length ref.name + optional ref.target + digits_in ref.peeled
+ref_length ref = id_length ref.id + length ref.name + optional ref.target + digits_in ref.peeled
+
+-- a line's first word is as long as it says
+id_fits : (format : Format) (word : List ℕ) (id : Option ObjectName) → IsIdText format word id → id_length id ≡ length word
+id_fits format word None h = sym (ap length h)
+id_fits format word (Some id) h = ap digits_of h.of_format ∙ sym h.count
 
 -- the parts of a reference lie in its line
 reference_fits : (format : Format) (text : List ℕ) (ref : Ref) → IsReferenceLine format text ref → ref_length ref ≤ length text
 unfolding optional
 reference_fits format text ref h =
     let key = target_key in
-    let id : digits_of ref.id.format ≡ length h.id = ap digits_of h.id_is.of_format ∙ sym h.id_is.count in
+    let id : id_length ref.id ≡ length h.id = id_fits format h.id ref.id h.id_is in
     let words : total (h.id ∷ ref.name ∷ h.attributes) ≤ length text = subst (λ (ws : List (List ℕ)). total ws ≤ length text) h.words (words_fit text) in
     let target : optional ref.target ≤ total (values_of target_key h.attributes) =
     subst (λ (o : Option (List ℕ)). optional o ≤ total (values_of target_key h.attributes)) (sym h.attributes_are.target_is)

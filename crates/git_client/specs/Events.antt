@@ -10,7 +10,7 @@ use Rattle.git_pkt.specs.declared.fault.Kind.{Kind}
 use Rattle.git_pkt.specs.declared.fault.Kind.TheVariants.{RemoteError, RemoteFatal, NotVersion2, BadCapability, WrongFormat, UnexpectedPacket}
 use Rattle.git_pkt.specs.declared.fault.Kind.TheVariants.{UnexpectedSection, BadLine, BadObjectName, NoBand, BadBand}
 use Rattle.git_msg.specs.Capability.{IsCapability, IsNoCapability}
-use Rattle.git_msg.specs.References.{Ref, IsReferenceLine, IsReferenceFault}
+use Rattle.git_msg.specs.References.{Ref, id_length, IsReferenceLine, IsReferenceFault}
 use Rattle.git_msg.specs.ResponseLines.{Wanted, IsAckLine, IsBoundaryLine, IsBoundaryFault, IsWantedLine, IsWantedFault, IsInfoLine, IsInfoFault}
 use Rattle.git_msg.specs.declared.response_lines.Boundary.TheVariants.{Shallow, Unshallow}
 use Rattle.git_msg.specs.declared.response_lines.Info.{Info}
@@ -163,7 +163,7 @@ pack_bytes (event ∷ events) = pack_bytes events
 abbrev pub parts_length : EventValue → ℕ
 parts_length (capability key value) = length key + option_map_or length value 0
 parts_length (reference ref) =
-    digits_of ref.id.format + length ref.name + option_map_or length ref.target 0 + option_map_or (λ id. digits_of id.format) ref.peeled 0
+    id_length ref.id + length ref.name + option_map_or length ref.target 0 + option_map_or (λ id. digits_of id.format) ref.peeled 0
 parts_length (ack id) = digits_of id.format
 parts_length (shallow id) = digits_of id.format
 parts_length (unshallow id) = digits_of id.format

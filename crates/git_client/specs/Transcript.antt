@@ -5,7 +5,7 @@ use Rattle.git_pkt.specs.Escape.{escaped_of}
 use Rattle.git_msg.specs.Arguments.{name_of}
 use Rattle.git_msg.specs.Asked.{Asked, command_asked}
 use Rattle.git_msg.specs.declared.arguments.Command.{Command}
-use Rattle.git_msg.specs.References.{Ref, peeled_text}
+use Rattle.git_msg.specs.References.{Ref, id_text, peeled_text}
 use Rattle.git_client.specs.Events.{EventValue, capability, offered, reference, ack, nak, ready, shallow, unshallow, wanted_ref, pack, progress, info, ended}
 
 -- a text that may be there, after a word that stands before it
@@ -23,7 +23,7 @@ target_shown target = shown_after (codes " symref-target:") target
 
 -- the line of a reference
 abbrev pub reference_shown : Ref → List ℕ
-reference_shown ref = codes "ref " ++ hex_of ref.id ++ codes " " ++ escaped_of ref.name ++ target_shown ref.target ++ peeled_text ref.peeled ++ codes "\n"
+reference_shown ref = codes "ref " ++ id_text ref.id ++ codes " " ++ escaped_of ref.name ++ target_shown ref.target ++ peeled_text ref.peeled ++ codes "\n"
 
 -- the size of an object, or that it is not there
 abbrev pub size_shown : Option ℕ → List ℕ

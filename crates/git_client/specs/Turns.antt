@@ -237,7 +237,7 @@ capability_value c = capability c.key.now (option_copied c.value)
 abbrev pub values_of : Event → List EventValue
 values_of (CapabilityEvent c) = capability_value c ∷ []
 values_of OfferedEvent = offered ∷ []
-values_of (ReferenceEvent id name target peeled) = reference (reference_of id.now name.now (option_copied target) (option_copied peeled)) ∷ []
+values_of (ReferenceEvent id name target peeled) = reference (reference_of (option_copied id) name.now (option_copied target) (option_copied peeled)) ∷ []
 values_of (AckEvent id) = ack id.now ∷ []
 values_of NakEvent = nak ∷ []
 values_of ReadyEvent = ready ∷ []

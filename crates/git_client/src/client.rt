@@ -465,7 +465,7 @@ fn reference<'a>(places: &'a ReferencePlaces, line: &'a [u8]) -> Event<'a>
 {
     let reference = places.reference(line);
     Event::Reference {
-        id: &places.id,
+        id: places.id.as_ref(),
         name: reference.name,
         target: reference.target,
         peeled: places.peeled.as_ref(),

@@ -22,8 +22,8 @@ pub enum Event<'a> {
     Offered,
     /// A reference, in the response to `ls-refs`.
     Reference {
-        /// The object that it points to.
-        id: &'a Oid,
+        /// The object that it points to; none where it is unborn.
+        id: Option<&'a Oid>,
         /// Its name.
         name: &'a [u8],
         /// For a symbolic reference, where it is told, the name of the reference that it points to.

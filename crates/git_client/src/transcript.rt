@@ -6,7 +6,7 @@ ghost use Rattle.std.specs.Io.KnownBytes.{Appends};
 ghost use Rattle.git_pkt.specs.Told.{inner_of, has_failed, AppendsFront, ReadsNothing};
 ghost use Rattle.git_pkt.specs.Escape.{escaped_of};
 ghost use Rattle.git_names.specs.ObjectName.{hex_of};
-ghost use Rattle.git_msg.specs.References.{reference_of, peeled_text};
+ghost use Rattle.git_msg.specs.References.{reference_of, id_text, peeled_text};
 ghost use Rattle.git_client.specs.Turns.{values_of};
 ghost use Rattle.git_client.specs.Transcript.{lines_of, value_shown, shown_after, reference_shown, size_shown, asked_line};
 
@@ -45,7 +45,7 @@ pub fn write_event<W: Write>(
             name,
             target,
             peeled,
-        } => write_reference(out, id, name, *target, *peeled),
+        } => write_reference(out, *id, name, *target, *peeled),
         Event::Ack(id) => write_named(out, b"ack ", id),
         Event::Nak => send(out, b"nak\n"),
         Event::Ready => send(out, b"ready\n"),
@@ -92,15 +92,15 @@ fn write_capability<W: Write>(
 
 fn write_reference<W: Write>(
     out: &mut Told<W>,
-    id: &Oid,
+    id: Option<&Oid>,
     name: &[u8],
     target: Option<&[u8]>,
     peeled: Option<&Oid>,
 ) -> Result<(), RunFault>
     ensures ok { OnOk result (Appends (W.contents (inner_of out.old)) (W.contents (inner_of out.new))
-        (reference_shown (reference_of id.now name.now (option_copied target.entry) (option_copied peeled.entry)))) }
+        (reference_shown (reference_of (option_copied id.entry) name.now (option_copied target.entry) (option_copied peeled.entry)))) }
     ensures err { OnErr result (AppendsFront (W.contents (inner_of out.old)) (W.contents (inner_of out.new))
-        (reference_shown (reference_of id.now name.now (option_copied target.entry) (option_copied peeled.entry)))) }
+        (reference_shown (reference_of (option_copied id.entry) name.now (option_copied target.entry) (option_copied peeled.entry)))) }
     ensures fault { IfErr result (λ fault. fault ≡ RunFault.WriteFault) }
     ensures failed { has_failed out.new ≡ (has_failed out.old || is_err result) }
     ensures reads { ReadsNothing out.old out.new }
@@ -134,7 +134,7 @@ fn write_wanted<W: Write>(out: &mut Told<W>, id: &Oid, name: &[u8]) -> Result<()
     ensures failed { has_failed out.new ≡ (has_failed out.old || is_err result) }
     ensures reads { ReadsNothing out.old out.new }
 {
-    write_pointed(out, b"wanted-ref ", id, name)?;
+    write_pointed(out, b"wanted-ref ", Some(id), name)?;
     send(out, b"\n")
 }
 
@@ -142,21 +142,35 @@ fn write_wanted<W: Write>(out: &mut Told<W>, id: &Oid, name: &[u8]) -> Result<()
 fn write_pointed<W: Write>(
     out: &mut Told<W>,
     word: &[u8],
-    id: &Oid,
+    id: Option<&Oid>,
     name: &[u8],
 ) -> Result<(), RunFault>
     ensures ok { OnOk result (Appends (W.contents (inner_of out.old)) (W.contents (inner_of out.new))
-        (word.now ++ hex_of id.now ++ codes " " ++ escaped_of name.now)) }
+        (word.now ++ id_text (option_copied id.entry) ++ codes " " ++ escaped_of name.now)) }
     ensures err { OnErr result (AppendsFront (W.contents (inner_of out.old)) (W.contents (inner_of out.new))
-        (word.now ++ hex_of id.now ++ codes " " ++ escaped_of name.now)) }
+        (word.now ++ id_text (option_copied id.entry) ++ codes " " ++ escaped_of name.now)) }
     ensures fault { IfErr result (λ fault. fault ≡ RunFault.WriteFault) }
     ensures failed { has_failed out.new ≡ (has_failed out.old || is_err result) }
     ensures reads { ReadsNothing out.old out.new }
 {
     send(out, word)?;
-    write_id(out, id)?;
+    write_id_text(out, id)?;
     send(out, b" ")?;
     write_escaped(out, name)
+}
+
+/// Writes the word that stands for the object of a reference: its name, or `unborn`.
+fn write_id_text<W: Write>(out: &mut Told<W>, id: Option<&Oid>) -> Result<(), RunFault>
+    ensures ok { OnOk result (Appends (W.contents (inner_of out.old)) (W.contents (inner_of out.new)) (id_text (option_copied id.entry))) }
+    ensures err { OnErr result (AppendsFront (W.contents (inner_of out.old)) (W.contents (inner_of out.new)) (id_text (option_copied id.entry))) }
+    ensures fault { IfErr result (λ fault. fault ≡ RunFault.WriteFault) }
+    ensures failed { has_failed out.new ≡ (has_failed out.old || is_err result) }
+    ensures reads { ReadsNothing out.old out.new }
+{
+    match id {
+        Some(id) => write_id(out, id),
+        None => send(out, b"unborn"),
+    }
 }
 
 /// Writes a word and the name of an object.

@@ -7,10 +7,11 @@ use Rattle.git_msg.specs.declared.arguments.Command.{Command}
 use Rattle.git_msg.specs.declared.arguments.Command.TheVariants.{LsRefs, Fetch, ObjectInfo}
 use Rattle.git_msg.specs.Texts.{last_of}
 use Rattle.git_msg.specs.Arguments.{Arg, symrefs, peel, ref_prefix, want, have, done, thin_pack, no_progress, include_tag, ofs_delta}
-use Rattle.git_msg.specs.Arguments.{shallow, deepen, deepen_relative, deepen_since, deepen_not, want_ref, size, object_id}
+use Rattle.git_msg.specs.Arguments.{shallow, deepen, deepen_relative, deepen_since, deepen_not, want_ref, size, object_id, unborn, wait_for_done}
 use Rattle.git_msg.specs.Asked.{Asked, ls_refs, fetch, object_info, LsRefsAsked, FetchAsked, ObjectInfoAsked, is_symrefs, is_peel, prefix_in}
 use Rattle.git_msg.specs.Asked.{want_in, have_in, is_done, is_thin_pack, is_no_progress, is_include_tag, is_ofs_delta}
-use Rattle.git_msg.specs.Asked.{shallow_in, deepen_in, is_deepen_relative, deepen_since_in, deepen_not_in, want_ref_in, is_size, object_id_in}
+use Rattle.git_msg.specs.Asked.{shallow_in, deepen_in, is_deepen_relative, deepen_since_in, deepen_not_in}
+use Rattle.git_msg.specs.Asked.{want_ref_in, is_size, object_id_in, is_unborn, is_wait_for_done}
 use Rattle.git_msg.specs.Asked.{command_asked, nothing_asked, asked_by, with_argument, where_asked, where_given}
 use Rattle.git_msg.specs.Asked.{pack_arguments, shallow_arguments, object_arguments, arguments_in}
 
@@ -43,7 +44,12 @@ value_before first x (y ∷ ys) = later_given (Some x) first y ys
 -- what some arguments ask for with the others after them
 followed : Asked → Asked → Asked
 followed (ls_refs q) (ls_refs r) =
-    ls_refs (record { symrefs = q.symrefs || r.symrefs; peel = q.peel || r.peel; ref_prefixes = q.ref_prefixes ++ r.ref_prefixes })
+    ls_refs (record {
+      symrefs = q.symrefs || r.symrefs;
+      peel = q.peel || r.peel;
+      unborn = q.unborn || r.unborn;
+      ref_prefixes = q.ref_prefixes ++ r.ref_prefixes;
+    })
 followed (fetch q) (fetch r) = fetch (record {
   wants = q.wants ++ r.wants;
   haves = q.haves ++ r.haves;
@@ -52,6 +58,7 @@ followed (fetch q) (fetch r) = fetch (record {
   no_progress = q.no_progress || r.no_progress;
   include_tag = q.include_tag || r.include_tag;
   ofs_delta = q.ofs_delta || r.ofs_delta;
+  wait_for_done = q.wait_for_done || r.wait_for_done;
   shallows = q.shallows ++ r.shallows;
   deepen = later q.deepen r.deepen;
   deepen_relative = q.deepen_relative || r.deepen_relative;
@@ -72,7 +79,7 @@ or_true false c = refl
 
 nothing_follows : (asked : Asked) → followed asked (asked_by (command_asked asked) []) ≡ asked
 unfolding followed later
-nothing_follows (ls_refs q) = rw (or_false q.symrefs, or_false q.peel, append-nil q.ref_prefixes) refl
+nothing_follows (ls_refs q) = rw (or_false q.symrefs, or_false q.peel, or_false q.unborn, append-nil q.ref_prefixes) refl
 nothing_follows (fetch q) =
     rw (
       append-nil q.wants,
@@ -82,6 +89,7 @@ nothing_follows (fetch q) =
       or_false q.no_progress,
       or_false q.include_tag,
       or_false q.ofs_delta,
+      or_false q.wait_for_done,
       append-nil q.shallows,
       or_false q.deepen_relative,
       append-nil q.deepen_nots,
@@ -94,6 +102,7 @@ one_follows : (asked : Asked) (arg : Arg) (args : List Arg)
 unfolding followed
 one_follows (ls_refs q) symrefs args = rw (or_true q.symrefs (list_any is_symrefs args)) refl
 one_follows (ls_refs q) peel args = rw (or_true q.peel (list_any is_peel args)) refl
+one_follows (ls_refs q) unborn args = rw (or_true q.unborn (list_any is_unborn args)) refl
 one_follows (ls_refs q) (ref_prefix prefix) args = rw (append_assoc q.ref_prefixes (prefix ∷ []) (filter_map prefix_in args)) refl
 one_follows (fetch q) (want id) args = rw (append_assoc q.wants (id ∷ []) (filter_map want_in args)) refl
 one_follows (fetch q) (have id) args = rw (append_assoc q.haves (id ∷ []) (filter_map have_in args)) refl
@@ -102,6 +111,7 @@ one_follows (fetch q) thin_pack args = rw (or_true q.thin_pack (list_any is_thin
 one_follows (fetch q) no_progress args = rw (or_true q.no_progress (list_any is_no_progress args)) refl
 one_follows (fetch q) include_tag args = rw (or_true q.include_tag (list_any is_include_tag args)) refl
 one_follows (fetch q) ofs_delta args = rw (or_true q.ofs_delta (list_any is_ofs_delta args)) refl
+one_follows (fetch q) wait_for_done args = rw (or_true q.wait_for_done (list_any is_wait_for_done args)) refl
 one_follows (fetch q) (shallow id) args = rw (append_assoc q.shallows (id ∷ []) (filter_map shallow_in args)) refl
 one_follows (fetch q) (deepen depth) args = rw (value_before q.deepen depth (filter_map deepen_in args)) refl
 one_follows (fetch q) deepen_relative args = rw (or_true q.deepen_relative (list_any is_deepen_relative args)) refl
@@ -179,6 +189,7 @@ nothing_yet = record {
   no_progress = false;
   include_tag = false;
   ofs_delta = false;
+  wait_for_done = false;
   shallows = [];
   deepen = None;
   deepen_relative = false;
@@ -189,7 +200,13 @@ nothing_yet = record {
 
 abbrev with_pack : FetchAsked → FetchAsked
 with_pack q =
-    record nothing_yet { thin_pack = q.thin_pack; no_progress = q.no_progress; include_tag = q.include_tag; ofs_delta = q.ofs_delta }
+    record nothing_yet {
+      thin_pack = q.thin_pack;
+      no_progress = q.no_progress;
+      include_tag = q.include_tag;
+      ofs_delta = q.ofs_delta;
+      wait_for_done = q.wait_for_done;
+    }
 
 abbrev with_shallow : FetchAsked → FetchAsked
 with_shallow q = record (with_pack q) {
@@ -206,10 +223,12 @@ pack_then q others asked rest =
     let thin : FetchAsked = record nothing_yet { thin_pack = q.thin_pack } in
     let quiet : FetchAsked = record thin { no_progress = q.no_progress } in
     let tagged : FetchAsked = record quiet { include_tag = q.include_tag } in
+    let based : FetchAsked = record tagged { ofs_delta = q.ofs_delta } in
     flag_then (λ b. fetch (record nothing_yet { thin_pack = b })) thin_pack q.thin_pack _ asked refl
     (flag_then (λ b. fetch (record thin { no_progress = b })) no_progress q.no_progress _ asked refl
     (flag_then (λ b. fetch (record quiet { include_tag = b })) include_tag q.include_tag _ asked refl
-    (flag_then (λ b. fetch (record tagged { ofs_delta = b })) ofs_delta q.ofs_delta others asked refl rest)))
+    (flag_then (λ b. fetch (record tagged { ofs_delta = b })) ofs_delta q.ofs_delta _ asked refl
+    (flag_then (λ b. fetch (record based { wait_for_done = b })) wait_for_done q.wait_for_done others asked refl rest))))
 
 shallow_then : (q : FetchAsked) (others : List Arg) (asked : Asked) → fold with_argument (fetch (with_shallow q)) others ≡ asked
     → fold with_argument (fetch (with_pack q)) (shallow_arguments q others) ≡ asked
@@ -237,12 +256,14 @@ objects_then q =
 
 in_turn : (asked : Asked) → fold with_argument (nothing_asked (command_asked asked)) (arguments_in asked) ≡ asked
 in_turn (ls_refs q) =
-    let none : LsRefsAsked = record { symrefs = false; peel = false; ref_prefixes = [] } in
+    let none : LsRefsAsked = record { symrefs = false; peel = false; unborn = false; ref_prefixes = [] } in
     let peeled : LsRefsAsked = record none { peel = q.peel } in
-    let flags : LsRefsAsked = record peeled { symrefs = q.symrefs } in
+    let named : LsRefsAsked = record peeled { symrefs = q.symrefs } in
+    let flags : LsRefsAsked = record named { unborn = q.unborn } in
     flag_then (λ b. ls_refs (record none { peel = b })) peel q.peel _ (ls_refs q) refl
     (flag_then (λ b. ls_refs (record peeled { symrefs = b })) symrefs q.symrefs _ (ls_refs q) refl
-    (list_added (λ (ps : List (List ℕ)). ls_refs (record flags { ref_prefixes = ps })) ref_prefix [] q.ref_prefixes (λ ps p. refl)))
+    (flag_then (λ b. ls_refs (record named { unborn = b })) unborn q.unborn _ (ls_refs q) refl
+    (list_added (λ (ps : List (List ℕ)). ls_refs (record flags { ref_prefixes = ps })) ref_prefix [] q.ref_prefixes (λ ps p. refl))))
 in_turn (fetch q) = pack_then q _ (fetch q) (shallow_then q _ (fetch q) (objects_then q))
 in_turn (object_info q) =
     let none : ObjectInfoAsked = record { size = false; oids = [] } in

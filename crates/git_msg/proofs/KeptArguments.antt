@@ -15,20 +15,19 @@ use Rattle.git_msg.specs.declared.reader.Part.{Part}
 use Rattle.git_msg.specs.declared.reader.Part.TheVariants.{Arguments, Waiting, Failed}
 use Rattle.git_msg.specs.declared.reader.RequestReader.{RequestReader}
 use Rattle.git_msg.specs.Arguments.{Arg, symrefs, peel, ref_prefix, want, have, done, thin_pack, no_progress, include_tag, ofs_delta}
-use Rattle.git_msg.specs.Arguments.{shallow, deepen, deepen_relative, deepen_since, deepen_not, want_ref, size, object_id}
+use Rattle.git_msg.specs.Arguments.{shallow, deepen, deepen_relative, deepen_since, deepen_not, want_ref, size, object_id, unborn, wait_for_done}
 use Rattle.git_msg.specs.Arguments.{SaysArgument, IsDepth, IsTime, IsNumberIn, IsArgument, IsOutOfRange, IsValueFault, written_text, TakesMemory}
-use Rattle.git_msg.specs.Arguments.{IsInRange}
 use Rattle.git_msg.specs.Texts.{Follows}
 use Rattle.git_msg.proofs.KeptBytes.{stored_fits}
 use Rattle.git_msg.specs.Asked.{asked_by, with_argument}
 use Rattle.git_msg.specs.Checks.{Passes}
-use Rattle.git_msg.specs.HeldRequest.{command_of, format_of, kept_of, limit_of, stored_of, IsBounded, Keeps, keep_checks, IsRefused}
+use Rattle.git_msg.specs.HeldRequest.{command_of, format_of, kept_of, limit_of, IsBounded, Keeps, keep_checks, IsRefused}
 use Rattle.git_msg.specs.Lines.{Line, argument, commands_of, arguments_of, IsLine, IsArgumentLine, HasFault, HasFaultIn}
 use Rattle.git_msg.specs.Requests.{AreLines, FirstFault, WantsMemory, IsTold}
 use Rattle.git_msg.specs.RequestReader.{WaitsIn, WaitsBehind, InArguments, KeepsOn, limit_in, waiting_at, waiting_bytes}
 use Rattle.git_msg.proofs.ArgumentsInOrder.{asked_snoc}
 use Rattle.git_msg.proofs.DigitValues.{decimal_is_shortest}
-use Rattle.git_msg.proofs.Rows.{revision_or_none}
+use Rattle.git_msg.proofs.Rows.{kept_text_or_none}
 use Rattle.git_msg.proofs.WrittenNames.{length-hex_of, named_in}
 use Rattle.git_msg.proofs.LineLists.{commands_snoc, arguments_snoc, delimiter_snoc, kept_snoc, lines_snoc, argument_is_line}
 
@@ -89,6 +88,7 @@ number_line word InRange text number small h =
 pub as_written : (format : Format) (text : List ℕ) (arg : Arg) → SaysArgument format text arg → length (written_text arg) ≤ length text
 as_written format text symrefs h = let e = ap length h in omega arith
 as_written format text peel h = let e = ap length h in omega arith
+as_written format text unborn h = let e = ap length h in omega arith
 as_written format text (ref_prefix p) h = let e = ap length h.0 in omega arith
 as_written format text (want id) h = name_line (codes "want ") format text id h
 as_written format text (have id) h = name_line (codes "have ") format text id h
@@ -97,6 +97,7 @@ as_written format text thin_pack h = let e = ap length h in omega arith
 as_written format text no_progress h = let e = ap length h in omega arith
 as_written format text include_tag h = let e = ap length h in omega arith
 as_written format text ofs_delta h = let e = ap length h in omega arith
+as_written format text wait_for_done h = let e = ap length h in omega arith
 as_written format text (shallow id) h = name_line (codes "shallow ") format text id h
 as_written format text (deepen depth) h =
     let small = h.holds.in_range.1 in number_line (codes "deepen ") IsDepth text depth (omega arith) h
@@ -202,7 +203,7 @@ range_or_fault format text (have id) kind h fault = fault.0 h.holds.of_format
 range_or_fault format text (shallow id) kind h fault = fault.0 h.holds.of_format
 range_or_fault format text (deepen depth) kind h fault = fault.0 h.holds.in_range
 range_or_fault format text (deepen_since time) kind h fault = fault.0 h.holds.in_range
-range_or_fault format text (deepen_not revision) kind h fault = revision_or_none revision h.1 fault.0
+range_or_fault format text (deepen_not revision) kind h fault = kept_text_or_none revision h.1 fault.0
 range_or_fault format text (want_ref name) kind h fault = fault.0 h.1
 range_or_fault format text (object_id id) kind h fault = fault.0 h.holds.of_format
 range_or_fault format text arg kind h fault = fault

@@ -17,7 +17,7 @@ use Rattle.git_msg.specs.declared.arguments.Argument.{Argument}
 use Rattle.git_msg.specs.declared.arguments.Command.{Command}
 use Rattle.git_msg.specs.declared.arguments.Command.TheVariants.{LsRefs, Fetch, ObjectInfo}
 use Rattle.git_msg.specs.Arguments.{Arg, symrefs, peel, ref_prefix, want, have, done, thin_pack, no_progress, include_tag, ofs_delta, shown, command_with}
-use Rattle.git_msg.specs.Arguments.{shallow, deepen, deepen_relative, deepen_since, deepen_not, want_ref, size, object_id}
+use Rattle.git_msg.specs.Arguments.{shallow, deepen, deepen_relative, deepen_since, deepen_not, want_ref, size, object_id, unborn, wait_for_done}
 use Rattle.git_msg.specs.Arguments.{most_text, IsInRange, IsValue, stored_in, written_text}
 use Rattle.git_msg.specs.Asked.{Asked, LsRefsAsked, FetchAsked, ObjectInfoAsked, ls_refs, fetch, object_info, command_asked, with_ls_refs}
 use Rattle.git_msg.specs.Asked.{with_fetch, with_object_info, with_argument, where_asked, where_given, pack_arguments, shallow_arguments, object_arguments}
@@ -76,11 +76,14 @@ adds_to_list make values value back = adds_before back _ (make value) _ (adds_la
 
 -- so is the list of what is asked for with one more: a row for each kind of argument
 adds_ls_refs : (q : LsRefsAsked) (arg : Arg) → command_with arg ≡ LsRefs → Adds (arguments_in (ls_refs q)) arg (arguments_in (ls_refs (with_ls_refs q arg)))
-adds_ls_refs q peel of = adds_flag q.peel peel (where_asked q.symrefs symrefs ++ map ref_prefix q.ref_prefixes)
-adds_ls_refs q symrefs of = adds_after (where_asked q.peel peel) _ symrefs _ (adds_flag q.symrefs symrefs (map ref_prefix q.ref_prefixes))
+adds_ls_refs q peel of = adds_flag q.peel peel _
+adds_ls_refs q symrefs of = adds_after (where_asked q.peel peel) _ symrefs _ (adds_flag q.symrefs symrefs _)
+adds_ls_refs q unborn of =
+    adds_after (where_asked q.peel peel) _ unborn _ (adds_after (where_asked q.symrefs symrefs) _ unborn _ (adds_flag q.unborn unborn _))
 adds_ls_refs q (ref_prefix prefix) of =
     adds_after (where_asked q.peel peel) _ (ref_prefix prefix) _
-    (adds_after (where_asked q.symrefs symrefs) _ (ref_prefix prefix) _ (adds_last ref_prefix q.ref_prefixes prefix))
+    (adds_after (where_asked q.symrefs symrefs) _ (ref_prefix prefix) _
+    (adds_after (where_asked q.unborn unborn) _ (ref_prefix prefix) _ (adds_last ref_prefix q.ref_prefixes prefix)))
 adds_ls_refs q arg of = absurd (cc)
 
 -- other arguments of a fetch after how the pack is to be sent
@@ -88,7 +91,8 @@ after_pack : (q : FetchAsked) (old : List Arg) (arg : Arg) (new : List Arg) → 
 after_pack q old arg new h =
     adds_after (where_asked q.thin_pack thin_pack) _ arg _
     (adds_after (where_asked q.no_progress no_progress) _ arg _
-    (adds_after (where_asked q.include_tag include_tag) _ arg _ (adds_after (where_asked q.ofs_delta ofs_delta) old arg new h)))
+    (adds_after (where_asked q.include_tag include_tag) _ arg _ (adds_after (where_asked q.ofs_delta ofs_delta) _ arg _
+    (adds_after (where_asked q.wait_for_done wait_for_done) old arg new h))))
 
 -- and after how the history is cut off
 after_shallow : (q : FetchAsked) (old : List Arg) (arg : Arg) (new : List Arg) → Adds old arg new
@@ -109,6 +113,11 @@ adds_fetch q ofs_delta of =
     adds_after (where_asked q.thin_pack thin_pack) _ ofs_delta _
     (adds_after (where_asked q.no_progress no_progress) _ ofs_delta _
     (adds_after (where_asked q.include_tag include_tag) _ ofs_delta _ (adds_flag q.ofs_delta ofs_delta _)))
+adds_fetch q wait_for_done of =
+    adds_after (where_asked q.thin_pack thin_pack) _ wait_for_done _
+    (adds_after (where_asked q.no_progress no_progress) _ wait_for_done _
+    (adds_after (where_asked q.include_tag include_tag) _ wait_for_done _
+    (adds_after (where_asked q.ofs_delta ofs_delta) _ wait_for_done _ (adds_flag q.wait_for_done wait_for_done _))))
 adds_fetch q (shallow id) of = after_pack q _ (shallow id) _ (adds_to_list shallow q.shallows id _)
 adds_fetch q (deepen depth) of =
     after_pack q _ (deepen depth) _ (adds_after (map shallow q.shallows) _ (deepen depth) _ (adds_value deepen q.deepen depth _))
@@ -188,6 +197,7 @@ counted_more format asked arg kept long h value counted =
 pub stored_fits : (format : Format) (arg : Arg) → IsInRange format arg → stored_in arg ≤ length (written_text arg)
 stored_fits format symrefs value = omega arith
 stored_fits format peel value = omega arith
+stored_fits format unborn value = omega arith
 stored_fits format (ref_prefix prefix) value = omega (arith, length-append (codes "ref-prefix ") prefix)
 stored_fits format (want id) value = omega (arith, hex_of-at_least format id value, length-append (codes "want ") (hex_of id))
 stored_fits format (have id) value = omega (arith, hex_of-at_least format id value, length-append (codes "have ") (hex_of id))
@@ -196,6 +206,7 @@ stored_fits format thin_pack value = omega arith
 stored_fits format no_progress value = omega arith
 stored_fits format include_tag value = omega arith
 stored_fits format ofs_delta value = omega arith
+stored_fits format wait_for_done value = omega arith
 stored_fits format (shallow id) value = omega (arith, hex_of-at_least format id value, length-append (codes "shallow ") (hex_of id))
 stored_fits format (deepen depth) value = omega arith
 stored_fits format deepen_relative value = omega arith
@@ -209,6 +220,7 @@ stored_fits format (object_id id) value = omega (arith, hex_of-at_least format i
 has_text : (arg : Arg) → 1 ≤ length (written_text arg)
 has_text symrefs = omega arith
 has_text peel = omega arith
+has_text unborn = omega arith
 has_text (ref_prefix prefix) = omega (arith, length-append (codes "ref-prefix ") prefix)
 has_text (want id) = omega (arith, length-append (codes "want ") (hex_of id))
 has_text (have id) = omega (arith, length-append (codes "have ") (hex_of id))
@@ -217,6 +229,7 @@ has_text thin_pack = omega arith
 has_text no_progress = omega arith
 has_text include_tag = omega arith
 has_text ofs_delta = omega arith
+has_text wait_for_done = omega arith
 has_text (shallow id) = omega (arith, length-append (codes "shallow ") (hex_of id))
 has_text (deepen depth) = omega (arith, length-append (codes "deepen ") (decimal depth))
 has_text deepen_relative = omega arith
@@ -234,6 +247,7 @@ count_at_most (arg ∷ args) = omega (arith, has_text arg, count_at_most args, s
 pub value_fits : (format : Format) (arg : Arg) → IsInRange format arg → length (written_text arg) < longest_payload
 value_fits format symrefs value = omega arith
 value_fits format peel value = omega arith
+value_fits format unborn value = omega arith
 value_fits format (ref_prefix prefix) value = omega (arith, value, length-append (codes "ref-prefix ") prefix)
 value_fits format (want id) value = omega (arith, hex_of-at_most format id value, length-append (codes "want ") (hex_of id))
 value_fits format (have id) value = omega (arith, hex_of-at_most format id value, length-append (codes "have ") (hex_of id))
@@ -242,6 +256,7 @@ value_fits format thin_pack value = omega arith
 value_fits format no_progress value = omega arith
 value_fits format include_tag value = omega arith
 value_fits format ofs_delta value = omega arith
+value_fits format wait_for_done value = omega arith
 value_fits format (shallow id) value = omega (arith, hex_of-at_most format id value, length-append (codes "shallow ") (hex_of id))
 value_fits format (deepen depth) value =
     omega (arith, decimal_fits depth (omega (arith, value.1)), length-append (codes "deepen ") (decimal depth))
@@ -285,14 +300,15 @@ prefix_fits format q kept i (Some prefix) h same =
     let P : Arg → Type 0 = IsValue LsRefs format in
     let prefixes : List Arg = map ref_prefix q.ref_prefixes in
     let values : All P prefixes =
-    all_back P (where_asked q.symrefs symrefs) prefixes (all_back P (where_asked q.peel peel) (where_asked q.symrefs symrefs ++ prefixes) h.values) in
+    all_back P (where_asked q.unborn unborn) prefixes (all_back P (where_asked q.symrefs symrefs) _ (all_back P (where_asked q.peel peel) _ h.values)) in
     let value = all_at P prefixes i (ref_prefix prefix.now) values (slice_get-map ref_prefix q.ref_prefixes i ∙ ap (option_map ref_prefix) (sym same)) in
     value.1
 
 all_pack : (P : Arg → Type 0) (q : FetchAsked) (others : List Arg) → All P (pack_arguments q others) → All P others
 all_pack P q others h =
-    all_back P (where_asked q.ofs_delta ofs_delta) _ (all_back P (where_asked q.include_tag include_tag) _
-    (all_back P (where_asked q.no_progress no_progress) _ (all_back P (where_asked q.thin_pack thin_pack) _ h)))
+    all_back P (where_asked q.wait_for_done wait_for_done) _ (all_back P (where_asked q.ofs_delta ofs_delta) _
+    (all_back P (where_asked q.include_tag include_tag) _ (all_back P (where_asked q.no_progress no_progress) _
+    (all_back P (where_asked q.thin_pack thin_pack) _ h))))
 
 all_shallow : (P : Arg → Type 0) (q : FetchAsked) (others : List Arg) → All P (shallow_arguments q others) → All P others
 all_shallow P q others h =

@@ -1,14 +1,15 @@
 -- A request some of whose prefixes are dropped, and the others moved: it is counted as before.
-use Rattle.std.proofs.Common.{◌≡◌, ℕ, suc, ◌+◌, ◌≤◌, ◌<◌, Bool, true, false, if◌then◌else◌, List, [], ◌∷◌, ◌++◌, All, length, map, refl, sym, subst, arith}
+use Rattle.std.proofs.Common.{◌≡◌, ℕ, ◌+◌, ◌≤◌, ◌<◌, Bool, true, false, if◌then◌else◌, List, [], ◌∷◌, ◌++◌, All, length, map}
+use Rattle.std.proofs.Common.{ap, sym, ◌∙◌, subst, arith, append_assoc}
 use Rattle.std.specs.List.{dedup, dedup_from, sum_by}
 use Rattle.std.specs.List.Sorted.{IsPermutation}
 use Rattle.std.proofs.lemmas.List.{get_or-map, length-map}
 use Rattle.std.proofs.lemmas.List.Elements.{All-append}
 use Rattle.std.proofs.lemmas.List.Sums.{sum_by-append, sum_by-cons}
 use Rattle.std.proofs.lemmas.List.Filters.{All-dedup}
-use Rattle.std.proofs.lemmas.List.Sorted.{All-permutation, IsPermutation-append_right, IsPermutation-map, sum_by-IsPermutation}
+use Rattle.std.proofs.lemmas.List.Sorted.{All-permutation, IsPermutation-map, sum_by-IsPermutation}
 use Rattle.git_names.specs.declared.object_format.Format.{Format}
-use Rattle.git_msg.specs.Arguments.{Arg, IsValue, peel, symrefs, ref_prefix, written_text}
+use Rattle.git_msg.specs.Arguments.{Arg, IsValue, peel, symrefs, unborn, ref_prefix, written_text}
 use Rattle.git_msg.specs.Asked.{LsRefsAsked, arguments_in, bytes_of, command_asked, ls_refs, where_asked}
 use Rattle.git_msg.specs.Kept.{IsCounted}
 use Rattle.git_msg.specs.Prefixes.{Prunes, begins}
@@ -64,31 +65,40 @@ module _ (P : Arg → Type 0) (make : List ℕ → Arg) where
   all_moved xs ys moved = All-permutation P (map make xs) (map make ys) (IsPermutation-map make xs ys moved)
 
   -- the same behind other arguments
-  pub values_pruned : (front others : List Arg) (xs ys : List (List ℕ)) → IsPermutation xs ys
-      → All P (front ++ (others ++ map make xs)) → All P (front ++ (others ++ map make (dedup begins ys)))
-  values_pruned front others xs ys moved =
-      all_behind front (others ++ map make xs) (others ++ map make (dedup begins ys))
-      (all_behind others (map make xs) (map make (dedup begins ys)) (λ h. all_pruned ys (all_moved xs ys moved h)))
+  pub values_pruned : (front : List Arg) (xs ys : List (List ℕ)) → IsPermutation xs ys
+      → All P (front ++ map make xs) → All P (front ++ map make (dedup begins ys))
+  values_pruned front xs ys moved = all_behind front (map make xs) (map make (dedup begins ys)) (λ h. all_pruned ys (all_moved xs ys moved h))
 
-  pub bytes_pruned : (front others : List Arg) (xs ys : List (List ℕ)) → IsPermutation xs ys
-      → sum_by weight (front ++ (others ++ map make (dedup begins ys))) ≤ sum_by weight (front ++ (others ++ map make xs))
-  bytes_pruned front others xs ys moved =
-      let before = sum_by-append weight front (others ++ map make xs) in
-      let before_others = sum_by-append weight others (map make xs) in
-      let after = sum_by-append weight front (others ++ map make (dedup begins ys)) in
-      let after_others = sum_by-append weight others (map make (dedup begins ys)) in
+  pub bytes_pruned : (front : List Arg) (xs ys : List (List ℕ)) → IsPermutation xs ys
+      → sum_by weight (front ++ map make (dedup begins ys)) ≤ sum_by weight (front ++ map make xs)
+  bytes_pruned front xs ys moved =
+      let before = sum_by-append weight front (map make xs) in
+      let after = sum_by-append weight front (map make (dedup begins ys)) in
       let same = sum_by-IsPermutation weight (map make xs) (map make ys) (IsPermutation-map make xs ys moved) in
       let less = less_pruned ys in
-      omega (arith, before, before_others, after, after_others, same, less)
+      omega (arith, before, after, same, less)
+
+-- the prefixes of an ls-refs request stand after its flags
+flags : LsRefsAsked → List Arg
+flags q = where_asked q.peel peel ++ (where_asked q.symrefs symrefs ++ where_asked q.unborn unborn)
+
+after_flags : (q : LsRefsAsked) (ps : List (List ℕ)) → arguments_in (ls_refs (record q { ref_prefixes = ps })) ≡ flags q ++ map ref_prefix ps
+unfolding flags
+after_flags q ps =
+    let prefixes : List Arg = map ref_prefix ps in
+    sym (append_assoc (where_asked q.peel peel) (where_asked q.symrefs symrefs ++ where_asked q.unborn unborn) prefixes
+    ∙ ap (λ (args : List Arg). where_asked q.peel peel ++ args) (append_assoc (where_asked q.symrefs symrefs) (where_asked q.unborn unborn) prefixes))
 
 pub counted_pruned : (format : Format) (q : LsRefsAsked) (ps : List (List ℕ)) (kept : ℕ) → Prunes q.ref_prefixes ps → IsCounted format (ls_refs q) kept
     → IsCounted format (ls_refs (record q { ref_prefixes = ps })) kept
 counted_pruned format q ps kept prunes counted =
     let P : Arg → Type 0 = IsValue (command_asked (ls_refs q)) format in
-    let front : List Arg = where_asked q.peel peel in
-    let others : List Arg = where_asked q.symrefs symrefs in
+    let pruned : List (List ℕ) = dedup begins prunes.moved in
+    let before : arguments_in (ls_refs q) ≡ flags q ++ map ref_prefix q.ref_prefixes = after_flags q q.ref_prefixes in
+    let after : arguments_in (ls_refs (record q { ref_prefixes = pruned })) ≡ flags q ++ map ref_prefix pruned = after_flags q pruned in
     rw prunes.kept (record {
-      values = values_pruned P ref_prefix front others q.ref_prefixes prunes.moved prunes.same counted.values;
-      written = let less = bytes_pruned P ref_prefix front others q.ref_prefixes prunes.moved prunes.same in let written = counted.written in omega
-          (arith, less, written);
+      values = subst (All P) (sym after) (values_pruned P ref_prefix (flags q) q.ref_prefixes prunes.moved prunes.same
+          (subst (All P) before counted.values));
+      written = let less = bytes_pruned P ref_prefix (flags q) q.ref_prefixes prunes.moved prunes.same in
+          let written = counted.written in omega (arith, less, written, ap bytes_of before, ap bytes_of after);
     })

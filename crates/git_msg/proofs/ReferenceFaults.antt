@@ -1,12 +1,12 @@
 -- A reference line is taken or refused, not both, and refused by one name.
-use Rattle.std.proofs.Common.{arith, ◌≡◌, ℕ, List, [], ◌∷◌, ◌++◌, refl, ap, sym, ◌∙◌, subst, slice_index, codes}
-use Rattle.git_names.specs.ObjectName.{ObjectName, IsObjectName, IsNoObjectName}
+use Rattle.std.proofs.Common.{arith, ◌≡◌, ℕ, Option, Some, None, List, [], ◌∷◌, ◌++◌, refl, ap, sym, ◌∙◌, subst, slice_index, codes}
+use Rattle.git_names.specs.ObjectName.{ObjectName}
 use Rattle.git_names.specs.RefName.{IsRefName}
 use Rattle.git_names.specs.declared.object_format.Format.{Format}
 use Rattle.git_pkt.specs.declared.fault.Kind.{Kind}
 use Rattle.git_pkt.specs.declared.fault.Kind.TheVariants.{BadLine, BadObjectName, BadRefName}
 use Rattle.git_msg.specs.Checks.{Refuses, Passes}
-use Rattle.git_msg.specs.References.{Ref, IsAttribute, IsAttributeFault, IsReferenceLine, IsReferenceFault, attribute_checks, reference_checks}
+use Rattle.git_msg.specs.References.{Ref, IsAttribute, IsAttributeFault, IsIdText, IsNoIdText, IsReferenceLine, IsReferenceFault, attribute_checks, reference_checks}
 use Rattle.git_msg.proofs.CheckLaws.{AllFair, passes_or_refuses, one_name, fair_check}
 
 attribute_apart : (format : Format) (word : List ℕ) (kind : Kind) → IsAttribute format word → IsAttributeFault format word kind → ⊥
@@ -34,12 +34,16 @@ fair_attributes format [] = tt
 fair_attributes format (word ∷ words) =
     (record { apart = attribute_apart format word; single = attribute_single format word }, fair_attributes format words)
 
+id_or_none : (format : Format) (word : List ℕ) (named : Option ObjectName) → IsIdText format word named → IsNoIdText format word → ⊥
+id_or_none format word None h none = none.0 h
+id_or_none format word (Some id) h none = none.1 id h
+
 fair_reference : (format : Format) (words : List (List ℕ)) → AllFair (reference_checks format words)
 unfolding AllFair
 fair_reference format [] = (fair_check ⊥ (Unit {0}) BadLine (λ p q. p), tt)
 fair_reference format (word ∷ []) = (fair_check ⊥ (Unit {0}) BadLine (λ p q. p), tt)
 fair_reference format (id ∷ name ∷ attributes) = (
-  fair_check ((named : ObjectName) × IsObjectName format id named) (IsNoObjectName format id) BadObjectName (λ p q. q p.0 p.1),
+  fair_check ((named : Option ObjectName) × IsIdText format id named) (IsNoIdText format id) BadObjectName (λ p q. id_or_none format id p.0 p.1 q),
   (fair_check (IsRefName name) (¬ IsRefName name) BadRefName (λ p q. q p), fair_attributes format attributes),
 )
 

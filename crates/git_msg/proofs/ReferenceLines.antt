@@ -15,8 +15,8 @@ use Rattle.git_names.proofs.WrittenForms.{digits-object_name}
 use Rattle.git_msg.specs.Texts.{spaced_words, last_of}
 use Rattle.git_msg.specs.Checks.{Passes}
 use Rattle.git_msg.proofs.WrittenNames.{digits_at_most}
-use Rattle.git_msg.specs.References.{reference_of, IsAttribute, IsReferenceLine, IsMaybeObjectName, IsWritable, values_of, attribute_checks}
-use Rattle.git_msg.specs.References.{target_text, peeled_text, peeled_count, reference_text}
+use Rattle.git_msg.specs.References.{reference_of, HasFormat, IsAttribute, IsIdText, IsReferenceLine, IsMaybeObjectName, IsWritable, values_of, attribute_checks}
+use Rattle.git_msg.specs.References.{id_length, id_text, target_text, peeled_text, peeled_count, reference_text}
 
 eq_false : (c : ℕ) → c ≢ 32 → (c == 32) ≡ false
 eq_false c h = grind (arith, nat_tests)
@@ -112,20 +112,33 @@ tail_words name (Some t) (Some p) h targets names =
     ∙ ap (λ (ws : List (List ℕ)). (codes "symref-target:" ++ t) ∷ ws) (word_alone (codes "peeled:" ++ hex_of p)
     (unspaced_peeled p.format p (names p refl))))
 
--- a peeled object of the line's format
-of_format : (format : Format) (id p : ObjectName) (peeled : Option ObjectName) → peeled ≡ Some p
-    → ((q : ObjectName) → peeled ≡ Some q → q.format ≡ id.format) → id.format ≡ format → IsObjectName p.format (hex_of p) p
-    → IsObjectName format (hex_of p) p
-of_format format id p peeled e formats same named = subst (λ (f : Format). IsObjectName f (hex_of p) p) (formats p e ∙ same) named
+-- what stands for the object is one word, and says it
+id_unspaced : (format : Format) (id : Option ObjectName) → IsIdText format (id_text id) id → All (λ c. (c == 32) ≡ false) (id_text id)
+id_unspaced format None h = tested (codes "unborn") refl
+id_unspaced format (Some id) h = digits_are_unspaced format (hex_of id) id h
 
-attributes_pass : (format : Format) (id : ObjectName) (target : Option (List ℕ)) (peeled : Option ObjectName)
+id_says : (format : Format) (id : Option ObjectName) → ((named : ObjectName) → id ≡ Some named → named.format ≡ format)
+    → ((named : ObjectName) → id ≡ Some named → IsObjectName named.format (hex_of named) named) → IsIdText format (id_text id) id
+id_says format None formats named = refl
+id_says format (Some id) formats named = subst (λ (f : Format). IsObjectName f (hex_of id) id) (formats id refl) (named id refl)
+
+id_at_most : (id : Option ObjectName) → id_length id ≤ 64
+id_at_most None = lit≤ tt
+id_at_most (Some id) = digits_at_most id.format
+
+-- a peeled object of the line's format
+of_format : (format : Format) (p : ObjectName) (peeled : Option ObjectName) → peeled ≡ Some p
+    → ((q : ObjectName) → peeled ≡ Some q → q.format ≡ format) → IsObjectName p.format (hex_of p) p → IsObjectName format (hex_of p) p
+of_format format p peeled e formats named = subst (λ (f : Format). IsObjectName f (hex_of p) p) (formats p e) named
+
+attributes_pass : (format : Format) (target : Option (List ℕ)) (peeled : Option ObjectName)
     → ((t : List ℕ) → target ≡ Some t → IsRefName t) → ((p : ObjectName) → peeled ≡ Some p → IsObjectName format (hex_of p) p)
     → Passes (attribute_checks format (target_words target ++ peeled_words peeled))
 unfolding target_words peeled_words
-attributes_pass format id None None targets names = tt
-attributes_pass format id (Some t) None targets names = (target_attribute format t (targets t refl), tt)
-attributes_pass format id None (Some p) targets names = (peeled_attribute format (hex_of p) p (names p refl), tt)
-attributes_pass format id (Some t) (Some p) targets names =
+attributes_pass format None None targets names = tt
+attributes_pass format (Some t) None targets names = (target_attribute format t (targets t refl), tt)
+attributes_pass format None (Some p) targets names = (peeled_attribute format (hex_of p) p (names p refl), tt)
+attributes_pass format (Some t) (Some p) targets names =
     (target_attribute format t (targets t refl), (peeled_attribute format (hex_of p) p (names p refl), tt))
 
 target_last : (target : Option (List ℕ)) (peeled : Option ObjectName)
@@ -146,21 +159,23 @@ peeled_last format None (Some p) names = (p, names p refl, refl)
 peeled_last format (Some t) (Some p) names = (p, names p refl, refl)
 
 -- what is written of a reference reads back
-pub reads_back : (format : Format) (id : ObjectName) (name : List ℕ) (target : Option (List ℕ)) (peeled : Option ObjectName)
-    → IsWritable (reference_of id name target peeled) → id.format ≡ format → IsObjectName format (hex_of id) id
+pub reads_back : (format : Format) (id : Option ObjectName) (name : List ℕ) (target : Option (List ℕ)) (peeled : Option ObjectName)
+    → IsWritable (reference_of id name target peeled) → HasFormat format (reference_of id name target peeled)
+    → ((named : ObjectName) → id ≡ Some named → IsObjectName named.format (hex_of named) named)
     → ((p : ObjectName) → peeled ≡ Some p → IsObjectName p.format (hex_of p) p)
     → IsReferenceLine format (reference_text (reference_of id name target peeled)) (reference_of id name target peeled)
-reads_back format id name target peeled w same named others =
-    let names : (p : ObjectName) → peeled ≡ Some p → IsObjectName format (hex_of p) p = λ p e. of_format format id p peeled e w.peeled same (others p e) in
+reads_back format id name target peeled w formats named others =
+    let says : IsIdText format (id_text id) id = id_says format id formats.by_id named in
+    let names : (p : ObjectName) → peeled ≡ Some p → IsObjectName format (hex_of p) p = λ p e. of_format format p peeled e formats.by_peeled (others p e) in
     record {
-      id = hex_of id;
+      id = id_text id;
       attributes = target_words target ++ peeled_words peeled;
-      words = words_of_two (hex_of id) (name ++ target_text target ++ peeled_text peeled) (digits_are_unspaced format (hex_of id) id named)
-          ∙ ap (λ (ws : List (List ℕ)). hex_of id ∷ ws) (tail_words name target peeled w.name w.target others);
-      id_is = named;
+      words = words_of_two (id_text id) (name ++ target_text target ++ peeled_text peeled) (id_unspaced format id says)
+          ∙ ap (λ (ws : List (List ℕ)). id_text id ∷ ws) (tail_words name target peeled w.name w.target others);
+      id_is = says;
       name_is = w.name;
       attributes_are = record {
-        passes = attributes_pass format id target peeled w.target names;
+        passes = attributes_pass format target peeled w.target names;
         target_is = target_last target peeled;
         peeled_is = peeled_last format target peeled names;
       };
@@ -175,20 +190,20 @@ peeled_fits None = lit≤ tt
 peeled_fits (Some p) = omega (arith, digits_at_most p.format)
 
 -- there is room for the line's end
-pub room : (id : ObjectName) (name : List ℕ) (target : Option (List ℕ)) (peeled : Option ObjectName) (a b c d e f head : List ℕ)
-    → IsWritable (reference_of id name target peeled) → length head ≡ 4 → IsObjectName id.format (hex_of id) id
-    → length (peeled_text peeled) ≡ peeled_count peeled → a ≡ head → b ≡ a ++ hex_of id → c ≡ b ++ 32 ∷ [] → d ≡ c ++ name → e ≡ d ++ target_text target
+pub room : (id : Option ObjectName) (name : List ℕ) (target : Option (List ℕ)) (peeled : Option ObjectName) (a b c d e f head : List ℕ)
+    → IsWritable (reference_of id name target peeled) → length head ≡ 4 → length (id_text id) ≡ id_length id
+    → length (peeled_text peeled) ≡ peeled_count peeled → a ≡ head → b ≡ a ++ id_text id → c ≡ b ++ 32 ∷ [] → d ≡ c ++ name → e ≡ d ++ target_text target
     → f ≡ e ++ peeled_text peeled → length f + 1 ≤ 65520
-room id name target peeled a b c d e f head w four named count ha hb hc hd he hf =
+room id name target peeled a b c d e f head w four first count ha hb hc hd he hf =
     let most = w.name.at_most in
-    let digits = named.count in
     omega (
       arith,
-      digits_at_most id.format,
+      first,
+      id_at_most id,
       target_fits target w.target,
       peeled_fits peeled,
       ap length ha,
-      ap length hb ∙ length-append a (hex_of id),
+      ap length hb ∙ length-append a (id_text id),
       ap length hc ∙ length-append b (32 ∷ []),
       ap length hd ∙ length-append c name,
       ap length he ∙ length-append d (target_text target),

@@ -21,7 +21,7 @@ use Rattle.git_msg.specs.declared.reference_places.ReferencePlaces.{ReferencePla
 use Rattle.git_msg.specs.Checks.{Passes, Refuses}
 use Rattle.git_msg.specs.Texts.{BeginsOtherThan, IsCutAt, IsLeftOf, IsPartedAt, parts_left, spaced_words, last_of}
 use Rattle.git_msg.specs.References.{value_behind, values_of, part_of, reference_at, FitsIn, IsAttribute, IsAttributeFault, IsMaybeObjectName}
-use Rattle.git_msg.specs.References.{IsReferenceFault, IsReferenceLine, PartFits, attribute_checks, reference_checks}
+use Rattle.git_msg.specs.References.{IsIdText, IsNoIdText, IsReferenceFault, IsReferenceLine, PartFits, attribute_checks, id_length, reference_checks}
 use Rattle.git_msg.specs.ReferenceParts.{AreLocated, BeginsWithName, IsFound, IsPeeledWith, ReadSoFar, target_with}
 use Rattle.git_msg.proofs.LineLists.{filter_map_snoc}
 
@@ -187,26 +187,30 @@ some_word (x ∷ xs) = go (x == 32) where
   go true = ([], spaced_words xs, refl)
   go false = onto_some x (spaced_words xs)
 
--- the first word is no object name
-pub id_refused : (format : Format) (text id rest : List ℕ) → spaced_words text ≡ id ∷ spaced_words rest → IsNoObjectName format id
+-- the first word stands for no object, and does not say that there is none
+pub id_refused : (format : Format) (text id rest : List ℕ) → spaced_words text ≡ id ∷ spaced_words rest → IsNoIdText format id
     → IsReferenceFault format text BadObjectName
 id_refused format text id rest words h =
     let s = some_word rest in
     let all : spaced_words text ≡ id ∷ s.0 ∷ s.1 = words ∙ ap (λ (ws : List (List ℕ)). id ∷ ws) s.2 in
     subst (λ (ws : List (List ℕ)). Refuses (reference_checks format ws) BadObjectName) (sym all) (inl (h, refl))
 
+id_counted : (format : Format) (word : List ℕ) (id : Option ObjectName) → IsIdText format word id → length word ≡ id_length id
+id_counted format word None h = ap length h
+id_counted format word (Some id) h = h.count ∙ ap digits_of (sym h.of_format)
+
 -- the parts of a line at their places
 pub located : (format : Format) (text spelled rest name : List ℕ) (left : Option (List ℕ)) (places : ReferencePlaces)
-    → spaced_words text ≡ spelled ∷ spaced_words rest → IsPartedAt 32 text spelled rest → IsObjectName format spelled places.id
+    → spaced_words text ≡ spelled ∷ spaced_words rest → IsPartedAt 32 text spelled rest → IsIdText format spelled places.id
     → BeginsWithName rest name left → places.name_length ≡ length name → AreLocated format text (parts_left 32 left) places.target places.peeled
     → IsReferenceLine format text (reference_at places text) × FitsIn places (length text)
 located format text spelled rest name left places words parted named begins long found =
     let first = word_first rest name left begins.cut in
-    let digits : length spelled ≡ digits_of places.id.format = named.count ∙ ap digits_of (sym named.of_format) in
-    let after_id : drop (digits_of places.id.format + 1) text ≡ rest =
+    let digits : length spelled ≡ id_length places.id = id_counted format spelled places.id named in
+    let after_id : drop (id_length places.id + 1) text ≡ rest =
     ap (λ (n : ℕ). drop (n + 1) text) (sym digits) ∙ ap (λ (xs : List ℕ). drop (length spelled + 1) xs) parted.spelled
     ∙ drop-append-add spelled (32 ∷ rest) 1 in
-    let name_is : take places.name_length (drop (digits_of places.id.format + 1) text) ≡ name =
+    let name_is : take places.name_length (drop (id_length places.id + 1) text) ≡ name =
     ap (λ (xs : List ℕ). take places.name_length xs) (after_id ∙ first.1) ∙ ap (λ (n : ℕ). take n (name ++ first.0)) long
     ∙ take-append_seam name first.0 in (
       record {

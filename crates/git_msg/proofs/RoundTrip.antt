@@ -20,7 +20,7 @@ use Rattle.git_msg.specs.declared.arguments.Command.TheVariants.{LsRefs, Fetch, 
 use Rattle.git_msg.specs.declared.capability_key.Key.TheVariants.{CommandKey, AgentKey, ObjectFormatKey}
 use Rattle.git_msg.specs.Texts.{Follows, IsErrorText}
 use Rattle.git_msg.specs.Arguments.{Arg, symrefs, peel, ref_prefix, want, have, done, thin_pack, no_progress, include_tag, ofs_delta}
-use Rattle.git_msg.specs.Arguments.{shallow, deepen, deepen_relative, deepen_since, deepen_not, want_ref, size, object_id}
+use Rattle.git_msg.specs.Arguments.{shallow, deepen, deepen_relative, deepen_since, deepen_not, want_ref, size, object_id, unborn, wait_for_done}
 use Rattle.git_msg.specs.Arguments.{SaysArgument, IsDepth, IsTime, IsNumberIn, IsInRange, IsNameIn, IsValue, is_offered, name_of, written_text}
 use Rattle.git_msg.specs.Capability.{is_value}
 use Rattle.git_msg.specs.Advertisement.{takes_command}
@@ -128,6 +128,7 @@ not_error text h e = h (ap (λ (xs : List ℕ). slice_index xs 0) e.spelled)
 written_clean : (arg : Arg) → ¬ IsErrorText (written_text arg)
 written_clean symrefs = not_error (codes "symrefs") (λ e. omega arith)
 written_clean peel = not_error (codes "peel") (λ e. omega arith)
+written_clean unborn = not_error (codes "unborn") (λ e. omega arith)
 written_clean (ref_prefix prefix) = not_error (codes "ref-prefix " ++ prefix) (λ e. omega arith)
 written_clean (want id) = not_error (codes "want " ++ hex_of id) (λ e. omega arith)
 written_clean (have id) = not_error (codes "have " ++ hex_of id) (λ e. omega arith)
@@ -136,6 +137,7 @@ written_clean thin_pack = not_error (codes "thin-pack") (λ e. omega arith)
 written_clean no_progress = not_error (codes "no-progress") (λ e. omega arith)
 written_clean include_tag = not_error (codes "include-tag") (λ e. omega arith)
 written_clean ofs_delta = not_error (codes "ofs-delta") (λ e. omega arith)
+written_clean wait_for_done = not_error (codes "wait-for-done") (λ e. omega arith)
 written_clean (shallow id) = not_error (codes "shallow " ++ hex_of id) (λ e. omega arith)
 written_clean (deepen depth) = not_error (codes "deepen " ++ decimal depth) (λ e. omega arith)
 written_clean deepen_relative = not_error (codes "deepen-relative") (λ e. omega arith)
@@ -158,6 +160,7 @@ number_says word InRange number small value =
 written_says : (format : Format) (arg : Arg) → IsInRange format arg → SaysArgument format (written_text arg) arg
 written_says format symrefs value = refl
 written_says format peel value = refl
+written_says format unborn value = refl
 written_says format (ref_prefix prefix) value = (refl, value)
 written_says format (want id) value = name_says (codes "want ") format id value
 written_says format (have id) value = name_says (codes "have ") format id value
@@ -166,6 +169,7 @@ written_says format thin_pack value = refl
 written_says format no_progress value = refl
 written_says format include_tag value = refl
 written_says format ofs_delta value = refl
+written_says format wait_for_done value = refl
 written_says format (shallow id) value = name_says (codes "shallow ") format id value
 written_says format (deepen depth) value = number_says (codes "deepen ") IsDepth depth (omega (arith, value.1)) value
 written_says format deepen_relative value = refl

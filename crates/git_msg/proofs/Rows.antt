@@ -15,9 +15,9 @@ use Rattle.git_msg.specs.declared.arguments.Command.TheVariants.{LsRefs, Fetch, 
 use Rattle.git_msg.specs.declared.capability_key.Key.{Key}
 use Rattle.git_msg.specs.declared.capability_key.Key.TheVariants.{CommandKey, AgentKey, ServerOptionKey, ObjectFormatKey, OtherKey}
 use Rattle.git_msg.specs.Arguments.{Arg, symrefs, peel, ref_prefix, want, have, done, thin_pack, no_progress, include_tag, ofs_delta, shallow, deepen}
-use Rattle.git_msg.specs.Arguments.{deepen_relative, deepen_since, deepen_not, want_ref, size, object_id}
+use Rattle.git_msg.specs.Arguments.{deepen_relative, deepen_since, deepen_not, want_ref, size, object_id, unborn, wait_for_done}
 use Rattle.git_msg.specs.Arguments.{Row, of_ref_prefix, of_want, of_have, of_shallow, of_deepen, of_deepen_since, of_deepen_not, of_want_ref, of_object_id}
-use Rattle.git_msg.specs.Arguments.{row_of, row_in, command_with, most_text, IsDepth, IsTime, IsNumberIn, IsNoNumberIn, IsRevision, IsNoRevision}
+use Rattle.git_msg.specs.Arguments.{row_of, row_in, command_with, most_text, IsDepth, IsTime, IsNumberIn, IsNoNumberIn, IsKeptText, IsNoKeptText}
 use Rattle.git_msg.specs.Arguments.{SaysArgument, IsArgument, HasName, is_offered, ReadsAs, IsNoArgument, IsUnoffered, IsArgumentFault, IsRowFault}
 use Rattle.git_msg.specs.Texts.{Follows}
 use Rattle.git_msg.specs.Lines.{IsWordOf, key_by}
@@ -54,6 +54,7 @@ one_key text a b h k = sym (in_key text a h) ∙ in_key text b k
 pub in_row : (format : Format) (text : List ℕ) (a : Arg) → SaysArgument format text a → row_of text ≡ row_in a
 in_row format text symrefs h = ap row_of h
 in_row format text peel h = ap row_of h
+in_row format text unborn h = ap row_of h
 in_row format text (ref_prefix p) h = ap row_of h.0
 in_row format text (want id) h = ap row_of h.spelled
 in_row format text (have id) h = ap row_of h.spelled
@@ -62,6 +63,7 @@ in_row format text thin_pack h = ap row_of h
 in_row format text no_progress h = ap row_of h
 in_row format text include_tag h = ap row_of h
 in_row format text ofs_delta h = ap row_of h
+in_row format text wait_for_done h = ap row_of h
 in_row format text (shallow id) h = ap row_of h.spelled
 in_row format text (deepen depth) h = ap row_of h.spelled
 in_row format text deepen_relative h = ap row_of h
@@ -102,6 +104,7 @@ one_number_in word text InRange a b h k =
 says_one : (format : Format) (text : List ℕ) (a b : Arg) → SaysArgument format text a → SaysArgument format text b → a ≡ b
 says_one format text symrefs symrefs h k = refl
 says_one format text peel peel h k = refl
+says_one format text unborn unborn h k = refl
 says_one format text (ref_prefix p) (ref_prefix q) h k = ap ref_prefix (one_value (codes "ref-prefix ") text p q h.0 k.0)
 says_one format text (want m) (want n) h k = ap want (one_name (codes "want ") format text m n h k)
 says_one format text (have m) (have n) h k = ap have (one_name (codes "have ") format text m n h k)
@@ -110,6 +113,7 @@ says_one format text thin_pack thin_pack h k = refl
 says_one format text no_progress no_progress h k = refl
 says_one format text include_tag include_tag h k = refl
 says_one format text ofs_delta ofs_delta h k = refl
+says_one format text wait_for_done wait_for_done h k = refl
 says_one format text (shallow m) (shallow n) h k = ap shallow (one_name (codes "shallow ") format text m n h k)
 says_one format text (deepen m) (deepen n) h k = ap deepen (one_number_in (codes "deepen ") text IsDepth m n h k)
 says_one format text deepen_relative deepen_relative h k = refl
@@ -147,10 +151,10 @@ number_or_fault : (word text : List ℕ) (InRange : ℕ → Type 0) (number : �
     → Follows word (IsNoNumberIn InRange) text → ⊥
 number_or_fault word text InRange number h k = k.holds number (value_holds word text _ _ h k)
 
--- nor a revision
-pub revision_or_none : (text : List ℕ) → IsRevision text → IsNoRevision text → ⊥
-revision_or_none text h (inl k) = omega (arith, h.0, k)
-revision_or_none text h (inr k) = omega (arith, h.1, k)
+-- nor a text that is kept
+pub kept_text_or_none : (text : List ℕ) → IsKeptText text → IsNoKeptText text → ⊥
+kept_text_or_none text h (inl k) = omega (arith, h.0, k)
+kept_text_or_none text h (inr k) = omega (arith, h.1, k)
 
 -- nor is any argument
 row_or_fault : (c : Command) (format : Format) (text : List ℕ) (a : Arg) (kind : Kind) → SaysArgument format text a
@@ -164,7 +168,7 @@ row_or_fault Fetch format text (shallow id) kind h k = name_or_fault (codes "sha
 row_or_fault Fetch format text (deepen depth) kind h k = number_or_fault (codes "deepen ") text IsDepth depth h k.0
 row_or_fault Fetch format text (deepen_since time) kind h k = number_or_fault (codes "deepen-since ") text IsTime time h k.0
 row_or_fault Fetch format text (deepen_not revision) kind h k =
-    revision_or_none k.0.value (text_holds (codes "deepen-not ") text revision IsRevision _ h k.0) k.0.holds
+    kept_text_or_none k.0.value (text_holds (codes "deepen-not ") text revision IsKeptText _ h k.0) k.0.holds
 row_or_fault Fetch format text (want_ref name) kind h k = k.0.holds (text_holds (codes "want-ref ") text name IsRefName _ h k.0)
 row_or_fault ObjectInfo format text (object_id id) kind h k = name_or_fault (codes "oid ") format text id h k.0
 row_or_fault c format text a kind h k = k
@@ -179,12 +183,14 @@ by_row c format text a kind row h k =
 none_or_argument : (c : Command) (format : Format) (text : List ℕ) (a : Arg) → IsNoArgument c text → command_with a ≡ c → SaysArgument format text a → ⊥
 none_or_argument LsRefs format text symrefs u of h = u.0.0 h
 none_or_argument LsRefs format text peel u of h = u.0.1.0 h
+none_or_argument LsRefs format text unborn u of h = u.0.1.1.0 h
 none_or_argument LsRefs format text (ref_prefix p) u of h = u.1.0 p h.0
 none_or_argument Fetch format text done u of h = u.0.0 h
 none_or_argument Fetch format text thin_pack u of h = u.0.1.0 h
 none_or_argument Fetch format text no_progress u of h = u.0.1.1.0 h
 none_or_argument Fetch format text include_tag u of h = u.0.1.1.1.0 h
 none_or_argument Fetch format text ofs_delta u of h = u.0.1.1.1.1.0 h
+none_or_argument Fetch format text wait_for_done u of h = u.0.1.1.1.1.1.1.0 h
 none_or_argument Fetch format text deepen_relative u of h = u.0.1.1.1.1.1.0 h
 none_or_argument Fetch format text (want id) u of h = u.1.0 h.value h.spelled
 none_or_argument Fetch format text (have id) u of h = u.1.1.0 h.value h.spelled

@@ -1,8 +1,7 @@
 -- What single packets do, from what the parts of the reader promise.
-use Rattle.std.proofs.Common.{arith, ◌≡◌, ℕ, ◌≤◌, Bool, true, false, not, Option, Some, None, Ok, Err, option_to_list, List, [], ◌∷◌, ◌++◌, refl, ap, sym}
+use Rattle.std.proofs.Common.{arith, ◌≡◌, ℕ, Bool, true, false, not, Option, Some, None, Ok, Err, option_to_list, List, [], ◌∷◌, ◌++◌, refl, ap, sym}
 use Rattle.std.proofs.Common.{◌∙◌, subst, inl, inr}
 use Rattle.std.specs.Prelude.{is_some}
-use Rattle.std.specs.Coded.{le_prop}
 use Rattle.std.proofs.lemmas.List.{append-nil}
 use Rattle.git_pkt.specs.Packets.{flush, delim, payload, text_of}
 use Rattle.git_pkt.specs.declared.fault.Kind.{Kind}
@@ -19,7 +18,7 @@ use Rattle.git_msg.specs.declared.reader.Taken.TheVariants.{More, Request as Tak
 use Rattle.git_msg.specs.Arguments.{Arg}
 use Rattle.git_msg.specs.Asked.{Asked, nothing_asked, asked_by}
 use Rattle.git_msg.specs.Checks.{Refuses, Passes}
-use Rattle.git_msg.specs.HeldRequest.{IsBounded, IsEmpty, asked_of, command_of, kept_of, limit_of}
+use Rattle.git_msg.specs.HeldRequest.{IsBounded, IsEmpty, asked_of, command_of, limit_of}
 use Rattle.git_msg.proofs.BoundedRequests.{one_bound}
 use Rattle.git_msg.specs.Lines.{Line, command, agent, server_option, object_format, delimiter, argument, is_none, commands_of, arguments_of, kept_in}
 use Rattle.git_msg.specs.Lines.{has_format, is_object_format, command_in, argument_in, long_of, is_delimiter, IsLineOf, key_checks, IsCapabilityLine}

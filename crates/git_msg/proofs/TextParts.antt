@@ -1,5 +1,5 @@
 -- The parts of a text between bytes of one value.
-use Rattle.std.proofs.Common.{arith, ◌≡◌, ℕ, ◌+◌, ◌-◌, ◌<◌, ◌≤◌, ◌==◌, Bool, true, false, Option, Some, None, List, [], ◌∷◌, ◌++◌, refl, ap, sym, ◌∙◌}
+use Rattle.std.proofs.Common.{arith, ◌≡◌, ℕ, ◌+◌, ◌-◌, ◌<◌, ◌≤◌, ◌==◌, Bool, true, false, Some, None, List, [], ◌∷◌, ◌++◌, refl, ap, sym, ◌∙◌}
 use Rattle.std.proofs.Common.{length, take, drop, get_or, add-one, drop-cons, length-append, suc}
 use Rattle.std.specs.Prelude.{All, position, nat_lt, if◌then◌else◌}
 use Rattle.std.specs.List.{position_or_len}

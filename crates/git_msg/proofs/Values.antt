@@ -10,7 +10,7 @@ use Rattle.git_msg.specs.Arguments.{IsValue, IsValueFault, written_text}
 use Rattle.git_msg.specs.Checks.{Passes, Refuses}
 use Rattle.git_msg.specs.HeldRequest.{add_checks, kept_of, limit_of, command_of, format_of}
 use Rattle.git_msg.proofs.CheckLaws.{AllFair, passes_or_refuses, one_name, fair_check}
-use Rattle.git_msg.proofs.Rows.{revision_or_none}
+use Rattle.git_msg.proofs.Rows.{kept_text_or_none}
 
 range_apart : (format : Format) (arg : Arg) (kind : Kind) → IsInRange format arg → IsOutOfRange format arg kind → ⊥
 range_apart format (ref_prefix p) kind h fault = let over = fault.0 in omega arith
@@ -19,7 +19,7 @@ range_apart format (have id) kind h fault = fault.0 h.of_format
 range_apart format (shallow id) kind h fault = fault.0 h.of_format
 range_apart format (deepen depth) kind h fault = fault.0 h
 range_apart format (deepen_since time) kind h fault = fault.0 h
-range_apart format (deepen_not revision) kind h fault = revision_or_none revision h fault.0
+range_apart format (deepen_not revision) kind h fault = kept_text_or_none revision h fault.0
 range_apart format (want_ref name) kind h fault = fault.0 h
 range_apart format (object_id id) kind h fault = fault.0 h.of_format
 range_apart format arg kind h fault = fault

@@ -41,9 +41,11 @@ abbrev pub noted_of : List Pkt → Caps
 noted_of packets = record {
   agent = list_any (has_key (codes "agent")) packets;
   ls_refs = list_any (has_key (codes "ls-refs")) packets;
+  unborn = list_any (has_word (codes "ls-refs") (codes "unborn")) packets;
   fetch = list_any (has_key (codes "fetch")) packets;
   shallow = list_any (has_word (codes "fetch") (codes "shallow")) packets;
   ref_in_want = list_any (has_word (codes "fetch") (codes "ref-in-want")) packets;
+  wait_for_done = list_any (has_word (codes "fetch") (codes "wait-for-done")) packets;
   server_option = list_any (has_key (codes "server-option")) packets;
   object_info = list_any (has_key (codes "object-info")) packets;
   object_format = list_any (has_key (codes "object-format")) packets;
@@ -69,26 +71,42 @@ takes_command offer command = true
 
 -- what is offered by one who offers everything
 abbrev pub everything : Format → Offer
-everything format = record { format = format; shallow = true; ref_in_want = true; object_info = true; server_option = true }
+everything format = record {
+  format = format;
+  unborn = true;
+  shallow = true;
+  ref_in_want = true;
+  wait_for_done = true;
+  object_info = true;
+  server_option = true;
+}
 
 -- what is offered to a side that speaks this format
 abbrev pub noted_offer : Caps → Format → Offer
 noted_offer caps format = record {
   format = format;
+  unborn = caps.unborn;
   shallow = caps.shallow;
   ref_in_want = caps.ref_in_want;
+  wait_for_done = caps.wait_for_done;
   object_info = caps.object_info;
   server_option = caps.server_option;
 }
+
+-- a line with this key and value names the word, which is one of the key `of`
+abbrev pub names_word : List ℕ → List ℕ → List ℕ → List ℕ → Bool
+names_word of word key value = bytes_eq key of && list_any (λ w. bytes_eq w word) (spaced_words value)
 
 -- what is noted when a line with this key and value comes too
 abbrev pub noted_with : Caps → List ℕ → List ℕ → Caps
 noted_with caps key value = record {
   agent = bytes_eq key (codes "agent") || caps.agent;
   ls_refs = bytes_eq key (codes "ls-refs") || caps.ls_refs;
+  unborn = names_word (codes "ls-refs") (codes "unborn") key value || caps.unborn;
   fetch = bytes_eq key (codes "fetch") || caps.fetch;
-  shallow = bytes_eq key (codes "fetch") && list_any (λ w. bytes_eq w (codes "shallow")) (spaced_words value) || caps.shallow;
-  ref_in_want = bytes_eq key (codes "fetch") && list_any (λ w. bytes_eq w (codes "ref-in-want")) (spaced_words value) || caps.ref_in_want;
+  shallow = names_word (codes "fetch") (codes "shallow") key value || caps.shallow;
+  ref_in_want = names_word (codes "fetch") (codes "ref-in-want") key value || caps.ref_in_want;
+  wait_for_done = names_word (codes "fetch") (codes "wait-for-done") key value || caps.wait_for_done;
   server_option = bytes_eq key (codes "server-option") || caps.server_option;
   object_info = bytes_eq key (codes "object-info") || caps.object_info;
   object_format = bytes_eq key (codes "object-format") || caps.object_format;

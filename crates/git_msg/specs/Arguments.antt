@@ -12,6 +12,7 @@ use Rattle.git_msg.specs.declared.arguments.Command.TheVariants.{LsRefs, Fetch, 
 use Rattle.git_msg.specs.declared.arguments.Argument.{Argument}
 use Rattle.git_msg.specs.declared.arguments.Argument.TheVariants.{Symrefs, Peel, RefPrefix, Want, Have, IsDone, ThinPack, NoProgress, IncludeTag, OfsDelta}
 use Rattle.git_msg.specs.declared.arguments.Argument.TheVariants.{Shallow, Deepen, DeepenRelative, DeepenSince, DeepenNot, WantRef, Size, ObjectId}
+use Rattle.git_msg.specs.declared.arguments.Argument.TheVariants.{Unborn, WaitForDone}
 use Rattle.git_msg.specs.declared.offers.Offer.{Offer}
 use Rattle.git_msg.specs.Numbers.{IsNumber}
 use Rattle.git_msg.specs.Texts.{Follows, IsNoneOf, BeginsWithNone}
@@ -20,6 +21,7 @@ use Rattle.git_msg.specs.Texts.{Follows, IsNoneOf, BeginsWithNone}
 pub data Arg : Type 0 where
   symrefs : Arg
   peel : Arg
+  unborn : Arg
   ref_prefix : List ℕ → Arg
   want : ObjectName → Arg
   have : ObjectName → Arg
@@ -28,6 +30,7 @@ pub data Arg : Type 0 where
   no_progress : Arg
   include_tag : Arg
   ofs_delta : Arg
+  wait_for_done : Arg
   shallow : ObjectName → Arg
   deepen : ℕ → Arg
   deepen_relative : Arg
@@ -41,6 +44,7 @@ pub data Arg : Type 0 where
 abbrev pub shown : Argument → Arg
 shown Symrefs = symrefs
 shown Peel = peel
+shown Unborn = unborn
 shown (RefPrefix prefix) = ref_prefix prefix.now
 shown (Want id) = want id
 shown (Have id) = have id
@@ -49,6 +53,7 @@ shown ThinPack = thin_pack
 shown NoProgress = no_progress
 shown IncludeTag = include_tag
 shown OfsDelta = ofs_delta
+shown WaitForDone = wait_for_done
 shown (Shallow id) = shallow id
 shown (Deepen depth) = deepen depth
 shown DeepenRelative = deepen_relative
@@ -68,6 +73,7 @@ name_of ObjectInfo = codes "object-info"
 abbrev pub command_with : Arg → Command
 command_with symrefs = LsRefs
 command_with peel = LsRefs
+command_with unborn = LsRefs
 command_with (ref_prefix prefix) = LsRefs
 command_with (want id) = Fetch
 command_with (have id) = Fetch
@@ -76,6 +82,7 @@ command_with thin_pack = Fetch
 command_with no_progress = Fetch
 command_with include_tag = Fetch
 command_with ofs_delta = Fetch
+command_with wait_for_done = Fetch
 command_with (shallow id) = Fetch
 command_with (deepen depth) = Fetch
 command_with deepen_relative = Fetch
@@ -106,13 +113,13 @@ pub record IsNumberIn (InRange : ℕ → Type 0) (text : List ℕ) (number : ℕ
 abbrev pub IsNoNumberIn : (ℕ → Type 0) → List ℕ → Type 0
 IsNoNumberIn InRange text = (number : ℕ) → ¬ IsNumberIn InRange text number
 
--- a text that names a revision, which is not looked at
-abbrev pub IsRevision : List ℕ → Type 0
-IsRevision text = (1 ≤ length text) × (length text ≤ most_text)
+-- a text that is kept and not looked into
+abbrev pub IsKeptText : List ℕ → Type 0
+IsKeptText text = (1 ≤ length text) × (length text ≤ most_text)
 
--- a text that is too short for one, or too long
-abbrev pub IsNoRevision : List ℕ → Type 0
-IsNoRevision text = (length text < 1) ⊎ (most_text < length text)
+-- a text that is too short for that, or too long
+abbrev pub IsNoKeptText : List ℕ → Type 0
+IsNoKeptText text = (length text < 1) ⊎ (most_text < length text)
 
 -- the most that a limit on the bytes of kept texts may be
 abbrev pub most_limit : ℕ
@@ -122,6 +129,7 @@ most_limit = 1073741824
 abbrev pub SaysArgument : Format → List ℕ → Arg → Type 0
 SaysArgument format text symrefs = text ≡ codes "symrefs"
 SaysArgument format text peel = text ≡ codes "peel"
+SaysArgument format text unborn = text ≡ codes "unborn"
 SaysArgument format text (ref_prefix prefix) = (text ≡ codes "ref-prefix " ++ prefix) × (length prefix ≤ most_text)
 SaysArgument format text (want id) = Follows (codes "want ") (λ name. IsObjectName format name id) text
 SaysArgument format text (have id) = Follows (codes "have ") (λ name. IsObjectName format name id) text
@@ -130,11 +138,12 @@ SaysArgument format text thin_pack = text ≡ codes "thin-pack"
 SaysArgument format text no_progress = text ≡ codes "no-progress"
 SaysArgument format text include_tag = text ≡ codes "include-tag"
 SaysArgument format text ofs_delta = text ≡ codes "ofs-delta"
+SaysArgument format text wait_for_done = text ≡ codes "wait-for-done"
 SaysArgument format text (shallow id) = Follows (codes "shallow ") (λ name. IsObjectName format name id) text
 SaysArgument format text (deepen depth) = Follows (codes "deepen ") (λ digits. IsNumberIn IsDepth digits depth) text
 SaysArgument format text deepen_relative = text ≡ codes "deepen-relative"
 SaysArgument format text (deepen_since time) = Follows (codes "deepen-since ") (λ digits. IsNumberIn IsTime digits time) text
-SaysArgument format text (deepen_not revision) = (text ≡ codes "deepen-not " ++ revision) × IsRevision revision
+SaysArgument format text (deepen_not revision) = (text ≡ codes "deepen-not " ++ revision) × IsKeptText revision
 SaysArgument format text (want_ref name) = (text ≡ codes "want-ref " ++ name) × IsRefName name
 SaysArgument format text size = text ≡ codes "size"
 SaysArgument format text (object_id id) = Follows (codes "oid ") (λ name. IsObjectName format name id) text
@@ -156,7 +165,7 @@ IsInRange format (have id) = IsNameIn format id
 IsInRange format (shallow id) = IsNameIn format id
 IsInRange format (deepen depth) = IsDepth depth
 IsInRange format (deepen_since time) = IsTime time
-IsInRange format (deepen_not revision) = IsRevision revision
+IsInRange format (deepen_not revision) = IsKeptText revision
 IsInRange format (want_ref name) = IsRefName name
 IsInRange format (object_id id) = IsNameIn format id
 IsInRange format _ = Unit {0}
@@ -169,7 +178,7 @@ IsOutOfRange format (have id) kind = (id.format ≢ format) × (kind ≡ BadObje
 IsOutOfRange format (shallow id) kind = (id.format ≢ format) × (kind ≡ BadObjectName)
 IsOutOfRange format (deepen depth) kind = (¬ IsDepth depth) × (kind ≡ BadNumber)
 IsOutOfRange format (deepen_since time) kind = (¬ IsTime time) × (kind ≡ BadNumber)
-IsOutOfRange format (deepen_not revision) kind = IsNoRevision revision × (kind ≡ BadLine)
+IsOutOfRange format (deepen_not revision) kind = IsNoKeptText revision × (kind ≡ BadLine)
 IsOutOfRange format (want_ref name) kind = (¬ IsRefName name) × (kind ≡ BadRefName)
 IsOutOfRange format (object_id id) kind = (id.format ≢ format) × (kind ≡ BadObjectName)
 IsOutOfRange format _ kind = ⊥
@@ -190,12 +199,14 @@ IsValueFault command format arg kind =
 
 -- whether the feature that the argument needs is offered
 abbrev pub is_offered : Offer → Arg → Bool
+is_offered offer unborn = offer.unborn
 is_offered offer (shallow id) = offer.shallow
 is_offered offer (deepen depth) = offer.shallow
 is_offered offer deepen_relative = offer.shallow
 is_offered offer (deepen_since time) = offer.shallow
 is_offered offer (deepen_not revision) = offer.shallow
 is_offered offer (want_ref name) = offer.ref_in_want
+is_offered offer wait_for_done = offer.wait_for_done
 is_offered offer _ = true
 
 -- the text is an argument that a request of this command may have
@@ -205,9 +216,10 @@ pub record ReadsAs (command : Command) (offer : Offer) (text : List ℕ) (arg : 
 
 -- the arguments of the command that are a word alone
 abbrev pub flags_of : Command → List (List ℕ)
-flags_of LsRefs = codes "symrefs" ∷ codes "peel" ∷ []
+flags_of LsRefs = codes "symrefs" ∷ codes "peel" ∷ codes "unborn" ∷ []
 flags_of Fetch =
-    codes "done" ∷ codes "thin-pack" ∷ codes "no-progress" ∷ codes "include-tag" ∷ codes "ofs-delta" ∷ codes "deepen-relative" ∷ []
+    codes "done" ∷ codes "thin-pack" ∷ codes "no-progress" ∷ codes "include-tag" ∷ codes "ofs-delta" ∷ codes "deepen-relative"
+    ∷ codes "wait-for-done" ∷ []
 flags_of ObjectInfo = codes "size" ∷ []
 
 -- what stands before a value in the command's other arguments
@@ -221,6 +233,7 @@ keywords_of ObjectInfo = codes "oid " ∷ []
 pub data Row : Type 0 where
   of_symrefs : Row
   of_peel : Row
+  of_unborn : Row
   of_ref_prefix : Row
   of_want : Row
   of_have : Row
@@ -229,6 +242,7 @@ pub data Row : Type 0 where
   of_no_progress : Row
   of_include_tag : Row
   of_ofs_delta : Row
+  of_wait_for_done : Row
   of_shallow : Row
   of_deepen : Row
   of_deepen_relative : Row
@@ -244,6 +258,7 @@ abbrev pub row_by : List ℕ → Row
 row_by word =
     if bytes_eq word (codes "symrefs") then of_symrefs
     else if bytes_eq word (codes "peel") then of_peel
+    else if bytes_eq word (codes "unborn") then of_unborn
     else if bytes_eq word (codes "ref-prefix") then of_ref_prefix
     else if bytes_eq word (codes "want") then of_want
     else if bytes_eq word (codes "have") then of_have
@@ -252,6 +267,7 @@ row_by word =
     else if bytes_eq word (codes "no-progress") then of_no_progress
     else if bytes_eq word (codes "include-tag") then of_include_tag
     else if bytes_eq word (codes "ofs-delta") then of_ofs_delta
+    else if bytes_eq word (codes "wait-for-done") then of_wait_for_done
     else if bytes_eq word (codes "shallow") then of_shallow
     else if bytes_eq word (codes "deepen") then of_deepen
     else if bytes_eq word (codes "deepen-relative") then of_deepen_relative
@@ -270,6 +286,7 @@ row_of text = row_by (before_first (λ c. c == 32) text)
 abbrev pub row_in : Arg → Row
 row_in symrefs = of_symrefs
 row_in peel = of_peel
+row_in unborn = of_unborn
 row_in (ref_prefix prefix) = of_ref_prefix
 row_in (want id) = of_want
 row_in (have id) = of_have
@@ -278,6 +295,7 @@ row_in thin_pack = of_thin_pack
 row_in no_progress = of_no_progress
 row_in include_tag = of_include_tag
 row_in ofs_delta = of_ofs_delta
+row_in wait_for_done = of_wait_for_done
 row_in (shallow id) = of_shallow
 row_in (deepen depth) = of_deepen
 row_in deepen_relative = of_deepen_relative
@@ -295,7 +313,7 @@ IsRowFault Fetch format of_have text kind = Follows (codes "have ") (IsNoObjectN
 IsRowFault Fetch format of_shallow text kind = Follows (codes "shallow ") (IsNoObjectName format) text × (kind ≡ BadObjectName)
 IsRowFault Fetch format of_deepen text kind = Follows (codes "deepen ") (IsNoNumberIn IsDepth) text × (kind ≡ BadNumber)
 IsRowFault Fetch format of_deepen_since text kind = Follows (codes "deepen-since ") (IsNoNumberIn IsTime) text × (kind ≡ BadNumber)
-IsRowFault Fetch format of_deepen_not text kind = Follows (codes "deepen-not ") IsNoRevision text × (kind ≡ BadLine)
+IsRowFault Fetch format of_deepen_not text kind = Follows (codes "deepen-not ") IsNoKeptText text × (kind ≡ BadLine)
 IsRowFault Fetch format of_want_ref text kind = Follows (codes "want-ref ") (λ name. ¬ IsRefName name) text × (kind ≡ BadRefName)
 IsRowFault ObjectInfo format of_object_id text kind = Follows (codes "oid ") (IsNoObjectName format) text × (kind ≡ BadObjectName)
 IsRowFault _ format _ text kind = ⊥
@@ -303,6 +321,11 @@ IsRowFault _ format _ text kind = ⊥
 -- the text is no argument of the command
 abbrev pub IsNoArgument : Command → List ℕ → Type 0
 IsNoArgument command text = IsNoneOf (flags_of command) text × BeginsWithNone (keywords_of command) text
+
+-- the text is no argument of the command, or one whose value may not stand there
+abbrev pub IsTextFault : Command → Format → List ℕ → Kind → Type 0
+IsTextFault command format text kind =
+    (IsNoArgument command text × (kind ≡ UnknownArgument)) ⊎ ((row : Row) × IsRowFault command format row text kind)
 
 -- the text is an argument of the command that needs a feature which is not offered
 pub record IsUnoffered (command : Command) (offer : Offer) (text : List ℕ) : Type 0 where
@@ -320,6 +343,7 @@ IsArgumentFault command offer text kind =
 abbrev pub written_text : Arg → List ℕ
 written_text symrefs = codes "symrefs"
 written_text peel = codes "peel"
+written_text unborn = codes "unborn"
 written_text (ref_prefix prefix) = codes "ref-prefix " ++ prefix
 written_text (want id) = codes "want " ++ hex_of id
 written_text (have id) = codes "have " ++ hex_of id
@@ -328,6 +352,7 @@ written_text thin_pack = codes "thin-pack"
 written_text no_progress = codes "no-progress"
 written_text include_tag = codes "include-tag"
 written_text ofs_delta = codes "ofs-delta"
+written_text wait_for_done = codes "wait-for-done"
 written_text (shallow id) = codes "shallow " ++ hex_of id
 written_text (deepen depth) = codes "deepen " ++ decimal depth
 written_text deepen_relative = codes "deepen-relative"

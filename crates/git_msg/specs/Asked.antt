@@ -1,5 +1,5 @@
 -- What requests ask for: their arguments by kind, and as a list in the order in which they are written.
-use Rattle.std.specs.Prelude.{◌≡◌, ◌<◌, ◌+◌, ℕ, Bool, true, false, not, ◌&&◌, ◌||◌, List, [], ◌∷◌, ◌++◌, Option, Some, None, All, length, map, sum_by}
+use Rattle.std.specs.Prelude.{◌≡◌, ◌⊎◌, ◌<◌, ◌+◌, ℕ, Bool, true, false, not, ◌&&◌, ◌||◌, List, [], ◌∷◌, ◌++◌, Option, Some, None, All, length, map, sum_by}
 use Rattle.std.specs.List.{list_any, filter_map}
 use Rattle.git_names.specs.ObjectName.{ObjectName}
 use Rattle.git_names.specs.declared.object_format.Format.{Format}
@@ -7,7 +7,8 @@ use Rattle.git_msg.specs.declared.offers.Offer.{Offer}
 use Rattle.git_msg.specs.declared.arguments.Command.{Command}
 use Rattle.git_msg.specs.declared.arguments.Command.TheVariants.{LsRefs, Fetch, ObjectInfo}
 use Rattle.git_msg.specs.Arguments.{Arg, symrefs, peel, ref_prefix, want, have, done, thin_pack, no_progress, include_tag, ofs_delta}
-use Rattle.git_msg.specs.Arguments.{shallow, deepen, deepen_relative, deepen_since, deepen_not, want_ref, size, object_id, IsValue, is_offered, written_text}
+use Rattle.git_msg.specs.Arguments.{shallow, deepen, deepen_relative, deepen_since, deepen_not, want_ref, size, object_id, unborn, wait_for_done}
+use Rattle.git_msg.specs.Arguments.{IsValue, is_offered, written_text}
 use Rattle.git_msg.specs.Texts.{last_of}
 
 abbrev pub is_symrefs : Arg → Bool
@@ -17,6 +18,10 @@ is_symrefs _ = false
 abbrev pub is_peel : Arg → Bool
 is_peel peel = true
 is_peel _ = false
+
+abbrev pub is_unborn : Arg → Bool
+is_unborn unborn = true
+is_unborn _ = false
 
 abbrev pub prefix_in : Arg → Option (List ℕ)
 prefix_in (ref_prefix prefix) = Some prefix
@@ -49,6 +54,10 @@ is_include_tag _ = false
 abbrev pub is_ofs_delta : Arg → Bool
 is_ofs_delta ofs_delta = true
 is_ofs_delta _ = false
+
+abbrev pub is_wait_for_done : Arg → Bool
+is_wait_for_done wait_for_done = true
+is_wait_for_done _ = false
 
 abbrev pub shallow_in : Arg → Option ObjectName
 shallow_in (shallow id) = Some id
@@ -86,6 +95,7 @@ object_id_in _ = None
 pub record LsRefsAsked : Type 0 where
   pub symrefs : Bool
   pub peel : Bool
+  pub unborn : Bool
   pub ref_prefixes : List (List ℕ)
 
 -- what a fetch request asks for: each list in the order of its lines, and of two depths or two times the last
@@ -97,6 +107,7 @@ pub record FetchAsked : Type 0 where
   pub no_progress : Bool
   pub include_tag : Bool
   pub ofs_delta : Bool
+  pub wait_for_done : Bool
   pub shallows : List ObjectName
   pub deepen : Option ℕ
   pub deepen_relative : Bool
@@ -123,7 +134,7 @@ command_asked (object_info q) = ObjectInfo
 
 -- a request for nothing yet
 abbrev pub nothing_asked : Command → Asked
-nothing_asked LsRefs = ls_refs (record { symrefs = false; peel = false; ref_prefixes = [] })
+nothing_asked LsRefs = ls_refs (record { symrefs = false; peel = false; unborn = false; ref_prefixes = [] })
 nothing_asked Fetch = fetch (record {
   wants = [];
   haves = [];
@@ -132,6 +143,7 @@ nothing_asked Fetch = fetch (record {
   no_progress = false;
   include_tag = false;
   ofs_delta = false;
+  wait_for_done = false;
   shallows = [];
   deepen = None;
   deepen_relative = false;
@@ -144,7 +156,12 @@ nothing_asked ObjectInfo = object_info (record { size = false; oids = [] })
 -- what the arguments ask for: each list is the values of its kind in their order, and a flag is set where one sets it
 abbrev pub asked_by : Command → List Arg → Asked
 asked_by LsRefs args =
-    ls_refs (record { symrefs = list_any is_symrefs args; peel = list_any is_peel args; ref_prefixes = filter_map prefix_in args })
+    ls_refs (record {
+      symrefs = list_any is_symrefs args;
+      peel = list_any is_peel args;
+      unborn = list_any is_unborn args;
+      ref_prefixes = filter_map prefix_in args;
+    })
 asked_by Fetch args = fetch (record {
   wants = filter_map want_in args;
   haves = filter_map have_in args;
@@ -153,6 +170,7 @@ asked_by Fetch args = fetch (record {
   no_progress = list_any is_no_progress args;
   include_tag = list_any is_include_tag args;
   ofs_delta = list_any is_ofs_delta args;
+  wait_for_done = list_any is_wait_for_done args;
   shallows = filter_map shallow_in args;
   deepen = last_of (filter_map deepen_in args);
   deepen_relative = list_any is_deepen_relative args;
@@ -166,6 +184,7 @@ asked_by ObjectInfo args = object_info (record { size = list_any is_size args; o
 abbrev pub with_ls_refs : LsRefsAsked → Arg → LsRefsAsked
 with_ls_refs q symrefs = record q { symrefs = true }
 with_ls_refs q peel = record q { peel = true }
+with_ls_refs q unborn = record q { unborn = true }
 with_ls_refs q (ref_prefix prefix) = record q { ref_prefixes = q.ref_prefixes ++ prefix ∷ [] }
 with_ls_refs q _ = q
 
@@ -178,6 +197,7 @@ with_fetch q thin_pack = record q { thin_pack = true }
 with_fetch q no_progress = record q { no_progress = true }
 with_fetch q include_tag = record q { include_tag = true }
 with_fetch q ofs_delta = record q { ofs_delta = true }
+with_fetch q wait_for_done = record q { wait_for_done = true }
 with_fetch q (shallow id) = record q { shallows = q.shallows ++ id ∷ [] }
 with_fetch q (deepen depth) = record q { deepen = Some depth }
 with_fetch q deepen_relative = record q { deepen_relative = true }
@@ -207,6 +227,11 @@ symrefs_of _ = false
 abbrev pub peel_of : Asked → Bool
 peel_of (ls_refs q) = q.peel
 peel_of _ = false
+
+-- the flag `unborn` of an ls-refs request
+abbrev pub unborn_of : Asked → Bool
+unborn_of (ls_refs q) = q.unborn
+unborn_of _ = false
 
 -- the prefixes of an ls-refs request
 abbrev pub ref_prefixes_of : Asked → List (List ℕ)
@@ -248,6 +273,11 @@ abbrev pub ofs_delta_of : Asked → Bool
 ofs_delta_of (fetch q) = q.ofs_delta
 ofs_delta_of _ = false
 
+-- the flag `wait-for-done` of a fetch request
+abbrev pub wait_for_done_of : Asked → Bool
+wait_for_done_of (fetch q) = q.wait_for_done
+wait_for_done_of _ = false
+
 -- the commits that a fetch request says are shallow at the client
 abbrev pub shallows_of : Asked → List ObjectName
 shallows_of (fetch q) = q.shallows
@@ -288,9 +318,13 @@ abbrev pub oids_of : Asked → List ObjectName
 oids_of (object_info q) = q.oids
 oids_of _ = []
 
--- a fetch request wants something
+-- whether a fetch request negotiates alone: it asks for no pack before it says that it is done, and does not say so
+abbrev pub only_negotiates : FetchAsked → Bool
+only_negotiates q = q.wait_for_done && not q.done
+
+-- a fetch request wants an object or a reference, or negotiates alone
 abbrev pub HasWants : FetchAsked → Type 0
-HasWants q = 0 < length q.wants + length q.want_refs
+HasWants q = (0 < length q.wants + length q.want_refs) ⊎ (only_negotiates q ≡ true)
 
 -- whether a value was given
 abbrev pub is_given : {X : Type 0} → Option X → Bool
@@ -329,11 +363,12 @@ shallow_arguments q others =
 abbrev pub pack_arguments : FetchAsked → List Arg → List Arg
 pack_arguments q others =
     where_asked q.thin_pack thin_pack ++ (where_asked q.no_progress no_progress ++ (where_asked q.include_tag include_tag
-    ++ (where_asked q.ofs_delta ofs_delta ++ others)))
+    ++ (where_asked q.ofs_delta ofs_delta ++ (where_asked q.wait_for_done wait_for_done ++ others))))
 
 -- the arguments of a request, in the order in which they are written
 abbrev pub arguments_in : Asked → List Arg
-arguments_in (ls_refs q) = where_asked q.peel peel ++ (where_asked q.symrefs symrefs ++ map ref_prefix q.ref_prefixes)
+arguments_in (ls_refs q) =
+    where_asked q.peel peel ++ (where_asked q.symrefs symrefs ++ (where_asked q.unborn unborn ++ map ref_prefix q.ref_prefixes))
 arguments_in (fetch q) = pack_arguments q (shallow_arguments q (object_arguments q))
 arguments_in (object_info q) = where_asked q.size size ++ map object_id q.oids
 

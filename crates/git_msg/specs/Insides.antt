@@ -9,7 +9,7 @@ use Rattle.git_msg.specs.Asked.{LsRefsAsked, FetchAsked, ObjectInfoAsked}
 
 module _ {A : Type 0} where
   abbrev pub ls_refs_inside : LsRefsInside A → LsRefsAsked
-  ls_refs_inside q = record { symrefs = q.symrefs; peel = q.peel; ref_prefixes = texts_of q.ref_prefixes }
+  ls_refs_inside q = record { symrefs = q.symrefs; peel = q.peel; unborn = q.unborn; ref_prefixes = texts_of q.ref_prefixes }
 
   abbrev pub fetch_inside : FetchInside A → FetchAsked
   fetch_inside q = record {
@@ -20,6 +20,7 @@ module _ {A : Type 0} where
     no_progress = q.no_progress;
     include_tag = q.include_tag;
     ofs_delta = q.ofs_delta;
+    wait_for_done = q.wait_for_done;
     shallows = q.shallows.items;
     deepen = q.deepen;
     deepen_relative = q.deepen_relative;
@@ -36,7 +37,7 @@ module _ {A : Type 0} where
 
   abbrev pub ls_refs_stored_by_fields : LsRefsInside A → ℕ
   ls_refs_stored_by_fields q =
-      let record { format = format; budget = budget; symrefs = symrefs; peel = peel; ref_prefixes = ref_prefixes } = q in
+      let record { format = format; budget = budget; symrefs = symrefs; peel = peel; unborn = unborn; ref_prefixes = ref_prefixes } = q in
       texts_stored ref_prefixes
 
   abbrev pub fetch_stored : FetchInside A → ℕ
@@ -55,6 +56,7 @@ module _ {A : Type 0} where
         no_progress = no_progress;
         include_tag = include_tag;
         ofs_delta = ofs_delta;
+        wait_for_done = wait_for_done;
         shallows = shallows;
         deepen = deepen;
         deepen_relative = deepen_relative;

@@ -3,6 +3,7 @@ pub mod Arguments
 pub mod Asked
 pub mod Capability
 pub mod Checks
+pub mod Features
 pub mod HeldRequest
 pub mod HeldTexts
 pub mod Insides

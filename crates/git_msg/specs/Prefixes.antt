@@ -56,6 +56,7 @@ pub record Prunes (ps qs : List (List ℕ)) : Type 0 where
 pub record OrdersPrefixes (old new : Kept LsRefsAsked) : Type 0 where
   pub symrefs : new.asked.symrefs ≡ old.asked.symrefs
   pub peel : new.asked.peel ≡ old.asked.peel
+  pub unborn : new.asked.unborn ≡ old.asked.unborn
   pub alike : ShowAlike old.asked.ref_prefixes new.asked.ref_prefixes
   pub kept : new.kept ≡ old.kept
   pub limit : new.limit ≡ old.limit

@@ -1,5 +1,5 @@
 -- Reference lines, as answers to ls-refs have them.
-use Rattle.std.specs.Prelude.{◌≡◌, ℕ, ◌+◌, ◌≤◌, IfSome, Option, Some, None, List, [], ◌∷◌, ◌++◌, length, take, drop, codes, if◌then◌else◌}
+use Rattle.std.specs.Prelude.{◌≡◌, ◌≢◌, ℕ, ◌+◌, ◌≤◌, IfSome, Option, Some, None, List, [], ◌∷◌, ◌++◌, length, take, drop, codes, if◌then◌else◌}
 use Rattle.std.specs.List.{filter_map}
 use Rattle.std.specs.Str.{bytes_eq}
 use Rattle.std.specs.Option.{option_copied, option_map}
@@ -15,19 +15,38 @@ use Rattle.git_msg.specs.declared.references.Reference.{Reference}
 use Rattle.git_msg.specs.Texts.{Follows, last_of, spaced_words}
 use Rattle.git_msg.specs.Checks.{Check, check, Refuses, Passes}
 
--- a reference, wherever its texts lie
+-- a reference, wherever its texts lie: without an object where it is unborn, as `HEAD` is while its branch has no commit
 pub record Ref : Type 0 where
-  pub id : ObjectName
+  pub id : Option ObjectName
   pub name : List ℕ
   pub target : Option (List ℕ)
   pub peeled : Option ObjectName
 
-abbrev pub reference_of : ObjectName → List ℕ → Option (List ℕ) → Option ObjectName → Ref
+abbrev pub reference_of : Option ObjectName → List ℕ → Option (List ℕ) → Option ObjectName → Ref
 reference_of id name target peeled = record { id = id; name = name; target = target; peeled = peeled }
 
 -- the reference that a borrowed one shows
 abbrev pub shown_reference : Reference → Ref
 shown_reference r = record { id = r.id; name = r.name.now; target = option_copied r.target; peeled = r.peeled }
+
+-- the word that stands for the object at the head of a line
+abbrev pub id_text : Option ObjectName → List ℕ
+id_text None = codes "unborn"
+id_text (Some id) = hex_of id
+
+-- how many bytes that has
+abbrev pub id_length : Option ObjectName → ℕ
+id_length None = 6
+id_length (Some id) = digits_of id.format
+
+-- the word is this object name, or says that the reference is unborn
+abbrev pub IsIdText : Format → List ℕ → Option ObjectName → Type 0
+IsIdText format word None = word ≡ codes "unborn"
+IsIdText format word (Some id) = IsObjectName format word id
+
+-- the word is neither
+abbrev pub IsNoIdText : Format → List ℕ → Type 0
+IsNoIdText format word = (word ≢ codes "unborn") × IsNoObjectName format word
 
 -- the part of the text that has this place
 abbrev pub part_of : List ℕ → Part → List ℕ
@@ -37,7 +56,7 @@ part_of text part = take part.length (drop part.start text)
 abbrev pub reference_at : ReferencePlaces → List ℕ → Ref
 reference_at places text = record {
   id = places.id;
-  name = take places.name_length (drop (digits_of places.id.format + 1) text);
+  name = take places.name_length (drop (id_length places.id + 1) text);
   target = option_map (part_of text) places.target;
   peeled = places.peeled;
 }
@@ -48,7 +67,7 @@ PartFits count part = IfSome part (λ p. p.start + p.length ≤ count)
 
 -- the places are those of a text of so many bytes
 pub record FitsIn (places : ReferencePlaces) (count : ℕ) : Type 0 where
-  pub name : digits_of places.id.format + 1 + places.name_length ≤ count
+  pub name : id_length places.id + 1 + places.name_length ≤ count
   pub target : PartFits count places.target
 
 -- what stands after the word, where the text begins with it
@@ -80,7 +99,7 @@ abbrev pub reference_checks : Format → List (List ℕ) → List Check
 reference_checks format [] = check ⊥ (Unit {0}) BadLine ∷ []
 reference_checks format (word ∷ []) = check ⊥ (Unit {0}) BadLine ∷ []
 reference_checks format (id ∷ name ∷ attributes) =
-    check ((named : ObjectName) × IsObjectName format id named) (IsNoObjectName format id) BadObjectName
+    check ((named : Option ObjectName) × IsIdText format id named) (IsNoIdText format id) BadObjectName
     ∷ check (IsRefName name) (¬ IsRefName name) BadRefName ∷ attribute_checks format attributes
 
 -- an object name that may be missing
@@ -99,7 +118,7 @@ pub record IsReferenceLine (format : Format) (text : List ℕ) (ref : Ref) : Typ
   pub id : List ℕ
   pub attributes : List (List ℕ)
   pub words : spaced_words text ≡ id ∷ ref.name ∷ attributes
-  pub id_is : IsObjectName format id ref.id
+  pub id_is : IsIdText format id ref.id
   pub name_is : IsRefName ref.name
   pub attributes_are : AreAttributes format attributes ref.target ref.peeled
 
@@ -122,11 +141,15 @@ peeled_count (Some id) = 8 + digits_of id.format
 
 -- the line of a reference, as it is written
 abbrev pub reference_text : Ref → List ℕ
-reference_text ref = hex_of ref.id ++ 32 ∷ (ref.name ++ target_text ref.target ++ peeled_text ref.peeled)
+reference_text ref = id_text ref.id ++ 32 ∷ (ref.name ++ target_text ref.target ++ peeled_text ref.peeled)
 
--- a reference whose line reads back as it is: its texts are reference names, and what it peels to has the format of
--- its own object
+-- the object names of a reference are of the format
+pub record HasFormat (format : Format) (ref : Ref) : Type 0 where
+  pub by_id : (id : ObjectName) → ref.id ≡ Some id → id.format ≡ format
+  pub by_peeled : (id : ObjectName) → ref.peeled ≡ Some id → id.format ≡ format
+
+-- a reference whose line reads back as it is: its texts are reference names, and its object names are of one format
 pub record IsWritable (ref : Ref) : Type 0 where
   pub name : IsRefName ref.name
   pub target : (name : List ℕ) → ref.target ≡ Some name → IsRefName name
-  pub peeled : (id : ObjectName) → ref.peeled ≡ Some id → id.format ≡ ref.id.format
+  pub one_format : (format : Format) × HasFormat format ref

@@ -4,8 +4,8 @@ ghost use Rattle.git_names.specs.ObjectName.{IsNoObjectName, IsObjectName};
 ghost use Rattle.git_names.specs.RefName.{IsRefName};
 ghost use Rattle.git_names.specs.Steps.{TakesAtMost};
 ghost use Rattle.git_names.specs.declared.object_format.Format.{Format};
-ghost use Rattle.git_msg.specs.Arguments.{IsArgument, IsArgumentFault, IsDepth, IsNoArgument, IsNoNumberIn, IsNoRevision, IsNumberIn, IsRevision};
-ghost use Rattle.git_msg.specs.Arguments.{IsRowFault, IsTime, ReadsAs, Row};
+ghost use Rattle.git_msg.specs.Arguments.{IsArgument, IsArgumentFault, IsDepth, IsKeptText, IsNoKeptText, IsNoNumberIn, IsNumberIn};
+ghost use Rattle.git_msg.specs.Arguments.{IsRowFault, IsTextFault, IsTime, ReadsAs, Row};
 ghost use Rattle.git_msg.specs.Arguments.{flags_of, keywords_of, is_offered as offers, name_of, shown};
 ghost use Rattle.git_msg.specs.Texts.{BeginsWithNone, IsNoneOf};
 
@@ -33,6 +33,8 @@ pub enum Argument<'a> {
     Symrefs,
     /// `peel`: say what object an annotated tag stands for.
     Peel,
+    /// `unborn`: say what `HEAD` points to where that has no commit yet.
+    Unborn,
     /// `ref-prefix`: show references whose name begins with this text, of 32,000 bytes at most.
     RefPrefix(&'a [u8]),
     /// `want`: send this object.
@@ -49,6 +51,8 @@ pub enum Argument<'a> {
     IncludeTag,
     /// `ofs-delta`: the pack may name the base of a delta by its place in the pack.
     OfsDelta,
+    /// `wait-for-done`: send no pack before the request says `done`.
+    WaitForDone,
     /// `shallow`: the client has this commit without its parents.
     Shallow(Oid),
     /// `deepen`: cut the history off at this depth, of 1 to 2,147,483,647 commits.
@@ -75,6 +79,7 @@ macro_rules! put_together {
         match $argument {
             Argument::Symrefs => Argument::Symrefs,
             Argument::Peel => Argument::Peel,
+            Argument::Unborn => Argument::Unborn,
             Argument::RefPrefix(prefix) => Argument::RefPrefix(prefix),
             Argument::Want(id) => Argument::Want(id),
             Argument::Have(id) => Argument::Have(id),
@@ -83,6 +88,7 @@ macro_rules! put_together {
             Argument::NoProgress => Argument::NoProgress,
             Argument::IncludeTag => Argument::IncludeTag,
             Argument::OfsDelta => Argument::OfsDelta,
+            Argument::WaitForDone => Argument::WaitForDone,
             Argument::Shallow(id) => Argument::Shallow(id),
             Argument::Deepen(depth) => Argument::Deepen(depth),
             Argument::DeepenRelative => Argument::DeepenRelative,
@@ -135,41 +141,7 @@ pub fn read_argument<'a>(
         (IsArgumentFault command offer.now text.now) }
     ensures cost { TakesAtMost (40 * (length text.now + 1)) steps.old steps.new }
 {
-    match command {
-        Command::LsRefs => read_ls_refs(offer, text, steps),
-        Command::Fetch => read_fetch(offer, text, steps),
-        Command::ObjectInfo => read_object_info(offer, text, steps),
-    }
-}
-
-fn read_ls_refs<'a>(offer: &Offer, text: &'a [u8], steps: &mut Steps) -> Result<Argument<'a>, Kind>
-    ensures argument { MatchResult result (λ argument. ReadsAs Command.LsRefs offer.now text.now (shown argument))
-        (IsArgumentFault Command.LsRefs offer.now text.now) }
-    ensures cost { TakesAtMost (40 * (length text.now + 1)) steps.old steps.new }
-{
-    // Three words.
-    steps.tick(3 * (text.len().min(LONGEST_WORD) + 1));
-    if is_word(text, b"symrefs") {
-        return Ok(Argument::Symrefs);
-    }
-    if is_word(text, b"peel") {
-        return Ok(Argument::Peel);
-    }
-    let Some(prefix) = after(text, b"ref-prefix ") else {
-        return Err(Kind::UnknownArgument);
-    };
-    if prefix.len() > MOST_TEXT {
-        return Err(Kind::BadLine);
-    }
-    Ok(Argument::RefPrefix(prefix))
-}
-
-fn read_fetch<'a>(offer: &Offer, text: &'a [u8], steps: &mut Steps) -> Result<Argument<'a>, Kind>
-    ensures argument { MatchResult result (λ argument. ReadsAs Command.Fetch offer.now text.now (shown argument))
-        (IsArgumentFault Command.Fetch offer.now text.now) }
-    ensures cost { TakesAtMost (40 * (length text.now + 1)) steps.old steps.new }
-{
-    match read_fetch_text(offer.format, text, steps) {
+    match read_text(command, offer.format, text, steps) {
         Ok(argument) => {
             if !is_offered(offer, &argument) {
                 return Err(Kind::NotAdvertised);
@@ -180,19 +152,55 @@ fn read_fetch<'a>(offer: &Offer, text: &'a [u8], steps: &mut Steps) -> Result<Ar
     }
 }
 
-// The argument of `fetch` that the text is, whether or not it was offered.
-fn read_fetch_text<'a>(
+// The argument of the command that the text is, whether or not the feature that it needs was offered.
+fn read_text<'a>(
+    command: Command,
     format: Format,
     text: &'a [u8],
     steps: &mut Steps,
 ) -> Result<Argument<'a>, Kind>
-    ensures argument { MatchResult result (λ argument. IsArgument Command.Fetch format text.now (shown argument))
-        (λ kind. (IsNoArgument Command.Fetch text.now × (kind ≡ Kind.UnknownArgument))
-        ⊎ ((row : Row) × IsRowFault Command.Fetch format row text.now kind)) }
+    ensures argument { MatchResult result (λ argument. IsArgument command format text.now (shown argument)) (IsTextFault command format text.now) }
     ensures cost { TakesAtMost (40 * (length text.now + 1)) steps.old steps.new }
 {
-    // Six flags, and seven words with a value.
-    steps.tick(13 * (text.len().min(LONGEST_WORD) + 1));
+    match command {
+        Command::LsRefs => read_ls_refs(format, text, steps),
+        Command::Fetch => read_fetch(format, text, steps),
+        Command::ObjectInfo => read_object_info(format, text, steps),
+    }
+}
+
+fn read_ls_refs<'a>(format: Format, text: &'a [u8], steps: &mut Steps) -> Result<Argument<'a>, Kind>
+    ensures argument { MatchResult result (λ argument. IsArgument Command.LsRefs format text.now (shown argument))
+        (IsTextFault Command.LsRefs format text.now) }
+    ensures cost { TakesAtMost (40 * (length text.now + 1)) steps.old steps.new }
+{
+    // Four words.
+    steps.tick(4 * (text.len().min(LONGEST_WORD) + 1));
+    if is_word(text, b"symrefs") {
+        return Ok(Argument::Symrefs);
+    }
+    if is_word(text, b"peel") {
+        return Ok(Argument::Peel);
+    }
+    if is_word(text, b"unborn") {
+        return Ok(Argument::Unborn);
+    }
+    let Some(prefix) = after(text, b"ref-prefix ") else {
+        return Err(Kind::UnknownArgument);
+    };
+    if prefix.len() > MOST_TEXT {
+        return Err(Kind::BadLine);
+    }
+    Ok(Argument::RefPrefix(prefix))
+}
+
+fn read_fetch<'a>(format: Format, text: &'a [u8], steps: &mut Steps) -> Result<Argument<'a>, Kind>
+    ensures argument { MatchResult result (λ argument. IsArgument Command.Fetch format text.now (shown argument))
+        (IsTextFault Command.Fetch format text.now) }
+    ensures cost { TakesAtMost (40 * (length text.now + 1)) steps.old steps.new }
+{
+    // Seven flags, and seven words with a value.
+    steps.tick(14 * (text.len().min(LONGEST_WORD) + 1));
     match fetch_flag(text) {
         Some(flag) => Ok(flag),
         None => read_fetch_value(format, text, steps),
@@ -221,6 +229,9 @@ fn fetch_flag(text: &[u8]) -> Option<Argument<'_>>
     }
     if is_word(text, b"deepen-relative") {
         return Some(Argument::DeepenRelative);
+    }
+    if is_word(text, b"wait-for-done") {
+        return Some(Argument::WaitForDone);
     }
     None
 }
@@ -257,7 +268,7 @@ fn read_fetch_value<'a>(
         return Ok(Argument::DeepenSince(time));
     }
     if let Some(revision) = after(text, b"deepen-not ") {
-        if !is_revision(revision) {
+        if !is_kept_text(revision) {
             return Err(Kind::BadLine);
         }
         return Ok(Argument::DeepenNot(revision));
@@ -272,12 +283,12 @@ fn read_fetch_value<'a>(
 }
 
 fn read_object_info<'a>(
-    offer: &Offer,
+    format: Format,
     text: &'a [u8],
     steps: &mut Steps,
 ) -> Result<Argument<'a>, Kind>
-    ensures argument { MatchResult result (λ argument. ReadsAs Command.ObjectInfo offer.now text.now (shown argument))
-        (IsArgumentFault Command.ObjectInfo offer.now text.now) }
+    ensures argument { MatchResult result (λ argument. IsArgument Command.ObjectInfo format text.now (shown argument))
+        (IsTextFault Command.ObjectInfo format text.now) }
     ensures cost { TakesAtMost (40 * (length text.now + 1)) steps.old steps.new }
 {
     // Two words.
@@ -288,7 +299,7 @@ fn read_object_info<'a>(
     let Some(name) = after(text, b"oid ") else {
         return Err(Kind::UnknownArgument);
     };
-    let id = read_id(offer.format, name, steps)?;
+    let id = read_id(format, name, steps)?;
     Ok(Argument::ObjectId(id))
 }
 
@@ -297,12 +308,14 @@ pub(crate) fn is_offered(offer: &Offer, argument: &Argument<'_>) -> bool
     ensures { result ≡ offers offer.now (shown argument.now) }
 {
     match argument {
+        Argument::Unborn => offer.unborn,
         Argument::Shallow(_) => offer.shallow,
         Argument::Deepen(_) => offer.shallow,
         Argument::DeepenRelative => offer.shallow,
         Argument::DeepenSince(_) => offer.shallow,
         Argument::DeepenNot(_) => offer.shallow,
         Argument::WantRef(_) => offer.ref_in_want,
+        Argument::WaitForDone => offer.wait_for_done,
         _ => true,
     }
 }
@@ -363,9 +376,9 @@ pub(crate) fn is_ref_name(text: &[u8], steps: &mut Steps) -> bool
     RefName::read(text, steps).is_ok()
 }
 
-/// Whether the text may name a revision: it has 1 to 32,000 bytes.
-pub(crate) fn is_revision(text: &[u8]) -> bool
-    ensures { MatchBool result (IsRevision text.now) (IsNoRevision text.now) }
+/// Whether a text that is not looked into may be kept: it has 1 to 32,000 bytes.
+pub(crate) fn is_kept_text(text: &[u8]) -> bool
+    ensures { MatchBool result (IsKeptText text.now) (IsNoKeptText text.now) }
 {
     !text.is_empty() && text.len() <= MOST_TEXT
 }

@@ -4,7 +4,7 @@ ghost use Rattle.std.specs.Option.{option_copied, option_map};
 ghost use Rattle.git_names.specs.RefName.{IsRefName};
 ghost use Rattle.git_msg.specs.Arguments.{HasName, shown, written_text};
 
-use crate::arguments::{Argument, Command, is_depth, is_revision, is_time};
+use crate::arguments::{Argument, Command, is_depth, is_kept_text, is_time};
 use crate::limits::{Budget, Limits};
 use crate::parts::{Texts, check_id, keep_id, number_at, past_flag};
 use git_names::{Format, Oid};
@@ -24,6 +24,7 @@ pub struct Fetch<A: Allocator + Copy> {
     no_progress: bool,
     include_tag: bool,
     ofs_delta: bool,
+    wait_for_done: bool,
     shallows: Vec<Oid, A>,
     deepen: Option<u64>,
     deepen_relative: bool,
@@ -143,11 +144,20 @@ impl<A: Allocator + Copy> Fetch<A> {
         self.want_refs.get(i)
     }
 
-    /// Whether it wants an object or a reference.
+    /// Whether no pack is to be sent before the request says `done`.
+    pub fn wait_for_done(&self) -> bool
+        ensures { result ≡ self.now.asked.wait_for_done }
+    {
+        self.wait_for_done
+    }
+
+    /// Whether it wants an object or a reference, or negotiates alone.
     pub(crate) fn has_wants(&self) -> bool
         ensures { MatchBool result (HasWants self.now.asked) (¬ HasWants self.now.asked) }
     {
-        !self.wants.is_empty() || self.want_refs.get(0).is_some()
+        !self.wants.is_empty()
+            || self.want_refs.get(0).is_some()
+            || (self.wait_for_done && !self.done)
     }
 
     /// Whether the history is cut off by a depth and by something else, which exclude each other.
@@ -170,6 +180,7 @@ impl<A: Allocator + Copy> Fetch<A> {
             no_progress: false,
             include_tag: false,
             ofs_delta: false,
+            wait_for_done: false,
             shallows: Vec::new(alloc),
             deepen: None,
             deepen_relative: false,
@@ -214,6 +225,9 @@ impl<A: Allocator + Copy> Fetch<A> {
         };
         let Some(i) = past_flag(self.ofs_delta, i) else {
             return Some(Argument::OfsDelta);
+        };
+        let Some(i) = past_flag(self.wait_for_done, i) else {
+            return Some(Argument::WaitForDone);
         };
         self.shallow_argument(i)
     }
@@ -291,7 +305,8 @@ impl<A: Allocator + Copy> Fetch<A> {
             }
             Argument::Deepen(depth) if !is_depth(*depth) => Err(Kind::BadNumber),
             Argument::DeepenSince(time) if !is_time(*time) => Err(Kind::BadNumber),
-            Argument::DeepenNot(revision) if !is_revision(revision) => Err(Kind::BadLine),
+            Argument::DeepenNot(revision) if !is_kept_text(revision) => Err(Kind::BadLine),
+            Argument::Unborn => Err(Kind::UnknownArgument),
             Argument::Symrefs => Err(Kind::UnknownArgument),
             Argument::Peel => Err(Kind::UnknownArgument),
             Argument::RefPrefix(_) => Err(Kind::UnknownArgument),
@@ -326,6 +341,7 @@ impl<A: Allocator + Copy> Fetch<A> {
             Argument::DeepenSince(time) => self.deepen_since = Some(*time),
             Argument::DeepenNot(revision) => self.deepen_nots.keep(revision)?,
             Argument::WantRef(name) => self.want_refs.keep(name)?,
+            Argument::WaitForDone => self.wait_for_done = true,
             _ => unreachable!(),
         }
         self.budget = budget;

@@ -1,7 +1,7 @@
 //! What follows from the definitions alone: each law is the contract of a function without parameters.
 
 ghost use Rattle.std.specs.Prelude.{◌≡◌, ◌≤◌, ◌+◌, ℕ, List, Option, Some, true, length, map, sum_by};
-ghost use Rattle.git_names.specs.ObjectName.{ObjectName, IsOid};
+ghost use Rattle.git_names.specs.ObjectName.{ObjectName};
 ghost use Rattle.git_names.specs.RefName.{IsRefName};
 ghost use Rattle.git_names.specs.declared.object_format.Format.{Format};
 ghost use Rattle.git_pkt.specs.Packets.{Pkt};
@@ -135,10 +135,10 @@ pub fn info_or_fault()
         → IsInfoFault format text kind → IsInfoFault format text other → kind ≡ other }
 {}
 
-/// The line that is written of a reference is that reference, where its object name has the format.
+/// The line that is written of a reference is that reference, where its object names have the format.
 pub fn written_reference_reads_back()
-    ensures { (format : Format) (ref : Ref) → IsNameIn format ref.id → ((peeled : ObjectName) → ref.peeled ≡ Some peeled → IsOid peeled)
-        → IsWritable ref → IsReferenceLine format (reference_text ref) ref }
+    ensures { (format : Format) (ref : Ref) → ((id : ObjectName) → ref.id ≡ Some id → IsNameIn format id)
+        → ((peeled : ObjectName) → ref.peeled ≡ Some peeled → IsNameIn format peeled) → IsWritable ref → IsReferenceLine format (reference_text ref) ref }
 {}
 
 /// The line that is written of an acknowledgment acknowledges that object.

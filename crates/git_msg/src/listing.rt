@@ -68,6 +68,13 @@ impl<A: Allocator + Copy> Listing<A> {
         self.request.peel()
     }
 
+    /// Whether what `HEAD` points to is to be shown too where that has no commit yet.
+    pub fn unborn(&self) -> bool
+        ensures { result ≡ self.now.asked.unborn }
+    {
+        self.request.unborn()
+    }
+
     /// The prefix at place `i`.
     pub fn ref_prefix(&self, i: usize) -> Option<&[u8]>
         ensures { option_copied result ≡ slice_get self.now.asked.ref_prefixes i }

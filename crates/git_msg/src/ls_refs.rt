@@ -18,6 +18,7 @@ pub struct LsRefs<A: Allocator + Copy> {
     budget: Budget,
     symrefs: bool,
     peel: bool,
+    unborn: bool,
     ref_prefixes: Texts<A>,
 }
 
@@ -54,6 +55,13 @@ impl<A: Allocator + Copy> LsRefs<A> {
         self.peel
     }
 
+    /// Whether what `HEAD` points to is to be shown too where that has no commit yet.
+    pub fn unborn(&self) -> bool
+        ensures { result ≡ self.now.asked.unborn }
+    {
+        self.unborn
+    }
+
     /// The prefix at place `i`, in the order of their lines.
     pub fn ref_prefix(&self, i: usize) -> Option<&[u8]>
         ensures value { option_copied result ≡ slice_get self.now.asked.ref_prefixes i }
@@ -71,6 +79,7 @@ impl<A: Allocator + Copy> LsRefs<A> {
             budget: Budget::new(limits),
             symrefs: false,
             peel: false,
+            unborn: false,
             ref_prefixes: Texts::new(alloc),
         }
     }
@@ -105,6 +114,9 @@ impl<A: Allocator + Copy> LsRefs<A> {
         let Some(i) = past_flag(self.symrefs, i) else {
             return Some(Argument::Symrefs);
         };
+        let Some(i) = past_flag(self.unborn, i) else {
+            return Some(Argument::Unborn);
+        };
         match self.ref_prefix(i) {
             Some(prefix) => Some(Argument::RefPrefix(prefix)),
             None => None,
@@ -119,6 +131,7 @@ impl<A: Allocator + Copy> LsRefs<A> {
         match argument {
             Argument::Symrefs => Ok(()),
             Argument::Peel => Ok(()),
+            Argument::Unborn => Ok(()),
             Argument::RefPrefix(prefix) if prefix.len() > MOST_TEXT => Err(Kind::BadLine),
             Argument::RefPrefix(_) => Ok(()),
             _ => Err(Kind::UnknownArgument),
@@ -164,6 +177,7 @@ impl<A: Allocator + Copy> LsRefs<A> {
         match argument {
             Argument::Symrefs => self.symrefs = true,
             Argument::Peel => self.peel = true,
+            Argument::Unborn => self.unborn = true,
             Argument::RefPrefix(prefix) => self.ref_prefixes.keep(prefix)?,
             _ => unreachable!(),
         }

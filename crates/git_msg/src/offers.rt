@@ -1,6 +1,6 @@
 //! What an advertisement offers, and what of it this project knows.
 
-ghost use Rattle.std.specs.Prelude.{◌≡◌, ℕ, ◌+◌, ◌*◌, List, [], ◌∷◌, length, unwrap_or};
+ghost use Rattle.std.specs.Prelude.{◌≡◌, ℕ, ◌+◌, ◌*◌, List, [], ◌∷◌, codes, length, unwrap_or};
 ghost use Rattle.std.specs.Option.{option_copied};
 ghost use Rattle.std.specs.List.{list_any};
 ghost use Rattle.std.specs.Str.{bytes_eq};
@@ -18,15 +18,22 @@ use git_names::{Format, Steps};
 // The most bytes that a key has which is known.
 const LONGEST_KEY: usize = 13;
 
+// The most bytes that the name of an object format has.
+const LONGEST_FORMAT: usize = 6;
+
 /// What a server offers to a client, beside `agent` and the commands `ls-refs` and `fetch`, which are in every offer.
 #[derive(Clone, Copy, Debug, PartialEq, Eq)]
 pub struct Offer {
     /// The format of the object names that are spoken of.
     pub format: Format,
+    /// The feature `unborn` of `ls-refs`.
+    pub unborn: bool,
     /// The feature `shallow` of `fetch`.
     pub shallow: bool,
     /// The feature `ref-in-want` of `fetch`.
     pub ref_in_want: bool,
+    /// The feature `wait-for-done` of `fetch`.
+    pub wait_for_done: bool,
     /// The command `object-info`.
     pub object_info: bool,
     /// The capability `server-option`.
@@ -40,8 +47,10 @@ impl Offer {
     {
         Offer {
             format,
+            unborn: true,
             shallow: true,
             ref_in_want: true,
+            wait_for_done: true,
             object_info: true,
             server_option: true,
         }
@@ -67,12 +76,16 @@ pub struct Caps {
     pub agent: bool,
     /// The command `ls-refs`.
     pub ls_refs: bool,
+    /// The word `unborn` in a value of `ls-refs`.
+    pub unborn: bool,
     /// The command `fetch`.
     pub fetch: bool,
     /// The word `shallow` in a value of `fetch`.
     pub shallow: bool,
     /// The word `ref-in-want` in a value of `fetch`.
     pub ref_in_want: bool,
+    /// The word `wait-for-done` in a value of `fetch`.
+    pub wait_for_done: bool,
     /// The key `server-option`.
     pub server_option: bool,
     /// The command `object-info`.
@@ -93,9 +106,11 @@ impl Caps {
         Caps {
             agent: false,
             ls_refs: false,
+            unborn: false,
             fetch: false,
             shallow: false,
             ref_in_want: false,
+            wait_for_done: false,
             server_option: false,
             object_info: false,
             object_format: false,
@@ -113,26 +128,85 @@ impl Caps {
         ensures cost { TakesAtMost (16 * (length capability.now.key.now + length (unwrap_or (option_copied capability.now.value) []) + 1))
             steps.old steps.new }
     {
-        let key = capability.key;
         let value = capability.value.unwrap_or(b"");
-        // Six keys, and two values of one of them.
+        self.with_line(capability.key, value, steps)
+    }
+
+    // What is noted when a line with this key and value comes too.
+    fn with_line(self, key: &[u8], value: &[u8], steps: &mut Steps) -> Caps
+        ensures exact { result ≡ noted_with self key.now value.now }
+        ensures cost { TakesAtMost (16 * (length key.now + length value.now + 1)) steps.old steps.new }
+    {
+        // Six keys.
         steps.tick(6 * (key.len().min(LONGEST_KEY) + 1));
-        steps.tick(2 * (value.len().min(LONGEST_KEY) + 1));
-        let is_shallow = has_word(value, b"shallow", steps);
-        let is_ref_in_want = has_word(value, b"ref-in-want", steps);
-        let is_fetch = is_word(key, b"fetch");
-        let is_format = is_word(key, b"object-format");
+        if is_word(key, b"agent") {
+            return Caps {
+                agent: true,
+                ..self
+            };
+        }
+        if is_word(key, b"ls-refs") {
+            return self.with_ls_refs(value, steps);
+        }
+        if is_word(key, b"fetch") {
+            return self.with_fetch(value, steps);
+        }
+        if is_word(key, b"server-option") {
+            return Caps {
+                server_option: true,
+                ..self
+            };
+        }
+        if is_word(key, b"object-info") {
+            return Caps {
+                object_info: true,
+                ..self
+            };
+        }
+        if is_word(key, b"object-format") {
+            return self.with_format(value, steps);
+        }
+        self
+    }
+
+    // What is noted when a line `ls-refs` with these features comes too.
+    fn with_ls_refs(self, features: &[u8], steps: &mut Steps) -> Caps
+        ensures exact { result ≡ noted_with self (codes "ls-refs") features.now }
+        ensures cost { TakesAtMost (4 * (length features.now + 1)) steps.old steps.new }
+    {
         Caps {
-            agent: is_word(key, b"agent") | self.agent,
-            ls_refs: is_word(key, b"ls-refs") | self.ls_refs,
-            fetch: is_fetch | self.fetch,
-            shallow: is_fetch & is_shallow | self.shallow,
-            ref_in_want: is_fetch & is_ref_in_want | self.ref_in_want,
-            server_option: is_word(key, b"server-option") | self.server_option,
-            object_info: is_word(key, b"object-info") | self.object_info,
-            object_format: is_format | self.object_format,
-            sha1: is_format & is_word(value, b"sha1") | self.sha1,
-            sha256: is_format & is_word(value, b"sha256") | self.sha256,
+            ls_refs: true,
+            unborn: has_word(features, b"unborn", steps) | self.unborn,
+            ..self
+        }
+    }
+
+    // What is noted when a line `fetch` with these features comes too.
+    fn with_fetch(self, features: &[u8], steps: &mut Steps) -> Caps
+        ensures exact { result ≡ noted_with self (codes "fetch") features.now }
+        ensures cost { TakesAtMost (12 * (length features.now + 1)) steps.old steps.new }
+    {
+        Caps {
+            fetch: true,
+            shallow: has_word(features, b"shallow", steps) | self.shallow,
+            ref_in_want: has_word(features, b"ref-in-want", steps) | self.ref_in_want,
+            wait_for_done: has_word(features, b"wait-for-done", steps) | self.wait_for_done,
+            ..self
+        }
+    }
+
+    // What is noted when a line `object-format` with this name comes too.
+    fn with_format(self, name: &[u8], steps: &mut Steps) -> Caps
+        ensures exact { result ≡ noted_with self (codes "object-format") name.now }
+        ensures cost { TakesAtMost (2 * (length name.now + 1)) steps.old steps.new }
+    {
+        // Two names.
+        steps.tick(2 * (name.len().min(LONGEST_FORMAT) + 1));
+        Caps {
+            object_format: true,
+            sha1: is_word(name, b"sha1") | self.sha1,
+            sha256: is_word(name, b"sha256") | self.sha256,
+            ..self
         }
     }
 
@@ -163,8 +237,10 @@ impl Caps {
     {
         Offer {
             format,
+            unborn: self.unborn,
             shallow: self.shallow,
             ref_in_want: self.ref_in_want,
+            wait_for_done: self.wait_for_done,
             object_info: self.object_info,
             server_option: self.server_option,
         }

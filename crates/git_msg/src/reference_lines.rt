@@ -3,13 +3,14 @@ ghost use Rattle.std.specs.Prelude.{◌≡◌, ◌+◌, ◌*◌, ◌≤◌, IfOk
 ghost use Rattle.std.specs.Option.{option_copied};
 ghost use Rattle.git_names.specs.Steps.{TakesAtMost};
 ghost use Rattle.git_msg.specs.Checks.{Refuses};
-ghost use Rattle.git_msg.specs.References.{FitsIn, IsAttributeFault, IsReferenceFault, IsReferenceLine, attribute_checks, reference_at, shown_reference};
+ghost use Rattle.git_msg.specs.References.{FitsIn, IsAttributeFault, IsIdText, IsNoIdText, IsReferenceFault, IsReferenceLine};
+ghost use Rattle.git_msg.specs.References.{attribute_checks, reference_at, shown_reference};
 ghost use Rattle.git_msg.specs.Texts.{IsLeftOf, bytes_left, parts_left};
 ghost use Rattle.git_msg.specs.ReferenceParts.{AreLocated, BeginsWithName, BeginsWithNoName, IsFound};
 
 use crate::reference_places::{Part, ReferencePlaces};
 use crate::references::Reference;
-use crate::texts::{after, split_at_first};
+use crate::texts::{after, is_word, split_at_first};
 use git_names::{Format, NameFault, Oid, RefName, Steps};
 use git_pkt::Kind;
 
@@ -19,8 +20,8 @@ struct Found {
     peeled: Option<Oid>,
 }
 
-/// Reads the text of a reference line: an object name, a space and a reference name, then attributes, each after one
-/// space. Attributes that are not known are passed over. A text without a space is `BadLine`; then from left to right
+/// Reads the text of a reference line: an object name, or `unborn` in its place, a space and a reference name, then attributes,
+/// each after one space. Attributes that are not known are passed over. A text without a space is `BadLine`; then from left to right
 /// `BadObjectName` and `BadRefName`.
 pub fn read_reference<'a>(
     format: Format,
@@ -50,7 +51,7 @@ pub fn locate_reference(
     let (id, Some(rest)) = split_at_first(text, b' ') else {
         return Err(Kind::BadLine);
     };
-    let id = Oid::read(format, id, steps)?;
+    let id = read_id(format, id, steps)?;
     let (name, words) = split_name(rest, steps)?;
     let found = read_attributes(format, text, words, steps)?;
     Ok(ReferencePlaces {
@@ -59,6 +60,21 @@ pub fn locate_reference(
         target: found.target,
         peeled: found.peeled,
     })
+}
+
+/// The object that the first word of a line names: none where the word says that the reference is unborn.
+fn read_id(format: Format, word: &[u8], steps: &mut Steps) -> Result<Option<Oid>, Kind>
+    ensures id { MatchResult result (IsIdText format word.now) (λ kind. IsNoIdText format word.now × (kind ≡ Kind.BadObjectName)) }
+    ensures cost { TakesAtMost (17 * (length word.now + 1)) steps.old steps.new }
+{
+    steps.tick(word.len().min(6) + 1);
+    if is_word(word, b"unborn") {
+        return Ok(None);
+    }
+    match Oid::read(format, word, steps) {
+        Ok(id) => Ok(Some(id)),
+        Err(_) => Err(Kind::BadObjectName),
+    }
 }
 
 /// The reference name that the text begins with, and what stands after the space that ends it, where there is one. Most

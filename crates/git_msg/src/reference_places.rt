@@ -2,7 +2,7 @@
 ghost use Rattle.std.specs.Prelude.{◌≡◌, ◌+◌, ◌≤◌, length};
 ghost use Rattle.git_msg.specs.References.{FitsIn, part_of, reference_at, shown_reference};
 
-use crate::references::Reference;
+use crate::references::{Reference, id_text_length};
 use git_names::Oid;
 
 /// A part of a text.
@@ -24,9 +24,9 @@ impl Part {
 /// What a reference line says of objects, and where the names lie in its text: a reference that lends nothing.
 #[derive(Clone, Copy, Debug)]
 pub struct ReferencePlaces {
-    /// The object that the reference points to.
-    pub id: Oid,
-    // The name begins after the object name's digits and one space.
+    /// The object that the reference points to: none where it is unborn.
+    pub id: Option<Oid>,
+    // The name begins after what stands for the object and one space.
     pub(crate) name_length: usize,
     pub(crate) target: Option<Part>,
     /// For an annotated tag, where it is told, the object that it stands for.
@@ -39,7 +39,7 @@ impl ReferencePlaces {
         requires { FitsIn self.now (length text.now) }
         ensures { shown_reference result ≡ reference_at self.now text.now }
     {
-        let start = self.id.format().digits() + 1;
+        let start = id_text_length(&self.id) + 1;
         let target = match self.target {
             Some(part) => Some(part.of(text)),
             None => None,

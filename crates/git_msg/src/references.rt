@@ -5,7 +5,9 @@ ghost use Rattle.arrayvec.specs.ArrayVec.{array_vec_len};
 ghost use Rattle.git_names.specs.ObjectFormat.{digits_of};
 ghost use Rattle.git_names.specs.ObjectName.{ObjectName, IsObjectName, hex_of};
 ghost use Rattle.git_pkt.specs.Packets.{longest_payload, payload, spelling_of};
-ghost use Rattle.git_msg.specs.References.{IsReferenceLine, IsWritable, peeled_count, peeled_text, reference_of, reference_text, shown_reference, target_text};
+ghost use Rattle.git_names.specs.declared.object_format.Format.{Format};
+ghost use Rattle.git_msg.specs.References.{HasFormat, IsReferenceLine, IsWritable, id_length, id_text, peeled_count, peeled_text, reference_of};
+ghost use Rattle.git_msg.specs.References.{reference_text, shown_reference, target_text};
 
 use git_names::Oid;
 use git_pkt::{Hold, append, begin};
@@ -13,8 +15,8 @@ use git_pkt::{Hold, append, begin};
 /// A reference, whose texts are lent.
 #[derive(Clone, Copy, Debug)]
 pub struct Reference<'a> {
-    /// The object that it points to.
-    pub id: Oid,
+    /// The object that it points to: none where it is unborn, as `HEAD` is while its branch has no commit.
+    pub id: Option<Oid>,
     /// Its name.
     pub name: &'a [u8],
     /// For a symbolic reference, where it is told, the name of the reference that it points to.
@@ -24,11 +26,12 @@ pub struct Reference<'a> {
 }
 
 /// Makes the hold the packet of the reference's line, with an LF at its end. The name and the target have to be such as
-/// [`git_names::RefName::read`] takes, and a peeled object of the same format as the object itself.
+/// [`git_names::RefName::read`] takes, and the object and a peeled object of one format.
 pub fn put_reference(hold: &mut Hold, reference: Reference<'_>)
     requires { IsWritable (shown_reference reference) }
     ensures written { hold.new.items ≡ spelling_of (payload (reference_text (shown_reference reference.entry) ++ 10 ∷ [])) }
-    ensures reads_back { IsReferenceLine reference.entry.id.format (reference_text (shown_reference reference.entry)) (shown_reference reference.entry) }
+    ensures reads_back { (format : Format) → HasFormat format (shown_reference reference.entry)
+        → IsReferenceLine format (reference_text (shown_reference reference.entry)) (shown_reference reference.entry) }
     ensures fits { length (reference_text (shown_reference reference.entry)) < longest_payload }
 {
     let Reference {
@@ -40,25 +43,55 @@ pub fn put_reference(hold: &mut Hold, reference: Reference<'_>)
     put_parts(hold, &id, name, target, &peeled);
 }
 
-fn put_parts(hold: &mut Hold, id: &Oid, name: &[u8], target: Option<&[u8]>, peeled: &Option<Oid>)
+fn put_parts(
+    hold: &mut Hold,
+    id: &Option<Oid>,
+    name: &[u8],
+    target: Option<&[u8]>,
+    peeled: &Option<Oid>,
+)
     requires { IsWritable (reference_of id.now name.now (option_copied target) peeled.now) }
     ensures written { hold.new.items ≡ spelling_of (payload (
         reference_text (reference_of id.now name.now (option_copied target.entry) peeled.now) ++ 10 ∷ [])) }
-    ensures reads_back { IsReferenceLine id.now.format (reference_text (reference_of id.now name.now (option_copied target.entry) peeled.now))
+    ensures reads_back { (format : Format) → HasFormat format (reference_of id.now name.now (option_copied target.entry) peeled.now)
+        → IsReferenceLine format (reference_text (reference_of id.now name.now (option_copied target.entry) peeled.now))
         (reference_of id.now name.now (option_copied target.entry) peeled.now) }
     ensures fits { length (reference_text (reference_of id.now name.now (option_copied target.entry) peeled.now)) < longest_payload }
 {
-    let length = id.format().digits() + 1 + name.len();
+    let length = id_text_length(id) + 1 + name.len();
     begin(
         hold,
         length + target_length(target) + peeled_length(peeled) + 1,
     );
-    append_id(hold, id);
+    append_id_text(hold, id);
     append(hold, b" ");
     append(hold, name);
     append_target(hold, target);
     append_peeled(hold, peeled);
     append(hold, b"\n");
+}
+
+/// How many bytes the word has that stands for the object at the head of a line.
+pub(crate) fn id_text_length(id: &Option<Oid>) -> usize
+    ensures { result ≡ id_length id.now }
+{
+    match id {
+        Some(id) => id.format().digits(),
+        None => 6,
+    }
+}
+
+/// Appends the word that stands for the object at the head of a line: its digits, or `unborn`.
+fn append_id_text(hold: &mut Hold, id: &Option<Oid>)
+    requires { array_vec_len hold.old + id_length id.now ≤ 65520 }
+    ensures appended { hold.new.items ≡ hold.old.items ++ id_text id.now }
+    ensures count { length (id_text id.now) ≡ id_length id.now }
+    ensures reads_back { (named : ObjectName) → id.now ≡ Some named → IsObjectName named.format (hex_of named) named }
+{
+    match id {
+        Some(id) => append_id(hold, id),
+        None => append(hold, b"unborn"),
+    }
 }
 
 fn target_length(target: Option<&[u8]>) -> usize

@@ -30,10 +30,10 @@ pub enum Request<A: Allocator + Copy> {
 
 impl<A: Allocator + Copy> Request<A> {
     ghost use Rattle.git_msg.specs.Arguments.{IsValue, IsValueFault};
-    ghost use Rattle.git_msg.specs.Asked.{arguments_in, symrefs_of, peel_of, ref_prefixes_of, wants_of, haves_of, done_of, thin_pack_of};
+    ghost use Rattle.git_msg.specs.Asked.{arguments_in, symrefs_of, peel_of, unborn_of, ref_prefixes_of, wants_of, haves_of, done_of, thin_pack_of};
     ghost use Rattle.git_msg.specs.Asked.{no_progress_of, include_tag_of, ofs_delta_of, written_bytes, HasValues};
     ghost use Rattle.git_msg.specs.Asked.{AreOffered, shallows_of, deepen_of, deepen_relative_of, deepen_since_of, deepen_nots_of, want_refs_of};
-    ghost use Rattle.git_msg.specs.Asked.{size_of, oids_of};
+    ghost use Rattle.git_msg.specs.Asked.{size_of, oids_of, wait_for_done_of};
     ghost use Rattle.git_msg.specs.Checks.{Passes, Refuses};
     ghost use Rattle.git_msg.specs.Lines.{end_checks};
     ghost use Rattle.git_msg.specs.HeldRequest.{IsEmpty, asked_of, command_of, format_of, kept_of, limit_of, stored_of, Keeps, add_checks, keep_checks, IsRefused};
@@ -78,8 +78,8 @@ impl<A: Allocator + Copy> Request<A> {
     }
 
     /// Judges what the request asks for, at its end: `DeepenConflict` for a fetch that cuts the history off by a depth and
-    /// by a time or a revision too, and then `NoWants` for one that wants nothing; `NoSize` for an object-info that does not
-    /// ask for sizes.
+    /// by a time or a revision too, and then `NoWants` for one that wants nothing, unless it negotiates alone; `NoSize` for
+    /// an object-info that does not ask for sizes.
     pub fn check_end(&self) -> Result<(), Kind>
         ensures { MatchResult result (λ _. Passes (end_checks (asked_of self.now))) (Refuses (end_checks (asked_of self.now))) }
     {
@@ -191,6 +191,16 @@ impl<A: Allocator + Copy> Request<A> {
         }
     }
 
+    /// The flag `unborn` of `ls-refs`.
+    pub fn unborn(&self) -> bool
+        ensures { result ≡ unborn_of (asked_of self.now) }
+    {
+        match self {
+            Request::LsRefs(request) => request.unborn(),
+            Request::Fetch(_) | Request::ObjectInfo(_) => false,
+        }
+    }
+
     /// The text of the `ref-prefix` line at place `i` of `ls-refs`.
     pub fn ref_prefix(&self, i: usize) -> Option<&[u8]>
         ensures value { option_copied result ≡ slice_get (ref_prefixes_of (asked_of self.now)) i }
@@ -270,6 +280,16 @@ impl<A: Allocator + Copy> Request<A> {
         match self {
             Request::LsRefs(_) | Request::ObjectInfo(_) => false,
             Request::Fetch(request) => request.ofs_delta(),
+        }
+    }
+
+    /// The flag `wait-for-done` of `fetch`.
+    pub fn wait_for_done(&self) -> bool
+        ensures { result ≡ wait_for_done_of (asked_of self.now) }
+    {
+        match self {
+            Request::LsRefs(_) | Request::ObjectInfo(_) => false,
+            Request::Fetch(request) => request.wait_for_done(),
         }
     }
 
@@ -426,6 +446,7 @@ pub(crate) fn written_length(argument: &Argument<'_>) -> usize
     match argument {
         Argument::Symrefs => 7,
         Argument::Peel => 4,
+        Argument::Unborn => 6,
         Argument::RefPrefix(prefix) => 11 + prefix.len(),
         Argument::Want(id) => name_length(5, id),
         Argument::Have(id) => name_length(5, id),
@@ -434,6 +455,7 @@ pub(crate) fn written_length(argument: &Argument<'_>) -> usize
         Argument::NoProgress => 11,
         Argument::IncludeTag => 11,
         Argument::OfsDelta => 9,
+        Argument::WaitForDone => 13,
         Argument::Shallow(id) => name_length(8, id),
         Argument::Deepen(depth) => number_length(7, *depth),
         Argument::DeepenRelative => 15,

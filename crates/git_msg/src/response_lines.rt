@@ -78,7 +78,7 @@ pub fn put_wanted(hold: &mut Hold, wanted: WantedRef<'_>)
     let WantedRef { id, name } = wanted;
     // The line is that of a reference of which no more is told.
     let reference = Reference {
-        id,
+        id: Some(id),
         name,
         target: None,
         peeled: None,

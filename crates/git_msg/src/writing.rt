@@ -31,6 +31,7 @@ pub(crate) fn put_argument(hold: &mut Hold, argument: Argument<'_>)
     match argument {
         Argument::Symrefs => put_line(hold, b"symrefs", b""),
         Argument::Peel => put_line(hold, b"peel", b""),
+        Argument::Unborn => put_line(hold, b"unborn", b""),
         Argument::RefPrefix(prefix) => put_line(hold, b"ref-prefix ", prefix),
         Argument::Want(id) => put_name_line(hold, b"want ", &id),
         Argument::Have(id) => put_name_line(hold, b"have ", &id),
@@ -39,6 +40,7 @@ pub(crate) fn put_argument(hold: &mut Hold, argument: Argument<'_>)
         Argument::NoProgress => put_line(hold, b"no-progress", b""),
         Argument::IncludeTag => put_line(hold, b"include-tag", b""),
         Argument::OfsDelta => put_line(hold, b"ofs-delta", b""),
+        Argument::WaitForDone => put_line(hold, b"wait-for-done", b""),
         Argument::Shallow(id) => put_name_line(hold, b"shallow ", &id),
         Argument::Deepen(depth) => put_number_line(hold, b"deepen ", depth),
         Argument::DeepenRelative => put_line(hold, b"deepen-relative", b""),

@@ -49,7 +49,7 @@ pub enum Kind {
     BadNumber,
     /// `deepen` stands beside `deepen-since` or `deepen-not`.
     DeepenConflict,
-    /// A fetch asks for no object and no reference.
+    /// A fetch asks for no object and no reference, and does not negotiate alone.
     NoWants,
     /// An object-info request does not ask for the size.
     NoSize,

@@ -5,3 +5,4 @@ pub mod TextPieces
 pub mod Reading
 pub mod Progressing
 pub mod TextLaws
+pub mod LastNames

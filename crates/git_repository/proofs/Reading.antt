@@ -1,23 +1,26 @@
 -- The lines of a repository's text, read one by one.
-use Rattle.std.proofs.Common.{arith, ◌≡◌, ℕ, ◌+◌, ◌≤◌, List, [], ◌∷◌, ◌++◌, refl, ap, sym, ◌∙◌, subst, append_assoc, length, inl, inr}
+use Rattle.std.proofs.Common.{arith, ◌≡◌, ℕ, ◌+◌, ◌≤◌, List, [], ◌∷◌, ◌++◌, refl, ap, sym, ◌∙◌, subst, append_assoc, length, map, Option, Some, None, inl, inr}
+use Rattle.std.specs.Option.{is_some}
+use Rattle.std.proofs.lemmas.List.{length-append, length-map}
+use Rattle.git_server.specs.Repository.{Entry}
 use Rattle.std.proofs.lemmas.List.Elements.{All-nil}
 use Rattle.git_names.specs.declared.object_format.Format.{Format}
 use Rattle.git_server.specs.Lists.{Lists}
-use Rattle.git_repository.specs.RepositoryLines.{Said, reference, object, ready, boundary, Says, SaysNothing, format_line, lines_of}
+use Rattle.git_repository.specs.RepositoryLines.{Said, reference, unborn, object, ready, boundary, Says, SaysNothing, format_line, lines_of}
 use Rattle.git_repository.specs.RepositoryText.{Begins, IsRepositoryText, MayStand, SayAll, WantsMemory}
-use Rattle.git_repository.specs.RepositoryText.{boundaries_in, counts_in, first_of, lists_said, objects_in, refs_in}
-use Rattle.git_repository.specs.LinesTold.{AreTold, lines_behind, ready_lines}
+use Rattle.git_repository.specs.RepositoryText.{boundaries_in, counts_in, first_of, names_in, objects_in, refs_in, unborn_in}
+use Rattle.git_repository.specs.LinesTold.{AreTold, lines_behind, ready_lines, unborn_lines}
 use Rattle.git_repository.specs.RepositoryProgress.{IsLinesFault}
 use Rattle.git_repository.specs.RepositoryFaults.{IsTextFault}
 use Rattle.git_repository.specs.declared.text_faults.TextFault.{TextFault}
 use Rattle.git_repository.specs.declared.text_faults.TextFault.TheVariants.{Bad, OutOfMemory as OutOfMemoryOfText}
-use Rattle.git_repository.specs.Drafts.{Adds, Holds, IsLineFault, empty_lists, with_pack}
+use Rattle.git_repository.specs.Drafts.{Adds, Holds, IsLineFault, empty_lists, head_names, with_pack}
 use Rattle.git_repository.specs.declared.text_faults.LineFault.TheVariants.{Refused, OutOfMemory}
 use Rattle.git_repository.proofs.Saying.{one_said}
 
 nothing_stands : MayStand []
 nothing_stands = record {
-  rising_refs = λ k d below. absurd (omega (arith, below));
+  rising_names = λ k d below. absurd (omega (arith, below));
   rising_objects = λ k d below. absurd (omega (arith, below));
   one_count = omega arith;
 }
@@ -25,6 +28,7 @@ nothing_stands = record {
 nothing_holds : (format : Format) → Holds [] (empty_lists format)
 nothing_holds format = record {
   lists_are = refl;
+  names_are = refl;
   may_stand = nothing_stands;
   of_format = record { by_refs = All-nil _; by_objects = All-nil _; by_boundaries = All-nil _ };
 }
@@ -68,8 +72,10 @@ length_all format [] (s ∷ ss) h = absurd h
 length_all format (l ∷ ls) [] h = absurd h
 
 length_said : (said : List Said) → length said ≡ length (refs_in said) + length (objects_in said) + length (counts_in said) + length (boundaries_in said)
+    + length (unborn_in said)
 length_said [] = refl
-length_said (reference ref ∷ more) = let h = length_said more in omega (arith, h)
+length_said (reference entry ∷ more) = let h = length_said more in omega (arith, h)
+length_said (unborn target ∷ more) = let h = length_said more in omega (arith, h)
 length_said (object id size ∷ more) = let h = length_said more in omega (arith, h)
 length_said (ready count ∷ more) = let h = length_said more in omega (arith, h)
 length_said (boundary line ∷ more) = let h = length_said more in omega (arith, h)
@@ -79,20 +85,43 @@ length_counts [] h = refl
 length_counts (count ∷ []) h = refl
 length_counts (count ∷ other ∷ counts) h = absurd (omega (arith, h))
 
-said_behind : (format : Format) (said : List Said) → MayStand said → lines_behind (lists_said format said []) ≡ length said + 1
-said_behind format said may =
-    let all = length_said said in
-    let counts = length_counts (counts_in said) may.one_count in
-    omega (arith, all, counts)
+length_names : (said : List Said) → length (names_in said) ≡ length (unborn_in said) + length (refs_in said)
+length_names [] = refl
+length_names (reference entry ∷ more) = let h = length_names more in omega (arith, h)
+length_names (unborn target ∷ more) = let h = length_names more in omega (arith, h)
+length_names (object id size ∷ more) = length_names more
+length_names (ready count ∷ more) = length_names more
+length_names (boundary line ∷ more) = length_names more
+
+length_head : (head : Option (List ℕ)) → length (head_names (is_some head)) ≡ unborn_lines head
+length_head None = refl
+length_head (Some target) = refl
+
+said_behind : (said : List Said) (lists : Lists) → Holds said lists → lines_behind lists ≡ length said + 1
+said_behind said lists h =
+    let refs : List (List ℕ) = map (λ (entry : Entry). entry.name) lists.refs in
+    omega (
+      arith,
+      length_said said,
+      length_counts (counts_in said) h.may_stand.one_count,
+      length_names said,
+      ap length h.names_are,
+      length-append (head_names (is_some lists.unborn)) refs,
+      length_head lists.unborn,
+      length-map lists.refs (λ (entry : Entry). entry.name),
+      ap (λ (l : Lists). length l.refs) h.lists_are,
+      ap (λ (l : Lists). length l.objects) h.lists_are,
+      ap (λ (l : Lists). length l.boundaries) h.lists_are,
+      ap (λ (l : Lists). ready_lines l.ready_after) h.lists_are,
+    )
 
 -- the lists tell how many lines say them
 told_lines : (lines : List (List ℕ)) (lists : Lists) → AreTold lines lists → lines_behind lists ≡ length lines
 told_lines lines lists h =
     let whole = ap length h.begins.spelled in
     let all = length_all lists.format h.begins.others h.said h.begins.say_all in
-    let behind = said_behind lists.format h.said h.holds.may_stand in
-    let is = ap lines_behind h.holds.lists_are in
-    omega (arith, whole, all, behind, is)
+    let behind = said_behind h.said lists h.holds in
+    omega (arith, whole, all, behind)
 
 refused_at : (lines : List (List ℕ)) (lists : Lists) (line : List ℕ) (number : ℕ) → (h : AreTold lines lists) → number ≡ lines_behind lists + 1
     → ((more : Said) → Says lists.format line more → MayStand (h.said ++ more ∷ []) → ⊥) → IsLinesFault (lines ++ line ∷ []) (Bad number)

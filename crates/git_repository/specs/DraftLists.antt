@@ -1,6 +1,7 @@
 -- What a clause sees of a `Draft`.
 use Rattle.std.specs.Prelude.{[]}
 use Rattle.git_server.specs.Lists.{Lists}
+use Rattle.git_server.specs.Repository.{bytes_of}
 use Rattle.git_repository.specs.declared.drafts.Draft.{Draft}
 
 -- the lists of a draft
@@ -12,4 +13,5 @@ drafted draft = record {
   ready_after = draft.ready_after;
   boundaries = draft.boundaries.items;
   pack = [];
+  unborn = bytes_of draft.unborn;
 }

@@ -16,6 +16,11 @@ abbrev pub ready_lines : Option ℕ → ℕ
 ready_lines None = 0
 ready_lines (Some count) = 1
 
+-- how many lines an unborn `HEAD` is
+abbrev pub unborn_lines : Option (List ℕ) → ℕ
+unborn_lines None = 0
+unborn_lines (Some target) = 1
+
 -- how many lines say the lists, with the first, which tells the format
 abbrev pub lines_behind : Lists → ℕ
-lines_behind lists = length lists.refs + length lists.objects + length lists.boundaries + ready_lines lists.ready_after + 1
+lines_behind lists = length lists.refs + length lists.objects + length lists.boundaries + ready_lines lists.ready_after + unborn_lines lists.unborn + 1

@@ -1,28 +1,37 @@
 -- The lines of a repository's text, and what each says.
-use Rattle.std.specs.Prelude.{◌≡◌, ℕ, ◌<◌, ◌≤◌, ◌^◌, List, ◌∷◌, ◌++◌, codes}
+use Rattle.std.specs.Prelude.{◌≡◌, ℕ, ◌<◌, ◌≤◌, ◌^◌, Option, Some, None, List, ◌∷◌, ◌++◌, codes}
+use Rattle.std.specs.Option.{option_copied}
 use Rattle.git_names.specs.declared.object_format.Format.{Format}
 use Rattle.git_names.specs.ObjectFormat.{name_of}
 use Rattle.git_names.specs.ObjectName.{ObjectName, IsObjectName}
 use Rattle.git_pkt.specs.Packets.{text_of}
 use Rattle.git_msg.specs.declared.Boundary.{Boundary}
 use Rattle.git_msg.specs.declared.Boundary.TheVariants.{Shallow, Unshallow}
-use Rattle.git_msg.specs.References.{Ref, IsReferenceLine, shown_reference}
+use Rattle.git_msg.specs.References.{Ref, IsReferenceLine, reference_of}
 use Rattle.git_msg.specs.Texts.{Follows, parts_of}
 use Rattle.git_msg.specs.Numbers.{IsNumber}
+use Rattle.git_server.specs.Repository.{Entry}
+use Rattle.git_repository.specs.declared.repository_lines.LineEntry.{LineEntry}
 use Rattle.git_repository.specs.declared.repository_lines.Item.{Item}
-use Rattle.git_repository.specs.declared.repository_lines.Item.TheVariants.{Reference, Object, ReadyAfter, BoundaryLine}
+use Rattle.git_repository.specs.declared.repository_lines.Item.TheVariants.{Reference, Unborn, Object, ReadyAfter, BoundaryLine}
 
--- what a line says of a repository: a reference, an object with its size, after how many common objects it is ready,
+-- what a line says of a repository: a reference, what an unborn `HEAD` points to, an object with its size, after how many common objects it is ready,
 -- a line of its shallow boundary
 pub data Said : Type 0 where
-  reference : Ref → Said
+  reference : Entry → Said
+  unborn : List ℕ → Said
   object : ObjectName → ℕ → Said
   ready : ℕ → Said
   boundary : Boundary → Said
 
+-- the entry that a borrowed one shows
+abbrev pub shown_entry : LineEntry → Entry
+shown_entry e = record { name = e.name.now; id = e.id; target = option_copied e.target; peeled = e.peeled }
+
 -- what a borrowed one shows
 abbrev pub shown : Item → Said
-shown (Reference ref) = reference (shown_reference ref)
+shown (Reference entry) = reference (shown_entry entry)
+shown (Unborn target) = unborn target.now
 shown (Object id size) = object id size
 shown (ReadyAfter count) = ready count
 shown (BoundaryLine line) = boundary line
@@ -49,9 +58,30 @@ pub record IsCount (count : ℕ) (text : List ℕ) : Type 0 where
   pub from_one : 0 < count
   pub at_most : count ≤ 2147483647
 
+-- the reference whose line tells an entry: it has an object
+abbrev pub ref_of : Entry → Ref
+ref_of entry = reference_of (Some entry.id) entry.name entry.target entry.peeled
+
+-- the reference whose line tells an unborn `HEAD`
+abbrev pub unborn_ref : List ℕ → Ref
+unborn_ref target = reference_of None (codes "HEAD") (Some target) None
+
+-- these are the name, the target and the peeled object of an unborn `HEAD` that points to this
+pub record IsUnbornHeadOf (name : List ℕ) (target : Option (List ℕ)) (peeled : Option ObjectName) (head : List ℕ) : Type 0 where
+  pub is_head : name ≡ codes "HEAD"
+  pub points : target ≡ Some head
+  pub no_peeled : peeled ≡ None
+
+-- what a reference line says
+abbrev pub SaysReference : Format → List ℕ → Said → Type 0
+SaysReference format text (reference entry) = IsReferenceLine format text (ref_of entry)
+SaysReference format text (unborn target) = IsReferenceLine format text (unborn_ref target)
+SaysReference format text _ = ⊥
+
 -- what a line after the first says
 abbrev pub Says : Format → List ℕ → Said → Type 0
-Says format line (reference ref) = Follows (codes "ref ") (λ text. IsReferenceLine format text ref) line
+Says format line (reference entry) = Follows (codes "ref ") (λ text. IsReferenceLine format text (ref_of entry)) line
+Says format line (unborn target) = Follows (codes "ref ") (λ text. IsReferenceLine format text (unborn_ref target)) line
 Says format line (object id size) = Follows (codes "object ") (IsSizedObject format id size) line
 Says format line (ready count) = Follows (codes "ready ") (IsCount count) line
 Says format line (boundary (Shallow id)) = Follows (codes "shallow ") (λ text. IsObjectName format text id) line

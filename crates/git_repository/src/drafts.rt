@@ -3,16 +3,16 @@
 ghost use Rattle.std.specs.Prelude.{◌≡◌, ◌↔◌, ◌+◌, ◌++◌, ◌∷◌, [], ℕ, List, All, IsTrue, IfOk, MatchResult};
 ghost use Rattle.git_server.specs.ListRepo.{lists_of};
 ghost use Rattle.git_server.specs.Objects.{AreRising, object_of};
-ghost use Rattle.git_server.specs.Repository.{IsNamed, IsOfFormat, IsRising};
-ghost use Rattle.git_msg.specs.References.{shown_reference};
-ghost use Rattle.git_repository.specs.RepositoryLines.{shown};
-ghost use Rattle.git_repository.specs.RepositoryText.{entry_of};
-ghost use Rattle.git_repository.specs.Drafts.{AddsBoundary, AddsCount, AddsObject, AddsReference, AddsSaid};
+ghost use Rattle.git_server.specs.Repository.{IsNamed, IsOfFormat, IsRising, IsUnbornHead, bytes_of};
+ghost use Rattle.std.specs.Option.{option_copied, ForSome};
+ghost use Rattle.git_names.specs.RefName.{IsRefName};
+ghost use Rattle.git_repository.specs.RepositoryLines.{shown, shown_entry};
+ghost use Rattle.git_repository.specs.Drafts.{AddsBoundary, AddsCount, AddsObject, AddsReference, AddsSaid, AddsUnborn, names_of};
 ghost use Rattle.git_repository.specs.Drafts.{ComesLast, ComesLastObject, IsFit, empty_lists, with_pack};
 
-use crate::repository_lines::{Item, read_item};
+use crate::repository_lines::{Item, LineEntry, read_item};
 use crate::text_faults::{LineFault, TextFault};
-use git_msg::{Boundary, Reference};
+use git_msg::Boundary;
 use git_names::{Format, Oid};
 use git_server::{ListRepo, RefEntry};
 use std::alloc::{AllocError, Global};
@@ -25,12 +25,14 @@ pub(crate) struct Draft {
     objects: Vec<(Oid, u64)>,
     ready_after: Option<u32>,
     boundaries: Vec<Boundary>,
+    unborn: Option<Vec<u8>>,
     ghost rising: { IsRising refs.items },
     ghost rising_objects: { AreRising objects.items },
     ghost named: { All (λ ref. IsNamed ref.name ref.target) refs.items },
     ghost of_format: { All (IsOfFormat format) refs.items },
     ghost of_objects: { All (λ object. object.0.format ≡ format) objects.items },
     ghost of_boundaries: { All (λ boundary. (object_of boundary).format ≡ format) boundaries.items },
+    ghost unborn_head: { ForSome (bytes_of unborn) (IsUnbornHead refs.items) },
 }
 
 impl Draft {
@@ -48,6 +50,7 @@ impl Draft {
             objects: Vec::new(alloc),
             ready_after: None,
             boundaries: Vec::new(alloc),
+            unborn: None,
         }
     }
 
@@ -62,7 +65,11 @@ impl Draft {
         let refs = self.refs.as_slice().len() as u64;
         let objects = self.objects.as_slice().len() as u64;
         let boundaries = self.boundaries.as_slice().len() as u64;
-        refs + objects + boundaries + ready + 2
+        let unborn: u64 = match self.unborn {
+            Some(_) => 1,
+            None => 0,
+        };
+        refs + objects + boundaries + ready + unborn + 2
     }
 
     /// Keeps what a further line says, or tells why it is the first that is refused.
@@ -87,26 +94,53 @@ impl Draft {
         ensures { AddsSaid (drafted self.old) (shown item.now) (drafted self.new) result }
     {
         match item {
-            Item::Reference(reference) => self.keep_reference(alloc, reference),
+            Item::Reference(entry) => self.keep_reference(alloc, entry),
+            Item::Unborn(target) => self.keep_unborn(alloc, target),
             Item::Object(id, size) => self.keep_object(*id, *size),
             Item::ReadyAfter(count) => self.keep_count(*count),
             Item::BoundaryLine(boundary) => self.keep_boundary(*boundary),
         }
     }
 
-    fn keep_reference(&mut self, alloc: Global, reference: &Reference<'_>) -> Result<(), LineFault>
-        requires named { IsNamed (shown_reference reference.now).name (shown_reference reference.now).target }
-        requires of_format { IsOfFormat (drafted self.old).format (entry_of (shown_reference reference.now)) }
-        ensures { AddsReference (drafted self.old) (entry_of (shown_reference reference.now)) (drafted self.new) result }
+    // Whether the name comes after those of the references, and after `HEAD` where that is unborn.
+    fn comes_last(&self, name: &[u8]) -> bool
+        ensures { IsTrue result ↔ ComesLast (names_of (drafted self.now)) name.now }
     {
-        if !comes_last(&self.refs, reference.name) {
+        if self.refs.is_empty() {
+            return self.unborn.is_none() || b"HEAD".as_slice().cmp(name).is_lt();
+        }
+        self.refs[self.refs.len() - 1].name().cmp(name).is_lt()
+    }
+
+    fn keep_reference(&mut self, alloc: Global, entry: &LineEntry<'_>) -> Result<(), LineFault>
+        requires named { IsNamed entry.now.name.now (option_copied entry.now.target) }
+        requires of_format { IsOfFormat (drafted self.old).format (shown_entry entry.now) }
+        ensures { AddsReference (drafted self.old) (shown_entry entry.now) (drafted self.new) result }
+    {
+        if !self.comes_last(entry.name) {
             return Err(LineFault::Refused);
         }
-        let Ok(entry) = make_entry(alloc, reference) else {
+        let Ok(made) = make_entry(alloc, entry) else {
             return Err(LineFault::OutOfMemory);
         };
-        match self.refs.push(entry) {
+        match self.refs.push(made) {
             Ok(()) => Ok(()),
+            Err(_) => Err(LineFault::OutOfMemory),
+        }
+    }
+
+    fn keep_unborn(&mut self, alloc: Global, target: &[u8]) -> Result<(), LineFault>
+        requires { IsRefName target.now }
+        ensures { AddsUnborn (drafted self.old) target.now (drafted self.new) result }
+    {
+        if !self.comes_last(b"HEAD") {
+            return Err(LineFault::Refused);
+        }
+        match Vec::from_slice(alloc, target) {
+            Ok(copy) => {
+                self.unborn = Some(copy);
+                Ok(())
+            }
             Err(_) => Err(LineFault::OutOfMemory),
         }
     }
@@ -154,33 +188,18 @@ impl Draft {
             objects,
             ready_after,
             boundaries,
+            unborn,
         } = self;
-        ListRepo::of_lists(format, refs, objects, ready_after, boundaries, pack)
+        ListRepo::of_lists(format, refs, objects, ready_after, boundaries, pack, unborn)
     }
 }
 
 /// The entry of a reference, whose texts are copied.
-fn make_entry(alloc: Global, reference: &Reference<'_>) -> Result<RefEntry, AllocError>
-    requires { IsNamed (shown_reference reference.now).name (shown_reference reference.now).target }
-    ensures { IfOk result (λ entry. entry ≡ entry_of (shown_reference reference.now)) }
+fn make_entry(alloc: Global, entry: &LineEntry<'_>) -> Result<RefEntry, AllocError>
+    requires { IsNamed entry.now.name.now (option_copied entry.now.target) }
+    ensures { IfOk result (λ made. made ≡ shown_entry entry.now) }
 {
-    RefEntry::copied(
-        alloc,
-        reference.name,
-        reference.id,
-        reference.target,
-        reference.peeled,
-    )
-}
-
-/// Whether the name comes after those of the references.
-fn comes_last(refs: &[RefEntry], name: &[u8]) -> bool
-    ensures { IsTrue result ↔ ComesLast refs.now name.now }
-{
-    if refs.is_empty() {
-        return true;
-    }
-    refs[refs.len() - 1].name().cmp(name).is_lt()
+    RefEntry::copied(alloc, entry.name, entry.id, entry.target, entry.peeled)
 }
 
 /// Whether the object name comes after those of the objects.

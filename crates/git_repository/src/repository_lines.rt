@@ -1,9 +1,11 @@
 //! The lines of a repository's text.
 
-ghost use Rattle.std.specs.Prelude.{◌≡◌, ◌≢◌, ℕ, MatchOption};
+ghost use Rattle.std.specs.Prelude.{◌≡◌, ◌≢◌, ℕ, List, MatchOption};
 ghost use Rattle.git_names.specs.declared.object_format.Format.{Format};
 ghost use Rattle.git_names.specs.ObjectName.{ObjectName};
-ghost use Rattle.git_repository.specs.RepositoryLines.{IsCount, IsSizedObject, Says, SaysNothing, format_line, shown};
+ghost use Rattle.git_repository.specs.RepositoryLines.{IsCount, IsSizedObject, Says, SaysNothing, IsUnbornHeadOf, SaysReference, format_line, shown};
+ghost use Rattle.git_repository.specs.RepositoryLines.{Said};
+ghost use Rattle.std.specs.Option.{option_copied};
 
 use git_msg::{Boundary, Reference, after, read_number, read_reference};
 use git_names::{Format, Oid, Steps};
@@ -11,11 +13,22 @@ use git_names::{Format, Oid, Steps};
 /// The most common objects that a repository may want before it is ready.
 const MOST_COMMON: u64 = 2_147_483_647;
 
+/// A reference of the repository, as its line tells it, whose texts are lent.
+#[derive(Clone, Copy, Debug)]
+pub(crate) struct LineEntry<'a> {
+    pub(crate) id: Oid,
+    pub(crate) name: &'a [u8],
+    pub(crate) target: Option<&'a [u8]>,
+    pub(crate) peeled: Option<Oid>,
+}
+
 /// What a line says of the repository.
 #[derive(Clone, Copy, Debug)]
 pub(crate) enum Item<'a> {
     /// It has this reference.
-    Reference(Reference<'a>),
+    Reference(LineEntry<'a>),
+    /// Its `HEAD` is unborn, and points to this name.
+    Unborn(&'a [u8]),
     /// It has this object, of this size in bytes.
     Object(Oid, u64),
     /// It is ready after so many common objects.
@@ -36,10 +49,7 @@ pub(crate) fn read_item(format: Format, line: &[u8]) -> Option<Item<'_>>
     ensures { MatchOption result (SaysNothing format line.now) (λ item. Says format line.now (shown item)) }
 {
     if let Some(text) = after(line, b"ref ") {
-        return match read_reference(format, text, &mut Steps::new()) {
-            Ok(reference) => Some(Item::Reference(reference)),
-            Err(_) => None,
-        };
+        return read_reference_line(format, text);
     }
     if let Some(text) = after(line, b"object ") {
         let (id, size) = read_object(format, text)?;
@@ -58,6 +68,45 @@ pub(crate) fn read_item(format: Format, line: &[u8]) -> Option<Item<'_>>
         return Some(Item::BoundaryLine(Boundary::Unshallow(id)));
     }
     None
+}
+
+/// A reference line: of a reference with an object, or of an unborn `HEAD`.
+fn read_reference_line(format: Format, text: &[u8]) -> Option<Item<'_>>
+    ensures { MatchOption result ((said : Said) → ¬ SaysReference format text.now said) (λ item. SaysReference format text.now (shown item)) }
+{
+    let reference = match read_reference(format, text, &mut Steps::new()) {
+        Ok(reference) => reference,
+        Err(_) => return None,
+    };
+    let Reference {
+        id,
+        name,
+        target,
+        peeled,
+    } = reference;
+    match id {
+        Some(id) => Some(Item::Reference(LineEntry {
+            id,
+            name,
+            target,
+            peeled,
+        })),
+        None => match unborn_target(name, target, peeled) {
+            Some(target) => Some(Item::Unborn(target)),
+            None => None,
+        },
+    }
+}
+
+/// What an unborn `HEAD` points to, where a reference without an object is that.
+fn unborn_target<'a>(name: &[u8], target: Option<&'a [u8]>, peeled: Option<Oid>) -> Option<&'a [u8]>
+    ensures { MatchOption result ((other : List ℕ) → ¬ IsUnbornHeadOf name.now (option_copied target.entry) peeled other)
+        (λ found. IsUnbornHeadOf name.now (option_copied target.entry) peeled found.now) }
+{
+    if name != b"HEAD".as_slice() || peeled.is_some() {
+        return None;
+    }
+    target
 }
 
 /// An object name, a space and a size.

@@ -11,10 +11,11 @@ use std::alloc::Global;
 /// Reads the text of a repository, whose pack for each request is `pack`.
 ///
 /// The first line is `format sha1` or `format sha256`. The others say, in any order of kinds: `ref`, a space and a
-/// reference line of ls-refs, gitprotocol-v2(5); `object`, an object name and a size in bytes; `ready` and the number of
-/// common objects, once at the most; `shallow` or `unshallow` and an object name. Lines are parted by LF, which the last
-/// may lack. References rise strictly by their names, and objects by theirs. The first line that is none of these, or
-/// may not stand after those before it, is `Bad`.
+/// reference line of ls-refs, gitprotocol-v2(5), which may be that of an unborn `HEAD` with what it points to;
+/// `object`, an object name and a size in bytes; `ready` and the number of common objects, once at the most; `shallow`
+/// or `unshallow` and an object name. Lines are parted by LF, which the last may lack. References rise strictly by
+/// their names, and objects by theirs. The first line that is none of these, or may not stand after those before it, is
+/// `Bad`.
 pub fn read_repo(alloc: Global, text: &[u8], pack: Vec<u8>) -> Result<ListRepo, TextFault>
     ensures { MatchResult result (IsWholeText text.now pack.items) (IsTextFault text.now) }
 {

@@ -13,7 +13,7 @@ use Rattle.git_server.specs.Repository.{Repository, found_ref}
 use Rattle.git_server.specs.Packs.{Manner, whole, broken, IsPackfile}
 use Rattle.git_server.specs.AnsweredRequest.{IsNext}
 use Rattle.git_server.specs.FetchAnswers.{EndsWithBoundary, EndsWithRefs, IsAfter, IsFetchAnswer, IsFetchAnswerBy, IsNegotiated, ack_packet}
-use Rattle.git_server.specs.FetchAnswers.{acknowledgments, boundary_packet, common, nak_or_acks, negotiates, ready_lines, shallow_info, wanted_packet}
+use Rattle.git_server.specs.FetchAnswers.{acknowledgments, boundary_packet, common, is_ready_for, nak_or_acks, negotiates, ready_lines, shallow_info, wanted_packet}
 use Rattle.git_server.specs.FetchAnswers.{wanted_refs}
 use Rattle.git_server.specs.FetchPlaces.{IsFetchFrom, acknowledgments_from, acks_by, boundary_from}
 use Rattle.git_server.specs.FetchPlaces.{most_fetch, most_packets, place_by, wanted_from}
@@ -74,14 +74,14 @@ module _ (repo : Repository) (q : FetchAsked) (place : AcknowledgmentsPlace) (pa
 
   pub line_follows : (next : AcknowledgmentsPlace) → lines place ≡ packet ∷ lines next → IsNextFrom old (Acknowledgments next)
   line_follows next one = subst (λ (from : FetchPlace). IsNextFrom from (Acknowledgments next)) (sym is) (
-    λ manner later h. negotiates_on (repo.is_ready q) manner repo q (lines place) (lines next) packet later one h,
+    λ manner later h. negotiates_on (is_ready_for repo q) manner repo q (lines place) (lines next) packet later one h,
     omega (arith, ap length one),
   )
 
-  pub ready_follows : (lines place ≡ []) × (repo.is_ready q ≡ true) × (packet ≡ text_line (codes "ready")) → IsNextFrom old Delimiter
+  pub ready_follows : (lines place ≡ []) × (is_ready_for repo q ≡ true) × (packet ≡ text_line (codes "ready")) → IsNextFrom old Delimiter
   ready_follows (none, ready, told) = subst (λ (from : FetchPlace). IsNextFrom from Delimiter) (sym is) (
-    λ manner later h. subst (λ (p : Pkt). IsNegotiated (repo.is_ready q) (lines place) manner repo q (p ∷ later)) (sym told)
-        (negotiates_ready (repo.is_ready q) manner repo q (lines place) later none ready h),
+    λ manner later h. subst (λ (p : Pkt). IsNegotiated (is_ready_for repo q) (lines place) manner repo q (p ∷ later)) (sym told)
+        (negotiates_ready (is_ready_for repo q) manner repo q (lines place) later none ready h),
     omega (arith, ap length none),
   )
 
@@ -101,7 +101,7 @@ some_negotiated true repo q lines = some_after (lines ++ ready_lines) (EndsWithB
 some_negotiated false repo q lines = (lines ++ flush ∷ [], refl)
 
 pub some_fetch : (repo : Repository) (q : FetchAsked) (place : FetchPlace) → (later : List Pkt) × IsFetchFrom whole repo q place later
-some_fetch repo q (Acknowledgments at) = some_negotiated (repo.is_ready q) repo q (acknowledgments_from repo q at)
+some_fetch repo q (Acknowledgments at) = some_negotiated (is_ready_for repo q) repo q (acknowledgments_from repo q at)
 some_fetch repo q Delimiter = some_after (delim ∷ []) (EndsWithBoundary whole repo q) (some_from_boundary repo q Header)
 some_fetch repo q (ShallowInfo at) = some_from_boundary repo q at
 some_fetch repo q (WantedRefs at) = some_from_refs repo q at
@@ -186,7 +186,7 @@ negotiated_ends false repo q lines packets none h = omega (arith, ap flushes h, 
 pub fetch_ends_later : (repo : Repository) (q : FetchAsked) (place : FetchPlace) (packets : List Pkt)
     → IsFetchFrom whole repo q place packets → flushes packets ≡ 1
 fetch_ends_later repo q (Acknowledgments at) packets h =
-    negotiated_ends (repo.is_ready q) repo q (acknowledgments_from repo q at) packets (acknowledgments_have_none repo q at) h
+    negotiated_ends (is_ready_for repo q) repo q (acknowledgments_from repo q at) packets (acknowledgments_have_none repo q at) h
 fetch_ends_later repo q Delimiter packets h = after_ends (delim ∷ []) (EndsWithBoundary whole repo q) packets refl (boundary_ends repo q Header) h
 fetch_ends_later repo q (ShallowInfo at) packets h = boundary_ends repo q at packets h
 fetch_ends_later repo q (WantedRefs at) packets h = refs_end repo q at packets h
@@ -222,7 +222,7 @@ broken_negotiated false repo q lines packets none h = absurd h
 
 broken_by : (repo : Repository) (q : FetchAsked) (b : Bool) (packets : List Pkt) → IsFetchAnswerBy b broken repo q packets → flushes packets ≡ 0
 broken_by repo q true packets h =
-    broken_negotiated (repo.is_ready q) repo q (acknowledgments repo q) packets (acknowledgments_have_none repo q AcknowledgmentsHeader) h
+    broken_negotiated (is_ready_for repo q) repo q (acknowledgments repo q) packets (acknowledgments_have_none repo q AcknowledgmentsHeader) h
 broken_by repo q false packets h = broken_boundary repo q packets h
 
 pub broken_fetch_has_none : (repo : Repository) (q : FetchAsked) (packets : List Pkt) → IsFetchAnswer broken repo q packets → flushes packets ≡ 0

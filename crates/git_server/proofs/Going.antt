@@ -144,7 +144,7 @@ module _ {A : Type 0} where
 -- in each phase some packets make an end
 pub owes_some : {A : Type 0} (offer : Offer) (repo : Repository) (phase : Phase A) → (owed : List Pkt) × Owes offer repo phase owed
 owes_some offer repo (Advertising line) = (advertisement_from offer line, refl)
-owes_some offer repo (Answering (References request next) offset) = (references_from request.asked repo.refs next, refl)
+owes_some offer repo (Answering (References request place) offset) = (references_from request.asked repo place, refl)
 owes_some offer repo (Answering (Fetching request place) offset) = some_fetch repo request.asked place
 owes_some offer repo (Answering (Sizes request place) offset) = (sizes_from request.asked repo place, refl)
 owes_some offer repo (Refusing fault) = (error_packet fault ∷ [], refl)

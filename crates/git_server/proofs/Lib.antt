@@ -25,6 +25,7 @@ pub mod SessionLaws
 pub mod Flushes
 pub mod PackPackets
 pub mod FullParts
+pub mod FeatureLines
 pub mod FetchPackets
 pub mod Dropped
 pub mod WantedLines
@@ -34,3 +35,5 @@ pub mod RunLemmas
 pub mod OneOutcome
 pub mod AtRest
 pub mod Calls
+pub mod Listed
+pub mod UnbornHead

@@ -1,6 +1,6 @@
 -- What was asked by the bytes that a server used, and how it is answered, is one thing: so a server that has given all
 -- of it owes nothing.
-use Rattle.std.proofs.Common.{◌≡◌, ℕ, drop, map, codes, Bool, true, false, List, [], ◌∷◌}
+use Rattle.std.proofs.Common.{◌≡◌, ℕ, drop, map, codes, Bool, true, false, if◌then◌else◌, Option, Some, List, [], ◌∷◌}
 use Rattle.std.proofs.Common.{◌↔◌, IsTrue, ◌++◌, length, length-append, None, refl, sym, ap, ◌∙◌, subst, arith}
 use Rattle.git_pkt.specs.Digits.{digits_of}
 use Rattle.git_pkt.specs.Packets.{Pkt, flush, flushes, body_of, length_field, spelling_of}
@@ -9,7 +9,7 @@ use Rattle.git_pkt.proofs.Written.{spells_written}
 use Rattle.git_pkt.specs.Splits.{Given}
 use Rattle.git_pkt.proofs.Streams.{one_split}
 use Rattle.git_msg.specs.declared.offers.Offer.{Offer}
-use Rattle.git_msg.specs.Asked.{Asked, ObjectInfoAsked, ls_refs, fetch, object_info}
+use Rattle.git_msg.specs.Asked.{Asked, LsRefsAsked, ObjectInfoAsked, ls_refs, fetch, object_info}
 use Rattle.git_msg.specs.References.{reference_text}
 use Rattle.git_msg.specs.ResponseLines.{info_text}
 use Rattle.git_msg.specs.WrittenRequest.{text_line}
@@ -17,8 +17,8 @@ use Rattle.git_names.specs.ObjectName.{ObjectName}
 use Rattle.git_msg.specs.WholeRequests.{AreRequests}
 use Rattle.git_msg.proofs.WholeRequests.{NoFlush, NoRequest, none_without_flush, one_list_of_requests}
 use Rattle.git_server.specs.Repository.{Entry, Repository, RepoState}
-use Rattle.git_server.specs.AnsweredRequest.{sizes_from}
-use Rattle.git_server.specs.Answers.{AllFit, offered_line, shown_line, shown_refs, spelled, IsAnswer}
+use Rattle.git_server.specs.AnsweredRequest.{references_from, sizes_from}
+use Rattle.git_server.specs.Answers.{AllFit, asks_for_unborn, offered_line, reference_packets, shown_line, shown_refs, spelled, unborn_packet, unborn_packets, IsAnswer}
 use Rattle.git_server.specs.AdvertisementLines.{format_on, advertisement_from}
 use Rattle.git_server.specs.declared.advertisement.AdvertisementLine.TheVariants.{Version, Agent, LsRefs, Fetch, ServerOption, ObjectFormat, ObjectInfo, End}
 use Rattle.git_server.specs.Sessions.{Setting, IsRequest, AreAnswers, IsAnswered, advertised}
@@ -26,6 +26,8 @@ use Rattle.git_server.specs.Phases.{outcome_in, Owes, reads_in}
 use Rattle.git_server.specs.Server.{Running, outcome_of, wants_input}
 use Rattle.git_server.specs.declared.advertisement.AdvertisementLine.{AdvertisementLine}
 use Rattle.git_server.specs.declared.answer.Answer.TheVariants.{References, Fetching, Sizes}
+use Rattle.git_server.specs.declared.answer.ReferencesPlace.{ReferencesPlace}
+use Rattle.git_server.specs.declared.answer.ReferencesPlace.TheVariants.{First, Entry as EntryPlace}
 use Rattle.git_server.specs.declared.informing.SizesPlace.{SizesPlace}
 use Rattle.git_server.specs.declared.informing.SizesPlace.TheVariants.{Header as SizesHeader, Object}
 use Rattle.git_server.specs.declared.server.Phase.{Phase}
@@ -58,6 +60,21 @@ refs_end : (symrefs peel : Bool) (refs : List Entry)
     → flushes (map (λ entry. text_line (reference_text (shown_line symrefs peel entry))) refs ++ flush ∷ []) ≡ 1
 refs_end symrefs peel refs = ends_once (λ entry. reference_text (shown_line symrefs peel entry)) refs
 
+unborn_has_none : (target : List ℕ) (asked : Bool) → flushes (if asked then unborn_packet target ∷ [] else []) ≡ 0
+unborn_has_none target true = refl
+unborn_has_none target false = refl
+
+unborn_have_none : (q : LsRefsAsked) (head : Option (List ℕ)) → flushes (unborn_packets q head) ≡ 0
+unborn_have_none q None = refl
+unborn_have_none q (Some target) = unborn_has_none target (asks_for_unborn q)
+
+-- from each place on an answer for references has one flush
+references_end : (q : LsRefsAsked) (repo : Repository) (place : ReferencesPlace) → flushes (references_from q repo place) ≡ 1
+references_end q repo First =
+    let split = flushes-append (unborn_packets q repo.unborn_head) (reference_packets q repo.refs) in
+    omega (arith, split, unborn_have_none q repo.unborn_head, refs_end q.symrefs q.peel (shown_refs q.ref_prefixes repo.refs))
+references_end q repo (EntryPlace next) = refs_end q.symrefs q.peel (shown_refs q.ref_prefixes (drop next repo.refs))
+
 infos_end : (repo : Repository) (ids : List ObjectName)
     → flushes (map (λ id. text_line (info_text (record { id = id; size = repo.object_size id }))) ids ++ flush ∷ []) ≡ 1
 infos_end repo ids = ends_once (λ id. info_text (record { id = id; size = repo.object_size id })) ids
@@ -68,7 +85,7 @@ sizes_end q repo (Object next) = infos_end repo (drop next q.oids)
 
 -- an answer has one flush
 pub answer_ends : (repo : Repository) (q : Asked) (answer : List Pkt) → IsAnswer repo q answer → flushes answer ≡ 1
-answer_ends repo (ls_refs q) answer h = ap flushes h ∙ refs_end q.symrefs q.peel (shown_refs q.ref_prefixes repo.refs)
+answer_ends repo (ls_refs q) answer h = ap flushes h ∙ references_end q repo First
 answer_ends repo (object_info q) answer h = ap flushes h ∙ sizes_end q repo SizesHeader
 answer_ends repo (fetch q) answer h = fetch_ends_once repo q answer h
 
@@ -112,9 +129,8 @@ pub owes_flush : {A : Type 0} (offer : Offer) (repo : Repository) (phase : Phase
 owes_flush offer repo Between owed none owes zero = refl
 owes_flush offer repo Within owed none owes zero = refl
 owes_flush offer repo (Advertising line) owed none owes zero = absurd (omega (arith, zero, ap flushes owes, line_owes offer line))
-owes_flush offer repo (Answering (References request next) offset) owed none owes zero =
-    let q = request.asked in
-    absurd (omega (arith, zero, ap flushes owes, refs_end q.symrefs q.peel (shown_refs q.ref_prefixes (drop next repo.refs))))
+owes_flush offer repo (Answering (References request place) offset) owed none owes zero =
+    absurd (omega (arith, zero, ap flushes owes, references_end request.asked repo place))
 owes_flush offer repo (Answering (Fetching request place) offset) owed none owes zero =
     absurd (omega (arith, zero, fetch_ends_later repo request.asked place owed owes))
 owes_flush offer repo (Answering (Sizes request place) offset) owed none owes zero =

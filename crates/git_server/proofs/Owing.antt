@@ -1,5 +1,5 @@
 -- What is owed, by the phase that a server is in.
-use Rattle.std.proofs.Common.{arith, ◌≡◌, ◌<◌, length, ℕ, Bool, true, false, if◌then◌else◌, List}
+use Rattle.std.proofs.Common.{arith, ◌≡◌, ◌<◌, length, length-append, ℕ, Bool, true, false, if◌then◌else◌, List}
 use Rattle.std.proofs.Common.{drop, map, [], ◌∷◌, ◌++◌, Option, Some, None, codes, refl, sym, ap, ◌∙◌, subst}
 use Rattle.git_pkt.specs.Packets.{Pkt, flush}
 use Rattle.git_pkt.specs.Splits.{Given}
@@ -7,7 +7,7 @@ use Rattle.git_pkt.specs.declared.fault.Fault.{Fault}
 use Rattle.git_msg.specs.declared.offers.Offer.{Offer}
 use Rattle.git_server.specs.Repository.{Repository}
 use Rattle.git_server.specs.AnsweredRequest.{IsNext, IsAnswerFrom, most_from}
-use Rattle.git_server.specs.Answers.{offered_line, error_packet, info_packet, reference_packet, shown_refs}
+use Rattle.git_server.specs.Answers.{offered_line, error_packet, info_packet, reference_packet, shown_refs, unborn_packets}
 use Rattle.git_server.specs.Packs.{whole, broken}
 use Rattle.git_server.specs.AdvertisementLines.{format_on, advertisement_packet, advertisement_line_after, advertisement_from, advertisement_after}
 use Rattle.git_server.specs.Phases.{FlushIsAt, LeftIn, MayBreak, advertising_phase, kept_in, outcome_in, Owes, most_owed, stored_in}
@@ -15,6 +15,7 @@ use Rattle.git_server.specs.declared.advertisement.AdvertisementLine.{Advertisem
 use Rattle.git_server.specs.declared.advertisement.AdvertisementLine.TheVariants.{Version, Agent, LsRefs, Fetch, ServerOption, ObjectFormat, ObjectInfo, End}
 use Rattle.git_server.specs.declared.answer.Answer.{Answer}
 use Rattle.git_server.specs.declared.answer.Answer.TheVariants.{References, Fetching, Sizes}
+use Rattle.git_server.specs.declared.answer.ReferencesPlace.TheVariants.{First, Entry}
 use Rattle.git_server.specs.declared.informing.SizesPlace.TheVariants.{Header as SizesHeader, Object}
 use Rattle.git_server.specs.declared.answer.Answered.TheVariants.{Part}
 use Rattle.git_server.specs.declared.outcome.Outcome.TheVariants.{Refused}
@@ -46,6 +47,9 @@ one_line offer End = refl
 some_packets : (packets : List Pkt) → 0 < length (packets ++ flush ∷ [])
 some_packets [] = omega arith
 some_packets (p ∷ ps) = omega arith
+
+some_after : (first packets : List Pkt) → 0 < length (first ++ (packets ++ flush ∷ []))
+some_after first packets = omega (arith, length-append first (packets ++ flush ∷ []), some_packets packets)
 
 -- after a line of the advertisement no answer breaks off
 module _ {A : Type 0} where
@@ -93,7 +97,9 @@ module _ {A : Type 0} where
 
   -- something of an answer that is not whole is left
   pub some_left : (repo : Repository) (answer : Answer A) → 0 < most_from repo answer
-  some_left repo (References request next) = some_packets (map (reference_packet request.asked.symrefs request.asked.peel)
+  some_left repo (References request First) = some_after (unborn_packets request.asked repo.unborn_head)
+      (map (reference_packet request.asked.symrefs request.asked.peel) (shown_refs request.asked.ref_prefixes repo.refs))
+  some_left repo (References request (Entry next)) = some_packets (map (reference_packet request.asked.symrefs request.asked.peel)
       (shown_refs request.asked.ref_prefixes (drop next repo.refs)))
   some_left repo (Fetching request place) = some_of_fetch repo request.asked place
   some_left repo (Sizes request SizesHeader) = omega arith

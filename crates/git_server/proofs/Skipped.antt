@@ -1,6 +1,6 @@
 -- References that are passed over: none of them is shown.
 use Rattle.std.proofs.Common.{◌≡◌, ℕ, zero, suc, ◌+◌, ◌<◌, ◌≤◌, Bool, true, false, inl, inr, List, [], ◌∷◌, length, drop, nat_eq, slice_index_or}
-use Rattle.std.proofs.Common.{Some, None, slice_get, refl, sym, ◌∙◌, subst, arith}
+use Rattle.std.proofs.Common.{Option, Some, None, ◌++◌, codes, slice_get, refl, ap, sym, ◌∙◌, subst, arith}
 use Rattle.std.specs.List.{starts_with}
 use Rattle.std.specs.List.Sorted.{IsSortedBy}
 use Rattle.std.specs.Ordering.{is_lt}
@@ -13,9 +13,12 @@ use Rattle.std.proofs.lemmas.List.Sorted.{ranks_by, sorted_far}
 use Rattle.git_msg.specs.Asked.{LsRefsAsked}
 use Rattle.git_msg.specs.Kept.{Kept}
 use Rattle.git_msg.specs.Prefixes.{IsOrdered, OrdersPrefixes, SplitsAt, ShowAlike, goes_before, begins, is_shown, text_cmp}
-use Rattle.git_server.specs.Repository.{Entry, IsRising, comes_before}
+use Rattle.git_server.specs.Repository.{Entry, Repository, IsRising, comes_before}
 use Rattle.git_server.specs.AnsweredRequest.{references_from}
-use Rattle.git_server.specs.Answers.{shown_refs}
+use Rattle.git_server.specs.Answers.{reference_packets, shown_refs, unborn_packets}
+use Rattle.git_server.specs.declared.answer.ReferencesPlace.{ReferencesPlace}
+use Rattle.git_server.specs.declared.answer.ReferencesPlace.TheVariants.{First, Entry as EntryPlace}
+use Rattle.git_pkt.specs.Packets.{Pkt}
 use Rattle.git_msg.proofs.TextOrder.{between, le_itself, le_from_no_lt, no_le_from_lt, no_lt_back, lt_from_le_lt, lt_from_lt_le}
 use Rattle.git_msg.proofs.PrefixOrder.{no_begin}
 
@@ -110,7 +113,19 @@ alike_refs ps qs [] alike = refl
 alike_refs ps qs (e ∷ refs) alike = rw (alike e.name, alike_refs ps qs refs alike) refl
 
 -- a request whose prefixes were put in order is answered as it was
-pub alike_answers : (old new : Kept LsRefsAsked) (refs : List Entry) (next : ℕ) → OrdersPrefixes old new
-    → references_from new.asked refs next ≡ references_from old.asked refs next
-alike_answers old new refs next orders =
-    rw (orders.symrefs, orders.peel, ← alike_refs old.asked.ref_prefixes new.asked.ref_prefixes (drop next refs) orders.alike) refl
+alike_packets : (old new : Kept LsRefsAsked) (refs : List Entry) → OrdersPrefixes old new
+    → reference_packets new.asked refs ≡ reference_packets old.asked refs
+alike_packets old new refs orders =
+    rw (orders.symrefs, orders.peel, ← alike_refs old.asked.ref_prefixes new.asked.ref_prefixes refs orders.alike) refl
+
+alike_unborn : (old new : Kept LsRefsAsked) (head : Option (List ℕ)) → OrdersPrefixes old new
+    → unborn_packets new.asked head ≡ unborn_packets old.asked head
+alike_unborn old new None orders = refl
+alike_unborn old new (Some target) orders = rw (orders.symrefs, orders.unborn, ← orders.alike (codes "HEAD")) refl
+
+pub alike_answers : (old new : Kept LsRefsAsked) (repo : Repository) (place : ReferencesPlace) → OrdersPrefixes old new
+    → references_from new.asked repo place ≡ references_from old.asked repo place
+alike_answers old new repo First orders =
+    ap (λ (ps : List Pkt). ps ++ reference_packets new.asked repo.refs) (alike_unborn old new repo.unborn_head orders)
+    ∙ ap (λ (ps : List Pkt). unborn_packets old.asked repo.unborn_head ++ ps) (alike_packets old new repo.refs orders)
+alike_answers old new repo (EntryPlace next) orders = alike_packets old new (drop next repo.refs) orders

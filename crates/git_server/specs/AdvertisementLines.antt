@@ -1,17 +1,20 @@
 -- The lines of an advertisement, one after another.
-use Rattle.std.specs.Prelude.{if◌then◌else◌, Option, Some, None, List, [], ◌∷◌, ◌++◌, codes}
+use Rattle.std.specs.Prelude.{◌≡◌, ℕ, Bool, true, false, not, if◌then◌else◌, Option, Some, None, List, [], ◌∷◌, ◌++◌, codes}
 use Rattle.git_pkt.specs.Packets.{Pkt, flush}
 use Rattle.git_msg.specs.declared.offers.Offer.{Offer}
+use Rattle.git_msg.specs.Asked.{is_empty}
+use Rattle.git_msg.specs.Features.{capability_text}
 use Rattle.git_msg.specs.WrittenRequest.{text_line, agent_line, format_line}
-use Rattle.git_server.specs.Answers.{offered_line, fetch_line, advertisement_of}
+use Rattle.git_server.specs.Answers.{offered_line, ls_refs_line, fetch_line, advertisement_of}
 use Rattle.git_server.specs.declared.advertisement.AdvertisementLine.{AdvertisementLine}
+use Rattle.git_server.specs.declared.advertisement.FeaturesLine.{FeaturesLine}
 use Rattle.git_server.specs.declared.advertisement.AdvertisementLine.TheVariants.{Version, Agent, LsRefs, Fetch, ServerOption, ObjectFormat, ObjectInfo, End}
 
 -- the packet of a line, for this offer
 abbrev pub advertisement_packet : Offer → AdvertisementLine → Pkt
 advertisement_packet offer Version = text_line (codes "version 2")
 advertisement_packet offer Agent = agent_line
-advertisement_packet offer LsRefs = text_line (codes "ls-refs")
+advertisement_packet offer LsRefs = ls_refs_line offer
 advertisement_packet offer Fetch = fetch_line offer
 advertisement_packet offer ServerOption = text_line (codes "server-option")
 advertisement_packet offer ObjectFormat = format_line offer.format
@@ -53,3 +56,13 @@ advertisement_from offer End = flush ∷ []
 abbrev pub advertisement_after : Offer → Option AdvertisementLine → List Pkt
 advertisement_after offer (Some next) = advertisement_from offer next
 advertisement_after offer None = []
+
+-- what stands before one more feature of a command: `=` before the first, a space before the others
+abbrev pub separator_after : Bool → List ℕ
+separator_after false = codes "="
+separator_after true = codes " "
+
+-- the line names the command and these features of it
+pub record Names (line : FeaturesLine) (key : List ℕ) (features : List (List ℕ)) : Type 0 where
+  pub text : line.text.bytes ≡ capability_text key features
+  pub has_features : line.has_features ≡ not (is_empty features)

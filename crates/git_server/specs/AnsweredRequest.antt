@@ -5,8 +5,8 @@ use Rattle.git_pkt.specs.declared.reader.PacketReader.{PacketReader}
 use Rattle.git_msg.specs.Asked.{FetchAsked, LsRefsAsked, ObjectInfoAsked}
 use Rattle.git_msg.specs.declared.requests.Request.{Request}
 use Rattle.git_msg.specs.declared.requests.Request.TheVariants.{LsRefs as OfLsRefs, Fetch as OfFetch, ObjectInfo as OfObjectInfo}
-use Rattle.git_server.specs.Repository.{Entry, Repository, RepoState}
-use Rattle.git_server.specs.Answers.{info_packet, object_info_answer, reference_packet, shown_refs}
+use Rattle.git_server.specs.Repository.{Repository, RepoState}
+use Rattle.git_server.specs.Answers.{info_packet, ls_refs_answer, object_info_answer, reference_packets}
 use Rattle.git_server.specs.Packs.{Manner, whole, broken}
 use Rattle.git_server.specs.WrittenPackets.{Writes}
 use Rattle.git_server.specs.declared.packing.PackPlace.{PackPlace}
@@ -16,17 +16,20 @@ use Rattle.git_server.specs.declared.answer.Answered.{Answered}
 use Rattle.git_server.specs.declared.answer.Answered.TheVariants.{Part, Whole, Broken}
 use Rattle.git_server.specs.declared.answer.Answer.{Answer}
 use Rattle.git_server.specs.declared.answer.Answer.TheVariants.{References, Fetching, Sizes}
+use Rattle.git_server.specs.declared.answer.ReferencesPlace.{ReferencesPlace}
+use Rattle.git_server.specs.declared.answer.ReferencesPlace.TheVariants.{First, Entry}
 use Rattle.git_server.specs.declared.informing.SizesPlace.{SizesPlace}
 use Rattle.git_server.specs.declared.informing.SizesPlace.TheVariants.{Header as SizesHeader, Object}
 
--- the packets of an answer for references, from the reference at `next` on
-abbrev pub references_from : LsRefsAsked → List Entry → ℕ → List Pkt
-references_from q refs next = map (reference_packet q.symrefs q.peel) (shown_refs q.ref_prefixes (drop next refs)) ++ flush ∷ []
+-- the packets of an answer for references, from this place on
+abbrev pub references_from : LsRefsAsked → Repository → ReferencesPlace → List Pkt
+references_from q repo First = ls_refs_answer q repo
+references_from q repo (Entry next) = reference_packets q (drop next repo.refs)
 
--- the packets end an answer for references, which never breaks off, from the reference at `next` on
-abbrev pub AreReferencesFrom : Manner → LsRefsAsked → List Entry → ℕ → List Pkt → Type 0
-AreReferencesFrom whole q refs next later = later ≡ references_from q refs next
-AreReferencesFrom broken q refs next later = ⊥
+-- the packets end an answer for references, which never breaks off, from this place on
+abbrev pub AreReferencesFrom : Manner → LsRefsAsked → Repository → ReferencesPlace → List Pkt → Type 0
+AreReferencesFrom whole q repo place later = later ≡ references_from q repo place
+AreReferencesFrom broken q repo place later = ⊥
 
 -- the packets of an answer about objects, from this place on
 abbrev pub sizes_from : ObjectInfoAsked → Repository → SizesPlace → List Pkt
@@ -41,43 +44,44 @@ AreSizesFrom broken q repo place later = ⊥
 module _ {A : Type 0} where
   -- how many bytes the argument lines of the request have
   abbrev pub kept_with : Answer A → ℕ
-  kept_with (References request next) = request.kept
+  kept_with (References request place) = request.kept
   kept_with (Fetching request place) = request.kept
   kept_with (Sizes request place) = request.kept
 
   -- how many bytes are stored of the request
   abbrev pub stored_with : Answer A → ℕ
-  stored_with (References request next) = request.stored
+  stored_with (References request place) = request.stored
   stored_with (Fetching request place) = request.stored
   stored_with (Sizes request place) = request.stored
 
   -- the answer to a request, of which nothing was given
   abbrev pub answer_to : Request A → Answer A
-  answer_to (OfLsRefs request) = References request 0
+  answer_to (OfLsRefs request) = References request First
   answer_to (OfFetch request) = Fetching request (first_place request.asked)
   answer_to (OfObjectInfo request) = Sizes request SizesHeader
 
   -- from its place on, the packets end the answer
   abbrev pub IsAnswerFrom : Manner → Repository → Answer A → List Pkt → Type 0
-  IsAnswerFrom manner repo (References request next) later = AreReferencesFrom manner request.asked repo.refs next later
+  IsAnswerFrom manner repo (References request place) later = AreReferencesFrom manner request.asked repo place later
   IsAnswerFrom manner repo (Fetching request place) later = IsFetchFrom manner repo request.asked place later
   IsAnswerFrom manner repo (Sizes request place) later = AreSizesFrom manner request.asked repo place later
 
   -- no more packets than these end it
   abbrev pub most_from : Repository → Answer A → ℕ
-  most_from repo (References request next) = length (references_from request.asked repo.refs next)
+  most_from repo (References request place) = length (references_from request.asked repo place)
   most_from repo (Fetching request place) = most_fetch repo request.asked place
   most_from repo (Sizes request place) = length (sizes_from request.asked repo place)
 
--- the packets from the reference at a place on, or none where the answer ended
-abbrev pub references_after : LsRefsAsked → List Entry → Option ℕ → List Pkt
-references_after q refs (Some next) = references_from q refs next
-references_after q refs None = []
+-- the packets from a place on, or none where the answer ended
+abbrev pub references_after : LsRefsAsked → Repository → Option ReferencesPlace → List Pkt
+references_after q repo (Some place) = references_from q repo place
+references_after q repo None = []
 
 -- the first packet of what is owed was written, and this place is the next
-pub record AnswersOne (asked : LsRefsAsked) (refs : List Entry) (next : ℕ) (old : PacketReader) (after : Option ℕ) (new : PacketReader) : Type 0 where
+pub record AnswersOne (asked : LsRefsAsked) (repo : Repository) (place : ReferencesPlace) (old : PacketReader) (after : Option ReferencesPlace)
+    (new : PacketReader) : Type 0 where
   pub packet : Pkt
-  pub owed : references_from asked refs next ≡ packet ∷ references_after asked refs after
+  pub owed : references_from asked repo place ≡ packet ∷ references_after asked repo after
   pub writes : Writes old packet new
 
 -- the packets from a place on, or none where the answer ended

@@ -1,5 +1,5 @@
 -- What a server gives: its advertisement, the answer to each request, and what it writes of a fault.
-use Rattle.std.specs.Prelude.{◌≡◌, ◌≤◌, length, ℕ, Bool, if◌then◌else◌, None, List, [], ◌∷◌, ◌++◌, true, false, codes, filter, map}
+use Rattle.std.specs.Prelude.{◌≡◌, ◌≤◌, length, ℕ, Bool, if◌then◌else◌, ◌&&◌, Option, Some, None, List, [], ◌∷◌, ◌++◌, true, false, codes, filter, map}
 use Rattle.std.specs.List.{flat_map}
 use Rattle.git_pkt.specs.Packets.{Pkt, flush, spelling_of, body_of, longest_payload}
 use Rattle.git_pkt.specs.FaultNames.{fault_text}
@@ -9,8 +9,9 @@ use Rattle.git_pkt.specs.declared.fault.Kind.TheVariants.{RemoteError}
 use Rattle.git_msg.specs.declared.offers.Offer.{Offer}
 use Rattle.git_names.specs.ObjectName.{ObjectName}
 use Rattle.git_msg.specs.Asked.{Asked, LsRefsAsked, ObjectInfoAsked, ls_refs, fetch, object_info}
+use Rattle.git_msg.specs.Features.{capability_text, fetch_features, ls_refs_features}
 use Rattle.git_msg.specs.WrittenRequest.{text_line, agent_line, format_line}
-use Rattle.git_msg.specs.References.{Ref, reference_text}
+use Rattle.git_msg.specs.References.{Ref, reference_of, reference_text}
 use Rattle.git_msg.specs.ResponseLines.{info_text}
 pub use Rattle.git_msg.specs.Prefixes.{is_empty, is_shown}
 use Rattle.git_server.specs.Repository.{Entry, Repository}
@@ -30,21 +31,18 @@ AllFit (p ∷ ps) = (length (body_of p) ≤ longest_payload) × AllFit ps
 abbrev pub offered_line : Bool → List ℕ → List Pkt
 offered_line offered text = if offered then text_line text ∷ [] else []
 
--- the words of the line for fetch: the command, and those of its features that are offered
-abbrev pub fetch_words : (shallow ref_in_want : Bool) → List ℕ
-fetch_words false false = codes "fetch"
-fetch_words true false = codes "fetch=shallow"
-fetch_words false true = codes "fetch=ref-in-want"
-fetch_words true true = codes "fetch=shallow ref-in-want"
+-- the line for ls-refs, with those of its features that are offered
+abbrev pub ls_refs_line : Offer → Pkt
+ls_refs_line offer = text_line (capability_text (codes "ls-refs") (ls_refs_features offer))
 
 -- the line for fetch
 abbrev pub fetch_line : Offer → Pkt
-fetch_line offer = text_line (fetch_words offer.shallow offer.ref_in_want)
+fetch_line offer = text_line (capability_text (codes "fetch") (fetch_features offer))
 
 -- what a server says first
 abbrev pub advertisement_of : Offer → List Pkt
 advertisement_of offer =
-    text_line (codes "version 2") ∷ agent_line ∷ text_line (codes "ls-refs") ∷ fetch_line offer
+    text_line (codes "version 2") ∷ agent_line ∷ ls_refs_line offer ∷ fetch_line offer
     ∷ (offered_line offer.server_option (codes "server-option")
     ++ format_line offer.format ∷ (offered_line offer.object_info (codes "object-info") ++ flush ∷ []))
 
@@ -55,7 +53,7 @@ shown_refs prefixes refs = filter (λ entry. is_shown prefixes entry.name) refs
 -- what is shown of a reference: what was asked for of its target and its peeled object
 abbrev pub shown_line : (symrefs peel : Bool) → Entry → Ref
 shown_line symrefs peel entry = record {
-  id = entry.id;
+  id = Some entry.id;
   name = entry.name;
   target = if symrefs then entry.target else None;
   peeled = if peel then entry.peeled else None;
@@ -65,14 +63,31 @@ shown_line symrefs peel entry = record {
 abbrev pub reference_packet : (symrefs peel : Bool) → Entry → Pkt
 reference_packet symrefs peel entry = text_line (reference_text (shown_line symrefs peel entry))
 
+-- the packet of `HEAD` where it is unborn, with the name that it points to
+abbrev pub unborn_packet : List ℕ → Pkt
+unborn_packet target = text_line (reference_text (reference_of None (codes "HEAD") (Some target) None))
+
+-- whether the request asks for that: for what is unborn, for what references point to, and for names as `HEAD`
+abbrev pub asks_for_unborn : LsRefsAsked → Bool
+asks_for_unborn q = q.unborn && q.symrefs && is_shown q.ref_prefixes (codes "HEAD")
+
+-- it comes first, where it is asked for and `HEAD` is unborn
+abbrev pub unborn_packets : LsRefsAsked → Option (List ℕ) → List Pkt
+unborn_packets q None = []
+unborn_packets q (Some target) = if asks_for_unborn q then unborn_packet target ∷ [] else []
+
+-- the packets of these references, and the flush
+abbrev pub reference_packets : LsRefsAsked → List Entry → List Pkt
+reference_packets q refs = map (reference_packet q.symrefs q.peel) (shown_refs q.ref_prefixes refs) ++ flush ∷ []
+
 -- the answer to a request for references
-abbrev pub ls_refs_answer : LsRefsAsked → List Entry → List Pkt
-ls_refs_answer q refs = map (reference_packet q.symrefs q.peel) (shown_refs q.ref_prefixes refs) ++ flush ∷ []
+abbrev pub ls_refs_answer : LsRefsAsked → Repository → List Pkt
+ls_refs_answer q repo = unborn_packets q repo.unborn_head ++ reference_packets q repo.refs
 
 -- the packets are an answer for references, which never breaks off
-abbrev pub IsReferencesAnswer : Manner → LsRefsAsked → List Entry → List Pkt → Type 0
-IsReferencesAnswer whole q refs packets = packets ≡ ls_refs_answer q refs
-IsReferencesAnswer broken q refs packets = ⊥
+abbrev pub IsReferencesAnswer : Manner → LsRefsAsked → Repository → List Pkt → Type 0
+IsReferencesAnswer whole q repo packets = packets ≡ ls_refs_answer q repo
+IsReferencesAnswer broken q repo packets = ⊥
 
 -- the packet that tells the size of an object, or that it is not there
 abbrev pub info_packet : Repository → ObjectName → Pkt
@@ -89,7 +104,7 @@ IsObjectInfoAnswer broken q repo packets = ⊥
 
 -- the packets are an answer of the repository to the request, whole or broken off
 abbrev pub IsAnswerAs : Manner → Repository → Asked → List Pkt → Type 0
-IsAnswerAs manner repo (ls_refs q) packets = IsReferencesAnswer manner q repo.refs packets
+IsAnswerAs manner repo (ls_refs q) packets = IsReferencesAnswer manner q repo packets
 IsAnswerAs manner repo (fetch q) packets = IsFetchAnswer manner repo q packets
 IsAnswerAs manner repo (object_info q) packets = IsObjectInfoAnswer manner q repo packets
 

@@ -1,19 +1,23 @@
 -- The answer to a fetch: its sections, by gitprotocol-v2(5).
-use Rattle.std.specs.Prelude.{◌≡◌, Bool, true, false, not, ◌&&◌, Option, List, [], ◌∷◌, ◌++◌, ℕ, codes, filter, map}
+use Rattle.std.specs.Prelude.{◌≡◌, Bool, true, false, not, ◌&&◌, ◌||◌, Option, List, [], ◌∷◌, ◌++◌, ℕ, codes, filter, map}
 use Rattle.std.specs.List.{filter_map}
 use Rattle.std.specs.Option.{option_map}
 use Rattle.git_names.specs.ObjectName.{ObjectName}
 use Rattle.git_pkt.specs.Packets.{Pkt, flush, delim}
 use Rattle.git_msg.specs.declared.Boundary.{Boundary}
-use Rattle.git_msg.specs.Asked.{FetchAsked, is_empty}
+use Rattle.git_msg.specs.Asked.{FetchAsked, is_empty, only_negotiates}
 use Rattle.git_msg.specs.ResponseLines.{ack_text, boundary_text, wanted_of, wanted_text}
 use Rattle.git_msg.specs.WrittenRequest.{text_line}
 use Rattle.git_server.specs.Repository.{Repository, found_ref}
 use Rattle.git_server.specs.Packs.{Manner, whole, broken, IsPackfile}
 
--- whether the request negotiates: it says what the client has, and not that it is done
+-- whether the request negotiates: it says what the client has, or that no pack is to come yet, and not that it is done
 abbrev pub negotiates : FetchAsked → Bool
-negotiates q = not (is_empty q.haves) && not q.done
+negotiates q = (not (is_empty q.haves) || q.wait_for_done) && not q.done
+
+-- whether the pack follows where the request negotiates: it does not negotiate alone, and the repository is ready for it
+abbrev pub is_ready_for : Repository → FetchAsked → Bool
+is_ready_for repo q = not (only_negotiates q) && repo.is_ready q
 
 -- the objects that the client has and the repository too, as often as they are named
 abbrev pub common : (ObjectName → Bool) → List ObjectName → List ObjectName
@@ -77,14 +81,14 @@ abbrev pub IsFlushed : Manner → List Pkt → List Pkt → Type 0
 IsFlushed whole lines packets = packets ≡ lines ++ flush ∷ []
 IsFlushed broken lines packets = ⊥
 
--- after these lines of the section of acknowledgments: the pack, where the repository is ready, or else nothing
+-- after these lines of the section of acknowledgments: the pack, where it follows, or else nothing
 abbrev pub IsNegotiated : Bool → List Pkt → Manner → Repository → FetchAsked → List Pkt → Type 0
 IsNegotiated true lines manner repo q = IsAfter (lines ++ ready_lines) (EndsWithBoundary manner repo q)
 IsNegotiated false lines manner repo q = IsFlushed manner lines
 
 -- the packets are an answer to the fetch
 abbrev pub IsFetchAnswerBy : Bool → Manner → Repository → FetchAsked → List Pkt → Type 0
-IsFetchAnswerBy true manner repo q = IsNegotiated (repo.is_ready q) (acknowledgments repo q) manner repo q
+IsFetchAnswerBy true manner repo q = IsNegotiated (is_ready_for repo q) (acknowledgments repo q) manner repo q
 IsFetchAnswerBy false manner repo q = EndsWithBoundary manner repo q
 
 abbrev pub IsFetchAnswer : Manner → Repository → FetchAsked → List Pkt → Type 0

@@ -23,7 +23,7 @@ use Rattle.git_server.specs.declared.sections.SectionPart.TheVariants.{Absent, L
 use Rattle.git_server.specs.declared.fetching.FetchPlace.{FetchPlace}
 use Rattle.git_server.specs.declared.fetching.FetchPlace.TheVariants.{Acknowledgments, Delimiter, ShallowInfo, WantedRefs, Packfile}
 use Rattle.git_server.specs.FetchAnswers.{EndsWithBoundary, EndsWithRefs, IsAfter, IsNegotiated, ack_packet, acknowledgments, boundary_packet}
-use Rattle.git_server.specs.FetchAnswers.{common, nak_or_acks, negotiates, shallow_info, wanted_packet, wanted_refs}
+use Rattle.git_server.specs.FetchAnswers.{common, is_ready_for, nak_or_acks, negotiates, shallow_info, wanted_packet, wanted_refs}
 
 -- Acknowledgments.
 
@@ -38,12 +38,12 @@ acknowledgments_from repo q AcknowledgmentsHeader = acknowledgments repo q
 acknowledgments_from repo q (Have next told) = acks_by told (common repo.has (drop next q.haves))
 acknowledgments_from repo q Through = []
 
--- the packet is the next one of the section, or its end: by this it says whether the repository is ready
+-- the packet is the next one of the section, or its end: by this it says whether the pack follows
 abbrev pub IsNextAcknowledgment : Repository → FetchAsked → AcknowledgmentsPlace → Acknowledged → Pkt → Type 0
 IsNextAcknowledgment repo q place (Part next) packet = acknowledgments_from repo q place ≡ packet ∷ acknowledgments_from repo q next
 IsNextAcknowledgment repo q place Ready packet =
-    (acknowledgments_from repo q place ≡ []) × (repo.is_ready q ≡ true) × (packet ≡ text_line (codes "ready"))
-IsNextAcknowledgment repo q place Whole packet = (acknowledgments_from repo q place ≡ []) × (repo.is_ready q ≡ false) × (packet ≡ flush)
+    (acknowledgments_from repo q place ≡ []) × (is_ready_for repo q ≡ true) × (packet ≡ text_line (codes "ready"))
+IsNextAcknowledgment repo q place Whole packet = (acknowledgments_from repo q place ≡ []) × (is_ready_for repo q ≡ false) × (packet ≡ flush)
 
 -- the next packet of the section was written
 pub record Acknowledges (repo : Repository) (q : FetchAsked) (place : AcknowledgmentsPlace) (old : PacketReader) (came : Acknowledged) (new : PacketReader)
@@ -103,7 +103,7 @@ first_place q = place_by (negotiates q)
 
 -- the packets end the answer, from this place on
 abbrev pub IsFetchFrom : Manner → Repository → FetchAsked → FetchPlace → List Pkt → Type 0
-IsFetchFrom manner repo q (Acknowledgments place) later = IsNegotiated (repo.is_ready q) (acknowledgments_from repo q place) manner repo q later
+IsFetchFrom manner repo q (Acknowledgments place) later = IsNegotiated (is_ready_for repo q) (acknowledgments_from repo q place) manner repo q later
 IsFetchFrom manner repo q Delimiter later = IsAfter (delim ∷ []) (EndsWithBoundary manner repo q) later
 IsFetchFrom manner repo q (ShallowInfo place) later = IsAfter (boundary_from (repo.boundaries q) place) (EndsWithRefs manner repo q) later
 IsFetchFrom manner repo q (WantedRefs place) later = IsAfter (wanted_from repo q.want_refs place) (IsPackfile manner (repo.pack q)) later

@@ -3,7 +3,7 @@ use Rattle.std.specs.Prelude.{◌≡◌, ◌<◌, filter, length}
 use Rattle.git_server.specs.declared.list_repo.ListRepo.{ListRepo}
 use Rattle.git_msg.specs.Asked.{FetchAsked}
 use Rattle.git_server.specs.BoundaryLaws.{told_keep, told_unshallow}
-use Rattle.git_server.specs.Repository.{IsSound, RepoState}
+use Rattle.git_server.specs.Repository.{IsSound, RepoState, bytes_of}
 use Rattle.git_server.specs.Lists.{Lists}
 use Rattle.git_server.specs.Objects.{has_object, object_of, size_among}
 use Rattle.git_server.specs.ToldBoundary.{boundary_for, is_enough}
@@ -17,6 +17,7 @@ lists_of repo = record {
   ready_after = repo.ready_after;
   boundaries = repo.boundaries.items;
   pack = repo.pack.items;
+  unborn = bytes_of repo.unborn;
 }
 
 -- what it answers: none of its reads fails
@@ -25,6 +26,7 @@ state_of repo = record {
   answers = record {
     format = repo.format;
     refs = repo.refs.items;
+    unborn_head = bytes_of repo.unborn;
     has = has_object repo.objects.items;
     object_size = size_among repo.objects.items;
     is_ready = λ request. is_enough repo.ready_after (length (filter (has_object repo.objects.items) request.haves));
@@ -40,6 +42,7 @@ is_sound repo = record {
   rising = repo.rising;
   named = repo.named;
   of_format = repo.of_format;
+  unborn = repo.unborn_head;
   boundaries_of_format = λ request. told_keep (λ line. (object_of line).format ≡ repo.format) repo.boundaries.items request repo.of_boundaries;
   unshallow = λ request. told_unshallow repo.boundaries.items request;
 }

@@ -1,15 +1,16 @@
 -- What a repository that is a few lists is made of, and what it is refused for.
 use Rattle.std.specs.Prelude.{◌≡◌, ℕ, List, Option, All, codes}
+use Rattle.std.specs.Option.{ForSome}
 use Rattle.git_names.specs.declared.object_format.Format.{Format}
 use Rattle.git_names.specs.ObjectName.{ObjectName}
 use Rattle.git_msg.specs.declared.Boundary.{Boundary}
-use Rattle.git_server.specs.Repository.{Entry, IsRising, IsOfFormat}
+use Rattle.git_server.specs.Repository.{Entry, IsRising, IsOfFormat, IsUnbornHead}
 use Rattle.git_server.specs.Objects.{AreRising, object_of}
 use Rattle.git_server.specs.declared.list_repo.RepoFault.{RepoFault}
-use Rattle.git_server.specs.declared.list_repo.RepoFault.TheVariants.{UnsortedRefs, UnsortedObjects, MixedFormats}
+use Rattle.git_server.specs.declared.list_repo.RepoFault.TheVariants.{UnsortedRefs, UnsortedObjects, MixedFormats, UnbornHead}
 
 -- the format, the references, the objects with their sizes, after how many common objects it is ready, the shallow
--- boundary, and the pack
+-- boundary, the pack, and the name that `HEAD` points to where it is unborn
 pub record Lists : Type 0 where
   pub format : Format
   pub refs : List Entry
@@ -17,6 +18,7 @@ pub record Lists : Type 0 where
   pub ready_after : Option ℕ
   pub boundaries : List Boundary
   pub pack : List ℕ
+  pub unborn : Option (List ℕ)
 
 -- all object names are of the format
 pub record AreOfFormat (lists : Lists) : Type 0 where
@@ -29,15 +31,19 @@ pub record IsRepository (lists : Lists) : Type 0 where
   pub rising_refs : IsRising lists.refs
   pub rising_objects : AreRising lists.objects
   pub of_format : AreOfFormat lists
+  pub unborn_head : ForSome lists.unborn (IsUnbornHead lists.refs)
 
 -- the name that users see
 abbrev pub repo_fault_name : RepoFault → List ℕ
 repo_fault_name UnsortedRefs = codes "UnsortedRefs"
 repo_fault_name UnsortedObjects = codes "UnsortedObjects"
 repo_fault_name MixedFormats = codes "MixedFormats"
+repo_fault_name UnbornHead = codes "UnbornHead"
 
 -- why they make none: the first of these that is so
 abbrev pub IsUnfit : RepoFault → Lists → Type 0
 IsUnfit UnsortedRefs lists = ¬ IsRising lists.refs
 IsUnfit UnsortedObjects lists = IsRising lists.refs × ¬ AreRising lists.objects
 IsUnfit MixedFormats lists = IsRising lists.refs × AreRising lists.objects × ¬ AreOfFormat lists
+IsUnfit UnbornHead lists =
+    IsRising lists.refs × AreRising lists.objects × AreOfFormat lists × ¬ ForSome lists.unborn (IsUnbornHead lists.refs)

@@ -1,5 +1,5 @@
 -- A repository as the protocol sees it.
-use Rattle.std.specs.Prelude.{◌≡◌, ◌≢◌, ℕ, Bool, true, length, All, Any, MatchOption, List, [], ◌∷◌, Option, Some, None, Vec, if◌then◌else◌}
+use Rattle.std.specs.Prelude.{◌≡◌, ◌≢◌, ℕ, Bool, true, length, All, Any, MatchOption, List, [], ◌∷◌, Option, Some, None, Vec, codes, if◌then◌else◌}
 use Rattle.std.specs.List.{AllAdjacentBelow}
 use Rattle.std.specs.Str.{bytes_eq}
 use Rattle.std.specs.Option.{ForSome}
@@ -47,11 +47,17 @@ pub record IsOfFormat (format : Format) (ref : Entry) : Type 0 where
 pub record HasOneFormat (ref : Entry) : Type 0 where
   pub by_peeled : (id : ObjectName) → ref.peeled ≡ Some id → id.format ≡ ref.id.format
 
--- what a repository answers: its format, its references, which objects it has, how many bytes an object has, and for a request
+-- the name that `HEAD` may point to where it is unborn: that of a reference, and there is no reference `HEAD`
+pub record IsUnbornHead (refs : List Entry) (target : List ℕ) : Type 0 where
+  pub named : IsRefName target
+  pub no_head : All (λ ref. ref.name ≢ codes "HEAD") refs
+
+-- what a repository answers: its format, its references, what its `HEAD` points to where that is unborn, which objects it has, how many bytes an object has, and for a request
 -- whether it is ready to send a pack, the commits at the shallow boundary, and the pack
 pub record Repository : Type 0 where
   pub format : Format
   pub refs : List Entry
+  pub unborn_head : Option (List ℕ)
   pub has : ObjectName → Bool
   pub object_size : ObjectName → Option ℕ
   pub is_ready : FetchAsked → Bool
@@ -73,6 +79,7 @@ pub record IsSound (repo : Repository) : Type 0 where
   pub rising : IsRising repo.refs
   pub named : All (λ ref. IsNamed ref.name ref.target) repo.refs
   pub of_format : All (IsOfFormat repo.format) repo.refs
+  pub unborn : ForSome repo.unborn_head (IsUnbornHead repo.refs)
   pub boundaries_of_format : (request : FetchAsked) → All (λ boundary. (object_of boundary).format ≡ repo.format) (repo.boundaries request)
   pub unshallow : (request : FetchAsked) → All (IsUnshallowOf request.shallows) (repo.boundaries request)
 

@@ -29,9 +29,9 @@ pub(crate) enum AcknowledgmentsPlace {
 pub(crate) enum Acknowledged {
     /// It goes on from this place.
     Part(AcknowledgmentsPlace),
-    /// The repository is ready to send a pack, and that was the line that says so.
+    /// The repository is ready to send a pack, which follows, and that was the line that says so.
     Ready,
-    /// It is not, and that was the flush of the answer.
+    /// No pack follows, and that was the flush of the answer.
     Whole,
 }
 
@@ -112,7 +112,8 @@ fn write_end<R: Repo, A: Allocator + Copy>(
     requires { is_open reader.old ≡ false }
     ensures { Acknowledges (R.state repo.now).answers request.now.asked AcknowledgmentsPlace.Through reader.old result reader.new }
 {
-    if repo.is_ready(request) {
+    let only_negotiates = request.wait_for_done() && !request.done();
+    if !only_negotiates && repo.is_ready(request) {
         write_line(reader, b"ready", b"");
         return Acknowledged::Ready;
     }

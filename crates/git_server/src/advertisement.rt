@@ -1,16 +1,21 @@
 //! The capability advertisement, a line at a time.
 
-ghost use Rattle.std.specs.Prelude.{◌≡◌, ◌≤◌, ◌<◌, ◌∷◌, ◌++◌, [], false, length};
+ghost use Rattle.std.specs.Prelude.{◌≡◌, ℕ, ◌+◌, ◌≤◌, ◌<◌, List, ◌∷◌, ◌++◌, [], codes, false, length};
 ghost use Rattle.git_pkt.specs.PacketReader.{is_open};
-ghost use Rattle.git_pkt.specs.Packets.{body_of, seen};
-ghost use Rattle.git_server.specs.AdvertisementLines.{advertisement_line_after, advertisement_packet};
-ghost use Rattle.git_server.specs.Answers.{advertisement_of, fetch_words, spelled};
+ghost use Rattle.git_pkt.specs.Packets.{body_of, longest_payload, payload, spelling_of};
+ghost use Rattle.git_msg.specs.Features.{capability_text, fetch_features, ls_refs_features, where_offered};
+ghost use Rattle.git_server.specs.AdvertisementLines.{Names, advertisement_line_after, advertisement_packet, separator_after};
+ghost use Rattle.git_server.specs.Answers.{advertisement_of, spelled};
 ghost use Rattle.git_server.specs.WrittenPackets.{Writes};
 
-use crate::packets::{append_packet, write_packet};
+use crate::packets::append_packet;
+use arrayvec::ArrayString;
 use git_msg::{AGENT_LINE, Offer};
 use git_names::Format;
 use git_pkt::{Hold, Packet, PacketReader};
+
+// The most bytes that a line has, its LF among them: that of `fetch` with all its features.
+const LONGEST_LINE: usize = 40;
 
 /// Makes the hold the packets of the whole advertisement of an offer, one after another: what a session gives first.
 ///
@@ -22,7 +27,7 @@ pub fn put_advertisement(hold: &mut Hold, offer: &Offer)
     hold.clear();
     let mut next = Some(AdvertisementLine::Version);
     while let Some(line) = next {
-        append_packet(hold, line.packet(offer));
+        line.append(offer, hold);
         next = line.next(offer);
     }
 }
@@ -46,26 +51,38 @@ impl AdvertisementLine {
         requires { is_open reader.old ≡ false }
         ensures { Writes reader.old (advertisement_packet offer.now self) reader.new }
     {
-        write_packet(reader, self.packet(offer));
+        self.put(offer, reader.lend());
+        let _ = reader.hold();
     }
 
-    // The packet of the line.
-    fn packet(self, offer: &Offer) -> Packet<'static>
-        ensures packet { seen result ≡ advertisement_packet offer.now self }
-        ensures short { length (body_of (seen result)) ≤ 26 }
+    // Makes the hold the packet of the line.
+    fn put(self, offer: &Offer, hold: &mut Hold)
+        ensures written { hold.new.items ≡ spelling_of (advertisement_packet offer.now self) }
+        ensures fits { length (body_of (advertisement_packet offer.now self)) ≤ longest_payload }
+    {
+        hold.clear();
+        self.append(offer, hold);
+    }
+
+    // Appends the packet of the line.
+    fn append(self, offer: &Offer, hold: &mut Hold)
+        requires { length hold.old.items + length (spelling_of (advertisement_packet offer.now self)) ≤ 65520 }
+        ensures { hold.new.items ≡ hold.old.items ++ spelling_of (advertisement_packet offer.now self) }
     {
         match self {
-            AdvertisementLine::Version => Packet::Payload(b"version 2\n"),
-            AdvertisementLine::Agent => Packet::Payload(AGENT_LINE),
-            AdvertisementLine::LsRefs => Packet::Payload(b"ls-refs\n"),
-            AdvertisementLine::Fetch => Packet::Payload(fetch_line(offer)),
-            AdvertisementLine::ServerOption => Packet::Payload(b"server-option\n"),
+            AdvertisementLine::Version => append_packet(hold, Packet::Payload(b"version 2\n")),
+            AdvertisementLine::Agent => append_packet(hold, Packet::Payload(AGENT_LINE)),
+            AdvertisementLine::LsRefs => append_text(hold, &ls_refs_line(offer)),
+            AdvertisementLine::Fetch => append_text(hold, &fetch_line(offer)),
+            AdvertisementLine::ServerOption => {
+                append_packet(hold, Packet::Payload(b"server-option\n"))
+            }
             AdvertisementLine::ObjectFormat => match offer.format {
-                Format::Sha1 => Packet::Payload(b"object-format=sha1\n"),
-                Format::Sha256 => Packet::Payload(b"object-format=sha256\n"),
+                Format::Sha1 => append_packet(hold, Packet::Payload(b"object-format=sha1\n")),
+                Format::Sha256 => append_packet(hold, Packet::Payload(b"object-format=sha256\n")),
             },
-            AdvertisementLine::ObjectInfo => Packet::Payload(b"object-info\n"),
-            AdvertisementLine::End => Packet::Flush,
+            AdvertisementLine::ObjectInfo => append_packet(hold, Packet::Payload(b"object-info\n")),
+            AdvertisementLine::End => append_packet(hold, Packet::Flush),
         }
     }
 
@@ -98,15 +115,86 @@ impl AdvertisementLine {
     }
 }
 
-// The line for `fetch`: its value names the features of it that are offered.
-fn fetch_line(offer: &Offer) -> &'static [u8]
-    ensures words { result.now ≡ fetch_words offer.now.shallow offer.now.ref_in_want ++ 10 ∷ [] }
-    ensures short { length result.now ≤ 26 }
-{
-    match (offer.shallow, offer.ref_in_want) {
-        (false, false) => b"fetch\n",
-        (true, false) => b"fetch=shallow\n",
-        (false, true) => b"fetch=ref-in-want\n",
-        (true, true) => b"fetch=shallow ref-in-want\n",
+// A line that names a command and features of it, as far as it is written.
+#[derive(Drop)]
+struct FeaturesLine {
+    text: ArrayString<LONGEST_LINE>,
+    has_features: bool,
+}
+
+impl FeaturesLine {
+    // The line of the command alone.
+    fn of(key: &str) -> FeaturesLine
+        requires { length key.now ≤ 40 }
+        ensures names { Names result key.now [] }
+        ensures count { length result.text.bytes ≡ length key.now }
+    {
+        let mut text = ArrayString::new();
+        text.push_str(key);
+        FeaturesLine {
+            text,
+            has_features: false,
+        }
     }
+
+    // Names the feature too, where it is offered.
+    fn add(&mut self, offered: bool, feature: &str)
+        requires { length self.old.text.bytes + 1 + length feature.now ≤ 40 }
+        ensures names { (key : List ℕ) (features : List (List ℕ)) → Names self.old key features
+            → Names self.new key (features ++ where_offered offered feature.now) }
+        ensures count { length self.new.text.bytes ≤ length self.old.text.bytes + 1 + length feature.now }
+    {
+        if !offered {
+            return;
+        }
+        self.text.push_str(separator(self.has_features));
+        self.text.push_str(feature);
+        self.has_features = true;
+    }
+
+    // The text of the line, with LF at its end.
+    fn end(self) -> ArrayString<LONGEST_LINE>
+        requires { length self.text.bytes + 1 ≤ 40 }
+        ensures { result.bytes ≡ self.text.bytes ++ 10 ∷ [] }
+    {
+        let mut text = self.text;
+        text.push_str("\n");
+        text
+    }
+}
+
+// What stands before one more feature.
+fn separator(has_features: bool) -> &'static str
+    ensures text { result.now ≡ separator_after has_features }
+    ensures count { length result.now ≡ 1 }
+{
+    if has_features { " " } else { "=" }
+}
+
+// The line for `ls-refs`: its value names the features of it that are offered.
+fn ls_refs_line(offer: &Offer) -> ArrayString<LONGEST_LINE>
+    ensures { result.bytes ≡ capability_text (codes "ls-refs") (ls_refs_features offer.now) ++ 10 ∷ [] }
+{
+    let mut line = FeaturesLine::of("ls-refs");
+    line.add(offer.unborn, "unborn");
+    line.end()
+}
+
+// The line for `fetch`.
+fn fetch_line(offer: &Offer) -> ArrayString<LONGEST_LINE>
+    ensures { result.bytes ≡ capability_text (codes "fetch") (fetch_features offer.now) ++ 10 ∷ [] }
+{
+    let mut line = FeaturesLine::of("fetch");
+    line.add(offer.shallow, "shallow");
+    line.add(offer.ref_in_want, "ref-in-want");
+    line.add(offer.wait_for_done, "wait-for-done");
+    line.end()
+}
+
+// Appends the packet of a line that has this text.
+fn append_text(hold: &mut Hold, text: &ArrayString<LONGEST_LINE>)
+    requires { length hold.old.items + length (spelling_of (payload text.now.bytes)) ≤ 65520 }
+    ensures { hold.new.items ≡ hold.old.items ++ spelling_of (payload text.now.bytes) }
+{
+    append_packet(hold, Packet::Payload(text.as_str().as_bytes()));
 }

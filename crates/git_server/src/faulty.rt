@@ -73,6 +73,10 @@ impl<R: Repo> Repo for Faulty<R> {
         self.inner.find(name)
     }
 
+    fn unborn_head(&self) -> Option<&[u8]> {
+        self.inner.unborn_head()
+    }
+
     fn has(&self, id: &Oid) -> bool {
         self.inner.has(id)
     }

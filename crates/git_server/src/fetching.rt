@@ -39,7 +39,10 @@ impl FetchPlace {
     pub(crate) fn first<A: Allocator + Copy>(request: &Fetch<A>) -> FetchPlace
         ensures { result ≡ first_place request.now.asked }
     {
-        if request.haves().is_empty() || request.done() {
+        if request.done() {
+            return FetchPlace::ShallowInfo(SectionPlace::Header);
+        }
+        if request.haves().is_empty() && !request.wait_for_done() {
             return FetchPlace::ShallowInfo(SectionPlace::Header);
         }
         FetchPlace::Acknowledgments(AcknowledgmentsPlace::Header)

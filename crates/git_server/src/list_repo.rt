@@ -1,20 +1,21 @@
 //! A repository that is a few lists: of references, of objects, of shallow boundaries, and one pack.
 
-ghost use Rattle.std.specs.Prelude.{◌≡◌, ◌≢◌, ◌<◌, ◌-◌, ◌↔◌, IsTrue, IfOk, MatchOption, MatchResult, All, Any, Ok, Some, filter, length, min, nat_le};
+ghost use Rattle.std.specs.Prelude.{◌≡◌, ◌≢◌, ◌<◌, ◌-◌, ◌↔◌, IsTrue, IfOk, MatchBool, MatchOption, MatchResult, All, Any, Ok, Some, filter, length, min, nat_le};
 ghost use Rattle.std.specs.Prelude.{slice_get};
 ghost use Rattle.std.specs.List.{HoldsAt};
+ghost use Rattle.std.specs.Option.{ForSome};
 ghost use Rattle.std.specs.Ordering.{nat_cmp};
 ghost use Rattle.std.specs.Cmp.Lexicographic.{slice_cmp};
 ghost use Rattle.git_server.specs.Lists.{repo_fault_name};
 ghost use Rattle.git_server.specs.Objects.{object_cmp, object_of, has_object, precedes, AreRising};
 ghost use Rattle.git_server.specs.Packs.{IsPackPart};
-ghost use Rattle.git_server.specs.Repository.{IsNamed, IsOfFormat, IsRising, comes_before};
+ghost use Rattle.git_server.specs.Repository.{IsNamed, IsOfFormat, IsRising, IsUnbornHead, bytes_of, comes_before};
 ghost use Rattle.git_server.specs.ToldBoundary.{is_deepened, says_shallow, says_unshallow, told_lines};
 
 use crate::entry::RefEntry;
 use crate::repo::{PackFault, Repo};
 use git_msg::{Boundary, Fetch};
-use git_names::{Format, Oid};
+use git_names::{Format, Oid, RefName, Steps};
 use std::alloc::Allocator;
 use std::cmp::Ordering;
 use std::error::Error;
@@ -29,6 +30,8 @@ pub enum RepoFault {
     UnsortedObjects,
     /// An object name is not of the repository's format.
     MixedFormats,
+    /// What an unborn `HEAD` points to is no reference name, or there is a reference `HEAD`.
+    UnbornHead,
 }
 
 impl fmt::Display for RepoFault {
@@ -39,6 +42,7 @@ impl fmt::Display for RepoFault {
             RepoFault::UnsortedRefs => "UnsortedRefs",
             RepoFault::UnsortedObjects => "UnsortedObjects",
             RepoFault::MixedFormats => "MixedFormats",
+            RepoFault::UnbornHead => "UnbornHead",
         })
     }
 }
@@ -54,12 +58,14 @@ pub struct ListRepo {
     ready_after: Option<u32>,
     boundaries: Vec<Boundary>,
     pack: Vec<u8>,
+    unborn: Option<Vec<u8>>,
     ghost rising: { IsRising refs.items },
     ghost rising_objects: { AreRising objects.items },
     ghost named: { All (λ ref. IsNamed ref.name ref.target) refs.items },
     ghost of_format: { All (IsOfFormat format) refs.items },
     ghost of_boundaries: { All (λ boundary. (object_of boundary).format ≡ format) boundaries.items },
     ghost short: { length pack.items < 9223372036854775808 },
+    ghost unborn_head: { ForSome (bytes_of unborn) (IsUnbornHead refs.items) },
 }
 
 impl ListRepo {
@@ -72,7 +78,8 @@ impl ListRepo {
     /// shallow itself and that are no longer.
     ///
     /// The references have to rise strictly by their names (`UnsortedRefs`), the objects by theirs
-    /// (`UnsortedObjects`), and all object names are of the format (`MixedFormats`).
+    /// (`UnsortedObjects`), and all object names are of the format (`MixedFormats`). The name that an unborn `HEAD`
+    /// points to comes last: it has to be one that a reference may have, and no reference is `HEAD` then (`UnbornHead`).
     pub fn new(
         format: Format,
         refs: Vec<RefEntry>,
@@ -80,6 +87,7 @@ impl ListRepo {
         ready_after: Option<u32>,
         boundaries: Vec<Boundary>,
         pack: Vec<u8>,
+        unborn: Option<Vec<u8>>,
     ) -> Result<ListRepo, RepoFault>
         ensures { let lists : Lists = record {
           format = format;
@@ -88,6 +96,7 @@ impl ListRepo {
           ready_after = ready_after;
           boundaries = boundaries.items;
           pack = pack.items;
+          unborn = bytes_of unborn;
         } in
             MatchResult result (λ repo. (lists_of repo ≡ lists) × IsRepository lists) (λ fault. IsUnfit fault lists) }
     {
@@ -103,7 +112,10 @@ impl ListRepo {
         {
             return Err(RepoFault::MixedFormats);
         }
-        Ok(ListRepo::of_lists(format, refs, objects, ready_after, boundaries, pack))
+        if !is_unborn_head(&refs, &unborn) {
+            return Err(RepoFault::UnbornHead);
+        }
+        Ok(ListRepo::of_lists(format, refs, objects, ready_after, boundaries, pack, unborn))
     }
 
     /// The same repository, where the lists are known to make one, as those that were taken item after item are.
@@ -114,6 +126,7 @@ impl ListRepo {
         ready_after: Option<u32>,
         boundaries: Vec<Boundary>,
         pack: Vec<u8>,
+        unborn: Option<Vec<u8>>,
     ) -> ListRepo
         requires fit { let lists : Lists = record {
           format = format;
@@ -122,6 +135,7 @@ impl ListRepo {
           ready_after = ready_after;
           boundaries = boundaries.items;
           pack = pack.items;
+          unborn = bytes_of unborn;
         } in
             IsRepository lists }
         requires named { All (λ ref. IsNamed ref.name ref.target) refs.items }
@@ -132,6 +146,7 @@ impl ListRepo {
           ready_after = ready_after;
           boundaries = boundaries.items;
           pack = pack.items;
+          unborn = bytes_of unborn;
         } in
             lists_of result ≡ lists }
     {
@@ -142,6 +157,7 @@ impl ListRepo {
             ready_after,
             boundaries,
             pack,
+            unborn,
         }
     }
 
@@ -181,6 +197,10 @@ impl Repo for ListRepo {
     fn find(&self, name: &[u8]) -> Option<Oid> {
         let at = find_name(&self.refs, name)?;
         Some(self.refs[at].id())
+    }
+
+    fn unborn_head(&self) -> Option<&[u8]> {
+        self.unborn.as_deref()
     }
 
     fn has(&self, id: &Oid) -> bool
@@ -289,6 +309,20 @@ fn are_boundaries_of(format: Format, boundaries: &[Boundary]) -> bool
         }
     }
     true
+}
+
+// Whether this is the name that an unborn `HEAD` may point to, or there is none.
+fn is_unborn_head(refs: &[RefEntry], unborn: &Option<Vec<u8>>) -> bool
+    requires { IsRising refs.now }
+    ensures { MatchBool result (ForSome (bytes_of unborn.now) (IsUnbornHead refs.now)) (¬ ForSome (bytes_of unborn.now) (IsUnbornHead refs.now)) }
+{
+    let Some(target) = unborn else {
+        return true;
+    };
+    if RefName::read(target, &mut Steps::new()).is_err() {
+        return false;
+    }
+    find_name(refs, b"HEAD").is_none()
 }
 
 // Where the reference of this name stands.

@@ -1,6 +1,7 @@
 //! What a server asks of a repository.
 
 ghost use Rattle.std.specs.Prelude.{◌≡◌, ◌<◌, ℕ, Some, codes, length, slice_get, IfOk, OnErr, OnOk};
+ghost use Rattle.std.specs.Option.{option_copied};
 ghost use Rattle.git_msg.specs.Asked.{FetchAsked};
 ghost use Rattle.git_server.specs.Packs.{IsPackPart};
 ghost use Rattle.git_server.specs.Repository.{RepoState, IsFound, IsSound};
@@ -47,6 +48,10 @@ pub trait Repo {
     fn find(&self, name: &[u8]) -> Option<Oid>
         ensures { IsFound (state self.now).answers.refs name.now result };
 
+    /// The name that `HEAD` points to where it is unborn, as it is while its branch has no commit: none where it is not.
+    fn unborn_head(&self) -> Option<&[u8]>
+        ensures { option_copied result ≡ (state self.now).answers.unborn_head };
+
     /// Whether it has an object of this name.
     fn has(&self, id: &Oid) -> bool
         ensures { result ≡ (state self.now).answers.has id.now };
@@ -57,7 +62,8 @@ pub trait Repo {
         ensures { result ≡ (state self.now).answers.object_size id.now };
 
     /// Whether it is ready to send a pack for the request: of what the client has, enough is common to make one.
-    /// The answer to a request that negotiates then says `ready`, gitprotocol-v2(5), and the pack follows.
+    /// The answer to a request that negotiates then says `ready`, gitprotocol-v2(5), and the pack follows. This is not asked for
+    /// a request that negotiates alone, which gets no pack.
     fn is_ready<A: Allocator + Copy>(&self, request: &Fetch<A>) -> bool
         ensures { result ≡ (state self.now).answers.is_ready request.now.asked };
 
@@ -87,7 +93,7 @@ pub trait Repo {
 
     /// The names of the references rise, they and the targets are names that a reference may have, and the object names of the
     /// references and of a shallow boundary are of the format. There none but a commit that the request calls shallow is
-    /// said to be no longer shallow.
+    /// said to be no longer shallow. An unborn `HEAD` points to a name that a reference may have, and is no reference.
     ghost sound: { (repo : Self) → IsSound (state repo).answers };
 
     /// A pack has less than 2^63 bytes.

@@ -66,6 +66,10 @@ impl Repo for SharedRepo {
         self.repo.find(name)
     }
 
+    fn unborn_head(&self) -> Option<&[u8]> {
+        self.repo.unborn_head()
+    }
+
     fn has(&self, id: &Oid) -> bool {
         self.repo.has(id)
     }

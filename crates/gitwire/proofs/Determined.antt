@@ -1,8 +1,8 @@
 -- What a writer for C tells, and what it leaves in the room, is determined by the values that C gives and the room.
-use Rattle.std.proofs.Common.{◌≡◌, ◌≢◌, ℕ, ◌≤◌, List, [], ◌∷◌, length, length-append, Option, Some, None, Ok, Err, slice_get}
+use Rattle.std.proofs.Common.{◌≡◌, ℕ, ◌≤◌, List, [], ◌∷◌, length, length-append, Option, Some, None, Ok, Err, slice_get}
 use Rattle.std.proofs.Common.{sym, ◌∙◌, ap, refl, subst, inl, inr, arith}
 use Rattle.std.proofs.lemmas.Bool.Decides.{leb_tells}
-use Rattle.git_names.specs.ObjectName.{ObjectName, IsObjectName}
+use Rattle.git_names.specs.ObjectName.{ObjectName}
 use Rattle.git_names.specs.RefName.{IsRefName}
 use Rattle.git_names.specs.declared.object_format.Format.{Format}
 use Rattle.git_names.proofs.ObjectNames.{one_object_name}
@@ -25,6 +25,7 @@ use Rattle.gitwire.specs.WrittenForC.{given, object_name_check, ref_name_check, 
 use Rattle.gitwire.specs.declared.told.GitwireTold.{GitwireTold}
 use Rattle.gitwire.specs.declared.written.Unwritten.{Unwritten}
 use Rattle.gitwire.specs.declared.written.Unwritten.TheVariants.{BadValue, Refused}
+use Rattle.gitwire.proofs.GivenNames.{maybe_passes}
 
 -- values mean one packet that fits, or nothing for one reason
 pub record IsOne (Means : Meant → Type 0) : Type 0 where
@@ -200,38 +201,26 @@ same_maybe : (format : Format) (text : Option (List ℕ)) (a b : Option ObjectNa
 same_maybe format None a b h k = h ∙ sym k
 same_maybe format (Some text) a b h k = h.2 ∙ ap Some (one_object_name format text h.0 k.0 h.1 k.1) ∙ sym k.2
 
-maybe_passes : (format : Format) (text : List ℕ) (id : Option ObjectName) → IsMaybeObjectName format (given text) id → text ≢ [] → (named : ObjectName) ×
-    IsObjectName format text named
-maybe_passes format [] id h some = absurd (some refl)
-maybe_passes format (byte ∷ bytes) id h some = (h.0, h.1)
-
 same_reference : (format : Format) (digits name target peeled : List ℕ) (p q : Pkt)
     → IsReferenceOf format digits name target peeled p → IsReferenceOf format digits name target peeled q → p ≡ q
 same_reference format digits name target peeled p q h k =
-    let text = λ (named : Option ObjectName) (id : ObjectName). reference_text (reference_of id name (given target) named) in
-    let same = sym (same_maybe format (given peeled) h.peeled_id k.peeled_id h.is_peeled k.is_peeled) in
-    same_line format digits (text h.peeled_id) p q h.is_line (subst (λ (named : Option ObjectName). IsLineOf format digits (text named) q) same k.is_line)
+    let text = λ (id named : Option ObjectName). text_line (reference_text (reference_of id name (given target) named)) in
+    h.line ∙ ap (λ (id : Option ObjectName). text id h.peeled_id) (same_maybe format (given digits) h.id k.id h.is_id k.is_id)
+    ∙ ap (text k.id) (same_maybe format (given peeled) h.peeled_id k.peeled_id h.is_peeled k.is_peeled) ∙ sym k.line
 
 one_reference_in : (digits name target peeled : List ℕ) (format : Format)
-    → IsOneIn (object_name_check format digits ∷ ref_name_check name ∷ where_given target (ref_name_check target)
+    → IsOneIn (where_given digits (object_name_check format digits) ∷ ref_name_check name ∷ where_given target (ref_name_check target)
     ∷ where_given peeled (object_name_check format peeled) ∷ []) (IsReferenceOf format digits name target peeled)
 unfolding AllFair
 one_reference_in digits name target peeled format = record {
   fair = (
-    fair_object_name format digits,
-    (
-      fair_ref_name name,
-      (
-        fair_given target _ (fair_ref_name target),
-        (
-          fair_given peeled _ (fair_object_name format
-              peeled),
-          tt,
-        ),
-      ),
-    ),
+    fair_given digits _ (fair_object_name format digits),
+    (fair_ref_name name, (fair_given target _ (fair_ref_name target), (fair_given peeled _ (fair_object_name format peeled), tt))),
   );
-  passes = λ p h. ((h.is_line.id, h.is_line.is_id), (h.is_name, (h.is_target, (maybe_passes format peeled h.peeled_id h.is_peeled, tt))));
+  passes = λ p h. (
+    maybe_passes format digits h.id h.is_id,
+    (h.is_name, (h.is_target, (maybe_passes format peeled h.peeled_id h.is_peeled, tt))),
+  );
   same = same_reference format digits name target peeled;
 }
 

@@ -1,6 +1,6 @@
 -- Names that may be missing.
-use Rattle.std.proofs.Common.{◌≡◌, ◌≢◌, ℕ, List, [], ◌∷◌, Option, Some, None, subst, ◌∙◌, ap}
-use Rattle.git_names.specs.ObjectName.{ObjectName}
+use Rattle.std.proofs.Common.{◌≡◌, ◌≢◌, ℕ, List, [], ◌∷◌, Option, Some, None, subst, refl, ◌∙◌, ap}
+use Rattle.git_names.specs.ObjectName.{ObjectName, IsObjectName}
 use Rattle.git_names.specs.RefName.{IsRefName}
 use Rattle.git_names.specs.declared.object_format.Format.{Format}
 use Rattle.git_msg.specs.References.{IsMaybeObjectName, reference_of, reference_text}
@@ -22,8 +22,14 @@ given_format format (Some digits) named id (other, is_id, found) same =
     let ids_are : other ≡ id = cc in
     subst (λ (id : ObjectName). id.format ≡ format) ids_are is_id.of_format
 
+-- what is given passes, where it names an object or there is nothing
+pub maybe_passes : (format : Format) (digits : List ℕ) (named : Option ObjectName)
+    → IsMaybeObjectName format (given digits) named → digits ≢ [] → (id : ObjectName) × IsObjectName format digits id
+maybe_passes format [] named names some = absurd (some refl)
+maybe_passes format (byte ∷ bytes) named names some = (names.0, names.1)
+
 -- the line of a reference, where its texts are these
-pub reference_line : (id : ObjectName) (peeled : Option ObjectName) {name other : List ℕ} {target others : Option (List ℕ)}
+pub reference_line : (id peeled : Option ObjectName) {name other : List ℕ} {target others : Option (List ℕ)}
     → name ≡ other → target ≡ others → text_line (reference_text (reference_of id name target peeled)) ≡ text_line (reference_text (reference_of id other
     others peeled))
 reference_line id peeled {name} {other} {target} {others} same_name same_target =

@@ -7,6 +7,7 @@ use Rattle.git_names.specs.ObjectName.{ObjectName, hex_of, hex_text}
 use Rattle.git_names.specs.declared.object_format.Format.{Format}
 use Rattle.git_names.specs.declared.object_format.Format.TheVariants.{Sha1, Sha256}
 use Rattle.git_pkt.specs.Packets.{longest_payload}
+use Rattle.git_msg.specs.References.{id_length}
 use Rattle.git_client.specs.Events.{EventValue, all_parts_length, parts_length, pack, progress}
 use Rattle.git_client.specs.Turns.{values_of}
 use Rattle.git_client.specs.declared.events.Event.{Event}
@@ -28,6 +29,11 @@ digits_fit id = digits_of_bytes id.format id.bytes
 digits_fit_in : (id : Option ObjectName) → length (digits_shown id) ≤ option_map_or (λ (o : ObjectName). digits_of o.format) id 0
 digits_fit_in None = omega arith
 digits_fit_in (Some id) = digits_fit id
+
+-- where a reference has no object, no digits are shown of the word that stands in their place
+first_fits : (id : Option ObjectName) → length (digits_shown id) ≤ id_length id
+first_fits None = omega arith
+first_fits (Some id) = digits_fit id
 
 text_length : (text : Option (List ℕ)) → length (text_shown text) ≡ option_map_or length text 0
 text_length None = refl
@@ -58,7 +64,7 @@ shown_fits (Event.Capability c) = omega (arith, shown_length (parts_of (Event.Ca
 shown_fits (Event.Reference id name target peeled) = omega (
   arith,
   shown_length (parts_of (Event.Reference id name target peeled)),
-  digits_fit id.now,
+  first_fits (option_copied id),
   text_length (option_copied target),
   digits_fit_in (option_copied peeled),
 )

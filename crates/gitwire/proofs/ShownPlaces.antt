@@ -1,10 +1,9 @@
 -- Where the bytes lie that C is shown of an event.
-use Rattle.std.proofs.Common.{◌≡◌, ◌++◌, ℕ, Bor, List, refl, take}
+use Rattle.std.proofs.Common.{◌≡◌, ℕ, Bor, List, refl}
 use Rattle.std.specs.Global.{Global}
 use Rattle.git_client.specs.Client.{Feeds}
 use Rattle.git_client.specs.declared.client.Client.{Client}
 use Rattle.git_client.specs.declared.events.Event.{Event}
-use Rattle.git_client.specs.declared.events.Event.TheVariants as Event
 use Rattle.git_client.specs.declared.events.HeardGot.{HeardGot}
 use Rattle.git_client.specs.declared.events.HeardGot.TheVariants as Got
 use Rattle.gitwire.specs.ClientTold.{LieInPiece, filled_beside}

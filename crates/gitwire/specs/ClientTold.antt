@@ -1,5 +1,5 @@
 -- What C is told of a client's calls.
-use Rattle.std.specs.Prelude.{◌≡◌, ℕ, ◌+◌, ◌<◌, ◌≤◌, true, false, List, [], ◌∷◌, ◌++◌, length, take, Option, Some, None, MatchOption}
+use Rattle.std.specs.Prelude.{◌≡◌, ℕ, ◌+◌, ◌<◌, ◌≤◌, Bool, true, false, List, [], ◌∷◌, ◌++◌, length, take, Option, Some, None, MatchOption}
 use Rattle.std.specs.Global.{Global}
 use Rattle.git_names.specs.declared.object_format.Format.{Format}
 use Rattle.git_pkt.specs.Packets.{longest_payload}
@@ -21,8 +21,9 @@ use Rattle.git_client.specs.declared.events.HeardGot.{HeardGot}
 use Rattle.git_client.specs.declared.events.HeardGot.TheVariants as Got
 use Rattle.git_client.specs.declared.events.Sent.{Sent}
 use Rattle.gitwire.specs.EventsTold.{bytes_shown, parts_of, telling_none, telling_parts, telling_refusal}
+use Rattle.gitwire.specs.Offers.{features_shown}
 use Rattle.gitwire.specs.Rooms.{put_before}
-use Rattle.gitwire.specs.Told.{telling, telling_fault, telling_packet, what_number}
+use Rattle.gitwire.specs.Told.{more_of, telling, telling_fault, telling_packet, what_number}
 use Rattle.gitwire.specs.declared.client.GitwireCaps.{GitwireCaps}
 use Rattle.gitwire.specs.declared.event.GitwireEvent.{GitwireEvent}
 use Rattle.gitwire.specs.declared.told.GitwireTold.{GitwireTold}
@@ -42,11 +43,11 @@ abbrev pub BeginsBy : Option Format → Option Ending → Option (Client Global)
 BeginsBy (Some format) (Some ending) old told new = Begins (terms_of format ending) told new
 BeginsBy format ending old told new = (told ≡ what_number What.BadValue) × (new ≡ old)
 
--- what C is told of what was heard
-abbrev pub told_of : ℕ → HeardGot → GitwireEvent
-told_of used Got.More = telling_none used What.More
-told_of used (Got.Event event) = telling_parts used (parts_of event)
-told_of used (Got.Failed fault) = telling_refusal used fault
+-- what C is told of what was heard, by whether bytes were due
+abbrev pub told_of : Bool → ℕ → HeardGot → GitwireEvent
+told_of due used Got.More = telling_none used (more_of due)
+told_of due used (Got.Event event) = telling_parts used (parts_of event)
+told_of due used (Got.Failed fault) = telling_refusal used fault
 
 -- the room: the texts of an event stand at its front
 abbrev pub filled_by : HeardGot → List ℕ → List ℕ
@@ -73,7 +74,7 @@ pub record FeedsTold (filled_with : HeardGot → List ℕ → List ℕ) (old : C
   pub feeds : Feeds old piece heard new
   pub within : heard.used ≤ length piece
   pub fits : told.id_length + told.name_length + told.text_length + told.peeled_length ≤ longest_payload
-  pub told_is : told ≡ told_of heard.used heard.got
+  pub told_is : told ≡ told_of (wants_input old) heard.used heard.got
   pub room_is : filled ≡ filled_with heard.got room
   pub lies : LieInPiece heard.got heard.used piece
 
@@ -202,13 +203,10 @@ MessageIn (Some old) room told filled new = (new ≡ Some old) × MessageTold ol
 -- what was noted, as C sees it
 abbrev pub caps_shown : Caps → GitwireCaps
 caps_shown caps = record {
+  features = features_shown caps;
   agent = caps.agent;
   ls_refs = caps.ls_refs;
   fetch = caps.fetch;
-  shallow = caps.shallow;
-  ref_in_want = caps.ref_in_want;
-  server_option = caps.server_option;
-  object_info = caps.object_info;
   object_format = caps.object_format;
   sha1 = caps.sha1;
   sha256 = caps.sha256;

@@ -48,7 +48,7 @@ parts_of (Event.Capability c) =
     record { what = What.Capability; id = None; name = c.key.now; text = option_copied c.value; peeled = None; size = None }
 parts_of Event.Offered = bare What.Offered
 parts_of (Event.Reference id name target peeled) =
-    record { what = What.Reference; id = Some id.now; name = name.now; text = option_copied target; peeled = option_copied peeled; size = None }
+    record { what = What.Reference; id = option_copied id; name = name.now; text = option_copied target; peeled = option_copied peeled; size = None }
 parts_of (Event.Ack id) = of_object What.Ack id.now
 parts_of Event.Nak = bare What.Nak
 parts_of Event.Ready = bare What.Ready

@@ -1,6 +1,7 @@
 pub mod ClientTold
 pub mod EventsTold
 pub mod FaultsTold
+pub mod KindsTold
 pub mod Handles
 pub mod Held
 pub mod Machines

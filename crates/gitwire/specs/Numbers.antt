@@ -28,7 +28,7 @@ command_number ObjectInfo = 2
 abbrev pub flags : List Flag
 flags =
     Flag.Symrefs ∷ Flag.Peel ∷ Flag.Done ∷ Flag.ThinPack ∷ Flag.NoProgress ∷ Flag.IncludeTag ∷ Flag.OfsDelta
-    ∷ Flag.DeepenRelative ∷ Flag.Size ∷ []
+    ∷ Flag.DeepenRelative ∷ Flag.Size ∷ Flag.Unborn ∷ Flag.WaitForDone ∷ []
 
 abbrev pub given_numbers : List Given
 given_numbers = Given.Deepen ∷ Given.DeepenSince ∷ []

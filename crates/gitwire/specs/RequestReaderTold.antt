@@ -1,5 +1,5 @@
 -- What C is told of a request reader's calls.
-use Rattle.std.specs.Prelude.{◌≡◌, ◌⊎◌, ℕ, ◌<◌, ◌≤◌, true, false, List, [], length, Option, Some, None, Result, Ok, Err}
+use Rattle.std.specs.Prelude.{◌≡◌, ◌⊎◌, ℕ, ◌<◌, ◌≤◌, Bool, true, false, List, [], length, Option, Some, None, Result, Ok, Err}
 use Rattle.std.specs.Global.{Global}
 use Rattle.git_names.specs.declared.object_format.Format.TheVariants as Format
 use Rattle.git_pkt.specs.declared.fault.Fault.{Fault}
@@ -14,7 +14,7 @@ use Rattle.git_msg.specs.declared.streams.ReadRequest.{ReadRequest}
 use Rattle.git_msg.specs.declared.streams.RequestStream.{RequestStream}
 use Rattle.gitwire.specs.Offers.{offer_meant}
 use Rattle.gitwire.specs.RequestsTold.{HasOrNone}
-use Rattle.gitwire.specs.Told.{telling, telling_fault, telling_used, what_number}
+use Rattle.gitwire.specs.Told.{more_of, telling, telling_fault, telling_used, what_number}
 use Rattle.gitwire.specs.declared.offer.GitwireOffer.{GitwireOffer}
 use Rattle.gitwire.specs.declared.told.GitwireTold.{GitwireTold}
 use Rattle.gitwire.specs.declared.told.What.TheVariants as What
@@ -37,12 +37,12 @@ MakesReader offer limit old told new =
     (MeanNoReader offer limit × (told ≡ what_number What.BadValue) × (new ≡ old))
     ⊎ ((reader : RequestStream Global) × MeanReader offer limit reader × HasOrNone told reader new)
 
--- what C is told of an answer
-abbrev pub telling_read : ℕ → ReadGot Global → GitwireTold
-telling_read used More = telling_used used What.More
-telling_read used (RequestGot request) = telling_used used What.Request
-telling_read used Stop = telling_used used What.Stop
-telling_read used (Failed fault) = telling_fault used fault
+-- what C is told of an answer, by whether input was due
+abbrev pub telling_read : Bool → ℕ → ReadGot Global → GitwireTold
+telling_read due used More = telling_used used (more_of due)
+telling_read due used (RequestGot request) = telling_used used What.Request
+telling_read due used Stop = telling_used used What.Stop
+telling_read due used (Failed fault) = telling_fault used fault
 
 -- the request of a handle after an answer: a new one takes the place of the old one
 abbrev pub request_after : ReadGot Global → Request Global → Request Global
@@ -57,7 +57,7 @@ pub record FeedsTold (old : RequestStream Global) (piece : List ℕ) (held : Req
   pub read : ReadRequest Global
   pub within : read.used ≤ length piece
   pub feeds : Feeds old piece read new
-  pub told_is : told ≡ telling_read read.used read.got
+  pub told_is : told ≡ telling_read (wants_input old) read.used read.got
   pub request : kept ≡ request_after read.got held
 
 -- what a handle for requests has when a reader is fed: its own, or an empty one where it has none

@@ -7,6 +7,7 @@ use Rattle.git_pkt.specs.declared.fault.Kind.{Kind}
 use Rattle.git_msg.specs.Advertisement.{everything}
 use Rattle.git_msg.specs.Arguments.{Arg, IsArgumentFault, ReadsAs, most_limit, written_text}
 use Rattle.git_msg.specs.Asked.{Asked, symrefs_of, peel_of, done_of, thin_pack_of, no_progress_of, include_tag_of, ofs_delta_of, deepen_relative_of, size_of}
+use Rattle.git_msg.specs.Asked.{unborn_of, wait_for_done_of}
 use Rattle.git_msg.specs.Asked.{deepen_of, deepen_since_of, ref_prefixes_of, wants_of, haves_of, shallows_of, deepen_nots_of, want_refs_of, oids_of}
 use Rattle.git_msg.specs.Checks.{Passes, Refuses}
 use Rattle.git_msg.specs.HeldRequest.{IsEmpty, IsRefused, Keeps, add_checks, asked_of, command_of, format_of}
@@ -116,6 +117,8 @@ flag_of Flag.IncludeTag = include_tag_of
 flag_of Flag.OfsDelta = ofs_delta_of
 flag_of Flag.DeepenRelative = deepen_relative_of
 flag_of Flag.Size = size_of
+flag_of Flag.Unborn = unborn_of
+flag_of Flag.WaitForDone = wait_for_done_of
 
 -- whether the flag of this number is set; a number that is no flag's is not
 abbrev pub is_set : ℕ → Asked → Bool

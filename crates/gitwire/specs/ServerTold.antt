@@ -12,7 +12,7 @@ use Rattle.git_server.specs.declared.server.Pulled.TheVariants.{Packet, NeedInpu
 use Rattle.git_server.specs.declared.server.Server.{Server}
 use Rattle.git_server.specs.declared.shared_repo.SharedRepo.{SharedRepo}
 use Rattle.gitwire.specs.Rooms.{put_before}
-use Rattle.gitwire.specs.Told.{telling, telling_fault, telling_packet, telling_used, what_number}
+use Rattle.gitwire.specs.Told.{more_of, telling, telling_fault, telling_packet, telling_used, what_number}
 use Rattle.gitwire.specs.declared.told.GitwireTold.{GitwireTold}
 use Rattle.gitwire.specs.declared.told.What.TheVariants as What
 
@@ -47,7 +47,7 @@ BeginsOver (Some repository) limit advertise old told new = BeginsWithin reposit
 -- the server uses bytes of the piece, and C is told how many
 pub record FeedsTold (old : Server SharedRepo Global) (piece : List ℕ) (told : GitwireTold) (new : Server SharedRepo Global) : Type 0 where
   pub used : ℕ
-  pub told_is : told ≡ telling_used used What.More
+  pub told_is : told ≡ telling_used used (more_of (wants_input old))
   pub within : used ≤ length piece
   pub goes : Goes shared_state (take used piece) [] old new
   pub whole : wants_input new ≡ true → used ≡ length piece

@@ -1,5 +1,5 @@
 -- What C is told of a call.
-use Rattle.std.specs.Prelude.{ℕ}
+use Rattle.std.specs.Prelude.{ℕ, Bool, true, false}
 use Rattle.git_pkt.specs.FaultNames.{kind_number}
 use Rattle.git_pkt.specs.declared.fault.Fault.{Fault}
 use Rattle.gitwire.specs.declared.told.GitwireTold.{GitwireTold}
@@ -45,6 +45,11 @@ what_number Info = 30
 what_number Pack = 31
 what_number Progress = 32
 what_number Ended = 33
+
+-- what is told of a piece where nothing else is: more is to come, or none was due
+abbrev pub more_of : Bool → What
+more_of true = More
+more_of false = NotNow
 
 -- what came of a call, and nothing more
 abbrev pub telling : What → GitwireTold

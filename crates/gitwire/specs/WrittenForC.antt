@@ -176,18 +176,20 @@ MeansWanted number digits name meant =
     InFormat number (λ format. object_name_check format digits ∷ ref_name_check name ∷ [])
     (λ format packet. IsRefName name × IsLineOf format digits (λ id. wanted_text (wanted_of id name)) packet) meant
 
--- the line of a reference with these parts
+-- the line of a reference with these parts, without an object where no digits are given
 pub record IsReferenceOf (format : Format) (digits name target peeled : List ℕ) (packet : Pkt) : Type 0 where
   pub is_name : IsRefName name
   pub is_target : target ≢ [] → IsRefName target
+  pub id : Option ObjectName
+  pub is_id : IsMaybeObjectName format (given digits) id
   pub peeled_id : Option ObjectName
   pub is_peeled : IsMaybeObjectName format (given peeled) peeled_id
-  pub is_line : IsLineOf format digits (λ id. reference_text (reference_of id name (given target) peeled_id)) packet
+  pub line : packet ≡ text_line (reference_text (reference_of id name (given target) peeled_id))
 
 -- the line of a reference, whose parts are checked from left to right
 abbrev pub MeansReference : ℕ → List ℕ → List ℕ → List ℕ → List ℕ → Meant → Type 0
 MeansReference number digits name target peeled meant =
     InFormat number
-    (λ format. object_name_check format digits ∷ ref_name_check name ∷ where_given target (ref_name_check target)
+    (λ format. where_given digits (object_name_check format digits) ∷ ref_name_check name ∷ where_given target (ref_name_check target)
     ∷ where_given peeled (object_name_check format peeled) ∷ [])
     (λ format packet. IsReferenceOf format digits name target peeled packet) meant

@@ -12,6 +12,7 @@ use crate::event::{EventParts, GitwireEvent};
 use crate::handles::{GitwireClient, GitwireRequest};
 use crate::machine::Machine;
 use crate::numbers::format_numbered;
+use crate::offer::features_noted;
 use crate::told::{GitwireTold, What};
 use git_client::{Client, Ending, Event, HeardGot, Sent};
 use git_msg::{Command, Limits, Request};
@@ -27,20 +28,14 @@ const LONGEST_PARTS: usize = 65_516;
 #[repr(C)]
 #[derive(Clone, Copy, Debug)]
 pub struct GitwireCaps {
+    /// The sum of the features that were noted, as an offer has them.
+    pub features: u32,
     /// The key `agent`.
     pub agent: bool,
     /// The command `ls-refs`.
     pub ls_refs: bool,
     /// The command `fetch`.
     pub fetch: bool,
-    /// The word `shallow` in a value of `fetch`.
-    pub shallow: bool,
-    /// The word `ref-in-want` in a value of `fetch`.
-    pub ref_in_want: bool,
-    /// The key `server-option`.
-    pub server_option: bool,
-    /// The command `object-info`.
-    pub object_info: bool,
     /// The key `object-format`, with any value or none.
     pub object_format: bool,
     /// The line `object-format=sha1`.
@@ -90,7 +85,7 @@ fn ending_numbered(number: u8) -> Option<Ending>
 }
 
 /// Reads on, to the next event, and writes its texts to the front of the room. `More`, `Failed` or the event: `Capability` to
-/// `Ended`; `NoHandle`; and `RoomTooSmall` where the room has less than 65,516 bytes.
+/// `Ended`; `NotNow` where no bytes are due; `NoHandle`; and `RoomTooSmall` where the room has less than 65,516 bytes.
 #[unsafe(no_mangle)]
 pub extern "C" fn gitwire_client_feed(
     alloc: Global,
@@ -141,9 +136,10 @@ fn feed(client: &mut Client<Global>, piece: &[u8], room: &mut [u8]) -> GitwireEv
     if room.len() < LONGEST_PARTS {
         return GitwireEvent::none(0, What::RoomTooSmall);
     }
+    let due = client.wants_input();
     let heard = client.feed(piece, &mut Steps::new());
     match heard.got {
-        HeardGot::More => GitwireEvent::none(heard.used, What::More),
+        HeardGot::More => GitwireEvent::none(heard.used, What::more(due)),
         HeardGot::Event(event) => EventParts::of(event).show(heard.used, room),
         HeardGot::Failed(fault) => GitwireEvent::of_fault(heard.used, fault),
     }
@@ -155,9 +151,10 @@ fn feed_in_place(client: &mut Client<Global>, piece: &[u8], room: &mut [u8]) -> 
     if room.len() < LONGEST_PARTS {
         return GitwireEvent::none(0, What::RoomTooSmall);
     }
+    let due = client.wants_input();
     let heard = client.feed(piece, &mut Steps::new());
     match heard.got {
-        HeardGot::More => GitwireEvent::none(heard.used, What::More),
+        HeardGot::More => GitwireEvent::none(heard.used, What::more(due)),
         HeardGot::Event(event) => show_in_place(event, heard.used, room),
         HeardGot::Failed(fault) => GitwireEvent::of_fault(heard.used, fault),
     }
@@ -390,13 +387,10 @@ fn noted(client: &Client<Global>) -> GitwireCaps
 {
     let caps = client.caps();
     GitwireCaps {
+        features: features_noted(&caps),
         agent: caps.agent,
         ls_refs: caps.ls_refs,
         fetch: caps.fetch,
-        shallow: caps.shallow,
-        ref_in_want: caps.ref_in_want,
-        server_option: caps.server_option,
-        object_info: caps.object_info,
         object_format: caps.object_format,
         sha1: caps.sha1,
         sha256: caps.sha256,
@@ -405,7 +399,7 @@ fn noted(client: &Client<Global>) -> GitwireCaps
 
 /// Frees the client. The handle has none from then on.
 #[unsafe(no_mangle)]
-pub extern "C" fn gitwire_client_free(alloc: Global, client: &mut GitwireClient)
+pub extern "C" fn gitwire_client_clear(alloc: Global, client: &mut GitwireClient)
     ensures { client_in client.new ≡ None }
 {
     drop(replace(client, GitwireClient::none(alloc)));

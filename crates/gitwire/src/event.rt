@@ -20,7 +20,7 @@ pub struct GitwireEvent {
     pub used: usize,
     /// Where the fault lies in the stream.
     pub offset: u64,
-    /// How many digits the object's name has.
+    /// How many digits the object's name has: none where there is no object, as of a reference that is unborn.
     pub id_length: usize,
     /// How many bytes the name has: that of a reference, or the key of a capability.
     pub name_length: usize,
@@ -74,8 +74,9 @@ impl<'a> EventParts<'a> {
             } => EventParts {
                 name,
                 text: target,
+                id,
                 peeled,
-                ..EventParts::of_object(What::Reference, id)
+                ..EventParts::bare(What::Reference)
             },
             Event::Ack(id) => EventParts::of_object(What::Ack, id),
             Event::Nak => EventParts::bare(What::Nak),

@@ -8,6 +8,7 @@ mod faults;
 mod gatherer;
 mod handles;
 mod held;
+mod kinds;
 pub mod laws;
 mod line_writers;
 mod machine;

@@ -21,8 +21,9 @@ use git_names::{Format, NameFault, Oid, RefName, Steps};
 use git_pkt::Hold;
 use std::alloc::Global;
 
-/// Writes a reference's line, of an answer to `ls-refs`, to the front of the room. A target of no bytes is none, and so is a
-/// peeled object of no digits. The parts are checked from left to right: BadObjectName or BadRefName.
+/// Writes a reference's line, of an answer to `ls-refs`, to the front of the room. An object of no digits is none: the reference is
+/// unborn. A target of no bytes is none, and so is a peeled object of no digits. The parts are checked from left to right:
+/// BadObjectName or BadRefName.
 #[tactic(auto, using(crate::proofs::Handing::writes))]
 #[unsafe(no_mangle)]
 pub extern "C" fn gitwire_put_reference(
@@ -161,10 +162,13 @@ fn make_reference(
 ) -> Result<(), Unwritten>
     ensures { Makes (MeansReference format id.now name.now target.now peeled.now) result hold.new.items }
 {
-    let id = read_id(format, id)?;
+    let Some(format) = format_numbered(format) else {
+        return Err(Unwritten::BadValue);
+    };
+    let id = read_given_id(format, id)?;
     let name = RefName::read(name, &mut Steps::new())?;
     let target = read_target(target)?;
-    let peeled = read_peeled(id.format(), peeled)?;
+    let peeled = read_given_id(format, peeled)?;
     let reference = Reference {
         id,
         name: name.as_bytes(),
@@ -253,7 +257,7 @@ fn read_target(text: &[u8]) -> Result<Option<&[u8]>, NameFault>
 }
 
 /// An object name, or none where there are no digits.
-fn read_peeled(format: Format, digits: &[u8]) -> Result<Option<Oid>, NameFault>
+fn read_given_id(format: Format, digits: &[u8]) -> Result<Option<Oid>, NameFault>
     ensures { MatchResult result (IsMaybeObjectName format (given digits.now))
         (λ fault. (fault ≡ NameFault.BadObjectName) × (digits.now ≢ []) × IsNoObjectName format digits.now) }
 {

@@ -64,6 +64,8 @@ pub(crate) enum Flag {
     OfsDelta,
     DeepenRelative,
     Size,
+    Unborn,
+    WaitForDone,
 }
 
 impl Flag {
@@ -81,6 +83,8 @@ impl Flag {
             6 => Some(Flag::OfsDelta),
             7 => Some(Flag::DeepenRelative),
             8 => Some(Flag::Size),
+            9 => Some(Flag::Unborn),
+            10 => Some(Flag::WaitForDone),
             _ => None,
         }
     }

@@ -1,42 +1,90 @@
 //! What a server offers, as C says it.
 
-ghost use Rattle.std.specs.Prelude.{◌≡◌};
+ghost use Rattle.std.specs.Prelude.{◌≡◌, ◌≤◌};
+ghost use Rattle.gitwire.specs.Offers.{features_shown, where_shown};
 
 use crate::numbers::format_numbered;
-use git_msg::Offer;
+use git_msg::{Caps, Offer};
+
+/// The feature `unborn` of `ls-refs`.
+pub const UNBORN: u32 = 1;
+
+/// The feature `shallow` of `fetch`.
+pub const SHALLOW: u32 = 2;
+
+/// The feature `ref-in-want` of `fetch`.
+pub const REF_IN_WANT: u32 = 4;
+
+/// The feature `wait-for-done` of `fetch`.
+pub const WAIT_FOR_DONE: u32 = 8;
+
+/// The capability `server-option`.
+pub const SERVER_OPTION: u32 = 16;
+
+/// The command `object-info`.
+pub const OBJECT_INFO: u32 = 32;
+
+/// The sum of all features.
+pub const ALL_FEATURES: u32 = 63;
 
 /// What a server offers, beside `agent` and the commands `ls-refs` and `fetch`, which are in every offer.
 #[repr(C)]
 #[derive(Clone, Copy)]
 pub struct GitwireOffer {
+    /// The sum of the features that are offered, [`UNBORN`] to [`OBJECT_INFO`].
+    pub features: u32,
     /// The number of the format of object names: `SHA1` or `SHA256`.
     pub format: u8,
-    /// The feature `shallow` of `fetch`.
-    pub shallow: bool,
-    /// The feature `ref-in-want` of `fetch`.
-    pub ref_in_want: bool,
-    /// The command `object-info`.
-    pub object_info: bool,
-    /// The capability `server-option`.
-    pub server_option: bool,
 }
 
 impl GitwireOffer {
-    ghost use Rattle.gitwire.specs.Offers.{offer_meant};
+    ghost use Rattle.gitwire.specs.Offers.{has_feature, offer_meant};
 
-    /// The offer that is meant; none where the number is no format's.
+    /// The offer that is meant; none where the number is no format's, or a bit stands for no feature.
     pub(crate) fn meant(self) -> Option<Offer>
         ensures { result ≡ offer_meant self }
     {
+        if self.features > ALL_FEATURES {
+            return None;
+        }
         let Some(format) = format_numbered(self.format) else {
             return None;
         };
         Some(Offer {
             format,
-            shallow: self.shallow,
-            ref_in_want: self.ref_in_want,
-            object_info: self.object_info,
-            server_option: self.server_option,
+            unborn: self.has(UNBORN),
+            shallow: self.has(SHALLOW),
+            ref_in_want: self.has(REF_IN_WANT),
+            wait_for_done: self.has(WAIT_FOR_DONE),
+            object_info: self.has(OBJECT_INFO),
+            server_option: self.has(SERVER_OPTION),
         })
     }
+
+    // Whether a feature is offered.
+    fn has(self, feature: u32) -> bool
+        ensures { result ≡ has_feature self.features feature }
+    {
+        self.features & feature != 0
+    }
+}
+
+/// The sum of the features that were noted of an advertisement.
+pub(crate) fn features_noted(caps: &Caps) -> u32
+    ensures { result ≡ features_shown caps.now }
+{
+    where_noted(caps.unborn, UNBORN)
+        + where_noted(caps.shallow, SHALLOW)
+        + where_noted(caps.ref_in_want, REF_IN_WANT)
+        + where_noted(caps.wait_for_done, WAIT_FOR_DONE)
+        + where_noted(caps.server_option, SERVER_OPTION)
+        + where_noted(caps.object_info, OBJECT_INFO)
+}
+
+// The feature, where it was noted.
+fn where_noted(noted: bool, feature: u32) -> u32
+    ensures value { result ≡ where_shown noted feature }
+    ensures small { result ≤ feature }
+{
+    if noted { feature } else { 0 }
 }

@@ -112,7 +112,7 @@ fn close(gatherer: &mut Gatherer) -> GitwireTold
 
 /// Frees the reader. The handle has none from then on.
 #[unsafe(no_mangle)]
-pub extern "C" fn gitwire_packet_reader_free(alloc: Global, reader: &mut GitwirePacketReader)
+pub extern "C" fn gitwire_packet_reader_clear(alloc: Global, reader: &mut GitwirePacketReader)
     ensures { packet_reader_in reader.new ≡ None }
 {
     drop(replace(reader, GitwirePacketReader::none(alloc)));

@@ -58,7 +58,7 @@ fn read(alloc: Global, text: &[u8], pack: &[u8]) -> Result<SharedRepo, GitwireTo
 
 /// Frees the handle's repository: those servers that share it keep it. The handle has none from then on.
 #[unsafe(no_mangle)]
-pub extern "C" fn gitwire_repository_free(alloc: Global, repository: &mut GitwireRepository)
+pub extern "C" fn gitwire_repository_clear(alloc: Global, repository: &mut GitwireRepository)
     ensures { repository_in repository.new ≡ None }
 {
     drop(replace(repository, GitwireRepository::none(alloc)));

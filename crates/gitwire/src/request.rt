@@ -215,6 +215,8 @@ fn has_flag(request: &Request<Global>, number: u8) -> bool
         Flag::OfsDelta => request.ofs_delta(),
         Flag::DeepenRelative => request.deepen_relative(),
         Flag::Size => request.size(),
+        Flag::Unborn => request.unborn(),
+        Flag::WaitForDone => request.wait_for_done(),
     }
 }
 
@@ -282,7 +284,7 @@ pub extern "C" fn gitwire_request_item(
 
 /// Frees the request. The handle has none from then on.
 #[unsafe(no_mangle)]
-pub extern "C" fn gitwire_request_free(alloc: Global, request: &mut GitwireRequest)
+pub extern "C" fn gitwire_request_clear(alloc: Global, request: &mut GitwireRequest)
     ensures { request_in request.new ≡ None }
 {
     drop(replace(request, GitwireRequest::none(alloc)));

@@ -55,7 +55,7 @@ fn reader_meant(alloc: Global, offer: GitwireOffer, limit: u32) -> Option<Reques
 }
 
 /// Reads on, to the end of the next request. `Request`, and the handle for requests has it, in the place of what that had before;
-/// `More` with the whole piece used, or with nothing after a `Stop`; `Stop` at a flush in the place of a request; `Failed` at the
+/// `More` with the whole piece used; `NotNow` after a `Stop`; `Stop` at a flush in the place of a request; `Failed` at the
 /// first fault, and again from then on; or `NoHandle`. A handle for requests that has none is given an empty one first;
 /// `OutOfMemory` where there is no memory for that, and then nothing was read.
 #[unsafe(no_mangle)]
@@ -111,9 +111,10 @@ fn feed(
 ) -> GitwireTold
     ensures { FeedsTold reader.old piece.now request.old result reader.new request.new }
 {
+    let due = reader.wants_input();
     let ReadRequest { used, got } = reader.feed(piece);
     match got {
-        ReadGot::More => GitwireTold::of_used(used, What::More),
+        ReadGot::More => GitwireTold::of_used(used, What::more(due)),
         ReadGot::Request(asked) => {
             *request = asked;
             GitwireTold::of_used(used, What::Request)
@@ -158,7 +159,7 @@ fn close(reader: &mut RequestStream<Global>) -> GitwireTold
 
 /// Frees the reader. The handle has none from then on.
 #[unsafe(no_mangle)]
-pub extern "C" fn gitwire_request_reader_free(alloc: Global, reader: &mut GitwireRequestReader)
+pub extern "C" fn gitwire_request_reader_clear(alloc: Global, reader: &mut GitwireRequestReader)
     ensures { request_reader_in reader.new ≡ None }
 {
     drop(replace(reader, GitwireRequestReader::none(alloc)));

@@ -89,7 +89,7 @@ fn make(
 }
 
 /// Takes bytes of the input: all of them, or those up to the end of a request, a flush in the place of one, or a fault. None is
-/// used while a packet waits to be pulled, nor after the end. `More`, and how many were used; or `NoHandle`.
+/// used while a packet waits to be pulled, nor after the end: `NotNow`. `More`, and how many were used; or `NoHandle`.
 #[unsafe(no_mangle)]
 pub extern "C" fn gitwire_server_feed(
     alloc: Global,
@@ -113,8 +113,9 @@ pub extern "C" fn gitwire_server_feed(
 fn feed(server: &mut Server<SharedRepo, Global>, piece: &[u8]) -> GitwireTold
     ensures { FeedsTold server.old piece.now result server.new }
 {
+    let due = server.wants_input();
     let used = server.feed(piece, &mut Steps::new());
-    GitwireTold::of_used(used, What::More)
+    GitwireTold::of_used(used, What::more(due))
 }
 
 /// Tells that the input ends here. `Done`; `NotNow` where the server does not wait for bytes, and nothing changed; or `NoHandle`.
@@ -188,7 +189,7 @@ fn pull(server: &mut Server<SharedRepo, Global>, room: &mut [u8]) -> GitwireTold
 
 /// Frees the server. The handle has none from then on.
 #[unsafe(no_mangle)]
-pub extern "C" fn gitwire_server_free(alloc: Global, server: &mut GitwireServer)
+pub extern "C" fn gitwire_server_clear(alloc: Global, server: &mut GitwireServer)
     ensures { server_in server.new ≡ None }
 {
     drop(replace(server, GitwireServer::none(alloc)));

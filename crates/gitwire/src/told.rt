@@ -94,7 +94,17 @@ pub enum What {
 }
 
 impl What {
-    ghost use Rattle.gitwire.specs.Told.{what_number};
+    ghost use Rattle.gitwire.specs.Told.{more_of, what_number};
+
+    /// What is told of a piece where nothing else is: more is to come, or none was due.
+    pub(crate) fn more(due: bool) -> What
+        ensures { result ≡ more_of due }
+    {
+        match due {
+            true => What::More,
+            false => What::NotNow,
+        }
+    }
 
     /// The number by which C knows it, from 0 to 33.
     pub fn number(self) -> u8

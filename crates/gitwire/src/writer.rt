@@ -29,7 +29,7 @@ pub extern "C" fn gitwire_writer_new(alloc: Global, writer: &mut GitwireWriter) 
 
 /// Frees the writer. The handle has none from then on.
 #[unsafe(no_mangle)]
-pub extern "C" fn gitwire_writer_free(alloc: Global, writer: &mut GitwireWriter)
+pub extern "C" fn gitwire_writer_clear(alloc: Global, writer: &mut GitwireWriter)
     ensures { writer_in writer.new ≡ None }
 {
     drop(replace(writer, GitwireWriter::none(alloc)));

@@ -36,9 +36,11 @@ pub fn append_noted(line: &mut String, caps: &Caps) -> Result<(), AllocError> {
     line.push_str("noted")?;
     append_word(line, caps.agent, "agent")?;
     append_word(line, caps.ls_refs, "ls-refs")?;
+    append_word(line, caps.unborn, "unborn")?;
     append_word(line, caps.fetch, "fetch")?;
     append_word(line, caps.shallow, "shallow")?;
     append_word(line, caps.ref_in_want, "ref-in-want")?;
+    append_word(line, caps.wait_for_done, "wait-for-done")?;
     append_word(line, caps.server_option, "server-option")?;
     append_word(line, caps.object_info, "object-info")?;
     append_word(line, caps.object_format, "object-format")?;

@@ -12,6 +12,8 @@ struct Lists {
     refs: Vec<RefEntry>,
     objects: Vec<(Oid, u64)>,
     boundaries: Vec<Boundary>,
+    // What `HEAD` points to where it is unborn.
+    unborn: Option<Vec<u8>>,
 }
 
 // The object name that a text is, of the format that its length says.
@@ -69,6 +71,10 @@ impl Lists {
                 .boundaries
                 .push(Boundary::Unshallow(object(first)?))
                 .is_ok(),
+            "unborn" => {
+                self.unborn = Some(Vec::from_slice(alloc, first.as_bytes())?);
+                true
+            }
             _ => return Err(Trouble::BadCase("a line of no list")),
         };
         match added {
@@ -84,6 +90,7 @@ pub fn made(alloc: Global, format: Format, text: &str) -> Result<String, Trouble
         refs: Vec::new(alloc),
         objects: Vec::new(alloc),
         boundaries: Vec::new(alloc),
+        unborn: None,
     };
     for line in text.lines() {
         if let Some(fault) = lists.add(alloc, line)? {
@@ -94,8 +101,10 @@ pub fn made(alloc: Global, format: Format, text: &str) -> Result<String, Trouble
         refs,
         objects,
         boundaries,
+        unborn,
     } = lists;
-    match ListRepo::new(format, refs, objects, None, boundaries, Vec::new(alloc)) {
+    let pack = Vec::new(alloc);
+    match ListRepo::new(format, refs, objects, None, boundaries, pack, unborn) {
         Ok(_) => Ok(String::from_str(alloc, "taken")?),
         Err(fault) => Ok(format!(in alloc; "{fault}")?),
     }

@@ -136,10 +136,12 @@ fn append_request(
     let flags = [
         (request.peel(), "peel"),
         (request.symrefs(), "symrefs"),
+        (request.unborn(), "unborn"),
         (request.thin_pack(), "thin-pack"),
         (request.no_progress(), "no-progress"),
         (request.include_tag(), "include-tag"),
         (request.ofs_delta(), "ofs-delta"),
+        (request.wait_for_done(), "wait-for-done"),
     ];
     append_flags(lines, &flags)?;
     for i in 0..MANY {

@@ -23,8 +23,10 @@ pub fn offer(format: Format, features: bool) -> Offer
 {
     Offer {
         format,
+        unborn: features,
         shallow: features,
         ref_in_want: features,
+        wait_for_done: features,
         object_info: features,
         server_option: true,
     }

@@ -145,8 +145,10 @@ fn say_notes(alloc: Global, lines: &mut Vec<u8>, text: &[u8]) -> Result<(), Allo
     said.push_str("\noffers")?;
     let offer = caps.offer(Format::Sha256);
     for (is_set, word) in [
+        (offer.unborn, " unborn"),
         (offer.shallow, " shallow"),
         (offer.ref_in_want, " ref-in-want"),
+        (offer.wait_for_done, " wait-for-done"),
         (offer.object_info, " object-info"),
         (offer.server_option, " server-option"),
     ] {
@@ -171,6 +173,7 @@ fn say_argument(
     match argument {
         Argument::Symrefs => say(alloc, lines, "symrefs", Said::Nothing),
         Argument::Peel => say(alloc, lines, "peel", Said::Nothing),
+        Argument::Unborn => say(alloc, lines, "unborn", Said::Nothing),
         Argument::RefPrefix(prefix) => say(alloc, lines, "prefix", Said::Bytes(prefix)),
         Argument::Want(id) => say_object(alloc, lines, "want", id),
         Argument::IsDone => say(alloc, lines, "done", Said::Nothing),
@@ -178,6 +181,7 @@ fn say_argument(
         Argument::NoProgress => say(alloc, lines, "no-progress", Said::Nothing),
         Argument::IncludeTag => say(alloc, lines, "include-tag", Said::Nothing),
         Argument::OfsDelta => say(alloc, lines, "ofs-delta", Said::Nothing),
+        Argument::WaitForDone => say(alloc, lines, "wait-for-done", Said::Nothing),
         Argument::Have(id) => say_object(alloc, lines, "have", id),
         Argument::Shallow(id) => say_object(alloc, lines, "shallow", id),
         Argument::Deepen(depth) => say_number(alloc, lines, "deepen", depth),
@@ -200,7 +204,10 @@ fn say_reference(
         Ok(reference) => reference,
         Err(kind) => return say(alloc, lines, kind.name(), Said::Nothing),
     };
-    say_object(alloc, lines, "object", reference.id)?;
+    match reference.id {
+        Some(id) => say_object(alloc, lines, "object", id)?,
+        None => say(alloc, lines, "unborn", Said::Nothing)?,
+    }
     say(alloc, lines, "name", Said::Bytes(reference.name))?;
     if let Some(target) = reference.target {
         say(alloc, lines, "target", Said::Bytes(target))?;
@@ -211,7 +218,7 @@ fn say_reference(
     }
 }
 
-// Appends the format of a repository text, and its references.
+// Appends the format of a repository text, what its `HEAD` points to where that is unborn, and its references.
 fn say_repository(alloc: Global, lines: &mut Vec<u8>, text: &[u8]) -> Result<(), Trouble> {
     let repo = match read_repo(alloc, text, Vec::new(alloc)) {
         Ok(repo) => repo,
@@ -223,6 +230,9 @@ fn say_repository(alloc: Global, lines: &mut Vec<u8>, text: &[u8]) -> Result<(),
         }
     };
     say(alloc, lines, repo.format().name(), Said::Nothing)?;
+    if let Some(target) = repo.unborn_head() {
+        say(alloc, lines, "unborn", Said::Bytes(target))?;
+    }
     for entry in repo.refs() {
         say_object(alloc, lines, "object", entry.id())?;
         say(alloc, lines, "name", Said::Bytes(entry.name()))?;

@@ -3,8 +3,8 @@ use Rattle.std.proofs.lemmas.Result.{err_from_is_err_and}
 use Rattle.git_msg.specs.Arguments.{of_want, of_have, of_shallow, of_deepen, of_deepen_since, of_deepen_not, of_want_ref}
 use Rattle.git_msg.proofs.arguments.read_fetch_value.Goals as goal
 
-pub returns-then-not-is_revision-clause-argument : goal.returns-then-not-is_revision-clause-argument
-returns-then-not-is_revision-clause-argument c =
+pub returns-then-not-is_kept_text-clause-argument : goal.returns-then-not-is_kept_text-clause-argument
+returns-then-not-is_kept_text-clause-argument c =
     (inr (of_deepen_not, (record { value = c.in-Some-after-5.revision.now; spelled = search rules; holds = search rules }, refl)))
 
 pub returns-then-not-is_ref_name-clause-argument : goal.returns-then-not-is_ref_name-clause-argument

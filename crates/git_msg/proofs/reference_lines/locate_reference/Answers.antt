@@ -7,9 +7,9 @@ use Rattle.git_msg.proofs.reference_lines.locate_reference.Goals as goal
 pub returns-in_err-id-clause-line : goal.returns-in_err-id-clause-line
 returns-in_err-id-clause-line c =
     let p = err_from_is_err_and c.from_residual.result c.from_residual.ensures.1 in
+    let bad = c.in_err-id.ensures.id in
     let words = rw c.in_default-Some.is-1 at c.split_at_first.ensures.parts in
-    rw (p.1, p.2, c.in_err-id.ensures.name.0)
-    (id_refused c.args.format c.args.text.now c.split_at_first.result.0.now c.in_default-Some.rest.now words c.in_err-id.ensures.name.1)
+    rw (p.1, p.2, bad.1) (id_refused c.args.format c.args.text.now c.split_at_first.result.0.now c.in_default-Some.rest.now words bad.0)
 
 pub read_attributes-requires : goal.read_attributes-requires
 read_attributes-requires c =
@@ -24,4 +24,4 @@ returns-clause-line c =
     let cut = rw c.in_default-Some.is-1 at c.split_at_first.ensures.cut in
     let begins = rw c.in_default-Some.rest-is at c.in_ok-name.ensures.parts in
     (located c.args.format c.args.text.now c.split_at_first.result.0.now c.in_default-Some.rest.now c.in_ok-name.name.now
-    (option_copied c.in_ok-name.words) _ words cut c.in_ok-id.ensures.name begins refl c.in_ok-found.ensures.values)
+    (option_copied c.in_ok-name.words) _ words cut c.in_ok-id.ensures.id begins refl c.in_ok-found.ensures.values)

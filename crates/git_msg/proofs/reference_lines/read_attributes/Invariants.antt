@@ -2,7 +2,6 @@ use Rattle.std.specs.Option.{option_copied}
 use Rattle.std.proofs.Common.{◌+◌, ◌*◌, ◌≤◌}
 use Rattle.git_msg.specs.Texts.{bytes_left, parts_left}
 use Rattle.git_msg.specs.ReferenceParts.{ReadSoFar}
-use Rattle.git_names.specs.Steps.{TakesAtMost}
 use Rattle.git_msg.proofs.reference_lines.read_attributes.Given as goal
 
 abbrev pub invariant-words : goal.invariant-words

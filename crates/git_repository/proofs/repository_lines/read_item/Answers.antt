@@ -1,8 +1,9 @@
-use Rattle.git_repository.proofs.Saying.{no_object, no_reference}
+use Rattle.git_repository.proofs.Saying.{line_read, no_object}
 use Rattle.git_repository.proofs.repository_lines.read_item.Goals as goal
 
-pub returns-in-Err : goal.returns-in-Err
-returns-in-Err c = no_reference c.args.format c.args.line.now c.in-Some.text.now c.in-Err.field-0 c.in-Some.ensures.rest c.in-Err.ensures.line
+pub returns-in-Some : goal.returns-in-Some
+returns-in-Some c =
+    line_read c.args.format c.args.line.now c.in-Some.text.now c.read_reference_line.result c.in-Some.ensures.rest c.read_reference_line.ensures
 
 pub returns-in_err-id : goal.returns-in_err-id
 returns-in_err-id c =

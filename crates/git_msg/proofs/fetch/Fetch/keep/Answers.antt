@@ -6,7 +6,7 @@ use Rattle.git_msg.specs.Insides.{fetch_inside, fetch_stored}
 use Rattle.git_msg.specs.HeldTexts.{texts_of}
 use Rattle.git_msg.proofs.KeptBytes.{counted_more, stored_fits}
 use Rattle.git_msg.proofs.fetch.Fetch.keep.Goals as goal
-use Rattle.git_msg.proofs.fetch.Fetch.keep.Goals.{in-IsDone, in-ThinPack, in-NoProgress, in-IncludeTag, in-OfsDelta}
+use Rattle.git_msg.proofs.fetch.Fetch.keep.Goals.{in-IsDone, in-ThinPack, in-NoProgress, in-IncludeTag, in-OfsDelta, in-WaitForDone}
 use Rattle.git_msg.proofs.fetch.Fetch.keep.Goals.{in-Deepen, in-DeepenRelative, in-DeepenSince}
 use Rattle.git_msg.proofs.fetch.Fetch.keep.Goals.{in-Want+in_ok-keep_id-in-Want, in-Have+in_ok-keep_id-in-Have, in-Shallow+in_ok-keep_id-in-Shallow}
 use Rattle.git_msg.proofs.fetch.Fetch.keep.Goals.{in-DeepenNot+in_ok-keep-in-DeepenNot, in-WantRef+in_ok-keep-in-WantRef}
@@ -53,6 +53,10 @@ invariant_of-self-2 g c =
       | in-OfsDelta w ↦
           let here = rw w.in-OfsDelta.is at more in
           let fits = rw w.in-OfsDelta.is at room in
+          rw w.self-inside-is (record { counted = here; covered = omega (arith, fits) })
+      | in-WaitForDone w ↦
+          let here = rw w.in-WaitForDone.is at more in
+          let fits = rw w.in-WaitForDone.is at room in
           rw w.self-inside-is (record { counted = here; covered = omega (arith, fits) })
       | in-Shallow+in_ok-keep_id-in-Shallow w ↦
           let grown : w.keep_id-in-Shallow.new.ids.items ≡ c.self.inside.shallows.items ++ w.in-Shallow.id ∷ [] = search rules in

@@ -6,7 +6,7 @@ use Rattle.git_msg.specs.Insides.{ls_refs_inside, ls_refs_stored}
 use Rattle.git_msg.specs.HeldTexts.{texts_of}
 use Rattle.git_msg.proofs.KeptBytes.{counted_more, stored_fits}
 use Rattle.git_msg.proofs.ls_refs.LsRefs.keep.Goals as goal
-use Rattle.git_msg.proofs.ls_refs.LsRefs.keep.Goals.{in-Symrefs, in-Peel, in-RefPrefix+in_ok-keep-in-RefPrefix}
+use Rattle.git_msg.proofs.ls_refs.LsRefs.keep.Goals.{in-Symrefs, in-Peel, in-Unborn, in-RefPrefix+in_ok-keep-in-RefPrefix}
 
 pub invariant_of-self-2 : goal.invariant_of-self-2
 invariant_of-self-2 g c =
@@ -26,6 +26,10 @@ invariant_of-self-2 g c =
       | in-Peel w ↦
           let here = rw w.in-Peel.is at more in
           let fits = rw w.in-Peel.is at room in
+          rw w.self-inside-is (record { counted = here; covered = omega (arith, fits) })
+      | in-Unborn w ↦
+          let here = rw w.in-Unborn.is at more in
+          let fits = rw w.in-Unborn.is at room in
           rw w.self-inside-is (record { counted = here; covered = omega (arith, fits) })
       | in-RefPrefix+in_ok-keep-in-RefPrefix w ↦
           let grown : texts_of w.keep.new.self ≡ texts_of c.self.inside.ref_prefixes ++ w.in-RefPrefix.prefix.now ∷ [] = w.in_ok-keep-in-RefPrefix.ensures.ok in

@@ -1,6 +1,5 @@
-use Rattle.std.proofs.Common.{arith, ◌≡◌, ◌≤◌, ◌∙◌, ap, length}
-use Rattle.git_pkt.specs.Packets.{text_of}
-use Rattle.git_msg.specs.Arguments.{shown, written_text}
+use Rattle.std.proofs.Common.{arith, ap, length}
+use Rattle.git_msg.specs.Arguments.{shown}
 use Rattle.git_msg.proofs.KeptArguments.{as_written, text_fits}
 use Rattle.std.proofs.lemmas.Result.{err_from_is_err_and}
 use Rattle.git_msg.proofs.Rows.{argument_has_name}

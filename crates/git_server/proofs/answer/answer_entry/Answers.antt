@@ -1,7 +1,7 @@
 use Rattle.std.proofs.Common.{rules, sym, subst}
 use Rattle.git_server.specs.Repository.{IsRising}
 use Rattle.git_server.proofs.Formats.{of_one_format}
-use Rattle.git_server.proofs.answer.answer_one.Goals as goal
+use Rattle.git_server.proofs.answer.answer_entry.Goals as goal
 
 pub returns-in-Some : goal.returns-in-Some
 returns-in-Some g c = search rules

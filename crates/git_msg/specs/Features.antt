@@ -1,0 +1,38 @@
+-- The features of commands as an advertisement names them: a key, and where there are some their words after `=`, parted by single spaces.
+use Rattle.std.specs.Prelude.{ℕ, Bool, true, false, List, [], ◌∷◌, ◌++◌, Option, Some, None, codes}
+use Rattle.git_msg.specs.declared.offers.Offer.{Offer}
+
+-- a word, where it is offered
+abbrev pub where_offered : Bool → List ℕ → List (List ℕ)
+where_offered true word = word ∷ []
+where_offered false word = []
+
+-- the features of `ls-refs` that are offered
+abbrev pub ls_refs_features : Offer → List (List ℕ)
+ls_refs_features offer = where_offered offer.unborn (codes "unborn")
+
+-- the features of `fetch` that are offered, in the order in which they are written
+abbrev pub fetch_features : Offer → List (List ℕ)
+fetch_features offer =
+    where_offered offer.shallow (codes "shallow") ++ (where_offered offer.ref_in_want (codes "ref-in-want")
+    ++ where_offered offer.wait_for_done (codes "wait-for-done"))
+
+-- words with a space between each two
+abbrev pub spaced : List (List ℕ) → List ℕ
+spaced [] = []
+spaced (word ∷ []) = word
+spaced (word ∷ next ∷ words) = word ++ 32 ∷ spaced (next ∷ words)
+
+-- the value that names these features, where there are some
+abbrev pub features_value : List (List ℕ) → Option (List ℕ)
+features_value [] = None
+features_value (word ∷ words) = Some (spaced (word ∷ words))
+
+-- a key alone, or with a value
+abbrev pub valued : List ℕ → Option (List ℕ) → List ℕ
+valued key None = key
+valued key (Some value) = key ++ 61 ∷ value
+
+-- the text of a capability line that names a command and its features
+abbrev pub capability_text : List ℕ → List (List ℕ) → List ℕ
+capability_text key features = valued key (features_value features)

@@ -1,0 +1,103 @@
+//! The names of what is told, by their numbers.
+
+ghost use Rattle.std.specs.Prelude.{◌≡◌};
+ghost use Rattle.gitwire.specs.KindsTold.{IsWhatOf, TellsKind, what_name};
+
+use crate::rooms::put_bytes;
+use crate::told::What;
+
+/// Writes the name of a kind of what is told to the front of the room, as `NeedInput`, and says how long it is: 0 where no kind has
+/// the number, or the room is too small.
+#[unsafe(no_mangle)]
+pub extern "C" fn gitwire_kind_name(kind: u8, room: &mut [u8]) -> usize
+    ensures { TellsKind kind room.old result room.new }
+{
+    let Some(what) = what_of(kind) else {
+        return 0;
+    };
+    put_bytes(name_of(what).as_bytes(), room)
+}
+
+/// What has the number.
+fn what_of(number: u8) -> Option<What>
+    ensures { IsWhatOf number result }
+{
+    match number {
+        0 => Some(What::Done),
+        1 => Some(What::More),
+        2 => Some(What::Failed),
+        3 => Some(What::NoHandle),
+        4 => Some(What::RoomTooSmall),
+        5 => Some(What::NotNow),
+        6 => Some(What::OutOfMemory),
+        7 => Some(What::BadValue),
+        8 => Some(What::Nothing),
+        9 => Some(What::Payload),
+        10 => Some(What::Flush),
+        11 => Some(What::Delim),
+        12 => Some(What::ResponseEnd),
+        13 => Some(What::Request),
+        14 => Some(What::Stop),
+        15 => Some(What::Packet),
+        16 => Some(What::NeedInput),
+        17 => Some(What::EndedByFlush),
+        18 => Some(What::EndedByClose),
+        19 => Some(What::CanAsk),
+        20 => Some(What::Finished),
+        21 => Some(What::Capability),
+        22 => Some(What::Offered),
+        23 => Some(What::Reference),
+        24 => Some(What::Ack),
+        25 => Some(What::Nak),
+        26 => Some(What::Ready),
+        27 => Some(What::Shallow),
+        28 => Some(What::Unshallow),
+        29 => Some(What::WantedRef),
+        30 => Some(What::Info),
+        31 => Some(What::Pack),
+        32 => Some(What::Progress),
+        33 => Some(What::Ended),
+        _ => None,
+    }
+}
+
+fn name_of(what: What) -> &'static str
+    ensures { result.now ≡ what_name what }
+{
+    match what {
+        What::Done => "Done",
+        What::More => "More",
+        What::Failed => "Failed",
+        What::NoHandle => "NoHandle",
+        What::RoomTooSmall => "RoomTooSmall",
+        What::NotNow => "NotNow",
+        What::OutOfMemory => "OutOfMemory",
+        What::BadValue => "BadValue",
+        What::Nothing => "Nothing",
+        What::Payload => "Payload",
+        What::Flush => "Flush",
+        What::Delim => "Delim",
+        What::ResponseEnd => "ResponseEnd",
+        What::Request => "Request",
+        What::Stop => "Stop",
+        What::Packet => "Packet",
+        What::NeedInput => "NeedInput",
+        What::EndedByFlush => "EndedByFlush",
+        What::EndedByClose => "EndedByClose",
+        What::CanAsk => "CanAsk",
+        What::Finished => "Finished",
+        What::Capability => "Capability",
+        What::Offered => "Offered",
+        What::Reference => "Reference",
+        What::Ack => "Ack",
+        What::Nak => "Nak",
+        What::Ready => "Ready",
+        What::Shallow => "Shallow",
+        What::Unshallow => "Unshallow",
+        What::WantedRef => "WantedRef",
+        What::Info => "Info",
+        What::Pack => "Pack",
+        What::Progress => "Progress",
+        What::Ended => "Ended",
+    }
+}
