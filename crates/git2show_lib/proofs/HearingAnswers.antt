@@ -1,5 +1,6 @@
 -- Each answer, section by section, as a client hears it.
-use Rattle.std.proofs.Common.{arith, ◌≡◌, ℕ, ◌<◌, Bool, true, false, not, ◌&&◌, ◌||◌, All, length, map, List, [], ◌∷◌, ◌++◌, Option, Some, None, codes, refl, ap}
+use Rattle.std.proofs.Common.{arith, ◌≡◌, ℕ, ◌<◌, Bool, true, false, not, ◌&&◌, ◌||◌, All, length, map, List, [], ◌∷◌, ◌++◌, Option, Some, None}
+use Rattle.std.proofs.Common.{codes, refl, ap}
 use Rattle.std.proofs.Common.{sym, ◌∙◌, subst, append_assoc, slice_index, cond}
 use Rattle.std.specs.List.{filter_map, cons_option}
 use Rattle.std.specs.Option.{ForSome, option_map}
@@ -458,7 +459,8 @@ module _ (t : Terms) (asked : List Asked) (repo : Repository) (sound : IsSound r
       → AnswerGives t asked before (packets ++ end_packets t.ending) (told_by repo q ++ ended ∷ [])
   answer_gives (ls_refs q) before packets is asks answer = listing_gives q before packets is answer
   answer_gives (fetch q) before packets is asks answer =
-      fetch_gives (negotiates q) q (allowed_after q.done []) before packets (not_done (not (is_empty q.haves) || q.wait_for_done) q.done) refl refl is asks answer
+      let ends = not_done (not (is_empty q.haves) || q.wait_for_done) q.done in
+      fetch_gives (negotiates q) q (allowed_after q.done []) before packets ends refl refl is asks answer
   answer_gives (object_info q) before packets is asks answer = sizes_give q before packets is asks answer
 
 -- what an answer gives, wherever it stands, and that the next one may come after it

@@ -6,7 +6,8 @@ use Rattle.git_names.specs.declared.object_format.Format.{Format}
 use Rattle.git_pkt.specs.declared.fault.Kind.{Kind}
 use Rattle.git_pkt.specs.declared.fault.Kind.TheVariants.{BadLine, BadObjectName, BadRefName}
 use Rattle.git_msg.specs.Checks.{Refuses, Passes}
-use Rattle.git_msg.specs.References.{Ref, IsAttribute, IsAttributeFault, IsIdText, IsNoIdText, IsReferenceLine, IsReferenceFault, attribute_checks, reference_checks}
+use Rattle.git_msg.specs.References.{Ref, IsAttribute, IsAttributeFault, IsIdText, IsNoIdText, IsReferenceLine, IsReferenceFault, attribute_checks}
+use Rattle.git_msg.specs.References.{reference_checks}
 use Rattle.git_msg.proofs.CheckLaws.{AllFair, passes_or_refuses, one_name, fair_check}
 
 attribute_apart : (format : Format) (word : List ℕ) (kind : Kind) → IsAttribute format word → IsAttributeFault format word kind → ⊥

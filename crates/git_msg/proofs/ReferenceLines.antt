@@ -15,7 +15,8 @@ use Rattle.git_names.proofs.WrittenForms.{digits-object_name}
 use Rattle.git_msg.specs.Texts.{spaced_words, last_of}
 use Rattle.git_msg.specs.Checks.{Passes}
 use Rattle.git_msg.proofs.WrittenNames.{digits_at_most}
-use Rattle.git_msg.specs.References.{reference_of, HasFormat, IsAttribute, IsIdText, IsReferenceLine, IsMaybeObjectName, IsWritable, values_of, attribute_checks}
+use Rattle.git_msg.specs.References.{reference_of, HasFormat, IsAttribute, IsIdText, IsReferenceLine, IsMaybeObjectName, IsWritable, values_of}
+use Rattle.git_msg.specs.References.{attribute_checks}
 use Rattle.git_msg.specs.References.{id_length, id_text, target_text, peeled_text, peeled_count, reference_text}
 
 eq_false : (c : ℕ) → c ≢ 32 → (c == 32) ≡ false

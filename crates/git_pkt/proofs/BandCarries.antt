@@ -13,7 +13,7 @@ use Rattle.git_pkt.specs.declared.band.Band.{Band}
 use Rattle.git_pkt.specs.declared.band.Band.TheVariants.{Pack, Progress, Fatal}
 use Rattle.git_pkt.specs.declared.fault.Fault.{Fault}
 use Rattle.git_pkt.specs.declared.reader.PacketReader.{PacketReader}
-use Rattle.git_pkt.specs.declared.reader.Progress.TheVariants.{Open, Whole, Failed}
+use Rattle.git_pkt.specs.declared.progress.Progress.TheVariants.{Open, Whole, Failed}
 use Rattle.git_pkt.specs.declared.reader.State.TheVariants.{Passing}
 use Rattle.git_pkt.proofs.Streams.{spells_all_front}
 use Rattle.git_pkt.proofs.ReaderMoves.{rest_of_shut}

@@ -15,9 +15,9 @@ use Rattle.git_pkt.specs.declared.packet.Packet.{Packet}
 use Rattle.git_pkt.specs.declared.reader.BandFed.{BandFed}
 use Rattle.git_pkt.specs.declared.reader.BandGot.{BandGot}
 use Rattle.git_pkt.specs.declared.reader.BandGot.TheVariants.{More, Part as PartGot, Packet as PacketGot, Failed}
-use Rattle.git_pkt.specs.declared.reader.BandProgress.{BandProgress}
-use Rattle.git_pkt.specs.declared.reader.BandProgress.TheVariants.{Open, Empty, Part, Whole, Failed as FailedStep}
-use Rattle.git_pkt.specs.declared.reader.Passed.{Passed}
+use Rattle.git_pkt.specs.declared.progress.BandProgress.{BandProgress}
+use Rattle.git_pkt.specs.declared.progress.BandProgress.TheVariants.{Open, Empty, Part, Whole, Failed as FailedStep}
+use Rattle.git_pkt.specs.declared.progress.Passed.{Passed}
 use Rattle.git_pkt.specs.declared.reader.PacketReader.{PacketReader}
 use Rattle.git_pkt.proofs.KnownRest.{gathered_rest}
 use Rattle.git_pkt.proofs.OpenLengths.{failed_counts_none, shut_counts_none, spelled_counts}

@@ -16,9 +16,9 @@ use Rattle.git_pkt.specs.declared.fault.Fault.{Fault}
 use Rattle.git_pkt.specs.declared.fault.Kind.{Kind}
 use Rattle.git_pkt.specs.declared.fault.Kind.TheVariants.{StreamTooLong}
 use Rattle.git_pkt.specs.declared.reader.PacketReader.{PacketReader}
-use Rattle.git_pkt.specs.declared.reader.BandProgress.TheVariants.{Part}
-use Rattle.git_pkt.specs.declared.reader.Progress.{Progress}
-use Rattle.git_pkt.specs.declared.reader.Progress.TheVariants.{Open, Whole, Failed}
+use Rattle.git_pkt.specs.declared.progress.BandProgress.TheVariants.{Part}
+use Rattle.git_pkt.specs.declared.progress.Progress.{Progress}
+use Rattle.git_pkt.specs.declared.progress.Progress.TheVariants.{Open, Whole, Failed}
 use Rattle.git_pkt.specs.declared.reader.State.{State}
 use Rattle.git_pkt.specs.declared.reader.State.TheVariants.{Between, Passing}
 use Rattle.git_pkt.proofs.Kept.{kept_in}

@@ -13,10 +13,10 @@ use Rattle.git_pkt.specs.PacketReader.{bytes_held, fault_of, held_of, open_lengt
 use Rattle.git_pkt.specs.PacketReaderSteps.{Moves}
 use Rattle.git_pkt.specs.BandReader.{BandMoves, Comes, IsHeldWhole, IsPart, MayPass, ReadsBandsOn}
 use Rattle.git_pkt.specs.declared.fault.Fault.{Fault}
-use Rattle.git_pkt.specs.declared.reader.BandProgress.{BandProgress}
-use Rattle.git_pkt.specs.declared.reader.BandProgress.TheVariants.{Open as OpenYet, Empty, Part, Whole as WholePacket, Failed as FailedStep}
+use Rattle.git_pkt.specs.declared.progress.BandProgress.{BandProgress}
+use Rattle.git_pkt.specs.declared.progress.BandProgress.TheVariants.{Open as OpenYet, Empty, Part, Whole as WholePacket, Failed as FailedStep}
 use Rattle.git_pkt.specs.declared.reader.PacketReader.{PacketReader}
-use Rattle.git_pkt.specs.declared.reader.Progress.TheVariants.{Open, Whole, Failed}
+use Rattle.git_pkt.specs.declared.progress.Progress.TheVariants.{Open, Whole, Failed}
 use Rattle.git_pkt.specs.declared.reader.State.{State}
 use Rattle.git_pkt.specs.declared.reader.State.TheVariants.{Between, Gathering, Passing, Failed as FailedState}
 use Rattle.git_pkt.proofs.Kept.{Keeps, kept}

@@ -8,7 +8,7 @@ use Rattle.git_pkt.specs.PacketReader.{bytes_held, position_of, passes_of, held_
 use Rattle.git_pkt.specs.PacketReaderSteps.{Moves}
 use Rattle.git_pkt.specs.declared.fault.Fault.{Fault}
 use Rattle.git_pkt.specs.declared.reader.PacketReader.{PacketReader}
-use Rattle.git_pkt.specs.declared.reader.Progress.TheVariants.{Open, Whole, Failed}
+use Rattle.git_pkt.specs.declared.progress.Progress.TheVariants.{Open, Whole, Failed}
 use Rattle.git_pkt.proofs.Spelling.{none_begins_nothing}
 use Rattle.git_pkt.proofs.Streams.{spells_all_more, spells_all_whole}
 use Rattle.git_pkt.proofs.ReaderMoves.{rest_of_shut, gathers_between, rest_is_open, rest_is_partial}

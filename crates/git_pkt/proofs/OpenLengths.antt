@@ -6,7 +6,7 @@ use Rattle.git_pkt.specs.PacketReader.{fault_of, held_of, is_open, open_length, 
 use Rattle.git_pkt.specs.PacketReaderSteps.{Moves}
 use Rattle.git_pkt.specs.declared.fault.Fault.{Fault}
 use Rattle.git_pkt.specs.declared.reader.PacketReader.{PacketReader}
-use Rattle.git_pkt.specs.declared.reader.Progress.TheVariants.{Open, Whole}
+use Rattle.git_pkt.specs.declared.progress.Progress.TheVariants.{Open, Whole}
 use Rattle.git_pkt.specs.declared.reader.State.{State}
 use Rattle.git_pkt.specs.declared.reader.State.TheVariants.{Between, Gathering, Passing, Failed}
 use Rattle.git_pkt.proofs.KnownRest.{all_is_held}

@@ -2,8 +2,8 @@
 use Rattle.std.specs.Prelude.{◌≡◌, ℕ, ◌-◌, ◌≤◌, List, take, drop}
 use Rattle.git_pkt.specs.declared.reader.BandGot.{BandGot}
 use Rattle.git_pkt.specs.declared.reader.BandGot.TheVariants.{More, Part as PartGot, Failed as FailedGot}
-use Rattle.git_pkt.specs.declared.reader.BandProgress.{BandProgress}
-use Rattle.git_pkt.specs.declared.reader.BandProgress.TheVariants.{Open, Empty, Part, Whole, Failed}
+use Rattle.git_pkt.specs.declared.progress.BandProgress.{BandProgress}
+use Rattle.git_pkt.specs.declared.progress.BandProgress.TheVariants.{Open, Empty, Part, Whole, Failed}
 
 -- the bytes that passed are among those used
 abbrev pub HasPart : BandProgress → ℕ → Type 0

@@ -10,6 +10,7 @@ mod hold;
 pub mod laws;
 mod output;
 mod packet;
+mod progress;
 mod reader;
 mod retries;
 mod stops;

@@ -25,7 +25,6 @@ ghost use Rattle.git_pkt.specs.Splits.{Given};
 ghost use Rattle.git_pkt.specs.declared.fault.Fault.{Fault};
 ghost use Rattle.git_pkt.specs.Faults.{last_position};
 ghost use Rattle.git_pkt.specs.Passed.{band_in, begins_band};
-ghost use Rattle.git_pkt.specs.PassedOut.{HandsOut, HasPart};
 ghost use Rattle.git_pkt.specs.HeldPacket.{IsWhole, TellsField};
 ghost use Rattle.git_pkt.specs.ReaderState.{IsGathered, IsPassing, gathers_in, held_in, left_in, passes_in};
 ghost use Rattle.git_pkt.specs.declared.fault.Kind.TheVariants.{Truncated};
@@ -35,6 +34,7 @@ use crate::digits::{Digits, read_digits};
 use crate::fault::{Fault, Kind};
 use crate::hold::{Hold, LONGEST_PACKET, place};
 use crate::packet::Packet;
+use crate::progress::{BandProgress, BandStep, Passed, Progress, Step};
 use git_names::{Steps, digit_value};
 
 /// The last position of a stream.
@@ -60,21 +60,6 @@ pub enum Got<'a> {
     Failed(Fault),
 }
 
-/// How far the open packet has come.
-#[derive(Clone, Copy, Debug)]
-pub(crate) enum Progress {
-    Open,
-    Whole,
-    Failed(Fault),
-}
-
-/// What one step over a piece did.
-#[derive(Clone, Copy, Debug)]
-pub(crate) struct Step {
-    pub(crate) used: usize,
-    pub(crate) progress: Progress,
-}
-
 /// What one call of [`PacketReader::feed_band`] did.
 #[derive(Clone, Copy, Debug)]
 pub struct BandFed<'a> {
@@ -96,50 +81,6 @@ pub enum BandGot<'a> {
     Packet(Packet<'a>, u64),
     /// The stream is refused; the reader stays at this fault.
     Failed(Fault),
-}
-
-/// So many bytes on a band.
-#[derive(Clone, Copy, Debug)]
-pub(crate) struct Passed {
-    pub(crate) band: Band,
-    pub(crate) count: usize,
-}
-
-/// How far one step came in a section of side bands.
-#[derive(Clone, Copy, Debug)]
-pub(crate) enum BandProgress {
-    Open,
-    /// A packet without a byte after that of its band.
-    Empty,
-    /// Bytes that passed: the last of those used.
-    Part(Passed),
-    Whole,
-    Failed(Fault),
-}
-
-/// What one step over a piece did there.
-#[derive(Clone, Copy, Debug)]
-pub(crate) struct BandStep {
-    pub(crate) used: usize,
-    pub(crate) progress: BandProgress,
-}
-
-impl BandStep {
-    /// The answer of a call that came to this over the piece, where no packet lies in the hold.
-    fn fed<'a>(self, piece: &'a [u8]) -> BandFed<'a>
-        requires part { HasPart self.progress self.used }
-        requires all { self.used ≤ length piece.now }
-        ensures used { result.used ≡ self.used }
-        ensures got { HandsOut self.progress self.used piece.now result.got }
-    {
-        let used = self.used;
-        let got = match self.progress {
-            BandProgress::Part(part) => BandGot::Part(part.band, &piece[used - part.count..used]),
-            BandProgress::Failed(fault) => BandGot::Failed(fault),
-            _ => BandGot::More,
-        };
-        BandFed { used, got }
-    }
 }
 
 /// How a reader stands.

@@ -18,7 +18,8 @@ use Rattle.git_msg.specs.WholeRequests.{AreRequests}
 use Rattle.git_msg.proofs.WholeRequests.{NoFlush, NoRequest, none_without_flush, one_list_of_requests}
 use Rattle.git_server.specs.Repository.{Entry, Repository, RepoState}
 use Rattle.git_server.specs.AnsweredRequest.{references_from, sizes_from}
-use Rattle.git_server.specs.Answers.{AllFit, asks_for_unborn, offered_line, reference_packets, shown_line, shown_refs, spelled, unborn_packet, unborn_packets, IsAnswer}
+use Rattle.git_server.specs.Answers.{AllFit, asks_for_unborn, offered_line, reference_packets, shown_line, shown_refs, spelled, unborn_packet}
+use Rattle.git_server.specs.Answers.{unborn_packets, IsAnswer}
 use Rattle.git_server.specs.AdvertisementLines.{format_on, advertisement_from}
 use Rattle.git_server.specs.declared.advertisement.AdvertisementLine.TheVariants.{Version, Agent, LsRefs, Fetch, ServerOption, ObjectFormat, ObjectInfo, End}
 use Rattle.git_server.specs.Sessions.{Setting, IsRequest, AreAnswers, IsAnswered, advertised}

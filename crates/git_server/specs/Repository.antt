@@ -52,8 +52,8 @@ pub record IsUnbornHead (refs : List Entry) (target : List ℕ) : Type 0 where
   pub named : IsRefName target
   pub no_head : All (λ ref. ref.name ≢ codes "HEAD") refs
 
--- what a repository answers: its format, its references, what its `HEAD` points to where that is unborn, which objects it has, how many bytes an object has, and for a request
--- whether it is ready to send a pack, the commits at the shallow boundary, and the pack
+-- what a repository answers: its format, its references, what its `HEAD` points to where that is unborn, which objects it has, how
+-- many bytes an object has, and for a request whether it is ready to send a pack, the commits at the shallow boundary, and the pack
 pub record Repository : Type 0 where
   pub format : Format
   pub refs : List Entry

@@ -1,6 +1,7 @@
 //! A repository that is a few lists: of references, of objects, of shallow boundaries, and one pack.
 
-ghost use Rattle.std.specs.Prelude.{◌≡◌, ◌≢◌, ◌<◌, ◌-◌, ◌↔◌, IsTrue, IfOk, MatchBool, MatchOption, MatchResult, All, Any, Ok, Some, filter, length, min, nat_le};
+ghost use Rattle.std.specs.Prelude.{◌≡◌, ◌≢◌, ◌<◌, ◌-◌, ◌↔◌, IsTrue, IfOk, MatchBool, MatchOption, MatchResult, All, Any, Ok, Some, filter, length};
+ghost use Rattle.std.specs.Prelude.{min, nat_le};
 ghost use Rattle.std.specs.Prelude.{slice_get};
 ghost use Rattle.std.specs.List.{HoldsAt};
 ghost use Rattle.std.specs.Option.{ForSome};

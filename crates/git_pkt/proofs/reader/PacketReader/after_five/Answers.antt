@@ -2,8 +2,8 @@ use Rattle.std.proofs.Common.{arith, ◌≡◌, ◌≤◌, false, true, [], leng
 use Rattle.git_pkt.specs.Passed.{begins_band}
 use Rattle.git_pkt.specs.PacketReader.{bytes_held, rest_of}
 use Rattle.git_pkt.specs.PacketReaderSteps.{IsShown, Moves}
-use Rattle.git_pkt.specs.declared.reader.Progress.{Progress}
-use Rattle.git_pkt.specs.declared.reader.Progress.TheVariants.{Open, Whole, Failed}
+use Rattle.git_pkt.specs.declared.progress.Progress.{Progress}
+use Rattle.git_pkt.specs.declared.progress.Progress.TheVariants.{Open, Whole, Failed}
 use Rattle.std.proofs.lemmas.List.{length-take-le}
 use Rattle.git_pkt.proofs.OpenLengths.{shut_rises}
 use Rattle.git_pkt.proofs.BandCarries.{may_pass_shut}

@@ -4,8 +4,8 @@ use Rattle.git_pkt.specs.Passed.{begins_band}
 use Rattle.git_pkt.specs.BandReader.{ReadsBandsOn}
 use Rattle.git_pkt.specs.PacketReader.{ShownByFeed, bytes_held, held_of, rest_of}
 use Rattle.git_pkt.specs.PacketReaderSteps.{IsShown, Moves}
-use Rattle.git_pkt.specs.declared.reader.Progress.{Progress}
-use Rattle.git_pkt.specs.declared.reader.Progress.TheVariants.{Open, Whole, Failed}
+use Rattle.git_pkt.specs.declared.progress.Progress.{Progress}
+use Rattle.git_pkt.specs.declared.progress.Progress.TheVariants.{Open, Whole, Failed}
 use Rattle.git_pkt.proofs.Pieces.{left_of}
 use Rattle.git_pkt.proofs.Spelling.{no_bytes}
 use Rattle.git_pkt.proofs.OpenLengths.{shut_rises}

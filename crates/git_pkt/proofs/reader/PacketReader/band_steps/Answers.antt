@@ -1,8 +1,8 @@
 use Rattle.std.proofs.Common.{arith, refl, ◌<◌, ◌+◌, ◌-◌, ℕ, List, ◌++◌, length, take, drop, ap, ◌∙◌, subst, length-append}
 use Rattle.std.proofs.lemmas.List.{length-take-le, take-append-drop}
 use Rattle.git_pkt.specs.BandReader.{BandMoves}
-use Rattle.git_pkt.specs.declared.reader.BandProgress.{BandProgress}
-use Rattle.git_pkt.specs.declared.reader.BandProgress.TheVariants.{Empty}
+use Rattle.git_pkt.specs.declared.progress.BandProgress.{BandProgress}
+use Rattle.git_pkt.specs.declared.progress.BandProgress.TheVariants.{Empty}
 use Rattle.git_pkt.proofs.Pieces.{left_of}
 use Rattle.git_pkt.proofs.BandCarries.{bands_stay}
 use Rattle.git_pkt.proofs.BandSteps.{bands_after}

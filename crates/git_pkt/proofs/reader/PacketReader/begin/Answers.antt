@@ -4,7 +4,7 @@ use Rattle.git_pkt.specs.Faults.{FirstBadDigit}
 use Rattle.git_pkt.specs.TellsDigits.{TellsDigits}
 use Rattle.git_pkt.specs.declared.digits.Digits.TheVariants.{Number}
 use Rattle.git_pkt.proofs.Gathered.{begun_whole, bad_digit_ends, bad_digit_of_take, field_ends, digits_of_take, number_of_take, allowed_unrefused}
-use Rattle.git_pkt.specs.declared.reader.Progress.TheVariants.{Whole}
+use Rattle.git_pkt.specs.declared.progress.Progress.TheVariants.{Whole}
 use Rattle.git_pkt.proofs.ReaderMoves.{stopped_between, moves_from, rest_of_shut}
 use Rattle.git_pkt.proofs.reader.PacketReader.begin.Goals as goal
 

@@ -3,8 +3,8 @@ use Rattle.std.proofs.lemmas.List.{length-take-le}
 use Rattle.git_pkt.specs.PacketReader.{ShownByFeed}
 use Rattle.git_pkt.specs.PacketReaderSteps.{Moves, IsShown}
 use Rattle.git_pkt.specs.declared.fault.Fault.{Fault}
-use Rattle.git_pkt.specs.declared.reader.Progress.{Progress}
-use Rattle.git_pkt.specs.declared.reader.Progress.TheVariants.{Open, Whole, Failed}
+use Rattle.git_pkt.specs.declared.progress.Progress.{Progress}
+use Rattle.git_pkt.specs.declared.progress.Progress.TheVariants.{Open, Whole, Failed}
 use Rattle.git_pkt.proofs.Kept.{sound_unless}
 use Rattle.git_pkt.proofs.ReaderMoves.{gathers_between, whole_uses, whole_behind}
 use Rattle.git_pkt.proofs.KnownRest.{gathered_rest}

@@ -4,8 +4,8 @@ use Rattle.std.proofs.lemmas.Grind.{common_steps}
 use Rattle.git_pkt.specs.Faults.{last_position}
 use Rattle.git_pkt.specs.PacketReader.{position_of}
 use Rattle.git_pkt.specs.PacketReaderSteps.{Moves}
-use Rattle.git_pkt.specs.declared.reader.Progress.{Progress}
-use Rattle.git_pkt.specs.declared.reader.Progress.TheVariants.{Open}
+use Rattle.git_pkt.specs.declared.progress.Progress.{Progress}
+use Rattle.git_pkt.specs.declared.progress.Progress.TheVariants.{Open}
 use Rattle.git_pkt.proofs.ReaderMoves.{stopped_at_last}
 use Rattle.git_pkt.proofs.reader.PacketReader.step.Goals as goal
 

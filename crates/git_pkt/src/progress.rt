@@ -1,0 +1,67 @@
+//! How far one step of a reader over a piece came.
+
+ghost use Rattle.std.specs.Prelude.{◌≡◌, ◌≤◌, length};
+ghost use Rattle.git_pkt.specs.PassedOut.{HandsOut, HasPart};
+
+use crate::band::Band;
+use crate::fault::Fault;
+use crate::reader::{BandFed, BandGot};
+
+/// How far the open packet has come.
+#[derive(Clone, Copy, Debug)]
+pub(crate) enum Progress {
+    Open,
+    Whole,
+    Failed(Fault),
+}
+
+/// What one step over a piece did.
+#[derive(Clone, Copy, Debug)]
+pub(crate) struct Step {
+    pub(crate) used: usize,
+    pub(crate) progress: Progress,
+}
+
+/// So many bytes on a band.
+#[derive(Clone, Copy, Debug)]
+pub(crate) struct Passed {
+    pub(crate) band: Band,
+    pub(crate) count: usize,
+}
+
+/// How far one step came in a section of side bands.
+#[derive(Clone, Copy, Debug)]
+pub(crate) enum BandProgress {
+    Open,
+    /// A packet without a byte after that of its band.
+    Empty,
+    /// Bytes that passed: the last of those used.
+    Part(Passed),
+    Whole,
+    Failed(Fault),
+}
+
+/// What one step over a piece did there.
+#[derive(Clone, Copy, Debug)]
+pub(crate) struct BandStep {
+    pub(crate) used: usize,
+    pub(crate) progress: BandProgress,
+}
+
+impl BandStep {
+    /// The answer of a call that came to this over the piece, where no packet lies in the hold.
+    pub(crate) fn fed<'a>(self, piece: &'a [u8]) -> BandFed<'a>
+        requires part { HasPart self.progress self.used }
+        requires all { self.used ≤ length piece.now }
+        ensures used { result.used ≡ self.used }
+        ensures got { HandsOut self.progress self.used piece.now result.got }
+    {
+        let used = self.used;
+        let got = match self.progress {
+            BandProgress::Part(part) => BandGot::Part(part.band, &piece[used - part.count..used]),
+            BandProgress::Failed(fault) => BandGot::Failed(fault),
+            _ => BandGot::More,
+        };
+        BandFed { used, got }
+    }
+}
