@@ -7,11 +7,11 @@ use Rattle.git_msg.specs.declared.arguments.Command.{Command}
 use Rattle.git_msg.specs.declared.arguments.Command.TheVariants.{LsRefs, Fetch, ObjectInfo}
 use Rattle.git_msg.specs.Texts.{last_of}
 use Rattle.git_msg.specs.Arguments.{Arg, symrefs, peel, ref_prefix, want, have, done, thin_pack, no_progress, include_tag, ofs_delta}
-use Rattle.git_msg.specs.Arguments.{shallow, deepen, deepen_relative, deepen_since, deepen_not, want_ref, size, object_id, unborn, wait_for_done}
+use Rattle.git_msg.specs.Arguments.{shallow, deepen, deepen_relative, deepen_since, deepen_not, want_ref, size, object_id, unborn, wait_for_done, filter_spec}
 use Rattle.git_msg.specs.Asked.{Asked, ls_refs, fetch, object_info, LsRefsAsked, FetchAsked, ObjectInfoAsked, is_symrefs, is_peel, prefix_in}
 use Rattle.git_msg.specs.Asked.{want_in, have_in, is_done, is_thin_pack, is_no_progress, is_include_tag, is_ofs_delta}
 use Rattle.git_msg.specs.Asked.{shallow_in, deepen_in, is_deepen_relative, deepen_since_in, deepen_not_in}
-use Rattle.git_msg.specs.Asked.{want_ref_in, is_size, object_id_in, is_unborn, is_wait_for_done}
+use Rattle.git_msg.specs.Asked.{want_ref_in, is_size, object_id_in, is_unborn, is_wait_for_done, filter_in}
 use Rattle.git_msg.specs.Asked.{command_asked, nothing_asked, asked_by, with_argument, where_asked, where_given}
 use Rattle.git_msg.specs.Asked.{pack_arguments, shallow_arguments, object_arguments, arguments_in}
 
@@ -59,6 +59,7 @@ followed (fetch q) (fetch r) = fetch (record {
   include_tag = q.include_tag || r.include_tag;
   ofs_delta = q.ofs_delta || r.ofs_delta;
   wait_for_done = q.wait_for_done || r.wait_for_done;
+  filters = q.filters ++ r.filters;
   shallows = q.shallows ++ r.shallows;
   deepen = later q.deepen r.deepen;
   deepen_relative = q.deepen_relative || r.deepen_relative;
@@ -90,6 +91,7 @@ nothing_follows (fetch q) =
       or_false q.include_tag,
       or_false q.ofs_delta,
       or_false q.wait_for_done,
+      append-nil q.filters,
       append-nil q.shallows,
       or_false q.deepen_relative,
       append-nil q.deepen_nots,
@@ -112,6 +114,7 @@ one_follows (fetch q) no_progress args = rw (or_true q.no_progress (list_any is_
 one_follows (fetch q) include_tag args = rw (or_true q.include_tag (list_any is_include_tag args)) refl
 one_follows (fetch q) ofs_delta args = rw (or_true q.ofs_delta (list_any is_ofs_delta args)) refl
 one_follows (fetch q) wait_for_done args = rw (or_true q.wait_for_done (list_any is_wait_for_done args)) refl
+one_follows (fetch q) (filter_spec spec) args = rw (append_assoc q.filters (spec ∷ []) (filter_map filter_in args)) refl
 one_follows (fetch q) (shallow id) args = rw (append_assoc q.shallows (id ∷ []) (filter_map shallow_in args)) refl
 one_follows (fetch q) (deepen depth) args = rw (value_before q.deepen depth (filter_map deepen_in args)) refl
 one_follows (fetch q) deepen_relative args = rw (or_true q.deepen_relative (list_any is_deepen_relative args)) refl
@@ -190,6 +193,7 @@ nothing_yet = record {
   include_tag = false;
   ofs_delta = false;
   wait_for_done = false;
+  filters = [];
   shallows = [];
   deepen = None;
   deepen_relative = false;
@@ -206,6 +210,7 @@ with_pack q =
       include_tag = q.include_tag;
       ofs_delta = q.ofs_delta;
       wait_for_done = q.wait_for_done;
+      filters = q.filters;
     }
 
 abbrev with_shallow : FetchAsked → FetchAsked
@@ -224,11 +229,13 @@ pack_then q others asked rest =
     let quiet : FetchAsked = record thin { no_progress = q.no_progress } in
     let tagged : FetchAsked = record quiet { include_tag = q.include_tag } in
     let based : FetchAsked = record tagged { ofs_delta = q.ofs_delta } in
+    let waiting : FetchAsked = record based { wait_for_done = q.wait_for_done } in
     flag_then (λ b. fetch (record nothing_yet { thin_pack = b })) thin_pack q.thin_pack _ asked refl
     (flag_then (λ b. fetch (record thin { no_progress = b })) no_progress q.no_progress _ asked refl
     (flag_then (λ b. fetch (record quiet { include_tag = b })) include_tag q.include_tag _ asked refl
     (flag_then (λ b. fetch (record tagged { ofs_delta = b })) ofs_delta q.ofs_delta _ asked refl
-    (flag_then (λ b. fetch (record based { wait_for_done = b })) wait_for_done q.wait_for_done others asked refl rest))))
+    (flag_then (λ b. fetch (record based { wait_for_done = b })) wait_for_done q.wait_for_done _ asked refl
+    (list_then (λ specs. fetch (record waiting { filters = specs })) filter_spec q.filters others asked (λ specs spec. refl) rest)))))
 
 shallow_then : (q : FetchAsked) (others : List Arg) (asked : Asked) → fold with_argument (fetch (with_shallow q)) others ≡ asked
     → fold with_argument (fetch (with_pack q)) (shallow_arguments q others) ≡ asked

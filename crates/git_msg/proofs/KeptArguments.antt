@@ -15,7 +15,7 @@ use Rattle.git_msg.specs.declared.reader.Part.{Part}
 use Rattle.git_msg.specs.declared.reader.Part.TheVariants.{Arguments, Waiting, Failed}
 use Rattle.git_msg.specs.declared.reader.RequestReader.{RequestReader}
 use Rattle.git_msg.specs.Arguments.{Arg, symrefs, peel, ref_prefix, want, have, done, thin_pack, no_progress, include_tag, ofs_delta}
-use Rattle.git_msg.specs.Arguments.{shallow, deepen, deepen_relative, deepen_since, deepen_not, want_ref, size, object_id, unborn, wait_for_done}
+use Rattle.git_msg.specs.Arguments.{shallow, deepen, deepen_relative, deepen_since, deepen_not, want_ref, size, object_id, unborn, wait_for_done, filter_spec}
 use Rattle.git_msg.specs.Arguments.{SaysArgument, IsDepth, IsTime, IsNumberIn, IsArgument, IsOutOfRange, IsValueFault, written_text, TakesMemory}
 use Rattle.git_msg.specs.Texts.{Follows}
 use Rattle.git_msg.proofs.KeptBytes.{stored_fits}
@@ -105,6 +105,7 @@ as_written format text deepen_relative h = let e = ap length h in omega arith
 as_written format text (deepen_since time) h =
     let small = h.holds.in_range in number_line (codes "deepen-since ") IsTime text time (omega arith) h
 as_written format text (deepen_not revision) h = let e = ap length h.0 in omega arith
+as_written format text (filter_spec spec) h = let e = ap length h.0 in omega arith
 as_written format text (want_ref name) h = let e = ap length h.0 in omega arith
 as_written format text size h = let e = ap length h in omega arith
 as_written format text (object_id id) h = name_line (codes "oid ") format text id h
@@ -204,6 +205,7 @@ range_or_fault format text (shallow id) kind h fault = fault.0 h.holds.of_format
 range_or_fault format text (deepen depth) kind h fault = fault.0 h.holds.in_range
 range_or_fault format text (deepen_since time) kind h fault = fault.0 h.holds.in_range
 range_or_fault format text (deepen_not revision) kind h fault = kept_text_or_none revision h.1 fault.0
+range_or_fault format text (filter_spec spec) kind h fault = kept_text_or_none spec h.1 fault.0
 range_or_fault format text (want_ref name) kind h fault = fault.0 h.1
 range_or_fault format text (object_id id) kind h fault = fault.0 h.holds.of_format
 range_or_fault format text arg kind h fault = fault

@@ -17,7 +17,7 @@ use Rattle.git_msg.specs.declared.arguments.Argument.{Argument}
 use Rattle.git_msg.specs.declared.arguments.Command.{Command}
 use Rattle.git_msg.specs.declared.arguments.Command.TheVariants.{LsRefs, Fetch, ObjectInfo}
 use Rattle.git_msg.specs.Arguments.{Arg, symrefs, peel, ref_prefix, want, have, done, thin_pack, no_progress, include_tag, ofs_delta, shown, command_with}
-use Rattle.git_msg.specs.Arguments.{shallow, deepen, deepen_relative, deepen_since, deepen_not, want_ref, size, object_id, unborn, wait_for_done}
+use Rattle.git_msg.specs.Arguments.{shallow, deepen, deepen_relative, deepen_since, deepen_not, want_ref, size, object_id, unborn, wait_for_done, filter_spec}
 use Rattle.git_msg.specs.Arguments.{most_text, IsInRange, IsValue, stored_in, written_text}
 use Rattle.git_msg.specs.Asked.{Asked, LsRefsAsked, FetchAsked, ObjectInfoAsked, ls_refs, fetch, object_info, command_asked, with_ls_refs}
 use Rattle.git_msg.specs.Asked.{with_fetch, with_object_info, with_argument, where_asked, where_given, pack_arguments, shallow_arguments, object_arguments}
@@ -92,7 +92,7 @@ after_pack q old arg new h =
     adds_after (where_asked q.thin_pack thin_pack) _ arg _
     (adds_after (where_asked q.no_progress no_progress) _ arg _
     (adds_after (where_asked q.include_tag include_tag) _ arg _ (adds_after (where_asked q.ofs_delta ofs_delta) _ arg _
-    (adds_after (where_asked q.wait_for_done wait_for_done) old arg new h))))
+    (adds_after (where_asked q.wait_for_done wait_for_done) _ arg _ (adds_after (map filter_spec q.filters) old arg new h)))))
 
 -- and after how the history is cut off
 after_shallow : (q : FetchAsked) (old : List Arg) (arg : Arg) (new : List Arg) → Adds old arg new
@@ -118,6 +118,12 @@ adds_fetch q wait_for_done of =
     (adds_after (where_asked q.no_progress no_progress) _ wait_for_done _
     (adds_after (where_asked q.include_tag include_tag) _ wait_for_done _
     (adds_after (where_asked q.ofs_delta ofs_delta) _ wait_for_done _ (adds_flag q.wait_for_done wait_for_done _))))
+adds_fetch q (filter_spec spec) of =
+    adds_after (where_asked q.thin_pack thin_pack) _ (filter_spec spec) _
+    (adds_after (where_asked q.no_progress no_progress) _ (filter_spec spec) _
+    (adds_after (where_asked q.include_tag include_tag) _ (filter_spec spec) _
+    (adds_after (where_asked q.ofs_delta ofs_delta) _ (filter_spec spec) _
+    (adds_after (where_asked q.wait_for_done wait_for_done) _ (filter_spec spec) _ (adds_to_list filter_spec q.filters spec _)))))
 adds_fetch q (shallow id) of = after_pack q _ (shallow id) _ (adds_to_list shallow q.shallows id _)
 adds_fetch q (deepen depth) of =
     after_pack q _ (deepen depth) _ (adds_after (map shallow q.shallows) _ (deepen depth) _ (adds_value deepen q.deepen depth _))
@@ -207,6 +213,7 @@ stored_fits format no_progress value = omega arith
 stored_fits format include_tag value = omega arith
 stored_fits format ofs_delta value = omega arith
 stored_fits format wait_for_done value = omega arith
+stored_fits format (filter_spec spec) value = omega (arith, length-append (codes "filter ") spec)
 stored_fits format (shallow id) value = omega (arith, hex_of-at_least format id value, length-append (codes "shallow ") (hex_of id))
 stored_fits format (deepen depth) value = omega arith
 stored_fits format deepen_relative value = omega arith
@@ -230,6 +237,7 @@ has_text no_progress = omega arith
 has_text include_tag = omega arith
 has_text ofs_delta = omega arith
 has_text wait_for_done = omega arith
+has_text (filter_spec spec) = omega (arith, length-append (codes "filter ") spec)
 has_text (shallow id) = omega (arith, length-append (codes "shallow ") (hex_of id))
 has_text (deepen depth) = omega (arith, length-append (codes "deepen ") (decimal depth))
 has_text deepen_relative = omega arith
@@ -257,6 +265,7 @@ value_fits format no_progress value = omega arith
 value_fits format include_tag value = omega arith
 value_fits format ofs_delta value = omega arith
 value_fits format wait_for_done value = omega arith
+value_fits format (filter_spec spec) value = omega (arith, value.1, length-append (codes "filter ") spec)
 value_fits format (shallow id) value = omega (arith, hex_of-at_most format id value, length-append (codes "shallow ") (hex_of id))
 value_fits format (deepen depth) value =
     omega (arith, decimal_fits depth (omega (arith, value.1)), length-append (codes "deepen ") (decimal depth))
@@ -306,9 +315,9 @@ prefix_fits format q kept i (Some prefix) h same =
 
 all_pack : (P : Arg → Type 0) (q : FetchAsked) (others : List Arg) → All P (pack_arguments q others) → All P others
 all_pack P q others h =
-    all_back P (where_asked q.wait_for_done wait_for_done) _ (all_back P (where_asked q.ofs_delta ofs_delta) _
-    (all_back P (where_asked q.include_tag include_tag) _ (all_back P (where_asked q.no_progress no_progress) _
-    (all_back P (where_asked q.thin_pack thin_pack) _ h))))
+    all_back P (map filter_spec q.filters) _ (all_back P (where_asked q.wait_for_done wait_for_done) _
+    (all_back P (where_asked q.ofs_delta ofs_delta) _ (all_back P (where_asked q.include_tag include_tag) _
+    (all_back P (where_asked q.no_progress no_progress) _ (all_back P (where_asked q.thin_pack thin_pack) _ h)))))
 
 all_shallow : (P : Arg → Type 0) (q : FetchAsked) (others : List Arg) → All P (shallow_arguments q others) → All P others
 all_shallow P q others h =

@@ -11,7 +11,8 @@ use Rattle.git_msg.specs.declared.arguments.Command.{Command}
 use Rattle.git_msg.specs.declared.arguments.Command.TheVariants.{LsRefs, Fetch, ObjectInfo}
 use Rattle.git_msg.specs.declared.capability_key.Key.{Key}
 use Rattle.git_msg.specs.declared.capability_key.Key.TheVariants.{CommandKey, AgentKey, ServerOptionKey, ObjectFormatKey, OtherKey}
-use Rattle.git_msg.specs.Arguments.{Row, of_ref_prefix, of_want, of_have, of_shallow, of_deepen, of_deepen_since, of_deepen_not, of_want_ref, of_object_id}
+use Rattle.git_msg.specs.Arguments.{Row, of_filter, of_ref_prefix, of_want, of_have, of_shallow, of_deepen, of_deepen_since, of_deepen_not}
+use Rattle.git_msg.specs.Arguments.{of_want_ref, of_object_id}
 use Rattle.git_msg.specs.Arguments.{IsArgumentFault, IsRowFault}
 use Rattle.git_msg.specs.Asked.{Asked, ls_refs, fetch, object_info}
 use Rattle.git_msg.specs.Checks.{Check, Refuses}
@@ -76,6 +77,7 @@ module _ (kind : Kind) (strange : NotByItself kind) where
   quiet_row Fetch format of_deepen text fault = subst NotByItself fault.1 strange
   quiet_row Fetch format of_deepen_since text fault = subst NotByItself fault.1 strange
   quiet_row Fetch format of_deepen_not text fault = subst NotByItself fault.1 strange
+  quiet_row Fetch format of_filter text fault = subst NotByItself fault.1 strange
   quiet_row Fetch format of_want_ref text fault = subst NotByItself fault.1 strange
   quiet_row ObjectInfo format of_object_id text fault = subst NotByItself fault.1 strange
   quiet_row c format row text fault = fault

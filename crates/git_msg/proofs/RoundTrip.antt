@@ -20,7 +20,7 @@ use Rattle.git_msg.specs.declared.arguments.Command.TheVariants.{LsRefs, Fetch, 
 use Rattle.git_msg.specs.declared.capability_key.Key.TheVariants.{CommandKey, AgentKey, ObjectFormatKey}
 use Rattle.git_msg.specs.Texts.{Follows, IsErrorText}
 use Rattle.git_msg.specs.Arguments.{Arg, symrefs, peel, ref_prefix, want, have, done, thin_pack, no_progress, include_tag, ofs_delta}
-use Rattle.git_msg.specs.Arguments.{shallow, deepen, deepen_relative, deepen_since, deepen_not, want_ref, size, object_id, unborn, wait_for_done}
+use Rattle.git_msg.specs.Arguments.{shallow, deepen, deepen_relative, deepen_since, deepen_not, want_ref, size, object_id, unborn, wait_for_done, filter_spec}
 use Rattle.git_msg.specs.Arguments.{SaysArgument, IsDepth, IsTime, IsNumberIn, IsInRange, IsNameIn, IsValue, is_offered, name_of, written_text}
 use Rattle.git_msg.specs.Capability.{is_value}
 use Rattle.git_msg.specs.Advertisement.{takes_command}
@@ -138,6 +138,7 @@ written_clean no_progress = not_error (codes "no-progress") (λ e. omega arith)
 written_clean include_tag = not_error (codes "include-tag") (λ e. omega arith)
 written_clean ofs_delta = not_error (codes "ofs-delta") (λ e. omega arith)
 written_clean wait_for_done = not_error (codes "wait-for-done") (λ e. omega arith)
+written_clean (filter_spec spec) = not_error (codes "filter " ++ spec) (λ e. omega arith)
 written_clean (shallow id) = not_error (codes "shallow " ++ hex_of id) (λ e. omega arith)
 written_clean (deepen depth) = not_error (codes "deepen " ++ decimal depth) (λ e. omega arith)
 written_clean deepen_relative = not_error (codes "deepen-relative") (λ e. omega arith)
@@ -170,6 +171,7 @@ written_says format no_progress value = refl
 written_says format include_tag value = refl
 written_says format ofs_delta value = refl
 written_says format wait_for_done value = refl
+written_says format (filter_spec spec) value = (refl, value)
 written_says format (shallow id) value = name_says (codes "shallow ") format id value
 written_says format (deepen depth) value = number_says (codes "deepen ") IsDepth depth (omega (arith, value.1)) value
 written_says format deepen_relative value = refl

@@ -15,8 +15,9 @@ use Rattle.git_msg.specs.declared.arguments.Command.TheVariants.{LsRefs, Fetch, 
 use Rattle.git_msg.specs.declared.capability_key.Key.{Key}
 use Rattle.git_msg.specs.declared.capability_key.Key.TheVariants.{CommandKey, AgentKey, ServerOptionKey, ObjectFormatKey, OtherKey}
 use Rattle.git_msg.specs.Arguments.{Arg, symrefs, peel, ref_prefix, want, have, done, thin_pack, no_progress, include_tag, ofs_delta, shallow, deepen}
-use Rattle.git_msg.specs.Arguments.{deepen_relative, deepen_since, deepen_not, want_ref, size, object_id, unborn, wait_for_done}
-use Rattle.git_msg.specs.Arguments.{Row, of_ref_prefix, of_want, of_have, of_shallow, of_deepen, of_deepen_since, of_deepen_not, of_want_ref, of_object_id}
+use Rattle.git_msg.specs.Arguments.{deepen_relative, deepen_since, deepen_not, want_ref, size, object_id, unborn, wait_for_done, filter_spec}
+use Rattle.git_msg.specs.Arguments.{Row, of_filter, of_ref_prefix, of_want, of_have, of_shallow, of_deepen, of_deepen_since, of_deepen_not}
+use Rattle.git_msg.specs.Arguments.{of_want_ref, of_object_id}
 use Rattle.git_msg.specs.Arguments.{row_of, row_in, command_with, most_text, IsDepth, IsTime, IsNumberIn, IsNoNumberIn, IsKeptText, IsNoKeptText}
 use Rattle.git_msg.specs.Arguments.{SaysArgument, IsArgument, HasName, is_offered, ReadsAs, IsNoArgument, IsUnoffered, IsArgumentFault, IsRowFault}
 use Rattle.git_msg.specs.Texts.{Follows}
@@ -64,6 +65,7 @@ in_row format text no_progress h = ap row_of h
 in_row format text include_tag h = ap row_of h
 in_row format text ofs_delta h = ap row_of h
 in_row format text wait_for_done h = ap row_of h
+in_row format text (filter_spec spec) h = ap row_of h.0
 in_row format text (shallow id) h = ap row_of h.spelled
 in_row format text (deepen depth) h = ap row_of h.spelled
 in_row format text deepen_relative h = ap row_of h
@@ -114,6 +116,7 @@ says_one format text no_progress no_progress h k = refl
 says_one format text include_tag include_tag h k = refl
 says_one format text ofs_delta ofs_delta h k = refl
 says_one format text wait_for_done wait_for_done h k = refl
+says_one format text (filter_spec p) (filter_spec q) h k = ap filter_spec (one_value (codes "filter ") text p q h.0 k.0)
 says_one format text (shallow m) (shallow n) h k = ap shallow (one_name (codes "shallow ") format text m n h k)
 says_one format text (deepen m) (deepen n) h k = ap deepen (one_number_in (codes "deepen ") text IsDepth m n h k)
 says_one format text deepen_relative deepen_relative h k = refl
@@ -137,6 +140,7 @@ fault_in_row Fetch format of_shallow text kind h = ap row_of h.0.spelled
 fault_in_row Fetch format of_deepen text kind h = ap row_of h.0.spelled
 fault_in_row Fetch format of_deepen_since text kind h = ap row_of h.0.spelled
 fault_in_row Fetch format of_deepen_not text kind h = ap row_of h.0.spelled
+fault_in_row Fetch format of_filter text kind h = ap row_of h.0.spelled
 fault_in_row Fetch format of_want_ref text kind h = ap row_of h.0.spelled
 fault_in_row ObjectInfo format of_object_id text kind h = ap row_of h.0.spelled
 fault_in_row c format row text kind h = absurd h
@@ -169,6 +173,8 @@ row_or_fault Fetch format text (deepen depth) kind h k = number_or_fault (codes 
 row_or_fault Fetch format text (deepen_since time) kind h k = number_or_fault (codes "deepen-since ") text IsTime time h k.0
 row_or_fault Fetch format text (deepen_not revision) kind h k =
     kept_text_or_none k.0.value (text_holds (codes "deepen-not ") text revision IsKeptText _ h k.0) k.0.holds
+row_or_fault Fetch format text (filter_spec spec) kind h k =
+    kept_text_or_none k.0.value (text_holds (codes "filter ") text spec IsKeptText _ h k.0) k.0.holds
 row_or_fault Fetch format text (want_ref name) kind h k = k.0.holds (text_holds (codes "want-ref ") text name IsRefName _ h k.0)
 row_or_fault ObjectInfo format text (object_id id) kind h k = name_or_fault (codes "oid ") format text id h k.0
 row_or_fault c format text a kind h k = k
@@ -199,6 +205,7 @@ none_or_argument Fetch format text (deepen depth) u of h = u.1.1.1.1.0 h.value h
 none_or_argument Fetch format text (deepen_since time) u of h = u.1.1.1.1.1.0 h.value h.spelled
 none_or_argument Fetch format text (deepen_not revision) u of h = u.1.1.1.1.1.1.0 revision h.0
 none_or_argument Fetch format text (want_ref name) u of h = u.1.1.1.1.1.1.1.0 name h.0
+none_or_argument Fetch format text (filter_spec spec) u of h = u.1.1.1.1.1.1.1.1.0 spec h.0
 none_or_argument ObjectInfo format text size u of h = u.0.0 h
 none_or_argument ObjectInfo format text (object_id id) u of h = u.1.0 h.value h.spelled
 none_or_argument c format text a u of h = absurd (cc)
@@ -213,6 +220,7 @@ none_or_row Fetch format of_deepen text kind u h = u.1.1.1.1.0 h.0.value h.0.spe
 none_or_row Fetch format of_deepen_since text kind u h = u.1.1.1.1.1.0 h.0.value h.0.spelled
 none_or_row Fetch format of_deepen_not text kind u h = u.1.1.1.1.1.1.0 h.0.value h.0.spelled
 none_or_row Fetch format of_want_ref text kind u h = u.1.1.1.1.1.1.1.0 h.0.value h.0.spelled
+none_or_row Fetch format of_filter text kind u h = u.1.1.1.1.1.1.1.1.0 h.0.value h.0.spelled
 none_or_row ObjectInfo format of_object_id text kind u h = u.1.0 h.0.value h.0.spelled
 none_or_row c format row text kind u h = h
 
@@ -226,6 +234,7 @@ one_row_fault Fetch format of_shallow text kind other h k = h.1 ∙ sym k.1
 one_row_fault Fetch format of_deepen text kind other h k = h.1 ∙ sym k.1
 one_row_fault Fetch format of_deepen_since text kind other h k = h.1 ∙ sym k.1
 one_row_fault Fetch format of_deepen_not text kind other h k = h.1 ∙ sym k.1
+one_row_fault Fetch format of_filter text kind other h k = h.1 ∙ sym k.1
 one_row_fault Fetch format of_want_ref text kind other h k = h.1 ∙ sym k.1
 one_row_fault ObjectInfo format of_object_id text kind other h k = h.1 ∙ sym k.1
 one_row_fault c format row text kind other h k = absurd h

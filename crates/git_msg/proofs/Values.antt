@@ -5,7 +5,8 @@ use Rattle.git_pkt.specs.declared.fault.Kind.{Kind}
 use Rattle.git_pkt.specs.declared.fault.Kind.TheVariants.{TooMuchKept}
 use Rattle.git_msg.specs.declared.arguments.Command.{Command}
 use Rattle.git_msg.specs.declared.requests.Request.{Request}
-use Rattle.git_msg.specs.Arguments.{Arg, ref_prefix, want, have, shallow, deepen, deepen_since, deepen_not, want_ref, object_id, IsInRange, IsOutOfRange}
+use Rattle.git_msg.specs.Arguments.{Arg, ref_prefix, want, have, shallow, deepen, deepen_since, deepen_not, want_ref, object_id, filter_spec}
+use Rattle.git_msg.specs.Arguments.{IsInRange, IsOutOfRange}
 use Rattle.git_msg.specs.Arguments.{IsValue, IsValueFault, written_text}
 use Rattle.git_msg.specs.Checks.{Passes, Refuses}
 use Rattle.git_msg.specs.HeldRequest.{add_checks, kept_of, limit_of, command_of, format_of}
@@ -20,6 +21,7 @@ range_apart format (shallow id) kind h fault = fault.0 h.of_format
 range_apart format (deepen depth) kind h fault = fault.0 h
 range_apart format (deepen_since time) kind h fault = fault.0 h
 range_apart format (deepen_not revision) kind h fault = kept_text_or_none revision h fault.0
+range_apart format (filter_spec spec) kind h fault = kept_text_or_none spec h fault.0
 range_apart format (want_ref name) kind h fault = fault.0 h
 range_apart format (object_id id) kind h fault = fault.0 h.of_format
 range_apart format arg kind h fault = fault
@@ -32,6 +34,7 @@ range_single format (shallow id) kind other h k = h.1 ∙ sym k.1
 range_single format (deepen depth) kind other h k = h.1 ∙ sym k.1
 range_single format (deepen_since time) kind other h k = h.1 ∙ sym k.1
 range_single format (deepen_not revision) kind other h k = h.1 ∙ sym k.1
+range_single format (filter_spec spec) kind other h k = h.1 ∙ sym k.1
 range_single format (want_ref name) kind other h k = h.1 ∙ sym k.1
 range_single format (object_id id) kind other h k = h.1 ∙ sym k.1
 range_single format arg kind other h k = absurd h

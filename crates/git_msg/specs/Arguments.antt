@@ -12,7 +12,7 @@ use Rattle.git_msg.specs.declared.arguments.Command.TheVariants.{LsRefs, Fetch, 
 use Rattle.git_msg.specs.declared.arguments.Argument.{Argument}
 use Rattle.git_msg.specs.declared.arguments.Argument.TheVariants.{Symrefs, Peel, RefPrefix, Want, Have, IsDone, ThinPack, NoProgress, IncludeTag, OfsDelta}
 use Rattle.git_msg.specs.declared.arguments.Argument.TheVariants.{Shallow, Deepen, DeepenRelative, DeepenSince, DeepenNot, WantRef, Size, ObjectId}
-use Rattle.git_msg.specs.declared.arguments.Argument.TheVariants.{Unborn, WaitForDone}
+use Rattle.git_msg.specs.declared.arguments.Argument.TheVariants.{Unborn, WaitForDone, Filter}
 use Rattle.git_msg.specs.declared.offers.Offer.{Offer}
 use Rattle.git_msg.specs.Numbers.{IsNumber}
 use Rattle.git_msg.specs.Texts.{Follows, IsNoneOf, BeginsWithNone}
@@ -31,6 +31,7 @@ pub data Arg : Type 0 where
   include_tag : Arg
   ofs_delta : Arg
   wait_for_done : Arg
+  filter_spec : List ℕ → Arg
   shallow : ObjectName → Arg
   deepen : ℕ → Arg
   deepen_relative : Arg
@@ -54,6 +55,7 @@ shown NoProgress = no_progress
 shown IncludeTag = include_tag
 shown OfsDelta = ofs_delta
 shown WaitForDone = wait_for_done
+shown (Filter spec) = filter_spec spec.now
 shown (Shallow id) = shallow id
 shown (Deepen depth) = deepen depth
 shown DeepenRelative = deepen_relative
@@ -83,6 +85,7 @@ command_with no_progress = Fetch
 command_with include_tag = Fetch
 command_with ofs_delta = Fetch
 command_with wait_for_done = Fetch
+command_with (filter_spec spec) = Fetch
 command_with (shallow id) = Fetch
 command_with (deepen depth) = Fetch
 command_with deepen_relative = Fetch
@@ -139,6 +142,7 @@ SaysArgument format text no_progress = text ≡ codes "no-progress"
 SaysArgument format text include_tag = text ≡ codes "include-tag"
 SaysArgument format text ofs_delta = text ≡ codes "ofs-delta"
 SaysArgument format text wait_for_done = text ≡ codes "wait-for-done"
+SaysArgument format text (filter_spec spec) = (text ≡ codes "filter " ++ spec) × IsKeptText spec
 SaysArgument format text (shallow id) = Follows (codes "shallow ") (λ name. IsObjectName format name id) text
 SaysArgument format text (deepen depth) = Follows (codes "deepen ") (λ digits. IsNumberIn IsDepth digits depth) text
 SaysArgument format text deepen_relative = text ≡ codes "deepen-relative"
@@ -166,6 +170,7 @@ IsInRange format (shallow id) = IsNameIn format id
 IsInRange format (deepen depth) = IsDepth depth
 IsInRange format (deepen_since time) = IsTime time
 IsInRange format (deepen_not revision) = IsKeptText revision
+IsInRange format (filter_spec spec) = IsKeptText spec
 IsInRange format (want_ref name) = IsRefName name
 IsInRange format (object_id id) = IsNameIn format id
 IsInRange format _ = Unit {0}
@@ -179,6 +184,7 @@ IsOutOfRange format (shallow id) kind = (id.format ≢ format) × (kind ≡ BadO
 IsOutOfRange format (deepen depth) kind = (¬ IsDepth depth) × (kind ≡ BadNumber)
 IsOutOfRange format (deepen_since time) kind = (¬ IsTime time) × (kind ≡ BadNumber)
 IsOutOfRange format (deepen_not revision) kind = IsNoKeptText revision × (kind ≡ BadLine)
+IsOutOfRange format (filter_spec spec) kind = IsNoKeptText spec × (kind ≡ BadLine)
 IsOutOfRange format (want_ref name) kind = (¬ IsRefName name) × (kind ≡ BadRefName)
 IsOutOfRange format (object_id id) kind = (id.format ≢ format) × (kind ≡ BadObjectName)
 IsOutOfRange format _ kind = ⊥
@@ -207,6 +213,7 @@ is_offered offer (deepen_since time) = offer.shallow
 is_offered offer (deepen_not revision) = offer.shallow
 is_offered offer (want_ref name) = offer.ref_in_want
 is_offered offer wait_for_done = offer.wait_for_done
+is_offered offer (filter_spec spec) = offer.filter
 is_offered offer _ = true
 
 -- the text is an argument that a request of this command may have
@@ -226,7 +233,8 @@ flags_of ObjectInfo = codes "size" ∷ []
 abbrev pub keywords_of : Command → List (List ℕ)
 keywords_of LsRefs = codes "ref-prefix " ∷ []
 keywords_of Fetch =
-    codes "want " ∷ codes "have " ∷ codes "shallow " ∷ codes "deepen " ∷ codes "deepen-since " ∷ codes "deepen-not " ∷ codes "want-ref " ∷ []
+    codes "want " ∷ codes "have " ∷ codes "shallow " ∷ codes "deepen " ∷ codes "deepen-since " ∷ codes "deepen-not " ∷ codes "want-ref "
+    ∷ codes "filter " ∷ []
 keywords_of ObjectInfo = codes "oid " ∷ []
 
 -- the rows of the table of arguments
@@ -243,6 +251,7 @@ pub data Row : Type 0 where
   of_include_tag : Row
   of_ofs_delta : Row
   of_wait_for_done : Row
+  of_filter : Row
   of_shallow : Row
   of_deepen : Row
   of_deepen_relative : Row
@@ -268,6 +277,7 @@ row_by word =
     else if bytes_eq word (codes "include-tag") then of_include_tag
     else if bytes_eq word (codes "ofs-delta") then of_ofs_delta
     else if bytes_eq word (codes "wait-for-done") then of_wait_for_done
+    else if bytes_eq word (codes "filter") then of_filter
     else if bytes_eq word (codes "shallow") then of_shallow
     else if bytes_eq word (codes "deepen") then of_deepen
     else if bytes_eq word (codes "deepen-relative") then of_deepen_relative
@@ -296,6 +306,7 @@ row_in no_progress = of_no_progress
 row_in include_tag = of_include_tag
 row_in ofs_delta = of_ofs_delta
 row_in wait_for_done = of_wait_for_done
+row_in (filter_spec spec) = of_filter
 row_in (shallow id) = of_shallow
 row_in (deepen depth) = of_deepen
 row_in deepen_relative = of_deepen_relative
@@ -314,6 +325,7 @@ IsRowFault Fetch format of_shallow text kind = Follows (codes "shallow ") (IsNoO
 IsRowFault Fetch format of_deepen text kind = Follows (codes "deepen ") (IsNoNumberIn IsDepth) text × (kind ≡ BadNumber)
 IsRowFault Fetch format of_deepen_since text kind = Follows (codes "deepen-since ") (IsNoNumberIn IsTime) text × (kind ≡ BadNumber)
 IsRowFault Fetch format of_deepen_not text kind = Follows (codes "deepen-not ") IsNoKeptText text × (kind ≡ BadLine)
+IsRowFault Fetch format of_filter text kind = Follows (codes "filter ") IsNoKeptText text × (kind ≡ BadLine)
 IsRowFault Fetch format of_want_ref text kind = Follows (codes "want-ref ") (λ name. ¬ IsRefName name) text × (kind ≡ BadRefName)
 IsRowFault ObjectInfo format of_object_id text kind = Follows (codes "oid ") (IsNoObjectName format) text × (kind ≡ BadObjectName)
 IsRowFault _ format _ text kind = ⊥
@@ -353,6 +365,7 @@ written_text no_progress = codes "no-progress"
 written_text include_tag = codes "include-tag"
 written_text ofs_delta = codes "ofs-delta"
 written_text wait_for_done = codes "wait-for-done"
+written_text (filter_spec spec) = codes "filter " ++ spec
 written_text (shallow id) = codes "shallow " ++ hex_of id
 written_text (deepen depth) = codes "deepen " ++ decimal depth
 written_text deepen_relative = codes "deepen-relative"
@@ -369,6 +382,7 @@ stored_in (want id) = 33
 stored_in (have id) = 33
 stored_in (shallow id) = 33
 stored_in (deepen_not revision) = length revision + 6
+stored_in (filter_spec spec) = length spec + 6
 stored_in (want_ref name) = length name + 6
 stored_in (object_id id) = 33
 stored_in _ = 0
@@ -380,6 +394,7 @@ TakesMemory (want id) = Unit {0}
 TakesMemory (have id) = Unit {0}
 TakesMemory (shallow id) = Unit {0}
 TakesMemory (deepen_not revision) = Unit {0}
+TakesMemory (filter_spec spec) = Unit {0}
 TakesMemory (want_ref name) = Unit {0}
 TakesMemory (object_id id) = Unit {0}
 TakesMemory _ = ⊥

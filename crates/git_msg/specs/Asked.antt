@@ -7,7 +7,7 @@ use Rattle.git_msg.specs.declared.offers.Offer.{Offer}
 use Rattle.git_msg.specs.declared.arguments.Command.{Command}
 use Rattle.git_msg.specs.declared.arguments.Command.TheVariants.{LsRefs, Fetch, ObjectInfo}
 use Rattle.git_msg.specs.Arguments.{Arg, symrefs, peel, ref_prefix, want, have, done, thin_pack, no_progress, include_tag, ofs_delta}
-use Rattle.git_msg.specs.Arguments.{shallow, deepen, deepen_relative, deepen_since, deepen_not, want_ref, size, object_id, unborn, wait_for_done}
+use Rattle.git_msg.specs.Arguments.{shallow, deepen, deepen_relative, deepen_since, deepen_not, want_ref, size, object_id, unborn, wait_for_done, filter_spec}
 use Rattle.git_msg.specs.Arguments.{IsValue, is_offered, written_text}
 use Rattle.git_msg.specs.Texts.{last_of}
 
@@ -59,6 +59,10 @@ abbrev pub is_wait_for_done : Arg → Bool
 is_wait_for_done wait_for_done = true
 is_wait_for_done _ = false
 
+abbrev pub filter_in : Arg → Option (List ℕ)
+filter_in (filter_spec spec) = Some spec
+filter_in _ = None
+
 abbrev pub shallow_in : Arg → Option ObjectName
 shallow_in (shallow id) = Some id
 shallow_in _ = None
@@ -108,6 +112,7 @@ pub record FetchAsked : Type 0 where
   pub include_tag : Bool
   pub ofs_delta : Bool
   pub wait_for_done : Bool
+  pub filters : List (List ℕ)
   pub shallows : List ObjectName
   pub deepen : Option ℕ
   pub deepen_relative : Bool
@@ -144,6 +149,7 @@ nothing_asked Fetch = fetch (record {
   include_tag = false;
   ofs_delta = false;
   wait_for_done = false;
+  filters = [];
   shallows = [];
   deepen = None;
   deepen_relative = false;
@@ -171,6 +177,7 @@ asked_by Fetch args = fetch (record {
   include_tag = list_any is_include_tag args;
   ofs_delta = list_any is_ofs_delta args;
   wait_for_done = list_any is_wait_for_done args;
+  filters = filter_map filter_in args;
   shallows = filter_map shallow_in args;
   deepen = last_of (filter_map deepen_in args);
   deepen_relative = list_any is_deepen_relative args;
@@ -198,6 +205,7 @@ with_fetch q no_progress = record q { no_progress = true }
 with_fetch q include_tag = record q { include_tag = true }
 with_fetch q ofs_delta = record q { ofs_delta = true }
 with_fetch q wait_for_done = record q { wait_for_done = true }
+with_fetch q (filter_spec spec) = record q { filters = q.filters ++ spec ∷ [] }
 with_fetch q (shallow id) = record q { shallows = q.shallows ++ id ∷ [] }
 with_fetch q (deepen depth) = record q { deepen = Some depth }
 with_fetch q deepen_relative = record q { deepen_relative = true }
@@ -277,6 +285,11 @@ ofs_delta_of _ = false
 abbrev pub wait_for_done_of : Asked → Bool
 wait_for_done_of (fetch q) = q.wait_for_done
 wait_for_done_of _ = false
+
+-- which objects a fetch request wants to be left out, each as a filter-spec
+abbrev pub filters_of : Asked → List (List ℕ)
+filters_of (fetch q) = q.filters
+filters_of _ = []
 
 -- the commits that a fetch request says are shallow at the client
 abbrev pub shallows_of : Asked → List ObjectName
@@ -363,7 +376,7 @@ shallow_arguments q others =
 abbrev pub pack_arguments : FetchAsked → List Arg → List Arg
 pack_arguments q others =
     where_asked q.thin_pack thin_pack ++ (where_asked q.no_progress no_progress ++ (where_asked q.include_tag include_tag
-    ++ (where_asked q.ofs_delta ofs_delta ++ (where_asked q.wait_for_done wait_for_done ++ others))))
+    ++ (where_asked q.ofs_delta ofs_delta ++ (where_asked q.wait_for_done wait_for_done ++ (map filter_spec q.filters ++ others)))))
 
 -- the arguments of a request, in the order in which they are written
 abbrev pub arguments_in : Asked → List Arg

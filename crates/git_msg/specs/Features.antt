@@ -15,7 +15,7 @@ ls_refs_features offer = where_offered offer.unborn (codes "unborn")
 abbrev pub fetch_features : Offer → List (List ℕ)
 fetch_features offer =
     where_offered offer.shallow (codes "shallow") ++ (where_offered offer.ref_in_want (codes "ref-in-want")
-    ++ where_offered offer.wait_for_done (codes "wait-for-done"))
+    ++ (where_offered offer.wait_for_done (codes "wait-for-done") ++ where_offered offer.filter (codes "filter")))
 
 -- words with a space between each two
 abbrev pub spaced : List (List ℕ) → List ℕ

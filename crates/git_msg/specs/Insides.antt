@@ -21,6 +21,7 @@ module _ {A : Type 0} where
     include_tag = q.include_tag;
     ofs_delta = q.ofs_delta;
     wait_for_done = q.wait_for_done;
+    filters = texts_of q.filters;
     shallows = q.shallows.items;
     deepen = q.deepen;
     deepen_relative = q.deepen_relative;
@@ -42,7 +43,8 @@ module _ {A : Type 0} where
 
   abbrev pub fetch_stored : FetchInside A → ℕ
   fetch_stored q =
-      33 * (length q.wants.items + length q.haves.items + length q.shallows.items) + (texts_stored q.deepen_nots + texts_stored q.want_refs)
+      33 * (length q.wants.items + length q.haves.items + length q.shallows.items)
+      + (texts_stored q.filters + (texts_stored q.deepen_nots + texts_stored q.want_refs))
 
   abbrev pub fetch_stored_by_fields : FetchInside A → ℕ
   fetch_stored_by_fields q =
@@ -57,6 +59,7 @@ module _ {A : Type 0} where
         include_tag = include_tag;
         ofs_delta = ofs_delta;
         wait_for_done = wait_for_done;
+        filters = filters;
         shallows = shallows;
         deepen = deepen;
         deepen_relative = deepen_relative;
@@ -64,7 +67,8 @@ module _ {A : Type 0} where
         deepen_nots = deepen_nots;
         want_refs = want_refs;
       } = q in
-      33 * (length wants.items + length haves.items + length shallows.items) + (texts_stored deepen_nots + texts_stored want_refs)
+      33 * (length wants.items + length haves.items + length shallows.items)
+      + (texts_stored filters + (texts_stored deepen_nots + texts_stored want_refs))
 
   abbrev pub object_info_stored : ObjectInfoInside A → ℕ
   object_info_stored q = 33 * length q.oids.items

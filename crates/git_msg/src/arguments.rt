@@ -53,6 +53,8 @@ pub enum Argument<'a> {
     OfsDelta,
     /// `wait-for-done`: send no pack before the request says `done`.
     WaitForDone,
+    /// `filter`: leave out the objects that this filter-spec says, whose text has 1 to 32,000 bytes.
+    Filter(&'a [u8]),
     /// `shallow`: the client has this commit without its parents.
     Shallow(Oid),
     /// `deepen`: cut the history off at this depth, of 1 to 2,147,483,647 commits.
@@ -89,6 +91,7 @@ macro_rules! put_together {
             Argument::IncludeTag => Argument::IncludeTag,
             Argument::OfsDelta => Argument::OfsDelta,
             Argument::WaitForDone => Argument::WaitForDone,
+            Argument::Filter(spec) => Argument::Filter(spec),
             Argument::Shallow(id) => Argument::Shallow(id),
             Argument::Deepen(depth) => Argument::Deepen(depth),
             Argument::DeepenRelative => Argument::DeepenRelative,
@@ -199,8 +202,8 @@ fn read_fetch<'a>(format: Format, text: &'a [u8], steps: &mut Steps) -> Result<A
         (IsTextFault Command.Fetch format text.now) }
     ensures cost { TakesAtMost (40 * (length text.now + 1)) steps.old steps.new }
 {
-    // Seven flags, and seven words with a value.
-    steps.tick(14 * (text.len().min(LONGEST_WORD) + 1));
+    // Seven flags, and eight words with a value.
+    steps.tick(15 * (text.len().min(LONGEST_WORD) + 1));
     match fetch_flag(text) {
         Some(flag) => Ok(flag),
         None => read_fetch_value(format, text, steps),
@@ -279,6 +282,12 @@ fn read_fetch_value<'a>(
         }
         return Ok(Argument::WantRef(name));
     }
+    if let Some(spec) = after(text, b"filter ") {
+        if !is_kept_text(spec) {
+            return Err(Kind::BadLine);
+        }
+        return Ok(Argument::Filter(spec));
+    }
     Err(Kind::UnknownArgument)
 }
 
@@ -316,6 +325,7 @@ pub(crate) fn is_offered(offer: &Offer, argument: &Argument<'_>) -> bool
         Argument::DeepenNot(_) => offer.shallow,
         Argument::WantRef(_) => offer.ref_in_want,
         Argument::WaitForDone => offer.wait_for_done,
+        Argument::Filter(_) => offer.filter,
         _ => true,
     }
 }

@@ -25,6 +25,7 @@ pub struct Fetch<A: Allocator + Copy> {
     include_tag: bool,
     ofs_delta: bool,
     wait_for_done: bool,
+    filters: Texts<A>,
     shallows: Vec<Oid, A>,
     deepen: Option<u64>,
     deepen_relative: bool,
@@ -47,7 +48,7 @@ impl<A: Allocator + Copy> Model for Fetch<A> {
 }
 
 impl<A: Allocator + Copy> Fetch<A> {
-    ghost use Rattle.git_msg.specs.Arguments.{done, deepen_not, deepen_relative, have, IsValue, IsValueFault};
+    ghost use Rattle.git_msg.specs.Arguments.{done, deepen_not, deepen_relative, filter_spec, have, IsValue, IsValueFault};
     ghost use Rattle.git_msg.specs.Asked.{HasWants, arguments_in, fetch, has_deepen_conflict, object_arguments, shallow_arguments, where_asked};
     ghost use Rattle.git_msg.specs.Kept.{IsNew, IsUnkept, IsWithin, KeepsArgument, kept_as};
 
@@ -151,6 +152,13 @@ impl<A: Allocator + Copy> Fetch<A> {
         self.wait_for_done
     }
 
+    /// The filter-spec of the `filter` line at place `i`, as it came: which objects are to be left out.
+    pub fn filter(&self, i: usize) -> Option<&[u8]>
+        ensures { option_copied result ≡ slice_get self.now.asked.filters i }
+    {
+        self.filters.get(i)
+    }
+
     /// Whether it wants an object or a reference, or negotiates alone.
     pub(crate) fn has_wants(&self) -> bool
         ensures { MatchBool result (HasWants self.now.asked) (¬ HasWants self.now.asked) }
@@ -181,6 +189,7 @@ impl<A: Allocator + Copy> Fetch<A> {
             include_tag: false,
             ofs_delta: false,
             wait_for_done: false,
+            filters: Texts::new(alloc),
             shallows: Vec::new(alloc),
             deepen: None,
             deepen_relative: false,
@@ -229,7 +238,18 @@ impl<A: Allocator + Copy> Fetch<A> {
         let Some(i) = past_flag(self.wait_for_done, i) else {
             return Some(Argument::WaitForDone);
         };
-        self.shallow_argument(i)
+        self.filter_argument(i)
+    }
+
+    // The argument at place `i` after the flags that say how the pack is to be sent.
+    fn filter_argument(&self, i: usize) -> Option<Argument<'_>>
+        ensures { option_map shown result ≡ slice_get (map filter_spec self.now.asked.filters
+            ++ shallow_arguments self.now.asked (object_arguments self.now.asked)) i }
+    {
+        if let Some(spec) = self.filters.get(i) {
+            return Some(Argument::Filter(spec));
+        }
+        self.shallow_argument(i - self.filters.len())
     }
 
     // The argument at place `i` after those that say how the pack is to be sent.
@@ -306,6 +326,7 @@ impl<A: Allocator + Copy> Fetch<A> {
             Argument::Deepen(depth) if !is_depth(*depth) => Err(Kind::BadNumber),
             Argument::DeepenSince(time) if !is_time(*time) => Err(Kind::BadNumber),
             Argument::DeepenNot(revision) if !is_kept_text(revision) => Err(Kind::BadLine),
+            Argument::Filter(spec) if !is_kept_text(spec) => Err(Kind::BadLine),
             Argument::Unborn => Err(Kind::UnknownArgument),
             Argument::Symrefs => Err(Kind::UnknownArgument),
             Argument::Peel => Err(Kind::UnknownArgument),
@@ -342,6 +363,7 @@ impl<A: Allocator + Copy> Fetch<A> {
             Argument::DeepenNot(revision) => self.deepen_nots.keep(revision)?,
             Argument::WantRef(name) => self.want_refs.keep(name)?,
             Argument::WaitForDone => self.wait_for_done = true,
+            Argument::Filter(spec) => self.filters.keep(spec)?,
             _ => unreachable!(),
         }
         self.budget = budget;

@@ -34,6 +34,8 @@ pub struct Offer {
     pub ref_in_want: bool,
     /// The feature `wait-for-done` of `fetch`.
     pub wait_for_done: bool,
+    /// The feature `filter` of `fetch`.
+    pub filter: bool,
     /// The command `object-info`.
     pub object_info: bool,
     /// The capability `server-option`.
@@ -51,6 +53,7 @@ impl Offer {
             shallow: true,
             ref_in_want: true,
             wait_for_done: true,
+            filter: true,
             object_info: true,
             server_option: true,
         }
@@ -86,6 +89,8 @@ pub struct Caps {
     pub ref_in_want: bool,
     /// The word `wait-for-done` in a value of `fetch`.
     pub wait_for_done: bool,
+    /// The word `filter` in a value of `fetch`.
+    pub filter: bool,
     /// The key `server-option`.
     pub server_option: bool,
     /// The command `object-info`.
@@ -111,6 +116,7 @@ impl Caps {
             shallow: false,
             ref_in_want: false,
             wait_for_done: false,
+            filter: false,
             server_option: false,
             object_info: false,
             object_format: false,
@@ -184,13 +190,14 @@ impl Caps {
     // What is noted when a line `fetch` with these features comes too.
     fn with_fetch(self, features: &[u8], steps: &mut Steps) -> Caps
         ensures exact { result ≡ noted_with self (codes "fetch") features.now }
-        ensures cost { TakesAtMost (12 * (length features.now + 1)) steps.old steps.new }
+        ensures cost { TakesAtMost (16 * (length features.now + 1)) steps.old steps.new }
     {
         Caps {
             fetch: true,
             shallow: has_word(features, b"shallow", steps) | self.shallow,
             ref_in_want: has_word(features, b"ref-in-want", steps) | self.ref_in_want,
             wait_for_done: has_word(features, b"wait-for-done", steps) | self.wait_for_done,
+            filter: has_word(features, b"filter", steps) | self.filter,
             ..self
         }
     }
@@ -241,6 +248,7 @@ impl Caps {
             shallow: self.shallow,
             ref_in_want: self.ref_in_want,
             wait_for_done: self.wait_for_done,
+            filter: self.filter,
             object_info: self.object_info,
             server_option: self.server_option,
         }

@@ -33,7 +33,7 @@ impl<A: Allocator + Copy> Request<A> {
     ghost use Rattle.git_msg.specs.Asked.{arguments_in, symrefs_of, peel_of, unborn_of, ref_prefixes_of, wants_of, haves_of, done_of, thin_pack_of};
     ghost use Rattle.git_msg.specs.Asked.{no_progress_of, include_tag_of, ofs_delta_of, written_bytes, HasValues};
     ghost use Rattle.git_msg.specs.Asked.{AreOffered, shallows_of, deepen_of, deepen_relative_of, deepen_since_of, deepen_nots_of, want_refs_of};
-    ghost use Rattle.git_msg.specs.Asked.{size_of, oids_of, wait_for_done_of};
+    ghost use Rattle.git_msg.specs.Asked.{size_of, oids_of, wait_for_done_of, filters_of};
     ghost use Rattle.git_msg.specs.Checks.{Passes, Refuses};
     ghost use Rattle.git_msg.specs.Lines.{end_checks};
     ghost use Rattle.git_msg.specs.HeldRequest.{IsEmpty, asked_of, command_of, format_of, kept_of, limit_of, stored_of, Keeps, add_checks, keep_checks, IsRefused};
@@ -293,6 +293,16 @@ impl<A: Allocator + Copy> Request<A> {
         }
     }
 
+    /// The filter-spec of the `filter` line of `fetch` at place `i`, as it came.
+    pub fn filter(&self, i: usize) -> Option<&[u8]>
+        ensures { option_copied result ≡ slice_get (filters_of (asked_of self.now)) i }
+    {
+        match self {
+            Request::LsRefs(_) | Request::ObjectInfo(_) => None,
+            Request::Fetch(request) => request.filter(i),
+        }
+    }
+
     /// The commits of the `shallow` lines of `fetch`, in their order.
     pub fn shallows(&self) -> &[Oid]
         ensures { result.now ≡ shallows_of (asked_of self.now) }
@@ -456,6 +466,7 @@ pub(crate) fn written_length(argument: &Argument<'_>) -> usize
         Argument::IncludeTag => 11,
         Argument::OfsDelta => 9,
         Argument::WaitForDone => 13,
+        Argument::Filter(spec) => 7 + spec.len(),
         Argument::Shallow(id) => name_length(8, id),
         Argument::Deepen(depth) => number_length(7, *depth),
         Argument::DeepenRelative => 15,

@@ -41,6 +41,7 @@ pub(crate) fn put_argument(hold: &mut Hold, argument: Argument<'_>)
         Argument::IncludeTag => put_line(hold, b"include-tag", b""),
         Argument::OfsDelta => put_line(hold, b"ofs-delta", b""),
         Argument::WaitForDone => put_line(hold, b"wait-for-done", b""),
+        Argument::Filter(spec) => put_line(hold, b"filter ", spec),
         Argument::Shallow(id) => put_name_line(hold, b"shallow ", &id),
         Argument::Deepen(depth) => put_number_line(hold, b"deepen ", depth),
         Argument::DeepenRelative => put_line(hold, b"deepen-relative", b""),

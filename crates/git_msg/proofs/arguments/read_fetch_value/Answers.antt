@@ -1,6 +1,6 @@
 use Rattle.std.proofs.Common.{rules, refl, inr}
 use Rattle.std.proofs.lemmas.Result.{err_from_is_err_and}
-use Rattle.git_msg.specs.Arguments.{of_want, of_have, of_shallow, of_deepen, of_deepen_since, of_deepen_not, of_want_ref}
+use Rattle.git_msg.specs.Arguments.{of_want, of_have, of_shallow, of_deepen, of_deepen_since, of_deepen_not, of_want_ref, of_filter}
 use Rattle.git_msg.proofs.arguments.read_fetch_value.Goals as goal
 
 pub returns-then-not-is_kept_text-clause-argument : goal.returns-then-not-is_kept_text-clause-argument

@@ -10,6 +10,7 @@ use Rattle.git_msg.proofs.fetch.Fetch.keep.Goals.{in-IsDone, in-ThinPack, in-NoP
 use Rattle.git_msg.proofs.fetch.Fetch.keep.Goals.{in-Deepen, in-DeepenRelative, in-DeepenSince}
 use Rattle.git_msg.proofs.fetch.Fetch.keep.Goals.{in-Want+in_ok-keep_id-in-Want, in-Have+in_ok-keep_id-in-Have, in-Shallow+in_ok-keep_id-in-Shallow}
 use Rattle.git_msg.proofs.fetch.Fetch.keep.Goals.{in-DeepenNot+in_ok-keep-in-DeepenNot, in-WantRef+in_ok-keep-in-WantRef}
+use Rattle.git_msg.proofs.fetch.Fetch.keep.Goals.{in-Filter+in_ok-keep-in-Filter}
 
 pub invariant_of-self-2 : goal.invariant_of-self-2
 invariant_of-self-2 g c =
@@ -88,6 +89,12 @@ invariant_of-self-2 g c =
           let here = rw w.in-WantRef.is at more in
           let fits = rw w.in-WantRef.is at room in
           rw w.self-inside-is (record { counted = rw grown here; covered = omega (arith, fits, w.in_ok-keep-in-WantRef.ensures.stored) })
+      | in-Filter+in_ok-keep-in-Filter w ↦
+          let grown : texts_of w.keep-in-Filter.new.self
+          ≡ texts_of c.self.inside.filters ++ w.in-Filter.spec.now ∷ [] = w.in_ok-keep-in-Filter.ensures.ok in
+          let here = rw w.in-Filter.is at more in
+          let fits = rw w.in-Filter.is at room in
+          rw w.self-inside-is (record { counted = rw grown here; covered = omega (arith, fits, w.in_ok-keep-in-Filter.ensures.stored) })
     ]
 
 pub keep-requires : goal.keep-requires
@@ -107,5 +114,15 @@ keep-requires-in-WantRef g c =
     let long = length-append (codes "want-ref ") c.in-WantRef.name.now in
     record {
       short = let most = value.1.at_most in omega (arith, most);
+      fits = omega (arith, counted, long, c.in_ok-charge.ensures.sides, c.self.invariant.covered, c.self.inside.budget.in_range);
+    }
+
+pub keep-requires-in-Filter : goal.keep-requires-in-Filter
+keep-requires-in-Filter g c =
+    let counted = rw c.in-Filter.is at c.requires.counted in
+    let value = rw c.in-Filter.is at c.requires.value in
+    let long = length-append (codes "filter ") c.in-Filter.spec.now in
+    record {
+      short = let most = value.1.1 in omega (arith, most);
       fits = omega (arith, counted, long, c.in_ok-charge.ensures.sides, c.self.invariant.covered, c.self.inside.budget.in_range);
     }
