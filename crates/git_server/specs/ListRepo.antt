@@ -1,5 +1,6 @@
 -- What a clause sees of a `ListRepo`.
 use Rattle.std.specs.Prelude.{◌≡◌, ◌<◌, ℕ, Bool, true, false, List, Option, Some, None, filter, length, unwrap_or, if◌then◌else◌}
+use Rattle.std.proofs.Common.{refl}
 use Rattle.std.specs.Option.{ForSome}
 use Rattle.git_server.specs.declared.list_repo.ListRepo.{ListRepo}
 use Rattle.git_msg.specs.Asked.{FetchAsked, is_empty}
@@ -55,7 +56,7 @@ short_pack : (is_unfiltered : Bool) (pack : List ℕ) (filtered : Option (List �
     → length (if is_unfiltered then pack else unwrap_or filtered pack) < 9223372036854775808
 short_pack true pack filtered short others = short
 short_pack false pack None short others = short
-short_pack false pack (Some other) short others = others
+short_pack false pack (Some other) short others = others other refl
 
 -- each of its packs is short enough
 pub is_short : (repo : ListRepo) (request : FetchAsked) → length ((state_of repo).answers.pack request) < 9223372036854775808
