@@ -1,7 +1,8 @@
 -- Answers one after the other, and repositories whose answers can be written.
-use Rattle.std.proofs.Common.{◌≡◌, ℕ, Bool, true, false, All, List, [], ◌∷◌, ◌++◌, Option, Some, None, refl, ap, sym, ◌∙◌, subst, append_assoc, cond}
+use Rattle.std.proofs.Common.{◌≡◌, ℕ, Bool, true, false, All, List, [], ◌∷◌, ◌++◌, Option, Some, None, IfSome, refl, ap, sym, ◌∙◌, subst, append_assoc, cond}
 use Rattle.std.proofs.lemmas.List.{append-nil}
-use Rattle.std.proofs.lemmas.List.Elements.{All-cons, All-head, All-nil, All-tail}
+use Rattle.std.proofs.lemmas.List.Elements.{All-cons, All-head, All-nil, All-tail, All-weaker}
+use Rattle.std.specs.List.{filter_map}
 use Rattle.std.specs.Ordering.{is_eq}
 use Rattle.git_names.specs.ObjectName.{ObjectName, IsOid}
 use Rattle.git_names.specs.declared.object_format.Format.{Format}
@@ -28,10 +29,11 @@ use Rattle.git_server.specs.Repository.{Entry, IsSound, Repository}
 use Rattle.git_server.specs.Sessions.{AreAnswers}
 use Rattle.git_server.specs.declared.list_repo.ListRepo.{ListRepo}
 use Rattle.git_repository.specs.Packs.{PackBytes}
-use Rattle.git_repository.specs.RepositoryLines.{Said, boundary, object, ready, ref_of, reference, unborn}
-use Rattle.git_repository.specs.RepositoryText.{IsRepositoryText, SayAll, boundaries_in, objects_in, refs_in}
+use Rattle.git_repository.specs.RepositoryLines.{Said, Says, boundary, object, ref_of, reference}
+use Rattle.git_repository.specs.RepositoryText.{IsRepositoryText, SayAll, boundary_in, object_in, ref_in}
 use Rattle.git_client.proofs.Sequences.{give_all_append, nearest-append}
 use Rattle.git2show_lib.specs.ToldAnswers.{AsksIn, IsEntryOfNames, CanBeWritten, end_packets, packets_of, told_all, told_by}
+use Rattle.git2show_lib.proofs.FoundParts.{All-filter_map}
 use Rattle.git2show_lib.proofs.HearingAnswers.{heard, whole_after}
 
 -- ---- answers one after the other
@@ -110,46 +112,38 @@ names_of format line entry h = record {
       let there : named ≡ id = cc in
       subst IsOid there (IsOid-of_text format digits named is)
 
--- so are those of all references that a text says
-refs_written : (format : Format) (lines : List (List ℕ)) (said : List Said) → SayAll format lines said → All IsEntryOfNames (refs_in said)
-refs_written format [] [] h = All-nil IsEntryOfNames
-refs_written format [] (s ∷ said) h = absurd h
-refs_written format (line ∷ lines) [] h = absurd h
-refs_written format (line ∷ lines) (reference entry ∷ said) (now, h) =
-    All-cons IsEntryOfNames entry (refs_in said) (names_of format now.value entry now.holds) (refs_written format lines said h)
-refs_written format (line ∷ lines) (unborn target ∷ said) (now, h) = refs_written format lines said h
-refs_written format (line ∷ lines) (object id size ∷ said) (now, h) = refs_written format lines said h
-refs_written format (line ∷ lines) (ready count ∷ said) (now, h) = refs_written format lines said h
-refs_written format (line ∷ lines) (boundary b ∷ said) (now, h) = refs_written format lines said h
+-- each thing that a text says stands in a line
+each_said : (format : Format) (lines : List (List ℕ)) (said : List Said) → SayAll format lines said
+    → All (λ s. (line : List ℕ) × Says format line s) said
+each_said format [] [] h = All-nil (λ s. (line : List ℕ) × Says format line s)
+each_said format (line ∷ lines) (s ∷ said) (now, h) =
+    All-cons (λ s. (line : List ℕ) × Says format line s) s said (line, now) (each_said format lines said h)
+each_said format [] (s ∷ said) h = absurd h
+each_said format (line ∷ lines) [] h = absurd h
 
--- the sizes that a text says have 64 bits
-sizes_written : (format : Format) (lines : List (List ℕ)) (said : List Said) → SayAll format lines said → All (λ object. IsSize object.1) (objects_in said)
-sizes_written format [] [] h = All-nil (λ (object : ObjectName × ℕ). IsSize object.1)
-sizes_written format [] (s ∷ said) h = absurd h
-sizes_written format (line ∷ lines) [] h = absurd h
-sizes_written format (line ∷ lines) (reference entry ∷ said) (now, h) = sizes_written format lines said h
-sizes_written format (line ∷ lines) (unborn target ∷ said) (now, h) = sizes_written format lines said h
-sizes_written format (line ∷ lines) (object id size ∷ said) (now, h) =
-    All-cons (λ (object : ObjectName × ℕ). IsSize object.1) (id, size) (objects_in said) now.holds.in_range (sizes_written format lines said h)
-sizes_written format (line ∷ lines) (ready count ∷ said) (now, h) = sizes_written format lines said h
-sizes_written format (line ∷ lines) (boundary b ∷ said) (now, h) = sizes_written format lines said h
+module _ (format : Format) where
+  -- what holds of a part that a line says holds of those that all lines say
+  parts_written : {X : Type 0} (P : X → Type 0) (part : Said → Option X) → ((s : Said) (line : List ℕ) → Says format line s → IfSome (part s) P)
+      → (lines : List (List ℕ)) (said : List Said) → SayAll format lines said → All P (filter_map part said)
+  parts_written P part is lines said h =
+      All-filter_map P part said
+      (All-weaker (λ s. (line : List ℕ) × Says format line s) (λ s. IfSome (part s) P) (λ s says. is s says.0 says.1) said (each_said format lines said h))
 
--- the object names of the shallow boundary that a text says are names
-boundaries_written : (format : Format) (lines : List (List ℕ)) (said : List Said) → SayAll format lines said
-    → All (λ line. IsOid (object_of line)) (boundaries_in said)
-boundaries_written format [] [] h = All-nil (λ line. IsOid (object_of line))
-boundaries_written format [] (s ∷ said) h = absurd h
-boundaries_written format (line ∷ lines) [] h = absurd h
-boundaries_written format (line ∷ lines) (reference entry ∷ said) (now, h) = boundaries_written format lines said h
-boundaries_written format (line ∷ lines) (unborn target ∷ said) (now, h) = boundaries_written format lines said h
-boundaries_written format (line ∷ lines) (object id size ∷ said) (now, h) = boundaries_written format lines said h
-boundaries_written format (line ∷ lines) (ready count ∷ said) (now, h) = boundaries_written format lines said h
-boundaries_written format (line ∷ lines) (boundary (Shallow id) ∷ said) (now, h) =
-    All-cons (λ line. IsOid (object_of line)) (Shallow id) (boundaries_in said) (IsOid-of_text format now.value id now.holds)
-    (boundaries_written format lines said h)
-boundaries_written format (line ∷ lines) (boundary (Unshallow id) ∷ said) (now, h) =
-    All-cons (λ line. IsOid (object_of line)) (Unshallow id) (boundaries_in said) (IsOid-of_text format now.value id now.holds)
-    (boundaries_written format lines said h)
+  -- the object names of a reference are names
+  ref_written : (s : Said) (line : List ℕ) → Says format line s → IfSome (ref_in s) IsEntryOfNames
+  ref_written (reference entry) line says = names_of format says.value entry says.holds
+  ref_written s line says = tt
+
+  -- a size has 64 bits
+  size_written : (s : Said) (line : List ℕ) → Says format line s → IfSome (object_in s) (λ object. IsSize object.1)
+  size_written (object id size) line says = says.holds.in_range
+  size_written s line says = tt
+
+  -- the object name of a line of the shallow boundary is one
+  boundary_written : (s : Said) (line : List ℕ) → Says format line s → IfSome (boundary_in s) (λ line. IsOid (object_of line))
+  boundary_written (boundary (Shallow id)) line says = IsOid-of_text format says.value id says.holds
+  boundary_written (boundary (Unshallow id)) line says = IsOid-of_text format says.value id says.holds
+  boundary_written s line says = tt
 
 -- the size that is found is one of those
 found_size : (objects : List (ObjectName × ℕ)) (id : ObjectName) (size : ℕ) → All (λ object. IsSize object.1) objects → size_among objects id ≡ Some size
@@ -171,11 +165,11 @@ can_be_written repo text packs h =
     let objects = ap (λ (l : Lists). l.objects) h.lists_are in
     record {
       refs = subst (λ (l : List Entry). All IsEntryOfNames l) (sym (ap (λ (l : Lists). l.refs) h.lists_are))
-          (refs_written h.format lines h.said h.begins.say_all);
+          (parts_written h.format IsEntryOfNames ref_in (ref_written h.format) lines h.said h.begins.say_all);
       boundaries = λ q. told_keep (λ line. IsOid (object_of line)) (lists_of repo).boundaries q
           (subst (λ (l : List Boundary). All (λ line. IsOid (object_of line)) l) (sym boundaries)
-          (boundaries_written h.format lines h.said h.begins.say_all));
+          (parts_written h.format (λ line. IsOid (object_of line)) boundary_in (boundary_written h.format) lines h.said h.begins.say_all));
       sizes = λ id size. found_size (lists_of repo).objects id size
           (subst (λ (l : List (ObjectName × ℕ)). All (λ object. IsSize object.1) l) (sym objects)
-          (sizes_written h.format lines h.said h.begins.say_all));
+          (parts_written h.format (λ object. IsSize object.1) object_in (size_written h.format) lines h.said h.begins.say_all));
     }

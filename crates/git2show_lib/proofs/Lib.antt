@@ -8,6 +8,7 @@ pub mod ScriptLaws
 pub mod RequestsRead
 pub mod Hearing
 pub mod HearingAnswers
+pub mod FoundParts
 pub mod HearingSessions
 pub mod HearingOffers
 pub mod ValuesRead

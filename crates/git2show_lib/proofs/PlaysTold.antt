@@ -1,7 +1,7 @@
 -- What a play tells that ended well.
-use Rattle.std.proofs.Common.{arith, ◌≡◌, inl, ℕ, Bool, true, false, All, flat_map, map, List, [], ◌∷◌, ◌++◌, Option, Some, None, Ok}
+use Rattle.std.proofs.Common.{arith, ◌≡◌, inl, ℕ, Bool, true, false, All, flat_map, map, List, [], ◌∷◌, ◌++◌, Option, Some, None, IfSome, Ok}
 use Rattle.std.proofs.Common.{refl, ap, sym, ◌∙◌, subst}
-use Rattle.std.specs.List.{filter_map, cons_option}
+use Rattle.std.specs.List.{filter_map}
 use Rattle.std.proofs.lemmas.List.{append-nil, append_cancel_right}
 use Rattle.std.proofs.lemmas.List.Elements.{All-cons, All-head, All-map, All-nil, All-tail, All-weaker}
 use Rattle.git_names.specs.ObjectName.{ObjectName}
@@ -35,6 +35,7 @@ use Rattle.git_server.specs.Sessions.{AreAnswers, IsAnswered, Setting, Stream}
 use Rattle.git_server.proofs.Sent.{spelled_both}
 use Rattle.git2show_lib.specs.Plays.{IsWholePlay, Played, Talk, said_each, setting_of, with_end}
 use Rattle.git2show_lib.specs.ToldAnswers.{AsksIn, CanBeWritten, told_all, told_offer, told_play}
+use Rattle.git2show_lib.proofs.FoundParts.{All-filter_map}
 use Rattle.git2show_lib.proofs.HearingOffers.{advertisement_stays, format_meant, lines_said, nearest_offer, offer_heard, offer_whole}
 use Rattle.git2show_lib.proofs.HearingSessions.{AreEnded, all_heard, cut_at, ended_by_flush}
 use Rattle.git2show_lib.proofs.RequestsHeard.{HaveValues, IsLeft, IsTail, requests_are, written_all}
@@ -42,36 +43,29 @@ use Rattle.git2show_lib.proofs.SpelledPackets.{are_spelled, fit_both, fit_front,
 
 -- ---- the object names of a question that an answer repeats
 
+have_named : (format : Format) (arg : Arg) → IsValue Fetch format arg → IfSome (have_in arg) (IsNameIn format)
+have_named format (have name) value = value.1
+have_named format arg value = tt
+
+object_named : (format : Format) (arg : Arg) → IsValue ObjectInfo format arg → IfSome (object_id_in arg) (IsNameIn format)
+object_named format (object_id name) value = value.1
+object_named format arg value = tt
+
 -- the values that are object names of the format
 names_in : (format : Format) (command : Command) (named : Arg → Option ObjectName)
-    → ((arg : Arg) (id : ObjectName) → named arg ≡ Some id → IsValue command format arg → IsNameIn format id) → (args : List Arg)
+    → ((arg : Arg) → IsValue command format arg → IfSome (named arg) (IsNameIn format)) → (args : List Arg)
     → All (IsValue command format) args → All (IsNameIn format) (filter_map named args)
-names_in format command named is [] values = All-nil (IsNameIn format)
-names_in format command named is (arg ∷ args) values =
-    go (names_in format command named is args (All-tail (IsValue command format) arg args values)) (named arg) refl where
-      go : All (IsNameIn format) (filter_map named args) → (found : Option ObjectName) → named arg ≡ found
-          → All (IsNameIn format) (cons_option found (filter_map named args))
-      go others None e = others
-      go others (Some id) e =
-          All-cons (IsNameIn format) id (filter_map named args) (is arg id e (All-head (IsValue command format) arg args values)) others
-
-have_named : (format : Format) (command : Command) (arg : Arg) (id : ObjectName) → have_in arg ≡ Some id → IsValue command format arg → IsNameIn format id
-have_named format command (have name) id e value = let same : name ≡ id = cc in subst (IsNameIn format) same value.1
-have_named format command arg id e value = absurd (cc)
-
-object_named : (format : Format) (command : Command) (arg : Arg) (id : ObjectName) → object_id_in arg ≡ Some id → IsValue command format arg
-    → IsNameIn format id
-object_named format command (object_id name) id e value = let same : name ≡ id = cc in subst (IsNameIn format) same value.1
-object_named format command arg id e value = absurd (cc)
+names_in format command named is args values =
+    All-filter_map (IsNameIn format) named args (All-weaker (IsValue command format) (λ arg. IfSome (named arg) (IsNameIn format)) is args values)
 
 asks_in : (format : Format) (q : Asked) → HasValues format q → AsksIn format q
 asks_in format (ls_refs q) values = tt
 asks_in format (fetch q) values =
     subst (All (IsNameIn format)) (ap haves_of (arguments_in_order (fetch q)))
-    (names_in format Fetch have_in (have_named format Fetch) (arguments_in (fetch q)) values)
+    (names_in format Fetch have_in (have_named format) (arguments_in (fetch q)) values)
 asks_in format (object_info q) values =
     subst (All (IsNameIn format)) (ap oids_of (arguments_in_order (object_info q)))
-    (names_in format ObjectInfo object_id_in (object_named format ObjectInfo) (arguments_in (object_info q)) values)
+    (names_in format ObjectInfo object_id_in (object_named format) (arguments_in (object_info q)) values)
 
 -- ---- what a server reads that offers everything
 

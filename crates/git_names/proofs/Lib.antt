@@ -3,6 +3,7 @@ pub mod HexDigits
 pub mod Joined
 pub mod ObjectNames
 pub mod Pairs
+pub mod PlainBytes
 pub mod RefNames
 pub mod Tables
 pub mod WrittenForms

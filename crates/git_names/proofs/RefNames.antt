@@ -77,9 +77,9 @@ follows_in_name text h k lt = record {
   no_at_brace = λ is ends. h.no_at_brace (_, occurs_longer text (codes "@") 123 k lt is ends);
 }
 
--- a slash may stand after a reference name: each component is whole
-pub slash_follows_name : (text : List ℕ) → IsRefName text → MayFollow text 47
-slash_follows_name text h = record {
+-- a slash may stand after a whole component
+pub slash_follows : (front : List ℕ) → ¬ EndsWith front (codes "/") → ¬ EndsWith front (codes ".lock") → MayFollow front 47
+slash_follows front no_slash no_lock = record {
   allowed = record {
     no_control = omega arith;
     no_space = omega arith;
@@ -92,12 +92,16 @@ slash_follows_name text h = record {
     no_tilde = omega arith;
     no_delete = omega arith;
   };
-  no_empty_component = λ _. h.no_slash_at_end;
-  no_component_to_lock = λ _. h.no_lock_at_end;
+  no_empty_component = λ _. no_slash;
+  no_component_to_lock = λ _. no_lock;
   no_component_from_dot = λ is. absurd (omega arith);
   no_two_dots = λ is. absurd (omega arith);
   no_at_brace = λ is. absurd (omega arith);
 }
+
+-- so it may after a reference name
+pub slash_follows_name : (text : List ℕ) → IsRefName text → MayFollow text 47
+slash_follows_name text h = slash_follows text h.no_slash_at_end h.no_lock_at_end
 
 -- each byte may stand after those before it
 abbrev pub AllFollow : List ℕ → Type 0

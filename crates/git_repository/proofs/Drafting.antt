@@ -1,10 +1,11 @@
 -- What one more line adds to what was said.
 use Rattle.std.proofs.Common.{arith, ◌≡◌, ℕ, ◌≤◌, Bool, true, false, Option, Some, None, Result}
 use Rattle.std.proofs.Common.{Ok, Err, List, [], ◌∷◌, ◌++◌, refl, ap, sym, ◌∙◌, subst, length, map, codes, append_assoc, Vec}
+use Rattle.std.specs.List.{filter_map}
 use Rattle.std.specs.Option.{is_some}
 use Rattle.std.specs.Prelude.{if◌then◌else◌}
 use Rattle.std.proofs.lemmas.List.{append-nil, map-append}
-use Rattle.std.proofs.lemmas.List.Elements.{All-push}
+use Rattle.std.proofs.lemmas.List.Elements.{All-push, filter_map-append}
 use Rattle.git_names.specs.declared.object_format.Format.{Format}
 use Rattle.git_names.specs.ObjectName.{ObjectName}
 use Rattle.git_msg.specs.declared.Boundary.{Boundary}
@@ -14,6 +15,7 @@ use Rattle.git_server.specs.Lists.{Lists}
 use Rattle.git_repository.specs.Packs.{PackBytes, packs_in, no_packs}
 use Rattle.git_repository.specs.RepositoryLines.{Said, reference, unborn, object, ready, boundary}
 use Rattle.git_repository.specs.RepositoryText.{MayStand, NamesRise, boundaries_in, counts_in, first_of, lists_said, names_in, objects_in, refs_in, unborn_in}
+use Rattle.git_repository.specs.RepositoryText.{boundary_in, count_in, head_in, name_in, object_in, ref_in}
 use Rattle.git_repository.specs.Drafts.{Adds, AddsBoundary, AddsCount, AddsObject, AddsReference, AddsSaid, AddsUnborn}
 use Rattle.git_repository.specs.Drafts.{ComesLast, ComesLastObject, Holds, IsFit}
 use Rattle.git_repository.specs.Drafts.{IsLineFault, head_names, names_of, with_boundary, with_count, with_object, with_ref, with_unborn}
@@ -21,53 +23,10 @@ use Rattle.git_repository.specs.declared.text_faults.LineFault.{LineFault}
 use Rattle.git_repository.specs.declared.text_faults.LineFault.TheVariants.{Refused, OutOfMemory}
 use Rattle.git_repository.proofs.Rising.{last_rises, rising_more}
 
-refs_more : (said : List Said) (next : Said) → refs_in (said ++ next ∷ []) ≡ refs_in said ++ refs_in (next ∷ [])
-refs_more [] next = refl
-refs_more (reference entry ∷ more) next = ap (λ (xs : List Entry). entry ∷ xs) (refs_more more next)
-refs_more (unborn target ∷ more) next = refs_more more next
-refs_more (object id size ∷ more) next = refs_more more next
-refs_more (ready count ∷ more) next = refs_more more next
-refs_more (boundary line ∷ more) next = refs_more more next
-
-objects_more : (said : List Said) (next : Said) → objects_in (said ++ next ∷ []) ≡ objects_in said ++ objects_in (next ∷ [])
-objects_more [] next = refl
-objects_more (reference entry ∷ more) next = objects_more more next
-objects_more (unborn target ∷ more) next = objects_more more next
-objects_more (object id size ∷ more) next = ap (λ (xs : List (ObjectName × ℕ)). (id, size) ∷ xs) (objects_more more next)
-objects_more (ready count ∷ more) next = objects_more more next
-objects_more (boundary line ∷ more) next = objects_more more next
-
-counts_more : (said : List Said) (next : Said) → counts_in (said ++ next ∷ []) ≡ counts_in said ++ counts_in (next ∷ [])
-counts_more [] next = refl
-counts_more (reference entry ∷ more) next = counts_more more next
-counts_more (unborn target ∷ more) next = counts_more more next
-counts_more (object id size ∷ more) next = counts_more more next
-counts_more (ready count ∷ more) next = ap (λ (xs : List ℕ). count ∷ xs) (counts_more more next)
-counts_more (boundary line ∷ more) next = counts_more more next
-
-boundaries_more : (said : List Said) (next : Said) → boundaries_in (said ++ next ∷ []) ≡ boundaries_in said ++ boundaries_in (next ∷ [])
-boundaries_more [] next = refl
-boundaries_more (reference entry ∷ more) next = boundaries_more more next
-boundaries_more (unborn target ∷ more) next = boundaries_more more next
-boundaries_more (object id size ∷ more) next = boundaries_more more next
-boundaries_more (ready count ∷ more) next = boundaries_more more next
-boundaries_more (boundary line ∷ more) next = ap (λ (xs : List Boundary). line ∷ xs) (boundaries_more more next)
-
-unborn_more : (said : List Said) (next : Said) → unborn_in (said ++ next ∷ []) ≡ unborn_in said ++ unborn_in (next ∷ [])
-unborn_more [] next = refl
-unborn_more (reference entry ∷ more) next = unborn_more more next
-unborn_more (unborn target ∷ more) next = ap (λ (xs : List (List ℕ)). target ∷ xs) (unborn_more more next)
-unborn_more (object id size ∷ more) next = unborn_more more next
-unborn_more (ready count ∷ more) next = unborn_more more next
-unborn_more (boundary line ∷ more) next = unborn_more more next
-
-names_more : (said : List Said) (next : Said) → names_in (said ++ next ∷ []) ≡ names_in said ++ names_in (next ∷ [])
-names_more [] next = refl
-names_more (reference entry ∷ more) next = ap (λ (xs : List (List ℕ)). entry.name ∷ xs) (names_more more next)
-names_more (unborn target ∷ more) next = ap (λ (xs : List (List ℕ)). codes "HEAD" ∷ xs) (names_more more next)
-names_more (object id size ∷ more) next = names_more more next
-names_more (ready count ∷ more) next = names_more more next
-names_more (boundary line ∷ more) next = names_more more next
+-- what lines say with one more: what they said, and what that one says
+added : {X : Type 0} (part : Said → Option X) (said : List Said) (next : Said)
+    → filter_map part (said ++ next ∷ []) ≡ filter_map part said ++ filter_map part (next ∷ [])
+added part said next = filter_map-append part said (next ∷ [])
 
 -- lists of the same parts are the same
 lists_from : Format → List Entry → List (ObjectName × ℕ) → Option ℕ → List Boundary → PackBytes → Option (List ℕ) → Lists
@@ -101,15 +60,15 @@ lists_more : (said : List Said) (next : Said) (lists : Lists)
     → packs_in lists ≡ no_packs → lists.unborn ≡ first_of (unborn_in said ++ unborn_in (next ∷ []))
     → lists ≡ lists_said lists.format (said ++ next ∷ []) no_packs
 lists_more said next lists f g h i j k =
-    same_lists lists (lists_said lists.format (said ++ next ∷ []) no_packs) refl (f ∙ sym (refs_more said next)) (g ∙ sym (objects_more said next))
-    (h ∙ ap first_of (sym (counts_more said next))) (i ∙ sym (boundaries_more said next)) j (k ∙ ap first_of (sym (unborn_more said next)))
+    same_lists lists (lists_said lists.format (said ++ next ∷ []) no_packs) refl (f ∙ sym (added ref_in said next)) (g ∙ sym (added object_in said next))
+    (h ∙ ap first_of (sym (added count_in said next))) (i ∙ sym (added boundary_in said next)) j (k ∙ ap first_of (sym (added head_in said next)))
 
 stand_more : (said : List Said) (next : Said) → NamesRise (names_in said ++ names_in (next ∷ [])) → AreRising (objects_in said ++ objects_in (next ∷ []))
     → length (counts_in said ++ counts_in (next ∷ [])) ≤ 1 → MayStand (said ++ next ∷ [])
 stand_more said next names objects count = record {
-  rising_names = subst NamesRise (sym (names_more said next)) names;
-  rising_objects = subst AreRising (sym (objects_more said next)) objects;
-  one_count = subst (λ (xs : List ℕ). length xs ≤ 1) (sym (counts_more said next)) count;
+  rising_names = subst NamesRise (sym (added name_in said next)) names;
+  rising_objects = subst AreRising (sym (added object_in said next)) objects;
+  one_count = subst (λ (xs : List ℕ). length xs ≤ 1) (sym (added count_in said next)) count;
 }
 
 no_names : (said : List Said) → MayStand said → NamesRise (names_in said ++ [])
@@ -182,7 +141,7 @@ adds_reference old new entry fit is last = subst (Adds old (reference entry)) (s
   holds = λ said h. record {
     lists_are = lists_more said (reference entry) (with_ref old entry) (ap (λ (xs : List Entry). xs ++ entry ∷ []) (refs_said said old h))
         (no_more_objects said old h) (no_more_ready said old h) (no_more_boundaries said old h) (no_packs_yet said old h) (no_more_unborn said old h);
-    names_are = names_more said (reference entry) ∙ ap (λ (xs : List (List ℕ)). xs ++ entry.name ∷ []) h.names_are ∙ ref_names old entry;
+    names_are = added name_in said (reference entry) ∙ ap (λ (xs : List (List ℕ)). xs ++ entry.name ∷ []) h.names_are ∙ ref_names old entry;
     may_stand = stand_more said (reference entry)
         (rising_more (λ a b. comes_before a b ≡ true) (names_in said) entry.name h.may_stand.rising_names
         (subst (λ (xs : List (List ℕ)). ComesLast xs entry.name) (sym h.names_are) last))
@@ -231,7 +190,7 @@ adds_unborn old new target is none = subst (Adds old (unborn target)) (sym is) (
         lists_are = lists_more said (unborn target) (with_unborn old target) (no_more_refs said old h) (no_more_objects said old h)
             (no_more_ready said old h) (no_more_boundaries said old h) (no_packs_yet said old h)
             (ap (λ (xs : List (List ℕ)). first_of (xs ++ target ∷ [])) (sym before));
-        names_are = names_more said (unborn target) ∙ ap (λ (xs : List (List ℕ)). xs ++ codes "HEAD" ∷ []) (h.names_are ∙ none)
+        names_are = added name_in said (unborn target) ∙ ap (λ (xs : List (List ℕ)). xs ++ codes "HEAD" ∷ []) (h.names_are ∙ none)
             ∙ ap (λ (refs : List Entry). codes "HEAD" ∷ map (λ (entry : Entry). entry.name) refs) (sym (no_refs old none));
         may_stand = stands_unborn said old target h (comes_last_of_none (names_of old) (codes "HEAD") none);
         of_format = record { by_refs = h.of_format.by_refs; by_objects = h.of_format.by_objects; by_boundaries = h.of_format.by_boundaries };
@@ -246,7 +205,7 @@ adds_object old new id size fit is last = subst (Adds old (object id size)) (sym
     lists_are = lists_more said (object id size) (with_object old (id, size)) (no_more_refs said old h)
         (ap (λ (xs : List (ObjectName × ℕ)). xs ++ (id, size) ∷ []) (objects_said said old h)) (no_more_ready said old h)
         (no_more_boundaries said old h) (no_packs_yet said old h) (no_more_unborn said old h);
-    names_are = names_more said (object id size) ∙ no_more_names said old h;
+    names_are = added name_in said (object id size) ∙ no_more_names said old h;
     may_stand = stand_more said (object id size) (no_names said h.may_stand)
         (rising_more (λ a b. precedes a.0 b.0 ≡ true) (objects_in said) (id, size) h.may_stand.rising_objects
         (subst (λ (xs : List (ObjectName × ℕ)). ComesLastObject xs id) (objects_said said old h) last))
@@ -271,7 +230,7 @@ adds_count old new count is none = subst (Adds old (ready count)) (sym is) (reco
       record {
         lists_are = lists_more said (ready count) (with_count old count) (no_more_refs said old h) (no_more_objects said old h) more.0
             (no_more_boundaries said old h) (no_packs_yet said old h) (no_more_unborn said old h);
-        names_are = names_more said (ready count) ∙ no_more_names said old h;
+        names_are = added name_in said (ready count) ∙ no_more_names said old h;
         may_stand = stand_more said (ready count) (no_names said h.may_stand) (no_objects said h.may_stand) more.1;
         of_format = record { by_refs = h.of_format.by_refs; by_objects = h.of_format.by_objects; by_boundaries = h.of_format.by_boundaries };
       };
@@ -284,7 +243,7 @@ adds_boundary old new line fit is = subst (Adds old (boundary line)) (sym is) (r
     lists_are = lists_more said (boundary line) (with_boundary old line) (no_more_refs said old h) (no_more_objects said old h)
         (no_more_ready said old h) (ap (λ (xs : List Boundary). xs ++ line ∷ []) (boundaries_said said old h)) (no_packs_yet said old h)
         (no_more_unborn said old h);
-    names_are = names_more said (boundary line) ∙ no_more_names said old h;
+    names_are = added name_in said (boundary line) ∙ no_more_names said old h;
     may_stand = stand_more said (boundary line) (no_names said h.may_stand) (no_objects said h.may_stand) (no_counts said h.may_stand);
     of_format = record {
       by_refs = h.of_format.by_refs;
@@ -298,7 +257,7 @@ refused_name : (old : Lists) (next : Said) (name : List ℕ) → names_in (next 
     → (said : List Said) → Holds said old → ¬ MayStand (said ++ next ∷ [])
 refused_name old next name is never said h may =
     let names : NamesRise (names_in said ++ name ∷ []) =
-    subst (λ (xs : List (List ℕ)). NamesRise (names_in said ++ xs)) is (subst NamesRise (names_more said next) may.rising_names) in
+    subst (λ (xs : List (List ℕ)). NamesRise (names_in said ++ xs)) is (subst NamesRise (added name_in said next) may.rising_names) in
     never (subst (λ (xs : List (List ℕ)). ComesLast xs name) h.names_are (last_rises (λ a b. comes_before a b ≡ true) (names_in said) name names))
 
 refused_reference : (old : Lists) (entry : Entry) → (ComesLast (names_of old) entry.name → ⊥) → IsLineFault old (reference entry) Refused
@@ -310,11 +269,11 @@ refused_unborn old target never = refused_name old (unborn target) (codes "HEAD"
 refused_object : (old : Lists) (id : ObjectName) (size : ℕ) → (ComesLastObject old.objects id → ⊥) → IsLineFault old (object id size) Refused
 refused_object old id size never said h may =
     never (subst (λ (xs : List (ObjectName × ℕ)). ComesLastObject xs id) (sym (objects_said said old h))
-    (last_rises (λ a b. precedes a.0 b.0 ≡ true) (objects_in said) (id, size) (subst AreRising (objects_more said (object id size)) may.rising_objects)))
+    (last_rises (λ a b. precedes a.0 b.0 ≡ true) (objects_in said) (id, size) (subst AreRising (added object_in said (object id size)) may.rising_objects)))
 
 refused_count : (old : Lists) (count : ℕ) → (old.ready_after ≡ None → ⊥) → IsLineFault old (ready count) Refused
 refused_count old count never said h may =
-    never (ready_said said old h ∙ some_yet (counts_in said) count (subst (λ (xs : List ℕ). length xs ≤ 1) (counts_more said (ready count)) may.one_count))
+    never (ready_said said old h ∙ some_yet (counts_in said) count (subst (λ (xs : List ℕ). length xs ≤ 1) (added count_in said (ready count)) may.one_count))
 
 -- the answers of the parts, as answers of the whole
 pub said_reference : (old new : Lists) (entry : Entry) (result : Result (Unit {0}) LineFault) → IsFit old.format (reference entry)

@@ -4,6 +4,7 @@ use Rattle.std.specs.List.{AllAdjacentBelow}
 use Rattle.std.proofs.lemmas.Grind.{common_steps}
 use Rattle.std.proofs.lemmas.Bool.{cases_lt}
 use Rattle.std.proofs.lemmas.List.{append-nil}
+use Rattle.std.proofs.lemmas.List.Elements.{filter_map-append}
 use Rattle.git_names.specs.declared.object_format.Format.{Format}
 use Rattle.git_names.specs.declared.object_format.Format.TheVariants.{Sha1, Sha256}
 use Rattle.git_names.specs.ObjectName.{ObjectName}
@@ -12,9 +13,9 @@ use Rattle.git_server.specs.Objects.{AreRising, precedes}
 use Rattle.git_server.specs.Lists.{Lists}
 use Rattle.git_msg.proofs.ReferenceLaws.{same_heads}
 use Rattle.git_repository.specs.Packs.{PackBytes}
-use Rattle.git_repository.specs.RepositoryLines.{Said, reference, unborn, object, ready, boundary, Says, format_line, lines_of}
+use Rattle.git_repository.specs.RepositoryLines.{Said, Says, format_line, lines_of}
 use Rattle.git_repository.specs.RepositoryText.{Begins, HasBadLine, HasNoFormat, IsFirstBad, IsRepositoryText}
-use Rattle.git_repository.specs.RepositoryText.{MayStand, NamesRise, SayAll, counts_in, lists_said, names_in, objects_in}
+use Rattle.git_repository.specs.RepositoryText.{MayStand, NamesRise, SayAll, count_in, counts_in, lists_said, name_in, names_in, object_in, objects_in}
 use Rattle.git_repository.proofs.Saying.{one_said}
 
 one_format : (f g : Format) → format_line f ≡ format_line g → f ≡ g
@@ -59,38 +60,14 @@ module _ {X : Type 0} where
       subst (λ (y : X). R y (get_or (xs ++ ys) (k + 1) d)) (front_of xs ys k d (omega (arith, below))) h in
       subst (λ (y : X). R (get_or xs k d) y) (front_of xs ys (k + 1) d below) there
 
-names_joined : (a b : List Said) → names_in (a ++ b) ≡ names_in a ++ names_in b
-names_joined [] b = refl
-names_joined (reference entry ∷ more) b = ap (λ (xs : List (List ℕ)). entry.name ∷ xs) (names_joined more b)
-names_joined (unborn target ∷ more) b = ap (λ (xs : List (List ℕ)). codes "HEAD" ∷ xs) (names_joined more b)
-names_joined (object id size ∷ more) b = names_joined more b
-names_joined (ready count ∷ more) b = names_joined more b
-names_joined (boundary line ∷ more) b = names_joined more b
-
-objects_joined : (a b : List Said) → objects_in (a ++ b) ≡ objects_in a ++ objects_in b
-objects_joined [] b = refl
-objects_joined (reference entry ∷ more) b = objects_joined more b
-objects_joined (unborn target ∷ more) b = objects_joined more b
-objects_joined (object id size ∷ more) b = ap (λ (xs : List (ObjectName × ℕ)). (id, size) ∷ xs) (objects_joined more b)
-objects_joined (ready count ∷ more) b = objects_joined more b
-objects_joined (boundary line ∷ more) b = objects_joined more b
-
-counts_joined : (a b : List Said) → counts_in (a ++ b) ≡ counts_in a ++ counts_in b
-counts_joined [] b = refl
-counts_joined (reference entry ∷ more) b = counts_joined more b
-counts_joined (unborn target ∷ more) b = counts_joined more b
-counts_joined (object id size ∷ more) b = counts_joined more b
-counts_joined (ready count ∷ more) b = ap (λ (xs : List ℕ). count ∷ xs) (counts_joined more b)
-counts_joined (boundary line ∷ more) b = counts_joined more b
-
 -- the first of lines that may stand may stand
 stand_front : (a b : List Said) → MayStand (a ++ b) → MayStand a
 stand_front a b h =
-    let count : length (counts_in a ++ counts_in b) ≤ 1 = subst (λ (xs : List ℕ). length xs ≤ 1) (counts_joined a b) h.one_count in
+    let count : length (counts_in a ++ counts_in b) ≤ 1 = subst (λ (xs : List ℕ). length xs ≤ 1) (filter_map-append count_in a b) h.one_count in
     let long = longer (counts_in a) (counts_in b) in
     record {
-      rising_names = rising_front (λ a b. comes_before a b ≡ true) (names_in a) (names_in b) (subst NamesRise (names_joined a b) h.rising_names);
-      rising_objects = rising_front (λ a b. precedes a.0 b.0 ≡ true) (objects_in a) (objects_in b) (subst AreRising (objects_joined a b) h.rising_objects);
+      rising_names = rising_front (λ a b. comes_before a b ≡ true) (names_in a) (names_in b) (subst NamesRise (filter_map-append name_in a b) h.rising_names);
+      rising_objects = rising_front (λ a b. precedes a.0 b.0 ≡ true) (objects_in a) (objects_in b) (subst AreRising (filter_map-append object_in a b) h.rising_objects);
       one_count = omega (arith, count, long);
     }
 

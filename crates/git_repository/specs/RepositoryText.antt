@@ -1,6 +1,6 @@
 -- What the text of a repository says, and which of its lines is refused.
 use Rattle.std.specs.Prelude.{◌≡◌, ◌≢◌, ◌⊎◌, ℕ, ◌+◌, ◌≤◌, true, List, [], ◌∷◌, ◌++◌, Option, Some, None, codes, length}
-use Rattle.std.specs.List.{AllAdjacentBelow}
+use Rattle.std.specs.List.{AllAdjacentBelow, filter_map}
 use Rattle.git_names.specs.declared.object_format.Format.{Format}
 use Rattle.git_names.specs.ObjectName.{ObjectName}
 use Rattle.git_msg.specs.declared.Boundary.{Boundary}
@@ -16,63 +16,58 @@ SayAll format [] [] = Unit {0}
 SayAll format (line ∷ lines) (said ∷ more) = Says format line said × SayAll format lines more
 SayAll format _ _ = ⊥
 
--- the references that are said, in order
+-- the reference that a line says, and those of all lines, in order
+abbrev pub ref_in : Said → Option Entry
+ref_in (reference entry) = Some entry
+ref_in said = None
+
 abbrev pub refs_in : List Said → List Entry
-refs_in [] = []
-refs_in (reference entry ∷ more) = entry ∷ refs_in more
-refs_in (unborn target ∷ more) = refs_in more
-refs_in (object id size ∷ more) = refs_in more
-refs_in (ready count ∷ more) = refs_in more
-refs_in (boundary line ∷ more) = refs_in more
+refs_in = filter_map ref_in
 
 -- what unborn `HEAD`s point to
+abbrev pub head_in : Said → Option (List ℕ)
+head_in (unborn target) = Some target
+head_in said = None
+
 abbrev pub unborn_in : List Said → List (List ℕ)
-unborn_in [] = []
-unborn_in (reference entry ∷ more) = unborn_in more
-unborn_in (unborn target ∷ more) = target ∷ unborn_in more
-unborn_in (object id size ∷ more) = unborn_in more
-unborn_in (ready count ∷ more) = unborn_in more
-unborn_in (boundary line ∷ more) = unborn_in more
+unborn_in = filter_map head_in
 
 -- the names of all these, in order
+abbrev pub name_in : Said → Option (List ℕ)
+name_in (reference entry) = Some entry.name
+name_in (unborn target) = Some (codes "HEAD")
+name_in said = None
+
 abbrev pub names_in : List Said → List (List ℕ)
-names_in [] = []
-names_in (reference entry ∷ more) = entry.name ∷ names_in more
-names_in (unborn target ∷ more) = codes "HEAD" ∷ names_in more
-names_in (object id size ∷ more) = names_in more
-names_in (ready count ∷ more) = names_in more
-names_in (boundary line ∷ more) = names_in more
+names_in = filter_map name_in
 
 -- the names stand in their order, and none comes twice
 abbrev pub NamesRise : List (List ℕ) → Type 0
 NamesRise names = AllAdjacentBelow (λ a b. comes_before a b ≡ true) names (length names)
 
 -- the objects with their sizes
+abbrev pub object_in : Said → Option (ObjectName × ℕ)
+object_in (object id size) = Some (id, size)
+object_in said = None
+
 abbrev pub objects_in : List Said → List (ObjectName × ℕ)
-objects_in [] = []
-objects_in (reference entry ∷ more) = objects_in more
-objects_in (unborn target ∷ more) = objects_in more
-objects_in (object id size ∷ more) = (id, size) ∷ objects_in more
-objects_in (ready count ∷ more) = objects_in more
-objects_in (boundary line ∷ more) = objects_in more
+objects_in = filter_map object_in
 
 -- the counts of ready lines
+abbrev pub count_in : Said → Option ℕ
+count_in (ready count) = Some count
+count_in said = None
+
 abbrev pub counts_in : List Said → List ℕ
-counts_in [] = []
-counts_in (reference entry ∷ more) = counts_in more
-counts_in (unborn target ∷ more) = counts_in more
-counts_in (object id size ∷ more) = counts_in more
-counts_in (ready count ∷ more) = count ∷ counts_in more
-counts_in (boundary line ∷ more) = counts_in more
+counts_in = filter_map count_in
 
 -- the lines of the boundary
+abbrev pub boundary_in : Said → Option Boundary
+boundary_in (boundary line) = Some line
+boundary_in said = None
+
 abbrev pub boundaries_in : List Said → List Boundary
-boundaries_in [] = []
-boundaries_in (reference entry ∷ more) = boundaries_in more
-boundaries_in (unborn target ∷ more) = boundaries_in more
-boundaries_in (object id size ∷ more) = boundaries_in more
-boundaries_in (ready count ∷ more) = boundaries_in more
-boundaries_in (boundary line ∷ more) = line ∷ boundaries_in more
+boundaries_in = filter_map boundary_in
 
 abbrev pub first_of : {X : Type 0} → List X → Option X
 first_of [] = None

@@ -1,35 +1,22 @@
 -- An unborn `HEAD`: its line may be written, and what it points to is a reference name.
-use Rattle.std.proofs.Common.{arith, ◌≡◌, ◌≢◌, ℕ, zero, suc, ◌<◌, ◌≤◌, Bool, true, false, not, Option, Some, None, List, [], Bor}
+use Rattle.std.proofs.Common.{arith, ◌≡◌, ◌≢◌, ℕ, ◌<◌, ◌≤◌, Bool, true, false, not, Option, Some, None, List, [], Bor}
 use Rattle.std.proofs.Common.{codes, length, take, slice_index, refl, sym, subst, IfSome, MatchBool, MatchOption, All}
 use Rattle.std.specs.List.{HoldsAt}
 use Rattle.std.specs.Option.{option_copied, is_some, ForSome}
 use Rattle.git_names.specs.NextByte.{IsPlain, MayFollow}
 use Rattle.git_names.specs.RefName.{EndsWith, IsRefName}
 use Rattle.git_names.specs.declared.object_format.Format.TheVariants.{Sha1}
-use Rattle.git_names.proofs.RefNames.{ref_name_from}
+use Rattle.git_names.proofs.PlainBytes.{is_plain, IsPlain-is_plain}
+use Rattle.git_names.proofs.RefNames.{ref_name_from, slash_follows}
+use Rattle.git_names.proofs.Tables.{all_pass-at}
 use Rattle.git_msg.specs.References.{IsWritable, reference_of}
 use Rattle.git_server.specs.Repository.{Entry, IsUnbornHead}
 
 -- `HEAD` is a reference name.
 
-letter_is_plain : (byte : ℕ) → 65 ≤ byte → byte ≤ 72 → IsPlain byte
-letter_is_plain byte least most = record {
-  allowed = record {
-    no_control = omega (arith, least);
-    no_space = omega (arith, least);
-    no_asterisk = omega (arith, least);
-    no_colon = omega (arith, least);
-    no_question_mark = omega (arith, least);
-    no_open_bracket = omega (arith, most);
-    no_backslash = omega (arith, most);
-    no_caret = omega (arith, most);
-    no_tilde = omega (arith, most);
-    no_delete = omega (arith, most);
-  };
-  no_slash = omega (arith, least);
-  no_dot = omega (arith, least);
-  no_brace = omega (arith, most);
-}
+letters_are_plain : (k : ℕ) → k < 4 → IsPlain (slice_index (codes "HEAD") k)
+letters_are_plain k inside =
+    IsPlain-is_plain (slice_index (codes "HEAD") k) (all_pass-at (λ k. is_plain (slice_index (codes "HEAD") k)) 4 k refl inside)
 
 plain_follows : (front : List ℕ) (byte : ℕ) → IsPlain byte → MayFollow front byte
 plain_follows front byte plain = record {
@@ -41,13 +28,6 @@ plain_follows front byte plain = record {
   no_at_brace = λ is. absurd (plain.no_brace is);
 }
 
-letters : (k : ℕ) → k < 4 → (65 ≤ slice_index (codes "HEAD") k) × (slice_index (codes "HEAD") k ≤ 72)
-letters zero inside = (omega arith, omega arith)
-letters (suc zero) inside = (omega arith, omega arith)
-letters (suc (suc zero)) inside = (omega arith, omega arith)
-letters (suc (suc (suc zero))) inside = (omega arith, omega arith)
-letters (suc (suc (suc (suc k)))) inside = absurd (omega (arith, inside))
-
 no_dot_at_end : ¬ EndsWith (codes "HEAD") (codes ".")
 no_dot_at_end h = let last : 68 ≡ 46 = h.1.reads 0 (omega arith) in omega (arith, last)
 
@@ -57,32 +37,11 @@ no_slash_at_end h = let last : 68 ≡ 47 = h.1.reads 0 (omega arith) in omega (a
 no_lock_at_end : ¬ EndsWith (codes "HEAD") (codes ".lock")
 no_lock_at_end h = let fits : 5 ≤ 4 = h.0 in omega (arith, fits)
 
-slash_follows : MayFollow (codes "HEAD") 47
-slash_follows = record {
-  allowed = record {
-    no_control = omega arith;
-    no_space = omega arith;
-    no_asterisk = omega arith;
-    no_colon = omega arith;
-    no_question_mark = omega arith;
-    no_open_bracket = omega arith;
-    no_backslash = omega arith;
-    no_caret = omega arith;
-    no_tilde = omega arith;
-    no_delete = omega arith;
-  };
-  no_empty_component = λ is. no_slash_at_end;
-  no_component_to_lock = λ is. no_lock_at_end;
-  no_component_from_dot = λ is. absurd (omega (arith, is));
-  no_two_dots = λ is. absurd (omega (arith, is));
-  no_at_brace = λ is. absurd (omega (arith, is));
-}
-
 pub head_is_name : IsRefName (codes "HEAD")
 head_is_name =
     ref_name_from (codes "HEAD") (λ other. absurd (other refl)) (omega arith)
-    (λ k inside. let b = letters k inside in plain_follows (take k (codes "HEAD")) (slice_index (codes "HEAD") k) (letter_is_plain _ b.0 b.1))
-    no_dot_at_end slash_follows
+    (λ k inside. plain_follows (take k (codes "HEAD")) (slice_index (codes "HEAD") k) (letters_are_plain k inside))
+    no_dot_at_end (slash_follows (codes "HEAD") no_slash_at_end no_lock_at_end)
 
 -- the line of an unborn `HEAD` may be written
 pub unborn_is_writable : (target : List ℕ) → IsRefName target → IsWritable (reference_of None (codes "HEAD") (Some target) None)

@@ -174,6 +174,7 @@ fn asks_for_unborn<A: Allocator + Copy>(listing: &Listing<A>) -> bool
 }
 
 // Makes the hold the line of an unborn `HEAD`.
+#[tactic(auto, using(crate::proofs::WrittenHolds::line_written))]
 fn write_unborn(reader: &mut PacketReader, target: &[u8])
     requires between { is_open reader.old ≡ false }
     requires name { IsRefName target.now }
@@ -197,6 +198,7 @@ fn unborn(target: &[u8]) -> Reference<'_>
 }
 
 // Makes the hold the line of a reference.
+#[tactic(auto, using(crate::proofs::WrittenHolds::line_written))]
 fn write_entry<A: Allocator + Copy>(
     reader: &mut PacketReader,
     entry: &RefEntry,

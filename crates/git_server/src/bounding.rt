@@ -45,6 +45,7 @@ pub(crate) fn write_shallow_info<R: Repo, A: Allocator + Copy>(
 }
 
 // Makes the hold the line of a commit at the shallow boundary.
+#[tactic(auto, using(crate::proofs::WrittenHolds::line_written))]
 fn write_boundary(reader: &mut PacketReader, boundary: &Boundary)
     requires { is_open reader.old ≡ false }
     ensures { Writes reader.old (boundary_packet boundary.now) reader.new }

@@ -53,6 +53,7 @@ pub(crate) fn write_sizes<R: Repo, A: Allocator + Copy>(
 }
 
 // Makes the hold the line of an object.
+#[tactic(auto, using(crate::proofs::WrittenHolds::line_written))]
 fn write_size<R: Repo>(repo: &R, id: &Oid, reader: &mut PacketReader)
     requires { is_open reader.old ≡ false }
     ensures { Writes reader.old (info_packet (R.state repo.now).answers id.now) reader.new }

@@ -62,6 +62,7 @@ fn write_from<R: Repo, A: Allocator + Copy>(
 }
 
 // Makes the hold the line of a wanted reference.
+#[tactic(auto, using(crate::proofs::WrittenHolds::line_written))]
 fn write_wanted(reader: &mut PacketReader, id: Oid, name: &[u8])
     requires between { is_open reader.old ≡ false }
     requires named { IsRefName name.now }
