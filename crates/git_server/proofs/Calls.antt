@@ -10,15 +10,14 @@ use Rattle.git_pkt.specs.declared.fault.Fault.{Fault}
 use Rattle.git_pkt.specs.declared.fault.Kind.TheVariants.{StreamTooLong}
 use Rattle.git_server.specs.Repository.{RepoState}
 use Rattle.git_server.specs.Sessions.{FirstMalformed, IsEnding, IsOfTheBytes, IsRefused, Setting}
-use Rattle.git_server.specs.Server.{Running, StandsBy, outcome_of, reader_of}
+use Rattle.git_server.specs.Server.{Running, outcome_of, reader_of}
 use Rattle.git_server.specs.Calls.{Call, feed, pull, close, Headline, Makes, closes, feeds_by, given_in, used_by, used_in}
 use Rattle.git_server.specs.ServerCalls.{given_by}
 use Rattle.git_server.specs.declared.outcome.Outcome.{Outcome}
 use Rattle.git_server.specs.declared.outcome.Outcome.TheVariants.{Refused}
 use Rattle.git_server.specs.declared.server.Server.{Server}
-use Rattle.git_server.proofs.Going.{owes_some}
 use Rattle.git_server.proofs.OneOutcome.{clean_so_far, one_end}
-use Rattle.git_server.proofs.SessionLaws.{every_moment, going, its_end}
+use Rattle.git_server.proofs.SessionLaws.{ending, every_moment, going_on, its_end}
 
 -- whether the input ended, where it had or not before the calls
 ended : Bool → List Call → Bool
@@ -81,28 +80,20 @@ module _ {R A : Type 0} (state : R → RepoState) where
   paid_by close before old after new made = record { rises = omega (arith, made.1); within = omega (arith, made.0.credit, made.1) }
 
   module _ (s : Setting) (used : List ℕ) (over : Bool) (given : List ℕ) (server : Server R A) (r : Running state s used over given server) where
-    -- a server that has this outcome stands by it
-    ending : (outcome : Outcome) → outcome_of server ≡ Some outcome → (owed : List Pkt) × IsEnding s used over given outcome owed
-    ending outcome some =
-        let stands : StandsBy (Some outcome) s used over given server = subst (λ (o : Option Outcome). StandsBy o s used over given server) some r.stands in
-        let (owed, owes) = owes_some server.offer s.repo server.phase in
-        (owed, stands owed owes)
-
     refused_first : (fault : Fault) → outcome_of server ≡ Some (Refused fault) → IsOfTheBytes (Refused fault) → FirstMalformed s used over fault
     refused_first fault some of_bytes =
-        let (owed, h) = ending (Refused fault) some in
+        let (owed, h) = ending state server s used over given r (Refused fault) some in
         malformed_by s used over given owed fault of_bytes h h.ends
 
     malformed_ends : (fault : Fault) (outcome : Outcome) → FirstMalformed s used over fault → outcome_of server ≡ Some outcome → IsOfTheBytes outcome
         → outcome ≡ Refused fault
     malformed_ends fault outcome k some of_bytes =
-        let (owed, h) = ending outcome some in
+        let (owed, h) = ending state server s used over given r outcome some in
         one_end s used over h.asked k.asked h.left k.left h.rest k.rest outcome (Refused fault) h.stream k.stream h.ends (inl k.refused) of_bytes k.of_the_bytes
 
     clean : (fault : Fault) → outcome_of server ≡ None → fault.kind ≢ StreamTooLong → FirstMalformed s used over fault → ⊥
     clean fault none other k =
-        let stands : StandsBy None s used over given server = subst (λ (o : Option Outcome). StandsBy o s used over given server) none r.stands in
-        let (not_over, goes_on) = going state server s used over given r stands in
+        let (not_over, goes_on) = going_on state server s used over given r none in
         clean_so_far s used given fault goes_on (subst (λ (b : Bool). FirstMalformed s used b fault) not_over k) other
 
   -- what is promised after any calls
@@ -123,6 +114,8 @@ module _ {R A : Type 0} (state : R → RepoState) where
         rises = paid.rises;
         steps = omega (arith, paid.within, no_credit);
         running = every_moment state last s used over given r;
+        goes_on = going_on state last s used over given r;
+        ends = ending state last s used over given r;
         session = λ outcome some none. its_end state last s used over given r outcome some none;
         refused = refused_first s used over given last r;
         malformed = malformed_ends s used over given last r;

@@ -2,8 +2,8 @@
 use Rattle.std.proofs.Common.{arith, ◌≡◌, ℕ, Bool, true, false, List, [], Option, Some, None, refl, sym, ap, ◌∙◌, append-nil, subst, inl, inr}
 use Rattle.git_server.specs.Repository.{Repository, RepoState}
 use Rattle.git_server.specs.Answers.{AllFit, spelled}
-use Rattle.git_server.specs.Sessions.{Setting, GoesOn, IsTail, IsEnding, IsAnswered, IsRunning, IsSession}
-use Rattle.git_server.specs.Phases.{Owes, outcome_in, turn_in}
+use Rattle.git_server.specs.Sessions.{Setting, Stream, GoesOn, IsTail, IsEnding, IsAnswered, IsRunning, IsSession}
+use Rattle.git_server.specs.Phases.{LeftIn, Owes, outcome_in, owes_in, reads_in, turn_in}
 use Rattle.git_server.specs.declared.server.Phase.{Phase}
 use Rattle.git_server.specs.declared.server.Phase.TheVariants.{Advertising, Between, Within, Answering, Refusing, Ended}
 use Rattle.git_server.specs.declared.server.Turn.TheVariants.{Finished}
@@ -12,15 +12,28 @@ use Rattle.git_server.specs.Server.{Running, StandsBy, outcome_of, wants_input}
 use Rattle.git_server.specs.ServerCalls.{OwesNow, Pulls}
 use Rattle.git_server.specs.declared.outcome.Outcome.{Outcome}
 use Rattle.git_server.specs.declared.server.Server.{Server}
-use Rattle.git_pkt.proofs.KnownRest.{sound_rest}
+use Rattle.git_pkt.proofs.KnownRest.{none_between, sound_rest}
+use Rattle.git_pkt.specs.Packets.{Pkt}
+use Rattle.git_pkt.specs.Splits.{Given}
+use Rattle.git_msg.specs.Asked.{Asked}
 use Rattle.git_server.proofs.Sent.{all_sent}
 use Rattle.git_server.proofs.Outcomes.{stays_as}
 use Rattle.git_server.proofs.Going.{goes_nowhere, goes_on, no_outcome, owes_nothing, owes_some}
 
+-- a server without an outcome that does not wait for bytes owes something, and has begun no request
+owes_now : {A : Type 0} (phase : Phase A) (left : List Given) → outcome_in phase ≡ None → reads_in phase ≡ false → LeftIn phase left
+    → (owes_in phase ≡ true) × (left ≡ [])
+owes_now Between left none waits_not h = absurd (cc)
+owes_now Within left none waits_not h = absurd (cc)
+owes_now (Advertising line) left none waits_not h = (refl, h)
+owes_now (Answering answer offset) left none waits_not h = (refl, h)
+owes_now (Refusing fault) left none waits_not h = absurd (cc)
+owes_now (Ended outcome) left none waits_not h = absurd (cc)
+
 module _ {R A : Type 0} (state : R → RepoState) (server : Server R A) (s : Setting) (used : List ℕ)
     (over : Bool) (given : List ℕ) (r : Running state s used over given server) where
   -- without an outcome the session goes on
-  pub going : StandsBy None s used over given server → (over ≡ false) × GoesOn s used given
+  going : StandsBy None s used over given server → (over ≡ false) × GoesOn s used given
   going (not_over, h) = (
     not_over,
     record {
@@ -37,6 +50,26 @@ module _ {R A : Type 0} (state : R → RepoState) (server : Server R A) (s : Set
       fit = h.fit;
     },
   )
+
+  pub going_on : outcome_of server ≡ None → (over ≡ false) × GoesOn s used given
+  going_on none = going (goes_on state server s used over given none r)
+
+  -- with one it ended so
+  pub ending : (outcome : Outcome) → outcome_of server ≡ Some outcome → (owed : List Pkt) × IsEnding s used over given outcome owed
+  ending outcome some =
+      let stands : StandsBy (Some outcome) s used over given server = subst (λ (o : Option Outcome). StandsBy o s used over given server) some r.stands in
+      let (owed, owes) = owes_some server.offer s.repo server.phase in
+      (owed, stands owed owes)
+
+  -- where it does not wait for bytes all that it used is whole requests
+  pub at_a_request : outcome_of server ≡ None → wants_input server ≡ false → (asked : List Asked) × Stream s used asked [] []
+  at_a_request none waits_not =
+      let h = (goes_on state server s used over given none r).1 in
+      let (owes, left) = owes_now server.phase h.left none waits_not h.left_is in
+      let holds = (sound_rest server.reader 0 used h.packets h.rest h.no_fault h.reads).0 in
+      let rest : h.rest ≡ [] = none_between server.reader h.rest holds (server.between owes) in
+      let stream : Stream s used h.asked h.left h.rest = record { packets = h.packets; splits = h.reads.splits; requests = h.requests } in
+      (h.asked, subst (λ (gs : List Given). Stream s used h.asked gs []) left (subst (λ (bytes : List ℕ). Stream s used h.asked h.left bytes) rest stream))
 
   moment : (o : Option Outcome) → outcome_of server ≡ o → StandsBy o s used over given server → IsRunning s used over given
   moment None none h = inl (going h)

@@ -1,11 +1,12 @@
 -- Calls of a server, one after the other, and what is promised after any of them.
 use Rattle.std.specs.Prelude.{◌≡◌, ◌≢◌, ℕ, ◌+◌, ◌*◌, ◌≤◌, Bool, true, false, List, [], ◌∷◌, length, take, flat_map, sum_by, Some, None}
 use Rattle.git_pkt.specs.Credit.{Pays, credit_of}
+use Rattle.git_pkt.specs.Packets.{Pkt}
 use Rattle.git_pkt.specs.PacketReader.{bytes_held as held_in_packet}
 use Rattle.git_pkt.specs.declared.fault.Fault.{Fault}
 use Rattle.git_pkt.specs.declared.fault.Kind.TheVariants.{StreamTooLong}
 use Rattle.git_server.specs.Repository.{RepoState}
-use Rattle.git_server.specs.Sessions.{FirstMalformed, IsOfTheBytes, IsRunning, IsSession, Setting}
+use Rattle.git_server.specs.Sessions.{FirstMalformed, GoesOn, IsEnding, IsOfTheBytes, IsRunning, IsSession, Setting}
 use Rattle.git_server.specs.Server.{bytes_held, kept_by, outcome_of, reader_of, stored_by, wants_input}
 use Rattle.git_server.specs.ServerCalls.{Closes, Goes, OwesNow, Pulls, given_by}
 use Rattle.git_server.specs.declared.outcome.Outcome.{Outcome}
@@ -88,6 +89,11 @@ module _ {R A : Type 0} (state : R → RepoState) where
     pub steps : after ≤ before + 64 * (length (used_in calls) + feeds_in calls)
     -- what was given is what a session gives for the bytes used, as far as it has come
     pub running : IsRunning s (used_in calls) (closes calls) (given_in calls)
+    -- without an outcome the session goes on: the input has not ended, nothing is refused and nobody has left
+    pub goes_on : outcome_of server ≡ None → (closes calls ≡ false) × GoesOn s (used_in calls) (given_in calls)
+    -- with one it ended so
+    pub ends : (outcome : Outcome) → outcome_of server ≡ Some outcome
+        → (owed : List Pkt) × IsEnding s (used_in calls) (closes calls) (given_in calls) outcome owed
     -- where it has ended, and nothing is owed, that is all of it
     pub session : (outcome : Outcome) → outcome_of server ≡ Some outcome → OwesNow state server []
         → IsSession s (used_in calls) (closes calls) (given_in calls) outcome

@@ -1,8 +1,10 @@
 //! What a server's contract says of the bytes alone: each function does nothing, and its contract is the law.
 
-ghost use Rattle.std.specs.Prelude.{◌≡◌, ◌+◌, ◌<◌, ◌≤◌, ◌↔◌, ℕ, Bool, true, false, None, List, []};
+ghost use Rattle.std.specs.Prelude.{◌≡◌, ◌+◌, ◌<◌, ◌≤◌, ◌↔◌, ℕ, Bool, true, false, None, Some, List, []};
 ghost use Rattle.git_pkt.specs.Credit.{MakesAll, credit_of};
-ghost use Rattle.git_server.specs.Sessions.{IsAnswered, IsOfTheBytes, IsRunning, IsSession, Setting};
+ghost use Rattle.git_pkt.specs.Packets.{Pkt};
+ghost use Rattle.git_msg.specs.Asked.{Asked};
+ghost use Rattle.git_server.specs.Sessions.{GoesOn, IsAnswered, IsEnding, IsOfTheBytes, IsRunning, IsSession, Setting, Stream};
 ghost use Rattle.git_server.specs.declared.outcome.Outcome.{Outcome};
 ghost use Rattle.git_server.specs.Calls.{Call, Headline, Makes};
 ghost use Rattle.git_server.specs.Server.{IsPackLost, Running, bytes_held, bytes_held_by_fields, kept_by, outcome_of, reader_of, repo_of, wants_input};
@@ -11,13 +13,23 @@ use crate::repo::Repo;
 use crate::server::Server;
 use std::alloc::Allocator;
 
-/// At every moment what a server has given stands to what it has used as a session has it, and the argument lines that
-/// it keeps are within its limit.
+/// At every moment what a server has given stands to what it has used as a session has it: without an outcome the session goes on,
+/// and with one it ended so. The argument lines that it keeps are within its limit.
 pub fn server_keeps_to_its_session<R: Repo, A: Allocator + Copy>(server: &Server<R, A>)
     ensures within { (s : Setting) (used : List ℕ) (over : Bool) (given : List ℕ) →
         Running R.state s used over given server.now → kept_by server.now ≤ s.limit }
     ensures session { (s : Setting) (used : List ℕ) (over : Bool) (given : List ℕ) →
         Running R.state s used over given server.now → IsRunning s used over given }
+    ensures goes_on { (s : Setting) (used : List ℕ) (over : Bool) (given : List ℕ) → Running R.state s used over given server.now
+        → outcome_of server.now ≡ None → (over ≡ false) × GoesOn s used given }
+    ensures ends { (s : Setting) (used : List ℕ) (over : Bool) (given : List ℕ) (outcome : Outcome) → Running R.state s used over given server.now
+        → outcome_of server.now ≡ Some outcome → (owed : List Pkt) × IsEnding s used over given outcome owed }
+{}
+
+/// A server that neither waits for input nor has an outcome has used whole requests and nothing else.
+pub fn server_stops_at_a_request<R: Repo, A: Allocator + Copy>(server: &Server<R, A>)
+    ensures { (s : Setting) (used : List ℕ) (over : Bool) (given : List ℕ) → Running R.state s used over given server.now
+        → outcome_of server.now ≡ None → wants_input server.now ≡ false → (asked : List Asked) × Stream s used asked [] [] }
 {}
 
 /// A server has at no time more bytes than the longest packet and its limit together.

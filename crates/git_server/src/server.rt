@@ -92,6 +92,7 @@ impl<R: Repo, A: Allocator + Copy> Server<R, A> {
           failures = (R.state repo).failures;
         }) [] false [] result }
         ensures repo { repo_of result ≡ repo }
+        ensures open_ended { outcome_of result ≡ None }
         ensures credit { credit_of (reader_of result) ≡ 0 }
     {
         if advertise {
