@@ -66,7 +66,8 @@ stand_front a b h =
     let long = longer (counts_in a) (counts_in b) in
     record {
       rising_names = rising_front (λ a b. comes_before a b ≡ true) (names_in a) (names_in b) (subst NamesRise (filter_map-append name_in a b) h.rising_names);
-      rising_objects = rising_front (λ a b. precedes a.0 b.0 ≡ true) (objects_in a) (objects_in b) (subst AreRising (filter_map-append object_in a b) h.rising_objects);
+      rising_objects = rising_front (λ a b. precedes a.0 b.0 ≡ true) (objects_in a) (objects_in b)
+          (subst AreRising (filter_map-append object_in a b) h.rising_objects);
       one_count = omega (arith, count, long);
     }
 
