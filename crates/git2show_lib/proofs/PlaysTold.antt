@@ -1,5 +1,5 @@
 -- What a play tells that ended well.
-use Rattle.std.proofs.Common.{arith, ◌≡◌, inl, ℕ, Bool, true, false, All, flat_map, map, List, [], ◌∷◌, ◌++◌, Option, Some, None, IfSome, Ok}
+use Rattle.std.proofs.Common.{arith, ◌≡◌, inl, ℕ, Bool, true, false, All, flat_map, map, List, [], ◌∷◌, ◌++◌, Option, IfSome, Ok}
 use Rattle.std.proofs.Common.{refl, ap, sym, ◌∙◌, subst}
 use Rattle.std.specs.List.{filter_map}
 use Rattle.std.proofs.lemmas.List.{append-nil, append_cancel_right}

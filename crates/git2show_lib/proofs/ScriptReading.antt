@@ -71,10 +71,10 @@ module _ {A : Type 0} where
     limit_is = ap (λ (h : Held A). h.limit) nothing;
   }
 
-  pub stepped : (text left this : List ℕ) (offer : Offer) (limit : ℕ) (old new : Held A) (line : ℕ) (next : Option (List ℕ))
+  pub stepped : {text left this : List ℕ} {offer : Offer} {limit : ℕ} {old new : Held A} {line : ℕ} (next : Option (List ℕ))
       → ReadsScript text offer limit old line (Some left) → parts_of 10 left ≡ this ∷ parts_left 10 next → TakesLine old this new
       → ReadsScript text offer limit new (line + 1) next
-  stepped text left this offer limit old new line next h parts takes =
+  stepped {text} {left} {this} {offer} {limit} {old} next h parts takes =
       let goes = takes h.lines h.holds in
       record {
         before = h.before ++ this ∷ [];
@@ -89,10 +89,10 @@ module _ {A : Type 0} where
       }
 
   -- a line that no other may follow is the first bad one
-  pub refused_at : (text left this : List ℕ) (offer : Offer) (limit : ℕ) (old : Held A) (line : ℕ) (next : Option (List ℕ))
+  pub refused_at : {text left this : List ℕ} {offer : Offer} {limit : ℕ} {old : Held A} {line : ℕ} (next : Option (List ℕ))
       → ReadsScript text offer limit old line (Some left) → parts_of 10 left ≡ this ∷ parts_left 10 next → IsLineFault old this Refused
       → HasBadScriptLine offer limit (lines_of text) (line + 1)
-  refused_at text left this offer limit old line next h parts fault = record {
+  refused_at {text} {left} {this} {offer} {limit} {old} next h parts fault = record {
     before = h.before;
     bad = this;
     others = parts_left 10 next;
@@ -105,10 +105,10 @@ module _ {A : Type 0} where
   }
 
   -- and one for which there is no memory is one that may follow
-  pub no_memory_at : (text left this : List ℕ) (offer : Offer) (limit : ℕ) (old : Held A) (line : ℕ) (next : Option (List ℕ))
+  pub no_memory_at : {text left this : List ℕ} {offer : Offer} {limit : ℕ} {old : Held A} {line : ℕ} (next : Option (List ℕ))
       → ReadsScript text offer limit old line (Some left) → parts_of 10 left ≡ this ∷ parts_left 10 next → IsLineFault old this OutOfMemory
       → WantsScriptMemory offer limit (lines_of text)
-  no_memory_at text left this offer limit old line next h parts fault =
+  no_memory_at {text} {left} {this} {offer} {limit} {old} next h parts fault =
       let f = fault h.lines h.holds in
       record {
         before = h.before;

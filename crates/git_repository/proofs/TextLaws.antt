@@ -1,5 +1,5 @@
 -- A text is one repository, or has one first bad line.
-use Rattle.std.proofs.Common.{arith, ◌≡◌, ℕ, ◌+◌, ◌<◌, ◌≤◌, true, List, [], ◌∷◌, ◌++◌, refl, ap, sym, ◌∙◌, subst, append_assoc, length, get_or, codes, inl, inr}
+use Rattle.std.proofs.Common.{arith, ◌≡◌, ℕ, ◌+◌, ◌<◌, ◌≤◌, true, List, [], ◌∷◌, ◌++◌, refl, ap, sym, ◌∙◌, subst, append_assoc, length, get_or, inl, inr}
 use Rattle.std.specs.List.{AllAdjacentBelow}
 use Rattle.std.proofs.lemmas.Grind.{common_steps}
 use Rattle.std.proofs.lemmas.Bool.{cases_lt}
@@ -7,7 +7,6 @@ use Rattle.std.proofs.lemmas.List.{append-nil}
 use Rattle.std.proofs.lemmas.List.Elements.{filter_map-append}
 use Rattle.git_names.specs.declared.object_format.Format.{Format}
 use Rattle.git_names.specs.declared.object_format.Format.TheVariants.{Sha1, Sha256}
-use Rattle.git_names.specs.ObjectName.{ObjectName}
 use Rattle.git_server.specs.Repository.{comes_before}
 use Rattle.git_server.specs.Objects.{AreRising, precedes}
 use Rattle.git_server.specs.Lists.{Lists}
@@ -67,7 +66,8 @@ stand_front a b h =
     let long = longer (counts_in a) (counts_in b) in
     record {
       rising_names = rising_front (λ a b. comes_before a b ≡ true) (names_in a) (names_in b) (subst NamesRise (filter_map-append name_in a b) h.rising_names);
-      rising_objects = rising_front (λ a b. precedes a.0 b.0 ≡ true) (objects_in a) (objects_in b) (subst AreRising (filter_map-append object_in a b) h.rising_objects);
+      rising_objects = rising_front (λ a b. precedes a.0 b.0 ≡ true) (objects_in a) (objects_in b)
+          (subst AreRising (filter_map-append object_in a b) h.rising_objects);
       one_count = omega (arith, count, long);
     }
 

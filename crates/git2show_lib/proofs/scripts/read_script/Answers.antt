@@ -17,21 +17,18 @@ pub lines-preserved : goal.lines-preserved
 lines-preserved g c =
     let h = rw c.in-Some.is at c.lines.invariant in
     record {
-      reading = stepped c.args.text.now c.in-Some.left.now c.split_at_first.result.0.now (everything c.args.format) c.args.limits.args (held c.lines.script)
-          (held c.take.new.self) c.lines.line (option_copied c.split_at_first.result.1) h.reading c.split_at_first.ensures.parts c.in-Ok.ensures;
+      reading = stepped (option_copied c.split_at_first.result.1) h.reading c.split_at_first.ensures.parts c.in-Ok.ensures;
       room = room_behind (length c.args.text.now) c.lines.line c.in-Some.left.now c.split_at_first.result.1 h.room c.split_at_first.ensures.shorter;
     }
 
 pub returns-in-Err-Refused : goal.returns-in-Err-Refused
 returns-in-Err-Refused g c =
     let h = rw c.in-Some.is at c.lines.invariant in
-    refused_at c.args.text.now c.in-Some.left.now c.split_at_first.result.0.now (everything c.args.format) c.args.limits.args (held c.lines.script)
-    c.lines.line (option_copied c.split_at_first.result.1) h.reading c.split_at_first.ensures.parts
+    refused_at (option_copied c.split_at_first.result.1) h.reading c.split_at_first.ensures.parts
     (subst (IsLineFault (held c.lines.script) c.split_at_first.result.0.now) c.in-Err-Refused.field-0-is c.in-Err-Refused.ensures)
 
 pub returns-in-Err-OutOfMemory : goal.returns-in-Err-OutOfMemory
 returns-in-Err-OutOfMemory g c =
     let h = rw c.in-Some.is at c.lines.invariant in
-    no_memory_at c.args.text.now c.in-Some.left.now c.split_at_first.result.0.now (everything c.args.format) c.args.limits.args (held c.lines.script)
-    c.lines.line (option_copied c.split_at_first.result.1) h.reading c.split_at_first.ensures.parts
+    no_memory_at (option_copied c.split_at_first.result.1) h.reading c.split_at_first.ensures.parts
     (subst (IsLineFault (held c.lines.script) c.split_at_first.result.0.now) c.in-Err-OutOfMemory.field-0-is c.in-Err-OutOfMemory.ensures)
