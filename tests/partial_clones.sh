@@ -82,6 +82,7 @@ case_git_clones_whole_beside_a_filtered_pack() {
     clone_from_git history-sha1
     same_clones
     misses_nothing
+    sent command=fetch
     expect_same 'the filters' /dev/null <(grep '^filter' requests)
 }
 
@@ -112,18 +113,17 @@ case_git_clones_partly_where_no_pack_is_filtered() {
 # The remote is a server without a filtered pack from now on: what is missing comes from there, with the rest of the pack.
 case_git_fills_in_what_is_missing_from_a_second_server() {
     clones_partly history-sha1 --no-checkout
+    git -C history-sha1 ls-tree -r --format='%(objectname)' main | grep -x -F -f written | sort > needed
     git -C ours config remote.origin.url "$(offered history-sha1)"
     rm -f "$trace"
     GIT_TRACE_PACKET=$trace run git -C ours -c protocol.version=2 -c protocol.ext.allow=always checkout -q
     expect 0 /dev/null /dev/null
-    git -C theirs checkout -q
     misses_nothing
-    expect_same 'the files' <(cd theirs && ls -R) <(cd ours && ls -R)
-    git -C ours diff --exit-code
+    expect_same 'what is not checked out' /dev/null <(git -C ours status --porcelain)
     sent_filter 1
     # Each blob that the checkout needs is named, and no reference is asked for.
     expect_same 'the commands' <(echo command=fetch) <(grep '^command=' requests)
-    expect_same 'the objects' <(git -C history-sha1 ls-tree -r main | sed 's/.* blob \([0-9a-f]*\)\t.*/want \1/' | sort) <(grep '^want ' requests | sort)
+    expect_same 'the objects' <(sed 's/^/want /' needed) <(grep '^want ' requests | sort)
 }
 
 # offer_web NAME: offers history-sha1 by another name, with its filtered pack.
@@ -147,7 +147,7 @@ case_git_clones_partly_over_http_and_fills_in() {
     run git -C ours -c protocol.version=2 checkout -q
     expect 0 /dev/null /dev/null
     misses_nothing
-    git -C ours diff --exit-code
+    expect_same 'what is not checked out' /dev/null <(git -C ours status --porcelain)
     asked 'POST /partial-web/git-upload-pack plain'
 }
 
@@ -160,9 +160,9 @@ case_git_sends_a_filter_of_several() {
     misses_blobs history-sha1
 }
 
-# A server reads the packs before it judges the text.
+# A filtered pack that is named has to be there.
 case_git_is_told_of_a_missing_filtered_pack() {
-    clone "$(offered history-sha1) --filtered $room/nowhere" ours --bare --filter=blob:none
+    clone "$(offered history-sha1 --filtered "$room/nowhere")" ours --bare --filter=blob:none
     fails 'git2show: File'
     [ ! -e ours ] || differs 'a clone of nothing'
 }
