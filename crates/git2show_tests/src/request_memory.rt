@@ -103,7 +103,12 @@ fn each_growth_of_the_filters_is_refused_in_turn(rt: HostRuntime) -> Result<(), 
 
 #[test]
 fn filters_are_kept_in_order(rt: HostRuntime) -> Result<(), AllocError> {
-    let mut request = Request::new(rt.alloc(), Command::Fetch, Format::Sha1, Limits { args: 57 });
+    let mut request = Request::new(
+        rt.alloc(),
+        Command::Fetch,
+        Format::Sha1,
+        Limits { args: 57 },
+    );
     for spec in [FILTERS[0], FILTERS[1], FILTERS[0]] {
         assert_eq!(&rt; request.add(Argument::Filter(spec)), Ok(()));
     }

@@ -3,7 +3,7 @@
 use crate::asking::Asking;
 use crate::ends::End;
 use crate::script::{Given, Recording, Script};
-use crate::sessions::{Reads, Contents, Setup};
+use crate::sessions::{Contents, Reads, Setup};
 use crate::tables::Table;
 use crate::trouble::Trouble;
 use crate::{checks, clients, plays, runs};
@@ -228,11 +228,7 @@ fn subject_of<'a>(words: Words<'_>, files: &'a Files) -> Result<Subject<'a>, Tro
 }
 
 // The file that stands after this word, where the word stands there.
-fn named_file(
-    rt: &HostRuntime,
-    words: Words<'_>,
-    word: &str,
-) -> Result<Option<Vec<u8>>, Trouble> {
+fn named_file(rt: &HostRuntime, words: Words<'_>, word: &str) -> Result<Option<Vec<u8>>, Trouble> {
     match words.after(word) {
         Some(path) => Ok(Some(fs::read(rt, path)?)),
         None => Ok(None),
