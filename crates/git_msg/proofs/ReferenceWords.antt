@@ -10,7 +10,7 @@ use Rattle.std.proofs.Math.Seq.{drop-append-add, drop-append_seam, take-append_s
 use Rattle.std.proofs.lemmas.List.{append-nil, length-append, take-append-drop}
 use Rattle.std.proofs.lemmas.Slice.Eq.{bytes_eq-Decides}
 use Rattle.git_names.specs.ObjectFormat.{digits_of}
-use Rattle.git_names.specs.ObjectName.{ObjectName, IsObjectName, IsNoObjectName}
+use Rattle.git_names.specs.ObjectName.{ObjectName}
 use Rattle.git_names.specs.RefName.{IsRefName}
 use Rattle.git_names.specs.declared.object_format.Format.{Format}
 use Rattle.git_pkt.specs.declared.fault.Kind.{Kind}

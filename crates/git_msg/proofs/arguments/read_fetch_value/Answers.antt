@@ -40,3 +40,7 @@ returns-in_err-time-clause-argument c =
     let p = err_from_is_err_and c.from_residual-in_err-time.result c.from_residual-in_err-time.ensures.1 in
     let bad = c.in_err-time.ensures.time in
     rw (p.1, p.2) (inr (of_deepen_since, (record { value = c.in-Some-after-4.digits.now; spelled = search rules; holds = bad.0 }, bad.1)))
+
+pub returns-then-not-is_kept_text-2-clause-argument : goal.returns-then-not-is_kept_text-2-clause-argument
+returns-then-not-is_kept_text-2-clause-argument c =
+    (inr (of_filter, (record { value = c.in-Some-after-7.spec.now; spelled = search rules; holds = search rules }, refl)))
