@@ -3,7 +3,7 @@
 
 use git_msg::{Limits, Offer};
 use git_names::Steps;
-use git_repository::read_repo;
+use git_repository::{Packs, read_repo};
 use git_server::{ListRepo, Outcome, Pulled, Repo, Server};
 use std::alloc::Global;
 use std::io;
@@ -41,7 +41,11 @@ fn host<R: BufRead, W: Write>(
 
 fn main(rt: HostRuntime) -> io::Result<ExitCode> {
     let alloc = rt.alloc();
-    let Ok(repo) = read_repo(alloc, REPOSITORY, Vec::new(alloc)) else {
+    let packs = Packs {
+        pack: Vec::new(alloc),
+        filtered: None,
+    };
+    let Ok(repo) = read_repo(alloc, REPOSITORY, packs) else {
         return Ok(ExitCode::FAILURE);
     };
     let offer = Offer {
@@ -50,6 +54,7 @@ fn main(rt: HostRuntime) -> io::Result<ExitCode> {
         shallow: false,
         ref_in_want: false,
         wait_for_done: false,
+        filter: false,
         object_info: false,
         server_option: false,
     };

@@ -12,7 +12,7 @@ use git_client::Ending;
 use git_msg::{Limits, Offer, Request};
 use git_names::Format;
 use git_pkt::{Discard, LONGEST_PACKET, Retries, RunFault, Told};
-use git_repository::{RepositoryReader, TextFault};
+use git_repository::{Packs, RepositoryReader, TextFault};
 use git_server::{ListRepo, Outcome, Repo, Server, serve};
 use git2show_lib::{ProgramFault, check, play, read_script, report, show};
 use std::alloc::{AllocError, Global};
@@ -154,13 +154,19 @@ fn play_command<'a>(alloc: Global) -> Result<Command<'a>, AllocError> {
         ))
 }
 
-/// A command with the two files of a repository.
+/// A command with the files of a repository: its text, its pack, and the one for requests that have a filter.
 fn with_repository<'a>(alloc: Global, command: Command<'a>) -> Result<Command<'a>, AllocError> {
     command
         .arg(file_argument(alloc, "repo").help(
             "Text that lists the references, the objects and where the history is cut off, one to a line",
         ))?
-        .arg(file_argument(alloc, "pack").help("Pack for answers to fetch"))
+        .arg(file_argument(alloc, "pack").help("Pack for answers to fetch"))?
+        .arg(
+            Arg::new(alloc, "filtered")
+                .long("filtered")
+                .value_name("FILE")
+                .help("Pack for answers to a fetch with a filter [usual: that of --pack]"),
+        )
 }
 
 /// An argument that has to name a file.
@@ -325,13 +331,13 @@ fn run_serve(rt: &HostRuntime, matches: &ArgMatches<'_>) -> Result<(), ProgramFa
 }
 
 /// Plays the script that is named over the repository whose files are named, and writes the transcript to standard output. All
-/// three files are read before one of them is judged.
+/// files are read before one of them is judged.
 fn run_play(rt: &HostRuntime, matches: &ArgMatches<'_>) -> Result<(), ProgramFault> {
     let alloc = rt.alloc();
     let text = read_text(rt, open(rt, matches, "repo")?)?;
-    let pack = read_whole(rt, matches, "pack")?;
+    let packs = read_packs(rt, matches)?;
     let script = read_whole(rt, matches, "script")?;
-    let repo = judge_repository(text, pack)?;
+    let repo = judge_repository(text, packs)?;
     let requests = judge_script(alloc, &script, repo.format())?;
     // clap refuses 0 and more than the longest, which is said once more for the prover.
     let cut = match matches.get_one::<u32>("cut") {
@@ -376,15 +382,25 @@ fn judge_script(
     }
 }
 
-/// Reads the files of a repository: its text by pieces, and its pack whole.
+/// Reads the files of a repository: its text by pieces, and its packs whole.
 fn read_repository(rt: &HostRuntime, matches: &ArgMatches<'_>) -> Result<ListRepo, ProgramFault> {
     let text = read_text(rt, open(rt, matches, "repo")?)?;
-    judge_repository(text, read_whole(rt, matches, "pack")?)
+    judge_repository(text, read_packs(rt, matches)?)
 }
 
-/// The repository of a text that was read, and of its pack.
-fn judge_repository(text: RepositoryReader, pack: Vec<u8>) -> Result<ListRepo, ProgramFault> {
-    match text.finish(pack) {
+/// Reads the pack, and then the one for requests that have a filter, where a file is named for it.
+fn read_packs(rt: &HostRuntime, matches: &ArgMatches<'_>) -> Result<Packs, ProgramFault> {
+    let pack = read_whole(rt, matches, "pack")?;
+    let filtered = match matches.get_str("filtered") {
+        Some(path) => Some(fs::read(rt, path).map_err(file_fault)?),
+        None => None,
+    };
+    Ok(Packs { pack, filtered })
+}
+
+/// The repository of a text that was read, and of its packs.
+fn judge_repository(text: RepositoryReader, packs: Packs) -> Result<ListRepo, ProgramFault> {
+    match text.finish(packs) {
         Ok(repo) => Ok(repo),
         Err(TextFault::Bad { line }) => Err(ProgramFault::Repo(line)),
         Err(TextFault::OutOfMemory) => Err(ProgramFault::OutOfMemory),

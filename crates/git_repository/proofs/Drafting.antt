@@ -11,6 +11,7 @@ use Rattle.git_msg.specs.declared.Boundary.{Boundary}
 use Rattle.git_server.specs.Repository.{Entry, IsOfFormat, bytes_of, comes_before}
 use Rattle.git_server.specs.Objects.{AreRising, object_of, precedes}
 use Rattle.git_server.specs.Lists.{Lists}
+use Rattle.git_repository.specs.Packs.{PackBytes, packs_in, no_packs}
 use Rattle.git_repository.specs.RepositoryLines.{Said, reference, unborn, object, ready, boundary}
 use Rattle.git_repository.specs.RepositoryText.{MayStand, NamesRise, boundaries_in, counts_in, first_of, lists_said, names_in, objects_in, refs_in, unborn_in}
 use Rattle.git_repository.specs.Drafts.{Adds, AddsBoundary, AddsCount, AddsObject, AddsReference, AddsSaid, AddsUnborn}
@@ -69,36 +70,37 @@ names_more (ready count ∷ more) next = names_more more next
 names_more (boundary line ∷ more) next = names_more more next
 
 -- lists of the same parts are the same
-lists_from : Format → List Entry → List (ObjectName × ℕ) → Option ℕ → List Boundary → List ℕ → Option (List ℕ) → Lists
-lists_from format refs objects ready_after boundaries pack unborn_head = record {
+lists_from : Format → List Entry → List (ObjectName × ℕ) → Option ℕ → List Boundary → PackBytes → Option (List ℕ) → Lists
+lists_from format refs objects ready_after boundaries packs unborn_head = record {
   format = format;
   refs = refs;
   objects = objects;
   ready_after = ready_after;
   boundaries = boundaries;
-  pack = pack;
+  pack = packs.pack;
   unborn = unborn_head;
+  filtered = packs.filtered;
 }
 
 same_lists : (a b : Lists) → a.format ≡ b.format → a.refs ≡ b.refs → a.objects ≡ b.objects → a.ready_after ≡ b.ready_after
-    → a.boundaries ≡ b.boundaries → a.pack ≡ b.pack → a.unborn ≡ b.unborn → a ≡ b
+    → a.boundaries ≡ b.boundaries → packs_in a ≡ packs_in b → a.unborn ≡ b.unborn → a ≡ b
 unfolding lists_from
 same_lists a b e f g h i j k =
-    ap (λ (x : Format). lists_from x a.refs a.objects a.ready_after a.boundaries a.pack a.unborn) e
-    ∙ ap (λ (x : List Entry). lists_from b.format x a.objects a.ready_after a.boundaries a.pack a.unborn) f
-    ∙ ap (λ (x : List (ObjectName × ℕ)). lists_from b.format b.refs x a.ready_after a.boundaries a.pack a.unborn) g
-    ∙ ap (λ (x : Option ℕ). lists_from b.format b.refs b.objects x a.boundaries a.pack a.unborn) h
-    ∙ ap (λ (x : List Boundary). lists_from b.format b.refs b.objects b.ready_after x a.pack a.unborn) i
-    ∙ ap (λ (x : List ℕ). lists_from b.format b.refs b.objects b.ready_after b.boundaries x a.unborn) j
-    ∙ ap (λ (x : Option (List ℕ)). lists_from b.format b.refs b.objects b.ready_after b.boundaries b.pack x) k
+    ap (λ (x : Format). lists_from x a.refs a.objects a.ready_after a.boundaries (packs_in a) a.unborn) e
+    ∙ ap (λ (x : List Entry). lists_from b.format x a.objects a.ready_after a.boundaries (packs_in a) a.unborn) f
+    ∙ ap (λ (x : List (ObjectName × ℕ)). lists_from b.format b.refs x a.ready_after a.boundaries (packs_in a) a.unborn) g
+    ∙ ap (λ (x : Option ℕ). lists_from b.format b.refs b.objects x a.boundaries (packs_in a) a.unborn) h
+    ∙ ap (λ (x : List Boundary). lists_from b.format b.refs b.objects b.ready_after x (packs_in a) a.unborn) i
+    ∙ ap (λ (x : PackBytes). lists_from b.format b.refs b.objects b.ready_after b.boundaries x a.unborn) j
+    ∙ ap (λ (x : Option (List ℕ)). lists_from b.format b.refs b.objects b.ready_after b.boundaries (packs_in b) x) k
 
 -- so lists of these parts are what was said with one line more
 lists_more : (said : List Said) (next : Said) (lists : Lists)
     → lists.refs ≡ refs_in said ++ refs_in (next ∷ []) → lists.objects ≡ objects_in said ++ objects_in (next ∷ [])
     → lists.ready_after ≡ first_of (counts_in said ++ counts_in (next ∷ [])) → lists.boundaries ≡ boundaries_in said ++ boundaries_in (next ∷ [])
-    → lists.pack ≡ [] → lists.unborn ≡ first_of (unborn_in said ++ unborn_in (next ∷ [])) → lists ≡ lists_said lists.format (said ++ next ∷ []) []
+    → packs_in lists ≡ no_packs → lists.unborn ≡ first_of (unborn_in said ++ unborn_in (next ∷ [])) → lists ≡ lists_said lists.format (said ++ next ∷ []) no_packs
 lists_more said next lists f g h i j k =
-    same_lists lists (lists_said lists.format (said ++ next ∷ []) []) refl (f ∙ sym (refs_more said next)) (g ∙ sym (objects_more said next))
+    same_lists lists (lists_said lists.format (said ++ next ∷ []) no_packs) refl (f ∙ sym (refs_more said next)) (g ∙ sym (objects_more said next))
     (h ∙ ap first_of (sym (counts_more said next))) (i ∙ sym (boundaries_more said next)) j (k ∙ ap first_of (sym (unborn_more said next)))
 
 stand_more : (said : List Said) (next : Said) → NamesRise (names_in said ++ names_in (next ∷ [])) → AreRising (objects_in said ++ objects_in (next ∷ []))
@@ -135,8 +137,8 @@ module _ (said : List Said) (lists : Lists) (h : Holds said lists) where
   unborn_said : lists.unborn ≡ first_of (unborn_in said)
   unborn_said = ap (λ (l : Lists). l.unborn) h.lists_are
 
-  no_pack : lists.pack ≡ []
-  no_pack = ap (λ (l : Lists). l.pack) h.lists_are
+  no_packs_yet : packs_in lists ≡ no_packs
+  no_packs_yet = ap packs_in h.lists_are
 
   no_more_refs : lists.refs ≡ refs_in said ++ []
   no_more_refs = refs_said ∙ sym (append-nil (refs_in said))
@@ -178,7 +180,7 @@ adds_reference old new entry fit is last = subst (Adds old (reference entry)) (s
   same_format = refl;
   holds = λ said h. record {
     lists_are = lists_more said (reference entry) (with_ref old entry) (ap (λ (xs : List Entry). xs ++ entry ∷ []) (refs_said said old h))
-        (no_more_objects said old h) (no_more_ready said old h) (no_more_boundaries said old h) (no_pack said old h) (no_more_unborn said old h);
+        (no_more_objects said old h) (no_more_ready said old h) (no_more_boundaries said old h) (no_packs_yet said old h) (no_more_unborn said old h);
     names_are = names_more said (reference entry) ∙ ap (λ (xs : List (List ℕ)). xs ++ entry.name ∷ []) h.names_are ∙ ref_names old entry;
     may_stand = stand_more said (reference entry)
         (rising_more (λ a b. comes_before a b ≡ true) (names_in said) entry.name h.may_stand.rising_names
@@ -226,7 +228,7 @@ adds_unborn old new target is none = subst (Adds old (unborn target)) (sym is) (
       let before : unborn_in said ≡ [] = none_yet (unborn_in said) (sym (unborn_said said old h) ∙ no_unborn old none) in
       record {
         lists_are = lists_more said (unborn target) (with_unborn old target) (no_more_refs said old h) (no_more_objects said old h)
-            (no_more_ready said old h) (no_more_boundaries said old h) (no_pack said old h)
+            (no_more_ready said old h) (no_more_boundaries said old h) (no_packs_yet said old h)
             (ap (λ (xs : List (List ℕ)). first_of (xs ++ target ∷ [])) (sym before));
         names_are = names_more said (unborn target) ∙ ap (λ (xs : List (List ℕ)). xs ++ codes "HEAD" ∷ []) (h.names_are ∙ none)
             ∙ ap (λ (refs : List Entry). codes "HEAD" ∷ map (λ (entry : Entry). entry.name) refs) (sym (no_refs old none));
@@ -242,7 +244,7 @@ adds_object old new id size fit is last = subst (Adds old (object id size)) (sym
   holds = λ said h. record {
     lists_are = lists_more said (object id size) (with_object old (id, size)) (no_more_refs said old h)
         (ap (λ (xs : List (ObjectName × ℕ)). xs ++ (id, size) ∷ []) (objects_said said old h)) (no_more_ready said old h)
-        (no_more_boundaries said old h) (no_pack said old h) (no_more_unborn said old h);
+        (no_more_boundaries said old h) (no_packs_yet said old h) (no_more_unborn said old h);
     names_are = names_more said (object id size) ∙ no_more_names said old h;
     may_stand = stand_more said (object id size) (no_names said h.may_stand)
         (rising_more (λ a b. precedes a.0 b.0 ≡ true) (objects_in said) (id, size) h.may_stand.rising_objects
@@ -267,7 +269,7 @@ adds_count old new count is none = subst (Adds old (ready count)) (sym is) (reco
       let more = one_more (counts_in said) count (none_yet (counts_in said) (sym (ready_said said old h) ∙ none)) in
       record {
         lists_are = lists_more said (ready count) (with_count old count) (no_more_refs said old h) (no_more_objects said old h) more.0
-            (no_more_boundaries said old h) (no_pack said old h) (no_more_unborn said old h);
+            (no_more_boundaries said old h) (no_packs_yet said old h) (no_more_unborn said old h);
         names_are = names_more said (ready count) ∙ no_more_names said old h;
         may_stand = stand_more said (ready count) (no_names said h.may_stand) (no_objects said h.may_stand) more.1;
         of_format = record { by_refs = h.of_format.by_refs; by_objects = h.of_format.by_objects; by_boundaries = h.of_format.by_boundaries };
@@ -279,7 +281,7 @@ adds_boundary old new line fit is = subst (Adds old (boundary line)) (sym is) (r
   same_format = refl;
   holds = λ said h. record {
     lists_are = lists_more said (boundary line) (with_boundary old line) (no_more_refs said old h) (no_more_objects said old h)
-        (no_more_ready said old h) (ap (λ (xs : List Boundary). xs ++ line ∷ []) (boundaries_said said old h)) (no_pack said old h)
+        (no_more_ready said old h) (ap (λ (xs : List Boundary). xs ++ line ∷ []) (boundaries_said said old h)) (no_packs_yet said old h)
         (no_more_unborn said old h);
     names_are = names_more said (boundary line) ∙ no_more_names said old h;
     may_stand = stand_more said (boundary line) (no_names said h.may_stand) (no_objects said h.may_stand) (no_counts said h.may_stand);

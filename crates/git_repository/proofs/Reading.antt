@@ -6,6 +6,7 @@ use Rattle.git_server.specs.Repository.{Entry}
 use Rattle.std.proofs.lemmas.List.Elements.{All-nil}
 use Rattle.git_names.specs.declared.object_format.Format.{Format}
 use Rattle.git_server.specs.Lists.{Lists}
+use Rattle.git_repository.specs.Packs.{PackBytes}
 use Rattle.git_repository.specs.RepositoryLines.{Said, reference, unborn, object, ready, boundary, Says, SaysNothing, format_line, lines_of}
 use Rattle.git_repository.specs.RepositoryText.{Begins, IsRepositoryText, MayStand, SayAll, WantsMemory}
 use Rattle.git_repository.specs.RepositoryText.{boundaries_in, counts_in, first_of, names_in, objects_in, refs_in, unborn_in}
@@ -14,7 +15,7 @@ use Rattle.git_repository.specs.RepositoryProgress.{IsLinesFault}
 use Rattle.git_repository.specs.RepositoryFaults.{IsTextFault}
 use Rattle.git_repository.specs.declared.text_faults.TextFault.{TextFault}
 use Rattle.git_repository.specs.declared.text_faults.TextFault.TheVariants.{Bad, OutOfMemory as OutOfMemoryOfText}
-use Rattle.git_repository.specs.Drafts.{Adds, Holds, IsLineFault, empty_lists, head_names, with_pack}
+use Rattle.git_repository.specs.Drafts.{Adds, Holds, IsLineFault, empty_lists, head_names, with_packs}
 use Rattle.git_repository.specs.declared.text_faults.LineFault.TheVariants.{Refused, OutOfMemory}
 use Rattle.git_repository.proofs.Saying.{one_said}
 
@@ -200,11 +201,11 @@ pub text_fault : (text : List ℕ) (fault : TextFault) → IsLinesFault (lines_o
 text_fault text (Bad number) h = h
 text_fault text OutOfMemoryOfText h = h
 
-pub whole_text : (text pack : List ℕ) (lists made : Lists) → AreTold (lines_of text) lists → made ≡ with_pack lists pack
-    → IsRepositoryText text pack made
-whole_text text pack lists made h is = record {
+pub whole_text : (text : List ℕ) (packs : PackBytes) (lists made : Lists) → AreTold (lines_of text) lists → made ≡ with_packs lists packs
+    → IsRepositoryText text packs made
+whole_text text packs lists made h is = record {
   format = lists.format;
   said = h.said;
   begins = h.begins;
-  lists_are = is ∙ ap (λ (l : Lists). with_pack l pack) h.holds.lists_are;
+  lists_are = is ∙ ap (λ (l : Lists). with_packs l packs) h.holds.lists_are;
 }

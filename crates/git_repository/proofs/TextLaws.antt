@@ -11,6 +11,7 @@ use Rattle.git_server.specs.Repository.{comes_before}
 use Rattle.git_server.specs.Objects.{AreRising, precedes}
 use Rattle.git_server.specs.Lists.{Lists}
 use Rattle.git_msg.proofs.ReferenceLaws.{same_heads}
+use Rattle.git_repository.specs.Packs.{PackBytes}
 use Rattle.git_repository.specs.RepositoryLines.{Said, reference, unborn, object, ready, boundary, Says, format_line, lines_of}
 use Rattle.git_repository.specs.RepositoryText.{Begins, HasBadLine, HasNoFormat, IsFirstBad, IsRepositoryText}
 use Rattle.git_repository.specs.RepositoryText.{MayStand, NamesRise, SayAll, counts_in, lists_said, names_in, objects_in}
@@ -38,10 +39,10 @@ one_beginning f g lines a b h k =
     let there : SayAll g k.others a = subst (λ (x : Format). SayAll x k.others a) format (subst (λ (ls : List (List ℕ)). SayAll f ls a) same.1 h.say_all) in
     (format, one_of_all g k.others a b there k.say_all)
 
-pub one_repository : (text pack : List ℕ) (a b : Lists) → IsRepositoryText text pack a → IsRepositoryText text pack b → a ≡ b
-one_repository text pack a b h k =
+pub one_repository : (text : List ℕ) (packs : PackBytes) (a b : Lists) → IsRepositoryText text packs a → IsRepositoryText text packs b → a ≡ b
+one_repository text packs a b h k =
     let same = one_beginning h.format k.format (lines_of text) h.said k.said h.begins k.begins in
-    h.lists_are ∙ ap (λ (f : Format). lists_said f h.said pack) same.0 ∙ ap (λ (s : List Said). lists_said k.format s pack) same.1 ∙ sym k.lists_are
+    h.lists_are ∙ ap (λ (f : Format). lists_said f h.said packs) same.0 ∙ ap (λ (s : List Said). lists_said k.format s packs) same.1 ∙ sym k.lists_are
 
 module _ {X : Type 0} where
   front_of : (xs ys : List X) (k : ℕ) (d : X) → k < length xs → get_or (xs ++ ys) k d ≡ get_or xs k d
@@ -140,10 +141,10 @@ begins_or_no_format format lines more whole said number h is bad =
     bad.no_format format (same_heads bad.first (format_line format) bad.others (h.others ++ more)
     (sym bad.whole ∙ is ∙ ap (λ (ls : List (List ℕ)). ls ++ more) h.spelled)).0
 
-pub repository_or_bad : (text pack : List ℕ) (lists : Lists) (number : ℕ) → IsRepositoryText text pack lists → IsFirstBad text number → ⊥
-repository_or_bad text pack lists number h (inl bad) =
+pub repository_or_bad : (text : List ℕ) (packs : PackBytes) (lists : Lists) (number : ℕ) → IsRepositoryText text packs lists → IsFirstBad text number → ⊥
+repository_or_bad text packs lists number h (inl bad) =
     begins_or_no_format h.format (lines_of text) [] (lines_of text) h.said number h.begins (sym (append-nil (lines_of text))) bad
-repository_or_bad text pack lists number h (inr bad) = begins_or_bad h.format (lines_of text) h.said number h.begins bad
+repository_or_bad text packs lists number h (inr bad) = begins_or_bad h.format (lines_of text) h.said number h.begins bad
 
 -- of two cuts of one list, the earlier lies in the front of the later
 pub earlier_in : (a : List (List ℕ)) (x : List ℕ) (xs b : List (List ℕ)) (y : List ℕ) (ys : List (List ℕ)) → a ++ x ∷ xs ≡ b ++ y ∷ ys → length a < length b

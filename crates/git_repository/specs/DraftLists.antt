@@ -1,5 +1,5 @@
 -- What a clause sees of a `Draft`.
-use Rattle.std.specs.Prelude.{[]}
+use Rattle.std.specs.Prelude.{[], None}
 use Rattle.git_server.specs.Lists.{Lists}
 use Rattle.git_server.specs.Repository.{bytes_of}
 use Rattle.git_repository.specs.declared.drafts.Draft.{Draft}
@@ -14,4 +14,5 @@ drafted draft = record {
   boundaries = draft.boundaries.items;
   pack = [];
   unborn = bytes_of draft.unborn;
+  filtered = None;
 }

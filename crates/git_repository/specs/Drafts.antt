@@ -8,16 +8,18 @@ use Rattle.git_msg.specs.declared.Boundary.{Boundary}
 use Rattle.git_server.specs.Repository.{Entry, IsNamed, IsOfFormat, comes_before}
 use Rattle.git_server.specs.Objects.{object_of, precedes}
 use Rattle.git_server.specs.Lists.{Lists, AreOfFormat}
+use Rattle.git_repository.specs.Packs.{PackBytes, no_packs}
 use Rattle.git_repository.specs.RepositoryLines.{Said, reference, unborn, object, ready, boundary}
 use Rattle.git_repository.specs.RepositoryText.{MayStand, TakesMemory, lists_said, names_in}
 use Rattle.git_repository.specs.declared.text_faults.LineFault.{LineFault}
 use Rattle.git_repository.specs.declared.text_faults.LineFault.TheVariants.{Refused, OutOfMemory}
 
 abbrev pub empty_lists : Format → Lists
-empty_lists format = lists_said format [] []
+empty_lists format = lists_said format [] no_packs
 
-abbrev pub with_pack : Lists → List ℕ → Lists
-with_pack lists pack = record lists { pack = pack }
+-- with these packs
+abbrev pub with_packs : Lists → PackBytes → Lists
+with_packs lists packs = record lists { pack = packs.pack; filtered = packs.filtered }
 
 -- the name of an unborn `HEAD`, where there is one
 abbrev pub head_names : Bool → List (List ℕ)
@@ -84,7 +86,7 @@ IsFit format (boundary line) = (object_of line).format ≡ format
 
 -- these lists were said
 pub record Holds (said : List Said) (lists : Lists) : Type 0 where
-  pub lists_are : lists ≡ lists_said lists.format said []
+  pub lists_are : lists ≡ lists_said lists.format said no_packs
   pub names_are : names_in said ≡ names_of lists
   pub may_stand : MayStand said
   pub of_format : AreOfFormat lists

@@ -1,3 +1,4 @@
+pub mod Packs
 pub mod RepositoryLines
 pub mod RepositoryText
 pub mod DraftLists

@@ -7,6 +7,7 @@ use Rattle.git_msg.specs.declared.Boundary.{Boundary}
 use Rattle.git_server.specs.Repository.{Entry, comes_before}
 use Rattle.git_server.specs.Objects.{AreRising}
 use Rattle.git_server.specs.Lists.{Lists}
+use Rattle.git_repository.specs.Packs.{PackBytes}
 use Rattle.git_repository.specs.RepositoryLines.{Said, reference, unborn, object, ready, boundary, Says, format_line, lines_of}
 
 -- each line says what stands at its place
@@ -84,16 +85,17 @@ pub record MayStand (said : List Said) : Type 0 where
   pub rising_objects : AreRising (objects_in said)
   pub one_count : length (counts_in said) ≤ 1
 
--- the repository that they say
-abbrev pub lists_said : Format → List Said → List ℕ → Lists
-lists_said format said pack = record {
+-- the repository that they say, with these packs
+abbrev pub lists_said : Format → List Said → PackBytes → Lists
+lists_said format said packs = record {
   format = format;
   refs = refs_in said;
   objects = objects_in said;
   ready_after = first_of (counts_in said);
   boundaries = boundaries_in said;
-  pack = pack;
+  pack = packs.pack;
   unborn = first_of (unborn_in said);
+  filtered = packs.filtered;
 }
 
 -- lines that begin a text: a format, and what the others say
@@ -103,12 +105,12 @@ pub record Begins (format : Format) (lines : List (List ℕ)) (said : List Said)
   pub say_all : SayAll format others said
   pub may_stand : MayStand said
 
--- the text is this repository, but for its pack
-pub record IsRepositoryText (text pack : List ℕ) (lists : Lists) : Type 0 where
+-- the text is this repository, but for its packs
+pub record IsRepositoryText (text : List ℕ) (packs : PackBytes) (lists : Lists) : Type 0 where
   pub format : Format
   pub said : List Said
   pub begins : Begins format (lines_of text) said
-  pub lists_are : lists ≡ lists_said format said pack
+  pub lists_are : lists ≡ lists_said format said packs
 
 -- the first line tells no format
 pub record HasNoFormat (lines : List (List ℕ)) (number : ℕ) : Type 0 where

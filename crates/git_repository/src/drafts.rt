@@ -8,8 +8,9 @@ ghost use Rattle.std.specs.Option.{option_copied, ForSome};
 ghost use Rattle.git_names.specs.RefName.{IsRefName};
 ghost use Rattle.git_repository.specs.RepositoryLines.{shown, shown_entry};
 ghost use Rattle.git_repository.specs.Drafts.{AddsBoundary, AddsCount, AddsObject, AddsReference, AddsSaid, AddsUnborn, names_of};
-ghost use Rattle.git_repository.specs.Drafts.{ComesLast, ComesLastObject, IsFit, empty_lists, with_pack};
+ghost use Rattle.git_repository.specs.Drafts.{ComesLast, ComesLastObject, IsFit, empty_lists, with_packs};
 
+use crate::packs::Packs;
 use crate::repository_lines::{Item, LineEntry, read_item};
 use crate::text_faults::{LineFault, TextFault};
 use git_msg::Boundary;
@@ -17,7 +18,7 @@ use git_names::{Format, Oid};
 use git_server::{ListRepo, RefEntry};
 use std::alloc::{AllocError, Global};
 
-/// What the lines said so far. With a pack it makes a repository at each moment.
+/// What the lines said so far. With packs it makes a repository at each moment.
 #[derive(Drop)]
 pub(crate) struct Draft {
     format: Format,
@@ -38,6 +39,7 @@ pub(crate) struct Draft {
 impl Draft {
     ghost use Rattle.git_repository.specs.DraftLists.{drafted};
     ghost use Rattle.git_repository.specs.LinesTold.{AreTold, lines_behind};
+    ghost use Rattle.git_repository.specs.Packs.{packs_of};
     ghost use Rattle.git_repository.specs.RepositoryProgress.{IsLinesFault};
 
     /// Nothing yet.
@@ -178,9 +180,9 @@ impl Draft {
         }
     }
 
-    /// The repository that the lines said, with this pack.
-    pub(crate) fn finish(self, pack: Vec<u8>) -> ListRepo
-        ensures { lists_of result ≡ with_pack (drafted self) pack.items }
+    /// The repository that the lines said, with these packs.
+    pub(crate) fn finish(self, packs: Packs) -> ListRepo
+        ensures { lists_of result ≡ with_packs (drafted self) (packs_of packs) }
     {
         let Draft {
             format,
@@ -190,7 +192,17 @@ impl Draft {
             boundaries,
             unborn,
         } = self;
-        ListRepo::of_lists(format, refs, objects, ready_after, boundaries, pack, unborn)
+        let Packs { pack, filtered } = packs;
+        ListRepo::of_lists(
+            format,
+            refs,
+            objects,
+            ready_after,
+            boundaries,
+            pack,
+            unborn,
+            filtered,
+        )
     }
 }
 

@@ -2,6 +2,7 @@
 #![tactic(auto)]
 
 mod drafts;
+mod packs;
 mod repository_lines;
 mod repository_progress;
 mod repository_reader;
@@ -9,6 +10,7 @@ mod repository_text;
 pub mod repository_text_laws;
 mod text_faults;
 
+pub use packs::Packs;
 pub use repository_reader::RepositoryReader;
 pub use repository_text::read_repo;
 pub use text_faults::{LineFault, TextFault};

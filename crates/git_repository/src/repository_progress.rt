@@ -2,10 +2,12 @@
 
 ghost use Rattle.std.specs.Prelude.{◌≡◌, ◌↔◌, ◌+◌, ◌≤◌, ◌++◌, ◌∷◌, [], ℕ, List, IsTrue, MatchResult, length, vec_capacity};
 ghost use Rattle.git_msg.specs.Texts.{parts_of};
+ghost use Rattle.git_repository.specs.Packs.{packs_of};
 ghost use Rattle.git_repository.specs.RepositoryFaults.{IsTextFault, IsWholeText};
 ghost use Rattle.git_repository.specs.RepositoryLines.{lines_of};
 
 use crate::drafts::Draft;
+use crate::packs::Packs;
 use crate::repository_lines::read_format;
 use crate::text_faults::TextFault;
 use git_msg::split_at_first;
@@ -137,13 +139,13 @@ impl Progress {
         self,
         alloc: Global,
         begun: &[u8],
-        pack: Vec<u8>,
+        packs: Packs,
     ) -> Result<ListRepo, TextFault>
         ensures { (text : List ℕ) → Stands self begun.now (parts_of 10 text)
-            → MatchResult result (IsWholeText text pack.items) (IsTextFault text) }
+            → MatchResult result (IsWholeText text (packs_of packs)) (IsTextFault text) }
     {
         match self.with_end(alloc, begun) {
-            Progress::Lines(draft) => Ok(draft.finish(pack)),
+            Progress::Lines(draft) => Ok(draft.finish(packs)),
             Progress::Failed(fault) => Err(fault),
             // No text is without a line.
             Progress::Start => Err(TextFault::Bad { line: 1 }),

@@ -1,8 +1,10 @@
 //! A repository that is a few lists, read from a text that comes in pieces.
 
 ghost use Rattle.std.specs.Prelude.{◌≡◌, ◌++◌, [], ℕ, List, length, IsOk, MatchResult, OnErr, OnOk};
+ghost use Rattle.git_repository.specs.Packs.{packs_of};
 ghost use Rattle.git_repository.specs.RepositoryFaults.{IsTextFault, IsWholeText};
 
+use crate::packs::Packs;
 use crate::repository_progress::Progress;
 use crate::text_faults::TextFault;
 use git_server::ListRepo;
@@ -53,16 +55,16 @@ impl RepositoryReader {
         Ok(())
     }
 
-    /// The repository of the whole text, whose pack for each request is `pack`. Else `Bad` with the number of the first bad line,
-    /// from 1, or `OutOfMemory`.
-    pub fn finish(self, pack: Vec<u8>) -> Result<ListRepo, TextFault>
-        ensures { (text : List ℕ) → Reads self text → MatchResult result (IsWholeText text pack.items) (IsTextFault text) }
+    /// The repository of the whole text, with these packs. Else `Bad` with the number of the first bad line, from 1, or
+    /// `OutOfMemory`.
+    pub fn finish(self, packs: Packs) -> Result<ListRepo, TextFault>
+        ensures { (text : List ℕ) → Reads self text → MatchResult result (IsWholeText text (packs_of packs)) (IsTextFault text) }
     {
         let RepositoryReader {
             alloc,
             progress,
             begun,
         } = self;
-        progress.finish(alloc, &begun, pack)
+        progress.finish(alloc, &begun, packs)
     }
 }

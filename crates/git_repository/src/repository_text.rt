@@ -1,14 +1,16 @@
 //! A repository that is a few lists, read from a text.
 
 ghost use Rattle.std.specs.Prelude.{MatchResult};
+ghost use Rattle.git_repository.specs.Packs.{packs_of};
 ghost use Rattle.git_repository.specs.RepositoryFaults.{IsTextFault, IsWholeText};
 
+use crate::packs::Packs;
 use crate::repository_progress::Progress;
 use crate::text_faults::TextFault;
 use git_server::ListRepo;
 use std::alloc::Global;
 
-/// Reads the text of a repository, whose pack for each request is `pack`.
+/// Reads the text of a repository, which has these packs.
 ///
 /// The first line is `format sha1` or `format sha256`. The others say, in any order of kinds: `ref`, a space and a
 /// reference line of ls-refs, gitprotocol-v2(5), which may be that of an unborn `HEAD` with what it points to;
@@ -16,9 +18,9 @@ use std::alloc::Global;
 /// or `unshallow` and an object name. Lines are parted by LF, which the last may lack. References rise strictly by
 /// their names, and objects by theirs. The first line that is none of these, or may not stand after those before it, is
 /// `Bad`.
-pub fn read_repo(alloc: Global, text: &[u8], pack: Vec<u8>) -> Result<ListRepo, TextFault>
-    ensures { MatchResult result (IsWholeText text.now pack.items) (IsTextFault text.now) }
+pub fn read_repo(alloc: Global, text: &[u8], packs: Packs) -> Result<ListRepo, TextFault>
+    ensures { MatchResult result (IsWholeText text.now (packs_of packs)) (IsTextFault text.now) }
 {
     let (progress, begun) = Progress::Start.with_text(alloc, text);
-    progress.finish(alloc, begun, pack)
+    progress.finish(alloc, begun, packs)
 }

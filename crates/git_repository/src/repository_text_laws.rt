@@ -2,16 +2,17 @@
 
 ghost use Rattle.std.specs.Prelude.{◌≡◌, ℕ, List};
 ghost use Rattle.git_server.specs.Lists.{Lists};
+ghost use Rattle.git_repository.specs.Packs.{PackBytes};
 ghost use Rattle.git_repository.specs.RepositoryText.{IsFirstBad, IsRepositoryText};
 
 /// A text is one repository at most.
 pub fn one_repository()
-    ensures { (text pack : List ℕ) (a b : Lists) → IsRepositoryText text pack a → IsRepositoryText text pack b → a ≡ b }
+    ensures { (text : List ℕ) (packs : PackBytes) (a b : Lists) → IsRepositoryText text packs a → IsRepositoryText text packs b → a ≡ b }
 {}
 
 /// A text with a bad line is no repository.
 pub fn repository_or_bad()
-    ensures { (text pack : List ℕ) (lists : Lists) (number : ℕ) → IsRepositoryText text pack lists → IsFirstBad text number → ⊥ }
+    ensures { (text : List ℕ) (packs : PackBytes) (lists : Lists) (number : ℕ) → IsRepositoryText text packs lists → IsFirstBad text number → ⊥ }
 {}
 
 /// A text has one first bad line at most.

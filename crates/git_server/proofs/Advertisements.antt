@@ -17,16 +17,24 @@ ls_refs_is_short : (a : Bool) → length (capability_text (codes "ls-refs") (whe
 ls_refs_is_short false = omega arith
 ls_refs_is_short true = omega arith
 
-fetch_is_short : (a b c : Bool) → length (capability_text (codes "fetch") (where_offered a (codes "shallow")
-    ++ (where_offered b (codes "ref-in-want") ++ where_offered c (codes "wait-for-done")))) ≤ 39
-fetch_is_short false false false = omega arith
-fetch_is_short false false true = omega arith
-fetch_is_short false true false = omega arith
-fetch_is_short false true true = omega arith
-fetch_is_short true false false = omega arith
-fetch_is_short true false true = omega arith
-fetch_is_short true true false = omega arith
-fetch_is_short true true true = omega arith
+fetch_is_short : (a b c d : Bool) → length (capability_text (codes "fetch") (where_offered a (codes "shallow")
+    ++ (where_offered b (codes "ref-in-want") ++ (where_offered c (codes "wait-for-done") ++ where_offered d (codes "filter"))))) ≤ 46
+fetch_is_short false false false false = omega arith
+fetch_is_short false false false true = omega arith
+fetch_is_short false false true false = omega arith
+fetch_is_short false false true true = omega arith
+fetch_is_short false true false false = omega arith
+fetch_is_short false true false true = omega arith
+fetch_is_short false true true false = omega arith
+fetch_is_short false true true true = omega arith
+fetch_is_short true false false false = omega arith
+fetch_is_short true false false true = omega arith
+fetch_is_short true false true false = omega arith
+fetch_is_short true false true true = omega arith
+fetch_is_short true true false false = omega arith
+fetch_is_short true true false true = omega arith
+fetch_is_short true true true false = omega arith
+fetch_is_short true true true true = omega arith
 
 -- a packet has four bytes more than its body
 spelled_length : (p : Pkt) → length (spelling_of p) ≡ 4 + length (body_of p)
@@ -37,10 +45,10 @@ ls_refs_line_is_short offer =
     let text = length-append (capability_text (codes "ls-refs") (ls_refs_features offer)) (10 ∷ []) in
     omega (arith, spelled_length (ls_refs_line offer), text, ls_refs_is_short offer.unborn)
 
-fetch_line_is_short : (offer : Offer) → length (spelling_of (fetch_line offer)) ≤ 44
+fetch_line_is_short : (offer : Offer) → length (spelling_of (fetch_line offer)) ≤ 51
 fetch_line_is_short offer =
     let text = length-append (capability_text (codes "fetch") (fetch_features offer)) (10 ∷ []) in
-    omega (arith, spelled_length (fetch_line offer), text, fetch_is_short offer.shallow offer.ref_in_want offer.wait_for_done)
+    omega (arith, spelled_length (fetch_line offer), text, fetch_is_short offer.shallow offer.ref_in_want offer.wait_for_done offer.filter)
 
 format_line_is_short : (format : Format) → length (spelling_of (format_line format)) ≤ 25
 format_line_is_short Sha1 = omega (arith, spelled_length (format_line Sha1))

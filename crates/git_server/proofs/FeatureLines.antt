@@ -42,10 +42,13 @@ names_with old new false feature is text has key features names = absurd (cc)
 
 -- the features of fetch, one after another
 pub fetch_features_named : (line : FeaturesLine) (offer : Offer)
-    → Names line (codes "fetch") ((where_offered offer.shallow (codes "shallow") ++ where_offered offer.ref_in_want (codes "ref-in-want"))
-    ++ where_offered offer.wait_for_done (codes "wait-for-done"))
+    → Names line (codes "fetch") (((where_offered offer.shallow (codes "shallow") ++ where_offered offer.ref_in_want (codes "ref-in-want"))
+    ++ where_offered offer.wait_for_done (codes "wait-for-done")) ++ where_offered offer.filter (codes "filter"))
     → line.text.bytes ≡ capability_text (codes "fetch") (fetch_features offer)
 fetch_features_named line offer names =
+    let shallow : List (List ℕ) = where_offered offer.shallow (codes "shallow") in
+    let by_name : List (List ℕ) = where_offered offer.ref_in_want (codes "ref-in-want") in
+    let waits : List (List ℕ) = where_offered offer.wait_for_done (codes "wait-for-done") in
+    let filters : List (List ℕ) = where_offered offer.filter (codes "filter") in
     names.text ∙ ap (capability_text (codes "fetch"))
-    (append_assoc (where_offered offer.shallow (codes "shallow")) (where_offered offer.ref_in_want (codes "ref-in-want"))
-    (where_offered offer.wait_for_done (codes "wait-for-done")))
+    (append_assoc (shallow ++ by_name) waits filters ∙ append_assoc shallow by_name (waits ++ filters))

@@ -1,10 +1,12 @@
 -- What a clause sees of a `ListRepo`.
-use Rattle.std.specs.Prelude.{◌≡◌, ◌<◌, filter, length}
+use Rattle.std.specs.Prelude.{◌≡◌, ◌<◌, ℕ, Bool, true, false, List, Option, Some, None, filter, length, unwrap_or, if◌then◌else◌}
+use Rattle.std.proofs.Common.{refl}
+use Rattle.std.specs.Option.{ForSome}
 use Rattle.git_server.specs.declared.list_repo.ListRepo.{ListRepo}
-use Rattle.git_msg.specs.Asked.{FetchAsked}
+use Rattle.git_msg.specs.Asked.{FetchAsked, is_empty}
 use Rattle.git_server.specs.BoundaryLaws.{told_keep, told_unshallow}
 use Rattle.git_server.specs.Repository.{IsSound, RepoState, bytes_of}
-use Rattle.git_server.specs.Lists.{Lists}
+use Rattle.git_server.specs.Lists.{Lists, pack_for}
 use Rattle.git_server.specs.Objects.{has_object, object_of, size_among}
 use Rattle.git_server.specs.ToldBoundary.{boundary_for, is_enough}
 
@@ -18,6 +20,7 @@ lists_of repo = record {
   boundaries = repo.boundaries.items;
   pack = repo.pack.items;
   unborn = bytes_of repo.unborn;
+  filtered = bytes_of repo.filtered;
 }
 
 -- what it answers: none of its reads fails
@@ -31,7 +34,7 @@ state_of repo = record {
     object_size = size_among repo.objects.items;
     is_ready = λ request. is_enough repo.ready_after (length (filter (has_object repo.objects.items) request.haves));
     boundaries = boundary_for repo.boundaries.items;
-    pack = λ request. repo.pack.items;
+    pack = pack_for (lists_of repo);
   };
   failures = 0;
 }
@@ -47,6 +50,14 @@ is_sound repo = record {
   unshallow = λ request. told_unshallow repo.boundaries.items request;
 }
 
--- its pack is short enough
+-- the pack that is given where there is another is short if both are
+short_pack : (is_unfiltered : Bool) (pack : List ℕ) (filtered : Option (List ℕ)) → length pack < 9223372036854775808
+    → ForSome filtered (λ other. length other < 9223372036854775808)
+    → length (if is_unfiltered then pack else unwrap_or filtered pack) < 9223372036854775808
+short_pack true pack filtered short others = short
+short_pack false pack None short others = short
+short_pack false pack (Some other) short others = others other refl
+
+-- each of its packs is short enough
 pub is_short : (repo : ListRepo) (request : FetchAsked) → length ((state_of repo).answers.pack request) < 9223372036854775808
-is_short repo request = repo.short
+is_short repo request = short_pack (is_empty request.filters) repo.pack.items (bytes_of repo.filtered) repo.short repo.short_filtered

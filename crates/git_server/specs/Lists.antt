@@ -1,16 +1,18 @@
 -- What a repository that is a few lists is made of, and what it is refused for.
-use Rattle.std.specs.Prelude.{◌≡◌, ℕ, List, Option, All, codes}
+use Rattle.std.specs.Prelude.{◌≡◌, ℕ, List, Option, All, codes, unwrap_or, if◌then◌else◌}
 use Rattle.std.specs.Option.{ForSome}
 use Rattle.git_names.specs.declared.object_format.Format.{Format}
 use Rattle.git_names.specs.ObjectName.{ObjectName}
 use Rattle.git_msg.specs.declared.Boundary.{Boundary}
+use Rattle.git_msg.specs.Asked.{FetchAsked, is_empty}
 use Rattle.git_server.specs.Repository.{Entry, IsRising, IsOfFormat, IsUnbornHead}
 use Rattle.git_server.specs.Objects.{AreRising, object_of}
 use Rattle.git_server.specs.declared.list_repo.RepoFault.{RepoFault}
 use Rattle.git_server.specs.declared.list_repo.RepoFault.TheVariants.{UnsortedRefs, UnsortedObjects, MixedFormats, UnbornHead}
 
 -- the format, the references, the objects with their sizes, after how many common objects it is ready, the shallow
--- boundary, the pack, and the name that `HEAD` points to where it is unborn
+-- boundary, the pack, the name that `HEAD` points to where it is unborn, and the pack for requests that have a filter, where
+-- that is another
 pub record Lists : Type 0 where
   pub format : Format
   pub refs : List Entry
@@ -19,6 +21,11 @@ pub record Lists : Type 0 where
   pub boundaries : List Boundary
   pub pack : List ℕ
   pub unborn : Option (List ℕ)
+  pub filtered : Option (List ℕ)
+
+-- the pack for a request: the filtered one where the request has a filter and there is one, else the pack
+abbrev pub pack_for : Lists → FetchAsked → List ℕ
+pack_for lists request = if is_empty request.filters then lists.pack else unwrap_or lists.filtered lists.pack
 
 -- all object names are of the format
 pub record AreOfFormat (lists : Lists) : Type 0 where

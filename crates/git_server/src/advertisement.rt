@@ -15,7 +15,7 @@ use git_names::Format;
 use git_pkt::{Hold, Packet, PacketReader};
 
 // The most bytes that a line has, its LF among them: that of `fetch` with all its features.
-const LONGEST_LINE: usize = 40;
+const LONGEST_LINE: usize = 47;
 
 /// Makes the hold the packets of the whole advertisement of an offer, one after another: what a session gives first.
 ///
@@ -125,7 +125,7 @@ struct FeaturesLine {
 impl FeaturesLine {
     // The line of the command alone.
     fn of(key: &str) -> FeaturesLine
-        requires { length key.now ≤ 40 }
+        requires { length key.now ≤ 47 }
         ensures names { Names result key.now [] }
         ensures count { length result.text.bytes ≡ length key.now }
     {
@@ -139,7 +139,7 @@ impl FeaturesLine {
 
     // Names the feature too, where it is offered.
     fn add(&mut self, offered: bool, feature: &str)
-        requires { length self.old.text.bytes + 1 + length feature.now ≤ 40 }
+        requires { length self.old.text.bytes + 1 + length feature.now ≤ 47 }
         ensures names { (key : List ℕ) (features : List (List ℕ)) → Names self.old key features
             → Names self.new key (features ++ where_offered offered feature.now) }
         ensures count { length self.new.text.bytes ≤ length self.old.text.bytes + 1 + length feature.now }
@@ -154,7 +154,7 @@ impl FeaturesLine {
 
     // The text of the line, with LF at its end.
     fn end(self) -> ArrayString<LONGEST_LINE>
-        requires { length self.text.bytes + 1 ≤ 40 }
+        requires { length self.text.bytes + 1 ≤ 47 }
         ensures { result.bytes ≡ self.text.bytes ++ 10 ∷ [] }
     {
         let mut text = self.text;
@@ -188,6 +188,7 @@ fn fetch_line(offer: &Offer) -> ArrayString<LONGEST_LINE>
     line.add(offer.shallow, "shallow");
     line.add(offer.ref_in_want, "ref-in-want");
     line.add(offer.wait_for_done, "wait-for-done");
+    line.add(offer.filter, "filter");
     line.end()
 }
 

@@ -1,4 +1,4 @@
-//! A repository that is a few lists: of references, of objects, of shallow boundaries, and one pack.
+//! A repository that is a few lists: of references, of objects, of shallow boundaries, and a pack or two.
 
 ghost use Rattle.std.specs.Prelude.{◌≡◌, ◌≢◌, ◌<◌, ◌-◌, ◌↔◌, IsTrue, IfOk, MatchBool, MatchOption, MatchResult, All, Any, Ok, Some, filter, length};
 ghost use Rattle.std.specs.Prelude.{min, nat_le};
@@ -60,23 +60,26 @@ pub struct ListRepo {
     boundaries: Vec<Boundary>,
     pack: Vec<u8>,
     unborn: Option<Vec<u8>>,
+    filtered: Option<Vec<u8>>,
     ghost rising: { IsRising refs.items },
     ghost rising_objects: { AreRising objects.items },
     ghost named: { All (λ ref. IsNamed ref.name ref.target) refs.items },
     ghost of_format: { All (IsOfFormat format) refs.items },
     ghost of_boundaries: { All (λ boundary. (object_of boundary).format ≡ format) boundaries.items },
     ghost short: { length pack.items < 9223372036854775808 },
+    ghost short_filtered: { ForSome (bytes_of filtered) (λ bytes. length bytes < 9223372036854775808) },
     ghost unborn_head: { ForSome (bytes_of unborn) (IsUnbornHead refs.items) },
 }
 
 impl ListRepo {
-    ghost use Rattle.git_server.specs.Lists.{IsRepository, IsUnfit, Lists};
+    ghost use Rattle.git_server.specs.Lists.{IsRepository, IsUnfit, Lists, pack_for};
     ghost use Rattle.git_server.specs.ListRepo.{lists_of};
 
     /// The repository with these references, these objects with their sizes in bytes, this shallow boundary and
-    /// this pack for each request. It is ready to send a pack after so many common objects, or never. A request that
-    /// cuts the history off hears of the boundary the shallow commits in their order, and then those that it called
-    /// shallow itself and that are no longer.
+    /// this pack for each request, or where `filtered` is there, that for each request that has a filter. It is ready
+    /// to send a pack after so many common objects, or never. A request that cuts the history off hears of the
+    /// boundary the shallow commits in their order, and then those that it called shallow itself and that are no
+    /// longer.
     ///
     /// The references have to rise strictly by their names (`UnsortedRefs`), the objects by theirs
     /// (`UnsortedObjects`), and all object names are of the format (`MixedFormats`). The name that an unborn `HEAD`
@@ -89,6 +92,7 @@ impl ListRepo {
         boundaries: Vec<Boundary>,
         pack: Vec<u8>,
         unborn: Option<Vec<u8>>,
+        filtered: Option<Vec<u8>>,
     ) -> Result<ListRepo, RepoFault>
         ensures { let lists : Lists = record {
           format = format;
@@ -98,6 +102,7 @@ impl ListRepo {
           boundaries = boundaries.items;
           pack = pack.items;
           unborn = bytes_of unborn;
+          filtered = bytes_of filtered;
         } in
             MatchResult result (λ repo. (lists_of repo ≡ lists) × IsRepository lists) (λ fault. IsUnfit fault lists) }
     {
@@ -116,7 +121,16 @@ impl ListRepo {
         if !is_unborn_head(&refs, &unborn) {
             return Err(RepoFault::UnbornHead);
         }
-        Ok(ListRepo::of_lists(format, refs, objects, ready_after, boundaries, pack, unborn))
+        Ok(ListRepo::of_lists(
+            format,
+            refs,
+            objects,
+            ready_after,
+            boundaries,
+            pack,
+            unborn,
+            filtered,
+        ))
     }
 
     /// The same repository, where the lists are known to make one, as those that were taken item after item are.
@@ -128,6 +142,7 @@ impl ListRepo {
         boundaries: Vec<Boundary>,
         pack: Vec<u8>,
         unborn: Option<Vec<u8>>,
+        filtered: Option<Vec<u8>>,
     ) -> ListRepo
         requires fit { let lists : Lists = record {
           format = format;
@@ -137,6 +152,7 @@ impl ListRepo {
           boundaries = boundaries.items;
           pack = pack.items;
           unborn = bytes_of unborn;
+          filtered = bytes_of filtered;
         } in
             IsRepository lists }
         requires named { All (λ ref. IsNamed ref.name ref.target) refs.items }
@@ -148,6 +164,7 @@ impl ListRepo {
           boundaries = boundaries.items;
           pack = pack.items;
           unborn = bytes_of unborn;
+          filtered = bytes_of filtered;
         } in
             lists_of result ≡ lists }
     {
@@ -159,17 +176,37 @@ impl ListRepo {
             boundaries,
             pack,
             unborn,
+            filtered,
+        }
+    }
+
+    // The pack for a request: the filtered one where the request has a filter and there is one.
+    fn pack_for<A: Allocator + Copy>(&self, request: &Fetch<A>) -> &[u8]
+        ensures { result.now ≡ pack_for (lists_of self.now) request.now.asked }
+    {
+        if request.filter(0).is_none() {
+            return &self.pack;
+        }
+        match &self.filtered {
+            Some(filtered) => filtered,
+            None => &self.pack,
         }
     }
 
     /// Reads bytes of the pack as [`Repo::pack_read`] does, and answers how many. Those who share the repository may read too.
-    pub(crate) fn read_pack(&self, offset: u64, out: &mut [u8]) -> usize
+    pub(crate) fn read_pack<A: Allocator + Copy>(
+        &self,
+        request: &Fetch<A>,
+        offset: u64,
+        out: &mut [u8],
+    ) -> usize
         requires room { 0 < length out.old }
-        ensures part { IsPackPart (lists_of self.now).pack offset result out.new }
-        ensures fills { result ≡ min (length (lists_of self.now).pack - offset) (length out.old) }
+        ensures part { IsPackPart (pack_for (lists_of self.now) request.now.asked) offset result out.new }
+        ensures fills { result ≡ min (length (pack_for (lists_of self.now) request.now.asked) - offset) (length out.old) }
     {
-        let at = (offset as usize).min(self.pack.len());
-        let rest = &self.pack[at..];
+        let pack = self.pack_for(request);
+        let at = (offset as usize).min(pack.len());
+        let rest = &pack[at..];
         let count = rest.len().min(out.len());
         out[..count].copy_from_slice(&rest[..count]);
         count
@@ -178,10 +215,11 @@ impl ListRepo {
 
 impl Repo for ListRepo {
     ghost use Rattle.git_server.specs.ListRepo.{is_short, is_sound, lists_of, state_of};
+    ghost use Rattle.git_server.specs.Lists.{pack_for};
 
     ghost state = { state_of };
 
-    ghost read_gives = { λ repo request offset room count. count ≡ min (length (lists_of repo).pack - offset) room };
+    ghost read_gives = { λ repo request offset room count. count ≡ min (length (pack_for (lists_of repo) request) - offset) room };
 
     ghost sound = { is_sound };
 
@@ -244,16 +282,16 @@ impl Repo for ListRepo {
 
     fn pack_read<A: Allocator + Copy>(
         &mut self,
-        _request: &Fetch<A>,
+        request: &Fetch<A>,
         offset: u64,
         out: &mut [u8],
     ) -> Result<usize, PackFault>
         requires room { 0 < length out.old }
-        ensures part { IfOk result (λ count. IsPackPart (lists_of self.old).pack offset count out.new) }
-        ensures fills { result ≡ Ok (min (length (lists_of self.old).pack - offset) (length out.old)) }
+        ensures part { IfOk result (λ count. IsPackPart (pack_for (lists_of self.old) request.now.asked) offset count out.new) }
+        ensures fills { result ≡ Ok (min (length (pack_for (lists_of self.old) request.now.asked) - offset) (length out.old)) }
         ensures same { self.new ≡ self.old }
     {
-        Ok(self.read_pack(offset, out))
+        Ok(self.read_pack(request, offset, out))
     }
 }
 

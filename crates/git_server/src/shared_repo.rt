@@ -2,6 +2,7 @@
 
 ghost use Rattle.std.specs.Prelude.{◌≡◌, ◌<◌, ◌-◌, IfErr, IfOk, Ok, length, min};
 ghost use Rattle.git_server.specs.ListRepo.{lists_of};
+ghost use Rattle.git_server.specs.Lists.{pack_for};
 ghost use Rattle.git_server.specs.Packs.{IsPackPart};
 
 use crate::entry::RefEntry;
@@ -48,7 +49,7 @@ impl Repo for SharedRepo {
 
     ghost state = { shared_state };
 
-    ghost read_gives = { λ shared request offset room count. count ≡ min (length (lists_of (shared_by shared)).pack - offset) room };
+    ghost read_gives = { λ shared request offset room count. count ≡ min (length (pack_for (lists_of (shared_by shared)) request) - offset) room };
 
     ghost sound = { λ shared. is_sound (shared_by shared) };
 
@@ -92,15 +93,15 @@ impl Repo for SharedRepo {
 
     fn pack_read<A: Allocator + Copy>(
         &mut self,
-        _request: &Fetch<A>,
+        request: &Fetch<A>,
         offset: u64,
         out: &mut [u8],
     ) -> Result<usize, PackFault>
         requires room { 0 < length out.old }
-        ensures part { IfOk result (λ count. IsPackPart (lists_of (shared_by self.old)).pack offset count out.new) }
-        ensures fills { result ≡ Ok (min (length (lists_of (shared_by self.old)).pack - offset) (length out.old)) }
+        ensures part { IfOk result (λ count. IsPackPart (pack_for (lists_of (shared_by self.old)) request.now.asked) offset count out.new) }
+        ensures fills { result ≡ Ok (min (length (pack_for (lists_of (shared_by self.old)) request.now.asked) - offset) (length out.old)) }
         ensures same { self.new ≡ self.old }
     {
-        Ok(self.repo.read_pack(offset, out))
+        Ok(self.repo.read_pack(request, offset, out))
     }
 }

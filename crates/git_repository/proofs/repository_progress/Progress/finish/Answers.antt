@@ -1,12 +1,13 @@
 use Rattle.git_server.specs.ListRepo.{lists_of}
 use Rattle.git_repository.specs.DraftLists.{drafted}
+use Rattle.git_repository.specs.Packs.{packs_of}
 use Rattle.git_repository.proofs.Progressing.{some_lines}
 use Rattle.git_repository.proofs.Reading.{text_fault, whole_text}
 use Rattle.git_repository.proofs.repository_progress.Progress.finish.Goals as goal
 
 pub returns-in-Lines : goal.returns-in-Lines
 returns-in-Lines c text h =
-    whole_text text c.args.pack.items (drafted c.in-Lines.draft) (lists_of c.finish.result) (c.in-Lines.ensures text h) c.finish.ensures
+    whole_text text (packs_of c.args.packs) (drafted c.in-Lines.draft) (lists_of c.finish.result) (c.in-Lines.ensures text h) c.finish.ensures
 
 pub returns-in-Failed : goal.returns-in-Failed
 returns-in-Failed c text h = text_fault text c.in-Failed.fault (c.in-Failed.ensures text h)

@@ -1,0 +1,22 @@
+-- The packs of a repository that is read from a text.
+use Rattle.std.specs.Prelude.{ℕ, List, [], Option, None}
+use Rattle.git_server.specs.Lists.{Lists}
+use Rattle.git_server.specs.Repository.{bytes_of}
+use Rattle.git_repository.specs.declared.packs.Packs.{Packs}
+
+-- the bytes of the pack for each request, and of that for each request that has a filter, where that is another
+pub record PackBytes : Type 0 where
+  pub pack : List ℕ
+  pub filtered : Option (List ℕ)
+
+-- the bytes of these packs
+abbrev pub packs_of : Packs → PackBytes
+packs_of packs = record { pack = packs.pack.items; filtered = bytes_of packs.filtered }
+
+-- the packs of lists
+abbrev pub packs_in : Lists → PackBytes
+packs_in lists = record { pack = lists.pack; filtered = lists.filtered }
+
+-- an empty pack for each request
+abbrev pub no_packs : PackBytes
+no_packs = record { pack = []; filtered = None }
