@@ -380,7 +380,7 @@ enum {
 	GITWIRE_LIST_DEEPEN_NOTS = 4,
 	GITWIRE_LIST_WANT_REFS = 5,
 	GITWIRE_LIST_OIDS = 6,
-	GITWIRE_LIST_FILTERS = 7      /* each a text as it came, which no call looks into */
+	GITWIRE_LIST_FILTERS = 7      /* filter specifications as they came, which no call looks into */
 };
 GITWIRE_LOOKED_AT
 gitwire_told gitwire_request_item(gitwire_request *request, uint8_t list, size_t index, uint8_t *room, size_t room_length);

@@ -1,8 +1,10 @@
 //! A repository that C holds.
 
-ghost use Rattle.std.specs.Prelude.{◌≡◌, Some, None, MatchResult};
+ghost use Rattle.std.specs.Prelude.{◌≡◌, Some, None, IfSome, MatchResult};
+ghost use Rattle.std.specs.Option.{option_copied};
+ghost use Rattle.git_repository.specs.Packs.{packs_of};
 ghost use Rattle.gitwire.specs.Handles.{repository_in};
-ghost use Rattle.gitwire.specs.RepositoryTold.{Begins};
+ghost use Rattle.gitwire.specs.RepositoryTold.{Begins, packs_given};
 ghost use Rattle.gitwire.specs.Told.{telling};
 
 use crate::handles::GitwireRepository;
@@ -23,7 +25,7 @@ pub extern "C" fn gitwire_repository_new(
     text: &[u8],
     pack: &[u8],
 ) -> GitwireTold
-    ensures { Begins text.now pack.now None result (repository_in repository.new) }
+    ensures { Begins text.now (packs_given pack.now None) result (repository_in repository.new) }
 {
     begin(alloc, repository, text, pack, None)
 }
@@ -37,7 +39,7 @@ pub extern "C" fn gitwire_repository_new_filtered(
     pack: &[u8],
     filtered: &[u8],
 ) -> GitwireTold
-    ensures { Begins text.now pack.now (Some filtered.now) result (repository_in repository.new) }
+    ensures { Begins text.now (packs_given pack.now (Some filtered.now)) result (repository_in repository.new) }
 {
     begin(alloc, repository, text, pack, Some(filtered))
 }
@@ -49,7 +51,7 @@ fn begin(
     pack: &[u8],
     filtered: Option<&[u8]>,
 ) -> GitwireTold
-    ensures { Begins text.now pack.now (option_copied filtered.entry) result (repository_in repository.new) }
+    ensures { Begins text.now (packs_given pack.now (option_copied filtered.entry)) result (repository_in repository.new) }
 {
     *repository = GitwireRepository::none(alloc);
     let Some(packs) = copy_packs(alloc, pack, filtered) else {
@@ -68,7 +70,7 @@ fn begin(
 
 /// The packs, in memory of their own; none where it runs out.
 fn copy_packs(alloc: Global, pack: &[u8], filtered: Option<&[u8]>) -> Option<Packs>
-    ensures { IfSome result (λ packs. HasPacks pack.now (option_copied filtered.entry) packs) }
+    ensures { IfSome result (λ packs. packs_of packs ≡ packs_given pack.now (option_copied filtered.entry)) }
 {
     let Ok(pack) = Vec::from_slice(alloc, pack) else {
         return None;
@@ -90,7 +92,8 @@ fn copy_packs(alloc: Global, pack: &[u8], filtered: Option<&[u8]>) -> Option<Pac
 
 /// The repository of the text, with these packs; or what C is told where there is none.
 fn read(alloc: Global, text: &[u8], packs: Packs) -> Result<SharedRepo, GitwireTold>
-    ensures { MatchResult result (λ made. Begins text.now packs (telling What.Done) (Some made)) (λ told. Begins text.now packs told None) }
+    ensures { MatchResult result (λ made. Begins text.now (packs_of packs) (telling What.Done) (Some made))
+        (λ told. Begins text.now (packs_of packs) told None) }
 {
     let repo = match read_repo(alloc, text, packs) {
         Ok(repo) => repo,
