@@ -38,7 +38,8 @@ line_due format ResponseEnd line before none = rw none refl
 -- the packets of the lines, the last one first
 abbrev pub lines_said : Format → List Pkt
 lines_said format =
-    text_line (codes "object-info") ∷ format_line format ∷ text_line (codes "server-option") ∷ text_line (codes "fetch=shallow ref-in-want wait-for-done")
+    text_line (codes "object-info") ∷ format_line format ∷ text_line (codes "server-option")
+    ∷ text_line (codes "fetch=shallow ref-in-want wait-for-done filter")
     ∷ text_line (codes "ls-refs=unborn") ∷ agent_line ∷ text_line (codes "version 2") ∷ []
 
 -- they say that the format is spoken
@@ -79,7 +80,7 @@ written text key value = record { text = text; key = key; value = value }
 abbrev offer_lines : Format → List Written
 offer_lines format =
     written (codes "agent=git2/1") (codes "agent") (Some (codes "git2/1")) ∷ written (codes "ls-refs=unborn") (codes "ls-refs") (Some (codes "unborn"))
-    ∷ written (codes "fetch=shallow ref-in-want wait-for-done") (codes "fetch") (Some (codes "shallow ref-in-want wait-for-done"))
+    ∷ written (codes "fetch=shallow ref-in-want wait-for-done filter") (codes "fetch") (Some (codes "shallow ref-in-want wait-for-done filter"))
     ∷ written (codes "server-option") (codes "server-option") None
     ∷ written (codes "object-format=" ++ format_name format) (codes "object-format") (Some (format_name format))
     ∷ written (codes "object-info") (codes "object-info") None ∷ []
@@ -97,7 +98,7 @@ offer_lines_are format = (
     no_error (codes "ls-refs=unborn") (λ e. omega arith),
     (refl, refl, refl),
     (
-      no_error (codes "fetch=shallow ref-in-want wait-for-done") (λ e. omega arith),
+      no_error (codes "fetch=shallow ref-in-want wait-for-done filter") (λ e. omega arith),
       (refl, refl, refl),
       (
         no_error (codes "server-option") (λ e. omega arith),

@@ -27,6 +27,7 @@ use Rattle.git_server.specs.Objects.{object_cmp, size_among}
 use Rattle.git_server.specs.Repository.{Entry, IsSound, Repository}
 use Rattle.git_server.specs.Sessions.{AreAnswers}
 use Rattle.git_server.specs.declared.list_repo.ListRepo.{ListRepo}
+use Rattle.git_repository.specs.Packs.{PackBytes}
 use Rattle.git_repository.specs.RepositoryLines.{Said, boundary, object, ready, ref_of, reference, unborn}
 use Rattle.git_repository.specs.RepositoryText.{IsRepositoryText, SayAll, boundaries_in, objects_in, refs_in}
 use Rattle.git_client.proofs.Sequences.{give_all_append, nearest-append}
@@ -163,8 +164,8 @@ found_size (first ∷ objects) id size all found =
       go behind false later = behind later
 
 -- what a repository answers that is made of what a text says can be written
-pub can_be_written : (repo : ListRepo) (text pack : List ℕ) → IsRepositoryText text pack (lists_of repo) → CanBeWritten (state_of repo).answers
-can_be_written repo text pack h =
+pub can_be_written : (repo : ListRepo) (text : List ℕ) (packs : PackBytes) → IsRepositoryText text packs (lists_of repo) → CanBeWritten (state_of repo).answers
+can_be_written repo text packs h =
     let lines = h.begins.others in
     let boundaries = ap (λ (l : Lists). l.boundaries) h.lists_are in
     let objects = ap (λ (l : Lists). l.objects) h.lists_are in

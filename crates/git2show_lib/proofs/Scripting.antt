@@ -14,7 +14,7 @@ use Rattle.git_msg.specs.declared.offers.Offer.{Offer}
 use Rattle.git_msg.specs.declared.arguments.Command.{Command}
 use Rattle.git_msg.specs.declared.arguments.Command.TheVariants.{LsRefs, Fetch, ObjectInfo}
 use Rattle.git_msg.specs.declared.requests.Request.{Request}
-use Rattle.git_msg.specs.Arguments.{Arg, ref_prefix, want, have, shallow, deepen, deepen_since, deepen_not, want_ref, object_id}
+use Rattle.git_msg.specs.Arguments.{Arg, ref_prefix, want, have, shallow, deepen, deepen_since, deepen_not, filter_spec, want_ref, object_id}
 use Rattle.git_msg.specs.Arguments.{IsArgumentFault, IsInRange, ReadsAs, SaysArgument, name_of, stored_in, written_text}
 use Rattle.git_msg.specs.Asked.{Asked, asked_by, nothing_asked, with_argument}
 use Rattle.git_msg.specs.Checks.{Passes, Refuses}
@@ -40,6 +40,7 @@ in_range format text (shallow id) h = named_in format h.value id h.holds
 in_range format text (deepen depth) h = h.holds.in_range
 in_range format text (deepen_since time) h = h.holds.in_range
 in_range format text (deepen_not revision) h = h.1
+in_range format text (filter_spec spec) h = h.1
 in_range format text (want_ref name) h = h.1
 in_range format text (object_id id) h = named_in format h.value id h.holds
 in_range format text arg h = tt

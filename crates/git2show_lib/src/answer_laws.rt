@@ -15,6 +15,7 @@ ghost use Rattle.git_server.specs.ListRepo.{lists_of, state_of};
 ghost use Rattle.git_server.specs.Repository.{Repository, IsSound};
 ghost use Rattle.git_server.specs.Sessions.{AreAnswers};
 ghost use Rattle.git_server.specs.declared.list_repo.ListRepo.{ListRepo};
+ghost use Rattle.git_repository.specs.Packs.{PackBytes};
 ghost use Rattle.git_repository.specs.RepositoryText.{IsRepositoryText};
 ghost use Rattle.git2show_lib.specs.ToldAnswers.{AsksIn, CanBeWritten, end_packets, packets_of, told_all, told_by, told_offer};
 
@@ -53,5 +54,5 @@ pub fn heard_answers()
 
 /// What a repository answers that was read from a text can be written: so its answers are heard.
 pub fn read_repository_can_be_written()
-    ensures { (repo : ListRepo) (text pack : List ℕ) → IsRepositoryText text pack (lists_of repo) → CanBeWritten (state_of repo).answers }
+    ensures { (repo : ListRepo) (text : List ℕ) (packs : PackBytes) → IsRepositoryText text packs (lists_of repo) → CanBeWritten (state_of repo).answers }
 {}

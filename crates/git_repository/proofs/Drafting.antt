@@ -98,7 +98,8 @@ same_lists a b e f g h i j k =
 lists_more : (said : List Said) (next : Said) (lists : Lists)
     → lists.refs ≡ refs_in said ++ refs_in (next ∷ []) → lists.objects ≡ objects_in said ++ objects_in (next ∷ [])
     → lists.ready_after ≡ first_of (counts_in said ++ counts_in (next ∷ [])) → lists.boundaries ≡ boundaries_in said ++ boundaries_in (next ∷ [])
-    → packs_in lists ≡ no_packs → lists.unborn ≡ first_of (unborn_in said ++ unborn_in (next ∷ [])) → lists ≡ lists_said lists.format (said ++ next ∷ []) no_packs
+    → packs_in lists ≡ no_packs → lists.unborn ≡ first_of (unborn_in said ++ unborn_in (next ∷ []))
+    → lists ≡ lists_said lists.format (said ++ next ∷ []) no_packs
 lists_more said next lists f g h i j k =
     same_lists lists (lists_said lists.format (said ++ next ∷ []) no_packs) refl (f ∙ sym (refs_more said next)) (g ∙ sym (objects_more said next))
     (h ∙ ap first_of (sym (counts_more said next))) (i ∙ sym (boundaries_more said next)) j (k ∙ ap first_of (sym (unborn_more said next)))

@@ -1,5 +1,5 @@
 -- One packet more of an answer for references, once the prefixes of its request are in order.
-use Rattle.std.proofs.Common.{arith, ◌≡◌, ◌<◌, length, List, ◌∷◌, ap, sym, ◌∙◌, subst}
+use Rattle.std.proofs.Common.{arith, ◌≡◌, length, List, ◌∷◌, ap, sym, ◌∙◌, subst}
 use Rattle.git_pkt.specs.Packets.{Pkt}
 use Rattle.git_msg.specs.Asked.{LsRefsAsked}
 use Rattle.git_msg.specs.Kept.{Kept}

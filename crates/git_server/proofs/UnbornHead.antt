@@ -1,15 +1,13 @@
 -- An unborn `HEAD`: its line may be written, and what it points to is a reference name.
-use Rattle.std.proofs.Common.{arith, ◌≡◌, ◌≢◌, ℕ, zero, suc, ◌<◌, ◌≤◌, Bool, true, false, not, if◌then◌else◌, Option, Some, None, List, [], ◌∷◌, Bor}
-use Rattle.std.proofs.Common.{codes, length, take, slice_index, refl, ap, sym, ◌∙◌, subst, IfSome, MatchBool, MatchOption, All}
+use Rattle.std.proofs.Common.{arith, ◌≡◌, ◌≢◌, ℕ, zero, suc, ◌<◌, ◌≤◌, Bool, true, false, not, Option, Some, None, List, [], Bor}
+use Rattle.std.proofs.Common.{codes, length, take, slice_index, refl, sym, subst, IfSome, MatchBool, MatchOption, All}
 use Rattle.std.specs.List.{HoldsAt}
 use Rattle.std.specs.Option.{option_copied, is_some, ForSome}
 use Rattle.git_names.specs.NextByte.{IsPlain, MayFollow}
 use Rattle.git_names.specs.RefName.{EndsWith, IsRefName}
 use Rattle.git_names.specs.declared.object_format.Format.TheVariants.{Sha1}
 use Rattle.git_names.proofs.RefNames.{ref_name_from}
-use Rattle.git_msg.specs.Asked.{LsRefsAsked}
 use Rattle.git_msg.specs.References.{IsWritable, reference_of}
-use Rattle.git_server.specs.Answers.{asks_for_unborn, unborn_packet, unborn_packets}
 use Rattle.git_server.specs.Repository.{Entry, IsUnbornHead}
 
 -- `HEAD` is a reference name.

@@ -1,5 +1,5 @@
 -- What a server gives: its advertisement, the answer to each request, and what it writes of a fault.
-use Rattle.std.specs.Prelude.{◌≡◌, ◌≤◌, length, ℕ, Bool, if◌then◌else◌, ◌&&◌, Option, Some, None, List, [], ◌∷◌, ◌++◌, true, false, codes, filter, map}
+use Rattle.std.specs.Prelude.{◌≡◌, ◌≤◌, length, ℕ, Bool, if◌then◌else◌, ◌&&◌, Option, Some, None, List, [], ◌∷◌, ◌++◌, codes, filter, map}
 use Rattle.std.specs.List.{flat_map}
 use Rattle.git_pkt.specs.Packets.{Pkt, flush, spelling_of, body_of, longest_payload}
 use Rattle.git_pkt.specs.FaultNames.{fault_text}
