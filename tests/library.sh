@@ -212,7 +212,7 @@ case_library_frees_all_where_memory_is_refused() {
     run refused_memory-watched
     expect_status 0
     expect_same 'standard error' /dev/null err
-    grep -q -x -E '[1-9][0-9]*( [1-9][0-9]*){9}' out || differs 'what was printed' out
+    grep -q -x -E '[1-9][0-9]*( [1-9][0-9]*){10}' out || differs 'what was printed' out
     under_valgrind bin/refused_memory
     expect_status 0
 }
@@ -515,6 +515,31 @@ case_a_daemon_in_c_serves_git() {
     has_all history-sha1
     end_daemon
     expect_same 'what the daemon told' /dev/null daemon.err
+}
+
+# A clone with a filter gets the pack for these, and has what it has of Git's own server; one without gets all.
+case_a_daemon_in_c_serves_a_filtered_pack() {
+    cp -r history-sha1 partial
+    git -C partial config uploadpack.allowFilter true
+    git -C partial pack-objects -q --all --revs --stdout --filter=blob:none < /dev/null > partial.filtered
+    start_daemon history-sha1 bash -c 'exec daemon-watched "$@" partial.filtered' daemon
+    clone "$address" ours --bare --filter=blob:none
+    clone_from_git partial --bare --filter=blob:none
+    same_clones
+    sent command=fetch 'filter blob:none' 'done'
+    left_out theirs > wanted
+    left_out ours > written
+    expect_same 'what is left out' wanted written
+    [ -s wanted ] || differs 'a clone that is whole'
+    clone "$address" ours --mirror
+    has_all history-sha1
+    end_daemon
+    expect_same 'what the daemon told' /dev/null daemon.err
+}
+
+# left_out FOLDER: the names of the objects that a partial clone has not.
+left_out() {
+    git -C "$1" rev-list --all --objects --missing=print | sed -n 's/^?//p' | sort
 }
 
 case_a_daemon_in_c_serves_git_sha256() {
@@ -978,6 +1003,8 @@ case_a_daemon_in_c_refuses_wrong_words() {
     run daemon-watched 127.0.0.1 65536 1 here history-sha1.repo history-sha1.pack
     expect 1 /dev/null <(echo 'daemon: a number is none, or out of its range')
     run daemon-watched 127.0.0.1 0 1 here nowhere history-sha1.pack
+    expect 1 /dev/null <(echo 'daemon: a file cannot be opened')
+    run daemon-watched 127.0.0.1 0 1 here history-sha1.repo history-sha1.pack nowhere
     expect 1 /dev/null <(echo 'daemon: a file cannot be opened')
     sed 3p history-sha1.repo > wrong.repo
     run daemon-watched 127.0.0.1 0 1 here wrong.repo history-sha1.pack
