@@ -47,10 +47,10 @@
  * This header is for C11, C++11 and later.
  *
  * Since 0.1.0: what a server offers, and what a client noted of that, is a set of bits (GITWIRE_FEATURE_*) in place of a field
- * each, so that a further feature breaks no program; `unborn` and `wait-for-done` are known, and a reference may have no object
- * (`id_length` 0, in gitwire_put_reference too); a feed that is not due tells NOT_NOW, where it told MORE; gitwire_kind_name;
- * calls `_free` take NULL; calls that no program should make with NULL, or whose answer none should pass over, are marked for the
- * compilers that can tell.
+ * each, so that a further feature breaks no program; `unborn`, `wait-for-done` and `filter` are known (GITWIRE_LIST_FILTERS,
+ * gitwire_repository_new_filtered), and a reference may have no object (`id_length` 0, in gitwire_put_reference too); a feed that is
+ * not due tells NOT_NOW, where it told MORE; gitwire_kind_name; calls `_free` take NULL; calls that no program should make with NULL,
+ * or whose answer none should pass over, are marked for the compilers that can tell.
  */
 #ifndef GITWIRE_H
 #define GITWIRE_H
@@ -101,7 +101,7 @@ extern "C" {
 enum {
 	GITWIRE_DONE = 0,
 	GITWIRE_MORE = 1,             /* go on: `used` bytes of the piece were used, and nothing else is to be told */
-	GITWIRE_FAILED = 2,           /* refused: `fault` says why, `offset` where (gitwire_repository_new: `offset` alone) */
+	GITWIRE_FAILED = 2,           /* refused: `fault` says why, `offset` where (of a repository's text: `offset` alone) */
 	GITWIRE_NO_HANDLE = 3,        /* the handle has nothing: it was never made, or was freed */
 	GITWIRE_ROOM_TOO_SMALL = 4,   /* nothing was used or changed */
 	GITWIRE_NOT_NOW = 5,          /* the call may not be made at this moment; nothing changed */
@@ -205,7 +205,8 @@ enum {
 	GITWIRE_FEATURE_WAIT_FOR_DONE = 8,   /* of `fetch` */
 	GITWIRE_FEATURE_SERVER_OPTION = 16,
 	GITWIRE_FEATURE_OBJECT_INFO = 32,
-	GITWIRE_FEATURES_ALL = 63
+	GITWIRE_FEATURE_FILTER = 64,         /* of `fetch` */
+	GITWIRE_FEATURES_ALL = 127
 };
 
 /* What a server offers. A bit that stands for no feature is a BAD_VALUE. */
@@ -378,7 +379,8 @@ enum {
 	GITWIRE_LIST_SHALLOWS = 3,
 	GITWIRE_LIST_DEEPEN_NOTS = 4,
 	GITWIRE_LIST_WANT_REFS = 5,
-	GITWIRE_LIST_OIDS = 6
+	GITWIRE_LIST_OIDS = 6,
+	GITWIRE_LIST_FILTERS = 7      /* filter specifications as they came, which no call looks into */
 };
 GITWIRE_LOOKED_AT
 gitwire_told gitwire_request_item(gitwire_request *request, uint8_t list, size_t index, uint8_t *room, size_t room_length);
@@ -386,19 +388,27 @@ gitwire_told gitwire_request_item(gitwire_request *request, uint8_t list, size_t
 GITWIRE_FREES(gitwire_request)
 
 /*
- * A repository: a few lists in memory, read from a text, and one pack, which is the same for every fetch and is not looked into.
- * The text is that of docs/PROTOCOL.md, which sample/repository-text.sh writes of a Git repository. A repository is never changed,
- * and servers share it: each keeps it for as long as it needs it, also after the handle was freed.
+ * A repository: a few lists in memory, read from a text, and one pack, or one for fetches without `filter` and one for those with.
+ * No pack is looked into. The text is that of docs/PROTOCOL.md, which sample/repository-text.sh writes of a Git repository. A
+ * repository is never changed, and servers share it: each keeps it for as long as it needs it, also after the handle was freed.
  */
 
 /*
- * Copies what it keeps, so that the text and the pack need not last. What the handle had is freed before the text is read. DONE.
- * FAILED: the text is refused, with `offset` the number of its first bad line, from 1, and `fault` 0. OUT_OF_MEMORY. After these
- * two the handle has nothing.
+ * A repository whose pack is the same for every fetch, with `filter` or without. It copies what it keeps, so that the text and the
+ * pack need not last. What the handle had is freed before the text is read. DONE. FAILED: the text is refused, with `offset` the
+ * number of its first bad line, from 1, and `fault` 0. OUT_OF_MEMORY. After these two the handle has nothing.
  */
 GITWIRE_LOOKED_AT
 gitwire_told gitwire_repository_new(gitwire_repository *repository, const uint8_t *text, size_t text_length,
 	const uint8_t *pack, size_t pack_length);
+
+/*
+ * The same, but with two packs: `pack` for fetches without `filter`, and `filtered` for those with one or more, whatever these say
+ * and whatever is wanted. So a client that then fetches what was left out, with a `filter` and by its name, gets `filtered` once more.
+ */
+GITWIRE_LOOKED_AT
+gitwire_told gitwire_repository_new_filtered(gitwire_repository *repository, const uint8_t *text, size_t text_length,
+	const uint8_t *pack, size_t pack_length, const uint8_t *filtered, size_t filtered_length);
 
 GITWIRE_FREES(gitwire_repository)
 

@@ -212,7 +212,7 @@ case_library_frees_all_where_memory_is_refused() {
     run refused_memory-watched
     expect_status 0
     expect_same 'standard error' /dev/null err
-    grep -q -x -E '[1-9][0-9]*( [1-9][0-9]*){9}' out || differs 'what was printed' out
+    grep -q -x -E '[1-9][0-9]*( [1-9][0-9]*){10}' out || differs 'what was printed' out
     under_valgrind bin/refused_memory
     expect_status 0
 }
@@ -511,6 +511,21 @@ case_a_daemon_in_c_serves_git() {
     clone_from_git history-sha1
     same_clones
     has_references 12
+    clone "$address" ours --mirror
+    has_all history-sha1
+    end_daemon
+    expect_same 'what the daemon told' /dev/null daemon.err
+}
+
+# A clone with a filter gets the pack for these, and has what it has of Git's own server; one without gets all.
+case_a_daemon_in_c_serves_a_filtered_pack() {
+    write_filtered
+    start_daemon history-sha1 bash -c 'exec daemon-watched "$@" history-sha1.filtered' daemon
+    clone "$address" ours --bare --filter=blob:none
+    clone_partly_from_git history-sha1 --bare --filter=blob:none
+    same_clones
+    misses_blobs history-sha1
+    sent_filter 1
     clone "$address" ours --mirror
     has_all history-sha1
     end_daemon
@@ -978,6 +993,8 @@ case_a_daemon_in_c_refuses_wrong_words() {
     run daemon-watched 127.0.0.1 65536 1 here history-sha1.repo history-sha1.pack
     expect 1 /dev/null <(echo 'daemon: a number is none, or out of its range')
     run daemon-watched 127.0.0.1 0 1 here nowhere history-sha1.pack
+    expect 1 /dev/null <(echo 'daemon: a file cannot be opened')
+    run daemon-watched 127.0.0.1 0 1 here history-sha1.repo history-sha1.pack nowhere
     expect 1 /dev/null <(echo 'daemon: a file cannot be opened')
     sed 3p history-sha1.repo > wrong.repo
     run daemon-watched 127.0.0.1 0 1 here wrong.repo history-sha1.pack

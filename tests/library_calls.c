@@ -117,7 +117,8 @@ static void try_a_request_for_references(void)
 	EXPECT(tells(gitwire_request_item(&request, GITWIRE_LIST_REF_PREFIXES, 2, ROOM), GITWIRE_NOTHING, 0, 0, 0));
 	EXPECT(tells(gitwire_request_item(&request, GITWIRE_LIST_REF_PREFIXES, 0, room, 9), GITWIRE_ROOM_TOO_SMALL, 0, 0, 0));
 	EXPECT(tells(gitwire_request_item(&request, GITWIRE_LIST_WANTS, 0, ROOM), GITWIRE_NOTHING, 0, 0, 0));
-	EXPECT(tells(gitwire_request_item(&request, 7, 0, ROOM), GITWIRE_BAD_VALUE, 0, 0, 0));
+	EXPECT(tells(gitwire_request_item(&request, GITWIRE_LIST_FILTERS, 0, ROOM), GITWIRE_NOTHING, 0, 0, 0));
+	EXPECT(tells(gitwire_request_item(&request, 8, 0, ROOM), GITWIRE_BAD_VALUE, 0, 0, 0));
 	EXPECT(tells(gitwire_request_end(&request), GITWIRE_DONE, 0, 0, 0));
 	EXPECT(gitwire_request_new(&request, 3, GITWIRE_SHA1, 0) == GITWIRE_BAD_VALUE); /* the handle stays as it was */
 	EXPECT(gitwire_request_flag(&request, GITWIRE_FLAG_PEEL));
@@ -129,13 +130,14 @@ static void try_a_request_for_a_pack(void)
 {
 	gitwire_request request = GITWIRE_NONE;
 	static const char *const lines[] = { "thin-pack", "no-progress", "include-tag", "ofs-delta", "shallow " TWO, "deepen 007",
-		"deepen-relative", "want-ref refs/heads/main", "have " TWO, "have " ONE, "done" };
+		"deepen-relative", "want-ref refs/heads/main", "filter blob:none", "filter  ", "have " TWO, "have " ONE, "done" };
 
 	EXPECT(gitwire_request_new(&request, GITWIRE_FETCH, GITWIRE_SHA1, GITWIRE_USUAL_LIMIT) == GITWIRE_DONE);
 	EXPECT(tells_fault(gitwire_request_end(&request), GITWIRE_FAULT_NO_WANTS, 0, 0));
 	EXPECT(tells_fault(gitwire_request_add(&request, TEXT("want 1111")), GITWIRE_FAULT_BAD_OBJECT_NAME, 0, 0));
 	EXPECT(tells_fault(gitwire_request_add(&request, TEXT("want-ref main")), GITWIRE_FAULT_BAD_REF_NAME, 0, 0));
 	EXPECT(tells_fault(gitwire_request_add(&request, TEXT("deepen 0")), GITWIRE_FAULT_BAD_NUMBER, 0, 0));
+	EXPECT(tells_fault(gitwire_request_add(&request, TEXT("filter ")), GITWIRE_FAULT_BAD_LINE, 0, 0));
 	EXPECT(tells(gitwire_request_number(&request, GITWIRE_NUMBER_DEEPEN), GITWIRE_NOTHING, 0, 0, 0));
 	EXPECT(tells(gitwire_request_add(&request, TEXT("want " ONE)), GITWIRE_DONE, 0, 0, 0));
 	for (size_t i = 0; i < sizeof lines / sizeof *lines; i++)
@@ -147,6 +149,10 @@ static void try_a_request_for_a_pack(void)
 	EXPECT(has_item(&request, GITWIRE_LIST_HAVES, 1, ONE));
 	EXPECT(has_item(&request, GITWIRE_LIST_SHALLOWS, 0, TWO));
 	EXPECT(has_item(&request, GITWIRE_LIST_WANT_REFS, 0, "refs/heads/main"));
+	EXPECT(has_item(&request, GITWIRE_LIST_FILTERS, 0, "blob:none"));
+	EXPECT(has_item(&request, GITWIRE_LIST_FILTERS, 1, " "));
+	EXPECT(tells(gitwire_request_item(&request, GITWIRE_LIST_FILTERS, 2, ROOM), GITWIRE_NOTHING, 0, 0, 0));
+	EXPECT(tells(gitwire_request_item(&request, GITWIRE_LIST_DEEPEN_NOTS, 0, ROOM), GITWIRE_NOTHING, 0, 0, 0));
 	EXPECT(tells(gitwire_request_item(&request, GITWIRE_LIST_WANTS, 1, ROOM), GITWIRE_NOTHING, 0, 0, 0));
 	EXPECT(tells(gitwire_request_item(&request, GITWIRE_LIST_WANTS, SIZE_MAX, ROOM), GITWIRE_NOTHING, 0, 0, 0));
 	EXPECT(tells(gitwire_request_item(&request, GITWIRE_LIST_WANTS, 0, room, 39), GITWIRE_ROOM_TOO_SMALL, 0, 0, 0));
@@ -194,6 +200,7 @@ static void try_flags(void)
 
 #define LS_REFS "0014command=ls-refs\n" "0001" "0009peel\n" "0000"
 #define OBJECT_INFO "0018command=object-info\n" "0001" "0009size\n" "0000"
+#define FILTERED "0012command=fetch\n" "0001" "0015filter blob:none\n" "0032want " ONE "\n" "0009done\n" "0000"
 
 static void try_a_reader_of_requests(void)
 {
@@ -232,6 +239,14 @@ static void try_a_reader_of_requests(void)
 	EXPECT(gitwire_request_reader_new(&reader, offer, 100) == GITWIRE_DONE);
 	EXPECT(tells(gitwire_request_reader_feed(&reader, &request, TEXT(OBJECT_INFO)), GITWIRE_REQUEST, strlen(OBJECT_INFO), 0, 0));
 	EXPECT(tells(gitwire_request_command(&request), GITWIRE_DONE, 0, GITWIRE_OBJECT_INFO, 0));
+	EXPECT(gitwire_request_reader_new(&reader, offer, 100) == GITWIRE_DONE);
+	EXPECT(tells_fault(gitwire_request_reader_feed(&reader, &request, TEXT(FILTERED)), GITWIRE_FAULT_NOT_ADVERTISED, 43, 22));
+	offer.features |= GITWIRE_FEATURE_FILTER;
+	EXPECT(gitwire_request_reader_new(&reader, offer, 100) == GITWIRE_DONE);
+	EXPECT(tells(gitwire_request_reader_feed(&reader, &request, TEXT(FILTERED)), GITWIRE_REQUEST, strlen(FILTERED), 0, 0));
+	EXPECT(has_item(&request, GITWIRE_LIST_FILTERS, 0, "blob:none"));
+	EXPECT(gitwire_request_reader_new(&reader, offer, 100) == GITWIRE_DONE);
+	EXPECT(tells(gitwire_request_reader_feed(&reader, &request, TEXT(OBJECT_INFO)), GITWIRE_REQUEST, strlen(OBJECT_INFO), 0, 0));
 	EXPECT(tells(gitwire_request_reader_feed(&reader, &request, TEXT("0014")), GITWIRE_MORE, 4, 0, 0));
 	EXPECT(tells_fault(gitwire_request_reader_close(&reader), GITWIRE_FAULT_TRUNCATED, 0, strlen(OBJECT_INFO)));
 	gitwire_request_free(&request);
@@ -405,15 +420,21 @@ static bool hears(struct talk *t, uint8_t command, const char *const *lines, con
 	return false;
 }
 
+/* Begins over this repository, whose handle has nothing then. */
+static void begin_talk_over(struct talk *t, gitwire_repository *repository)
+{
+	*t = (struct talk){ .server = GITWIRE_NONE, .client = GITWIRE_NONE };
+	EXPECT(gitwire_server_new(&t->server, repository, 1000, true) == GITWIRE_DONE);
+	EXPECT(gitwire_client_new(&t->client, GITWIRE_SHA1, GITWIRE_ENDS_BY_FLUSH) == GITWIRE_DONE);
+	gitwire_repository_free(repository);
+}
+
 static void begin_talk(struct talk *t)
 {
 	gitwire_repository repository = GITWIRE_NONE;
 
-	*t = (struct talk){ .server = GITWIRE_NONE, .client = GITWIRE_NONE };
 	EXPECT(tells(gitwire_repository_new(&repository, TEXT(SMALL_TEXT), TEXT("PACK")), GITWIRE_DONE, 0, 0, 0));
-	EXPECT(gitwire_server_new(&t->server, &repository, 1000, true) == GITWIRE_DONE);
-	EXPECT(gitwire_client_new(&t->client, GITWIRE_SHA1, GITWIRE_ENDS_BY_FLUSH) == GITWIRE_DONE);
-	gitwire_repository_free(&repository);
+	begin_talk_over(t, &repository);
 }
 
 static void try_a_conversation(void)
@@ -432,7 +453,7 @@ static void try_a_conversation(void)
 	EXPECT(go_on(&t) == GITWIRE_CAN_ASK);
 	t.heard[t.length] = 0;
 	EXPECT(strcmp(t.heard, "capability agent git2/1 has-text\n" "capability ls-refs unborn has-text\n"
-		"capability fetch shallow ref-in-want wait-for-done has-text\n" "capability server-option\n"
+		"capability fetch shallow ref-in-want wait-for-done filter has-text\n" "capability server-option\n"
 		"capability object-format sha1 has-text\n"
 		"capability object-info\n" "offered\n") == 0);
 	EXPECT(gitwire_client_caps(&t.client, &caps) == GITWIRE_DONE);
@@ -454,6 +475,50 @@ static void try_a_conversation(void)
 	gitwire_client_free(&t.client);
 	gitwire_client_free(&t.client);
 	gitwire_server_free(&t.server);
+	memset(room, '#', sizeof room);
+}
+
+/* Asks for a pack without filters, then with some, and then without again: whether just these come. */
+static bool gives_packs(gitwire_repository *repository, const char *pack, const char *filtered)
+{
+	static const char *const wants[] = { "want " ONE, "done", NULL }, *const filters[] = { "want " ONE, "filter blob:none",
+		"filter tree:0", "done", NULL };
+	char heard[100], heard_filtered[100];
+	struct talk t;
+	bool are_they;
+
+	snprintf(heard, sizeof heard, "%sended\n", pack);
+	snprintf(heard_filtered, sizeof heard_filtered, "%sended\n", filtered);
+	begin_talk_over(&t, repository);
+	EXPECT(go_on(&t) == GITWIRE_CAN_ASK);
+	are_they = hears(&t, GITWIRE_FETCH, wants, heard) && hears(&t, GITWIRE_FETCH, filters, heard_filtered)
+		&& hears(&t, GITWIRE_FETCH, wants, heard);
+	gitwire_client_free(&t.client);
+	gitwire_server_free(&t.server);
+	return are_they;
+}
+
+/* A repository may have a pack of its own for fetches with a filter, which may have no bytes; else there is one for all. */
+static void try_filtered_packs(void)
+{
+	gitwire_repository repository = GITWIRE_NONE;
+	gitwire_server server = GITWIRE_NONE;
+
+	EXPECT(tells(gitwire_repository_new_filtered(&repository, NULL, 0, NULL, 0, NULL, 0), GITWIRE_FAILED, 0, 1, 0));
+	EXPECT(tells(gitwire_repository_new_filtered(&repository, TEXT(SMALL_TEXT), TEXT("PACK"), TEXT("TINY")), GITWIRE_DONE, 0, 0, 0));
+	EXPECT(gives_packs(&repository, "pack PACK has-text\n", "pack TINY has-text\n"));
+	EXPECT(tells(gitwire_repository_new_filtered(&repository, TEXT(SMALL_TEXT), TEXT("PACK"), NULL, 0), GITWIRE_DONE, 0, 0, 0));
+	EXPECT(gives_packs(&repository, "pack PACK has-text\n", ""));
+	EXPECT(tells(gitwire_repository_new_filtered(&repository, TEXT(SMALL_TEXT), NULL, 0, TEXT("TINY")), GITWIRE_DONE, 0, 0, 0));
+	EXPECT(gives_packs(&repository, "", "pack TINY has-text\n"));
+	EXPECT(tells(gitwire_repository_new(&repository, TEXT(SMALL_TEXT), TEXT("PACK")), GITWIRE_DONE, 0, 0, 0));
+	EXPECT(gives_packs(&repository, "pack PACK has-text\n", "pack PACK has-text\n"));
+	EXPECT(tells(gitwire_repository_new(&repository, TEXT(SMALL_TEXT), TEXT("PACK")), GITWIRE_DONE, 0, 0, 0));
+	EXPECT(tells(gitwire_repository_new_filtered(&repository, TEXT("format sha1\nref"), TEXT("PACK"), TEXT("TINY")), GITWIRE_FAILED,
+		0, 2, 0));
+	EXPECT(gitwire_server_new(&server, &repository, 0, true) == GITWIRE_NO_HANDLE); /* what it had is freed */
+	EXPECT(gitwire_repository_new_filtered(&repository, TEXT(SMALL_TEXT), TEXT("PACK"), TEXT("TINY")).kind == GITWIRE_DONE);
+	gitwire_repository_free(&repository);
 	memset(room, '#', sizeof room);
 }
 
@@ -594,6 +659,7 @@ static void try_what_is_noted(void)
 		{ "fetch=shallow", { .fetch = true, .features = GITWIRE_FEATURE_SHALLOW } },
 		{ "fetch=ref-in-want", { .fetch = true, .features = GITWIRE_FEATURE_REF_IN_WANT } },
 		{ "fetch=wait-for-done", { .fetch = true, .features = GITWIRE_FEATURE_WAIT_FOR_DONE } },
+		{ "fetch=filter", { .fetch = true, .features = GITWIRE_FEATURE_FILTER } },
 		{ "server-option", { .features = GITWIRE_FEATURE_SERVER_OPTION } },
 		{ "object-info", { .features = GITWIRE_FEATURE_OBJECT_INFO } },
 		{ "object-format", { .object_format = true } }, { "object-format=sha1", { .object_format = true, .sha1 = true } },
@@ -695,6 +761,7 @@ static void try_offers_of_one_thing(void)
 		{ { .features = GITWIRE_FEATURE_SHALLOW }, "000cls-refs\n" "0012fetch=shallow\n" "0017object-format=sha1\n" },
 		{ { .features = GITWIRE_FEATURE_REF_IN_WANT }, "000cls-refs\n" "0016fetch=ref-in-want\n" "0017object-format=sha1\n" },
 		{ { .features = GITWIRE_FEATURE_WAIT_FOR_DONE }, "000cls-refs\n" "0018fetch=wait-for-done\n" "0017object-format=sha1\n" },
+		{ { .features = GITWIRE_FEATURE_FILTER }, "000cls-refs\n" "0011fetch=filter\n" "0017object-format=sha1\n" },
 		{ { .features = GITWIRE_FEATURE_OBJECT_INFO }, "000cls-refs\n" "000afetch\n" "0017object-format=sha1\n" "0010object-info\n" },
 		{ { .features = GITWIRE_FEATURE_SERVER_OPTION }, "000cls-refs\n" "000afetch\n" "0012server-option\n" "0017object-format=sha1\n" },
 	};
@@ -855,6 +922,7 @@ static void *try_all(void *nothing)
 	try_a_server();
 	try_a_refused_session();
 	try_a_conversation();
+	try_filtered_packs();
 	try_bands();
 	try_bands_in_place();
 	try_refusals_of_a_client();

@@ -83,7 +83,8 @@ static void expect_none_asked(long before, const char *what)
 #define TEXT(text) (const uint8_t *)(text), strlen(text)
 #define ONE "1111111111111111111111111111111111111111"
 #define TWO "2222222222222222222222222222222222222222"
-#define FETCH "0012command=fetch\n" "0001" "0032want " ONE "\n" "0032have " ONE "\n" "0016deepen-not refs/a\n" "0000"
+#define FETCH "0012command=fetch\n" "0001" "0032want " ONE "\n" "0032have " ONE "\n" "0016deepen-not refs/a\n" \
+	"0015filter blob:none\n" "0000"
 #define LS_REFS "0014command=ls-refs\n" "0001" "001bref-prefix refs/heads/\n" "0017ref-prefix refs/a/\n" "0000"
 #define REFUSED LS_REFS "0012command=fetch\n" "0001" "0032want " ONE "\n" "0016deepen-not refs/a\n" "0032want " TWO "\n"
 #define OFFERED "000eversion 2\n" "0012fetch=shallow\n" "0000"
@@ -145,7 +146,7 @@ static void run_request_reader(void)
 {
 	gitwire_request_reader reader = GITWIRE_NONE;
 	gitwire_request request = GITWIRE_NONE;
-	gitwire_offer offer = { .features = GITWIRE_FEATURE_SHALLOW | GITWIRE_FEATURE_REF_IN_WANT };
+	gitwire_offer offer = { .features = GITWIRE_FEATURE_SHALLOW | GITWIRE_FEATURE_FILTER };
 
 	if (is_made(gitwire_request_reader_new(&reader, offer, GITWIRE_USUAL_LIMIT), "a reader of requests")) {
 		hear_request(&reader, &request, FETCH);
@@ -178,7 +179,7 @@ static void add_without_memory(gitwire_request *request, const char *line)
 static void run_request(void)
 {
 	gitwire_request request = GITWIRE_NONE;
-	bool first, second;
+	bool first, second, third;
 
 	if (is_made(gitwire_request_new(&request, GITWIRE_FETCH, GITWIRE_SHA1, 1000), "a request")) {
 		add_without_memory(&request, "done");
@@ -190,6 +191,9 @@ static void run_request(void)
 		expect(gitwire_request_item(&request, GITWIRE_LIST_DEEPEN_NOTS, 0, room, sizeof room).kind
 			== (second ? GITWIRE_DONE : GITWIRE_NOTHING), "a revision");
 		add(&request, "want-ref refs/heads/main");
+		third = add(&request, "filter blob:none");
+		expect(gitwire_request_item(&request, GITWIRE_LIST_FILTERS, 0, room, sizeof room).kind
+			== (third ? GITWIRE_DONE : GITWIRE_NOTHING), "a filter");
 	}
 	gitwire_request_free(&request);
 }
@@ -213,6 +217,22 @@ static void run_repository(void)
 	made = make_repository(&repository);
 	expect(live_then == 0, "the repository before");
 	expect(repository.is_made_ == made, "what a repository's handle has");
+	gitwire_repository_free(&repository);
+}
+
+/* One with a pack of its own for fetches with a filter, where another was. */
+static void run_filtered_repository(void)
+{
+	gitwire_repository repository = GITWIRE_NONE;
+	gitwire_told told;
+	bool made;
+
+	make_repository(&repository);
+	live_then = -1;
+	told = gitwire_repository_new_filtered(&repository, TEXT(small), TEXT("PACK"), TEXT("TINY"));
+	made = is_made(told.kind, "a repository with two packs");
+	expect(live_then == 0, "the repository before one with two packs");
+	expect(repository.is_made_ == made, "what its handle has");
 	gitwire_repository_free(&repository);
 }
 
@@ -285,7 +305,7 @@ static void break_requests_off(size_t length)
 	static const char *const said = LS_REFS FETCH;
 	gitwire_request_reader reader = GITWIRE_NONE;
 	gitwire_request request = GITWIRE_NONE;
-	gitwire_offer offer = { .features = GITWIRE_FEATURE_SHALLOW | GITWIRE_FEATURE_REF_IN_WANT };
+	gitwire_offer offer = { .features = GITWIRE_FEATURE_SHALLOW | GITWIRE_FEATURE_FILTER };
 	gitwire_told told = { .kind = GITWIRE_MORE };
 
 	if (is_made(gitwire_request_reader_new(&reader, offer, GITWIRE_USUAL_LIMIT), "a reader of requests that break off"))
@@ -404,7 +424,7 @@ static bool run(void (*scenario)(void), long at, bool after)
 int main(void)
 {
 	static void (*const scenarios[])(void) = { run_packet_reader, run_writer, run_request_reader, run_request, run_repository,
-		run_server, run_client, run_broken_requests, run_broken_session, run_broken_conversation };
+		run_filtered_repository, run_server, run_client, run_broken_requests, run_broken_session, run_broken_conversation };
 
 	for (size_t i = 0; i < sizeof scenarios / sizeof *scenarios; i++) {
 		long at = 0;

@@ -36,4 +36,4 @@ given_numbers = Given.Deepen ∷ Given.DeepenSince ∷ []
 abbrev pub item_lists : List ItemList
 item_lists =
     ItemList.RefPrefixes ∷ ItemList.Wants ∷ ItemList.Haves ∷ ItemList.Shallows ∷ ItemList.DeepenNots ∷ ItemList.WantRefs
-    ∷ ItemList.Oids ∷ []
+    ∷ ItemList.Oids ∷ ItemList.Filters ∷ []

@@ -14,12 +14,13 @@ has_feature features bit = not (bit_and features bit == 0)
 -- the offer that is meant, if its format is one and each of its bits is a feature's
 abbrev pub offer_meant : GitwireOffer → Option Offer
 offer_meant o =
-    if nat_lt 63 o.features then None else option_map (λ format. record {
+    if nat_lt 127 o.features then None else option_map (λ format. record {
       format = format;
       unborn = has_feature o.features 1;
       shallow = has_feature o.features 2;
       ref_in_want = has_feature o.features 4;
       wait_for_done = has_feature o.features 8;
+      filter = has_feature o.features 64;
       object_info = has_feature o.features 32;
       server_option = has_feature o.features 16;
     }) (slice_get formats o.format)
@@ -33,4 +34,4 @@ where_shown false bit = 0
 abbrev pub features_shown : Caps → ℕ
 features_shown caps =
     where_shown caps.unborn 1 + where_shown caps.shallow 2 + where_shown caps.ref_in_want 4 + where_shown caps.wait_for_done 8
-    + where_shown caps.server_option 16 + where_shown caps.object_info 32
+    + where_shown caps.server_option 16 + where_shown caps.object_info 32 + where_shown caps.filter 64

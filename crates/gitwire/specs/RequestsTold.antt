@@ -7,7 +7,7 @@ use Rattle.git_pkt.specs.declared.fault.Kind.{Kind}
 use Rattle.git_msg.specs.Advertisement.{everything}
 use Rattle.git_msg.specs.Arguments.{Arg, IsArgumentFault, ReadsAs, most_limit, written_text}
 use Rattle.git_msg.specs.Asked.{Asked, symrefs_of, peel_of, done_of, thin_pack_of, no_progress_of, include_tag_of, ofs_delta_of, deepen_relative_of, size_of}
-use Rattle.git_msg.specs.Asked.{unborn_of, wait_for_done_of}
+use Rattle.git_msg.specs.Asked.{unborn_of, wait_for_done_of, filters_of}
 use Rattle.git_msg.specs.Asked.{deepen_of, deepen_since_of, ref_prefixes_of, wants_of, haves_of, shallows_of, deepen_nots_of, want_refs_of, oids_of}
 use Rattle.git_msg.specs.Checks.{Passes, Refuses}
 use Rattle.git_msg.specs.HeldRequest.{IsEmpty, IsRefused, Keeps, add_checks, asked_of, command_of, format_of}
@@ -158,6 +158,7 @@ item_of ItemList.Shallows asked i = option_map hex_of (slice_get (shallows_of as
 item_of ItemList.DeepenNots asked i = slice_get (deepen_nots_of asked) i
 item_of ItemList.WantRefs asked i = slice_get (want_refs_of asked) i
 item_of ItemList.Oids asked i = option_map hex_of (slice_get (oids_of asked) i)
+item_of ItemList.Filters asked i = slice_get (filters_of asked) i
 
 -- the text, if there is one
 abbrev pub PutsItem : Option (List ℕ) → List ℕ → GitwireTold → List ℕ → Type 0

@@ -120,6 +120,7 @@ pub(crate) enum ItemList {
     DeepenNots,
     WantRefs,
     Oids,
+    Filters,
 }
 
 impl ItemList {
@@ -135,6 +136,7 @@ impl ItemList {
             4 => Some(ItemList::DeepenNots),
             5 => Some(ItemList::WantRefs),
             6 => Some(ItemList::Oids),
+            7 => Some(ItemList::Filters),
             _ => None,
         }
     }

@@ -24,14 +24,17 @@ pub const SERVER_OPTION: u32 = 16;
 /// The command `object-info`.
 pub const OBJECT_INFO: u32 = 32;
 
+/// The feature `filter` of `fetch`.
+pub const FILTER: u32 = 64;
+
 /// The sum of all features.
-pub const ALL_FEATURES: u32 = 63;
+pub const ALL_FEATURES: u32 = 127;
 
 /// What a server offers, beside `agent` and the commands `ls-refs` and `fetch`, which are in every offer.
 #[repr(C)]
 #[derive(Clone, Copy)]
 pub struct GitwireOffer {
-    /// The sum of the features that are offered, [`UNBORN`] to [`OBJECT_INFO`].
+    /// The sum of the features that are offered, [`UNBORN`] to [`FILTER`].
     pub features: u32,
     /// The number of the format of object names: `SHA1` or `SHA256`.
     pub format: u8,
@@ -56,6 +59,7 @@ impl GitwireOffer {
             shallow: self.has(SHALLOW),
             ref_in_want: self.has(REF_IN_WANT),
             wait_for_done: self.has(WAIT_FOR_DONE),
+            filter: self.has(FILTER),
             object_info: self.has(OBJECT_INFO),
             server_option: self.has(SERVER_OPTION),
         })
@@ -79,6 +83,7 @@ pub(crate) fn features_noted(caps: &Caps) -> u32
         + where_noted(caps.wait_for_done, WAIT_FOR_DONE)
         + where_noted(caps.server_option, SERVER_OPTION)
         + where_noted(caps.object_info, OBJECT_INFO)
+        + where_noted(caps.filter, FILTER)
 }
 
 // The feature, where it was noted.

@@ -1,19 +1,21 @@
 //! A repository that C holds.
 
-ghost use Rattle.std.specs.Prelude.{◌≡◌, Some, None, MatchResult};
+ghost use Rattle.std.specs.Prelude.{◌≡◌, Some, None, IfSome, MatchResult};
+ghost use Rattle.std.specs.Option.{option_copied};
+ghost use Rattle.git_repository.specs.Packs.{packs_of};
 ghost use Rattle.gitwire.specs.Handles.{repository_in};
-ghost use Rattle.gitwire.specs.RepositoryTold.{Begins};
+ghost use Rattle.gitwire.specs.RepositoryTold.{Begins, packs_given};
 ghost use Rattle.gitwire.specs.Told.{telling};
 
 use crate::handles::GitwireRepository;
 use crate::machine::Machine;
 use crate::told::{GitwireTold, What};
-use git_repository::{TextFault, read_repo};
+use git_repository::{Packs, TextFault, read_repo};
 use git_server::SharedRepo;
 use std::alloc::Global;
 use std::mem::replace;
 
-/// Makes the handle's repository that of the text, whose pack for each request is `pack`. What it had before is freed. `Done`; or
+/// Makes the handle's repository that of the text, whose pack for every fetch is `pack`. What it had before is freed. `Done`; or
 /// `Failed`, and `offset` is the line of the text that is refused, counted from 1; or `OutOfMemory`. Where it is not `Done` the
 /// handle has none.
 #[unsafe(no_mangle)]
@@ -23,10 +25,39 @@ pub extern "C" fn gitwire_repository_new(
     text: &[u8],
     pack: &[u8],
 ) -> GitwireTold
-    ensures { Begins text.now pack.now result (repository_in repository.new) }
+    ensures { Begins text.now (packs_given pack.now None) result (repository_in repository.new) }
+{
+    begin(alloc, repository, text, pack, None)
+}
+
+/// The same, but for each fetch that has a filter its pack is `filtered`, and `pack` for each of the others.
+#[unsafe(no_mangle)]
+pub extern "C" fn gitwire_repository_new_filtered(
+    alloc: Global,
+    repository: &mut GitwireRepository,
+    text: &[u8],
+    pack: &[u8],
+    filtered: &[u8],
+) -> GitwireTold
+    ensures { Begins text.now (packs_given pack.now (Some filtered.now)) result (repository_in repository.new) }
+{
+    begin(alloc, repository, text, pack, Some(filtered))
+}
+
+fn begin(
+    alloc: Global,
+    repository: &mut GitwireRepository,
+    text: &[u8],
+    pack: &[u8],
+    filtered: Option<&[u8]>,
+) -> GitwireTold
+    ensures { Begins text.now (packs_given pack.now (option_copied filtered.entry)) result (repository_in repository.new) }
 {
     *repository = GitwireRepository::none(alloc);
-    let made = match read(alloc, text, pack) {
+    let Some(packs) = copy_packs(alloc, pack, filtered) else {
+        return GitwireTold::of(What::OutOfMemory);
+    };
+    let made = match read(alloc, text, packs) {
         Ok(made) => made,
         Err(told) => return told,
     };
@@ -37,13 +68,34 @@ pub extern "C" fn gitwire_repository_new(
     GitwireTold::of(What::Done)
 }
 
-fn read(alloc: Global, text: &[u8], pack: &[u8]) -> Result<SharedRepo, GitwireTold>
-    ensures { MatchResult result (λ made. Begins text.now pack.now (telling What.Done) (Some made)) (λ told. Begins text.now pack.now told None) }
+/// The packs, in memory of their own; none where it runs out.
+fn copy_packs(alloc: Global, pack: &[u8], filtered: Option<&[u8]>) -> Option<Packs>
+    ensures { IfSome result (λ packs. packs_of packs ≡ packs_given pack.now (option_copied filtered.entry)) }
 {
     let Ok(pack) = Vec::from_slice(alloc, pack) else {
-        return Err(GitwireTold::of(What::OutOfMemory));
+        return None;
     };
-    let repo = match read_repo(alloc, text, pack) {
+    let Some(filtered) = filtered else {
+        return Some(Packs {
+            pack,
+            filtered: None,
+        });
+    };
+    match Vec::from_slice(alloc, filtered) {
+        Ok(filtered) => Some(Packs {
+            pack,
+            filtered: Some(filtered),
+        }),
+        Err(_) => None,
+    }
+}
+
+/// The repository of the text, with these packs; or what C is told where there is none.
+fn read(alloc: Global, text: &[u8], packs: Packs) -> Result<SharedRepo, GitwireTold>
+    ensures { MatchResult result (λ made. Begins text.now (packs_of packs) (telling What.Done) (Some made))
+        (λ told. Begins text.now (packs_of packs) told None) }
+{
+    let repo = match read_repo(alloc, text, packs) {
         Ok(repo) => repo,
         Err(TextFault::Bad { line }) => {
             return Err(GitwireTold::of_packet(0, line, 0, What::Failed));

@@ -177,7 +177,7 @@ fn tell_number(number: u64) -> GitwireTold
     GitwireTold::of_packet(0, number, 0, What::Done)
 }
 
-/// Whether the request has the flag of this number, from `SYMREFS` to `SIZE`. Of another number, and of a handle that has no
+/// Whether the request has the flag of this number, from `SYMREFS` to `WAIT_FOR_DONE`. Of another number, and of a handle that has no
 /// request, it is false.
 #[unsafe(no_mangle)]
 pub extern "C" fn gitwire_request_flag(
@@ -258,7 +258,7 @@ fn given_number(request: &Request<Global>, which: u8) -> GitwireTold
     }
 }
 
-/// Writes the text at a place of a list, from `REF_PREFIXES` to `OIDS`, to the front of the room, an object name as its digits.
+/// Writes the text at a place of a list, from `REF_PREFIXES` to `FILTERS`, to the front of the room, an object name as its digits.
 /// `Done`, and `length` is how many bytes it has; `Nothing` past the end of the list; `RoomTooSmall`; `BadValue`; or `NoHandle`.
 #[unsafe(no_mangle)]
 pub extern "C" fn gitwire_request_item(

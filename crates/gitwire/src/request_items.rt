@@ -34,6 +34,7 @@ pub(crate) fn put_item(
         ItemList::DeepenNots => put_text_if_any(request.deepen_not(index), room),
         ItemList::WantRefs => put_text_if_any(request.want_ref(index), room),
         ItemList::Oids => put_name_if_any(request.oids().get(index), room),
+        ItemList::Filters => put_text_if_any(request.filter(index), room),
     }
 }
 
