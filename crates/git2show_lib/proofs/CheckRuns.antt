@@ -288,7 +288,7 @@ module _ {A : Type 0} (t : Terms) where
     advertisement_due client offer requests responses out due stands = record {
       found = nothing_found;
       offer = offer;
-      runs = begins t client responses None None out None due stands tt;
+      runs = begins t client responses None None out None None due stands tt;
       read = Consumes-nil requests;
       asks = none_asked offer limit;
       asked = refl;
