@@ -102,6 +102,73 @@ case_our_client_writes_its_transcript_to_a_file() {
     is_whole sha1 history-sha1 "$id"
 }
 
+# is_progress FILE: that each line of the file is one of the server's progress, and that they are all of it: as many bytes as the transcript
+# `written` counts.
+is_progress() {
+    local bytes
+    tr '\r' '\n' < "$1" > lines
+    expect_same 'lines of progress alone' /dev/null <(grep -a -v '^remote: ' lines)
+    grep -a -q '^remote: Enumerating objects: [0-9]*, done\.$' lines || differs 'no object is counted' lines
+    bytes=$(sed -n 's/^end [0-9]* //p' written)
+    [ "$(sed 's/^remote: //' lines | wc -c)" = "$bytes" ] || differs "not the $bytes bytes of the progress" lines
+}
+
+case_our_client_shows_the_progress() {
+    local id
+    id=$(git -C history-sha1 rev-parse HEAD)
+    printf '%s\n' fetch "want $id" 'done' > script
+    ask history-sha1 --progress --transcript written
+    expect_status 0
+    is_progress transcript
+    expect_line 'the transcript' 'request fetch' written
+    is_whole sha1 history-sha1 "$id"
+    printf '%s\n' fetch "want $id" no-progress 'done' > script
+    ask history-sha1 --progress --transcript written
+    expect_status 0
+    expect_same 'standard error' /dev/null transcript
+    is_whole sha1 history-sha1 "$id"
+}
+
+# Standard error alone is a terminal, and nothing else is said.
+case_our_client_shows_the_progress_on_a_terminal() {
+    local id
+    command -v script > /dev/null || return 0
+    id=$(git -C history-sha1 rev-parse HEAD)
+    printf '%s\n' fetch "want $id" 'done' > script
+    mkfifo to from
+    GIT_PROTOCOL=version=2 limited git upload-pack history-sha1 < to > from 2> err &
+    status=0
+    limited script -q -e -c 'git2show fetch --script script --pack pack --transcript written > to < from' terminal < /dev/null > out || status=$?
+    wait $!
+    expect_status 0
+    sed -e '/^Script /d' -e 's/\r$//' terminal > shown
+    is_progress shown
+    is_whole sha1 history-sha1 "$id"
+}
+
+# shown PROGRESS WANTED: that where a server reports this, and nothing else beside a pack, this is shown.
+shown() {
+    {
+        advertisement sha1
+        packet packfile
+        printf '%04x\002%b' $(($(printf '%b' "$1" | wc -c) + 5)) "$1"
+        printf '000a\001PACK!0000'
+    } > said
+    printf '%s\n' fetch "want $one" 'done' > script
+    run git2show fetch --script script --pack pack --transcript written --progress < said
+    expect_status 0
+    expect_same "what is shown of $1" <(printf '%b' "$2") err
+}
+
+# Of the progress no byte goes to a terminal that could be more than a letter or the end of a line.
+case_our_client_shows_no_control_byte_of_the_progress() {
+    shown 'half\rdone\n' 'remote: half\rremote: done\n'
+    shown '\033[2J\a\b\t\x7f\n' 'remote: ?[2J????\n'
+    shown '\xc3\xa9t\xc3\xa9 \xc2\x9b31m \xe2\x80\x9c\n' 'remote: \xc3\xa9t\xc3\xa9 \xc2?31m \xe2\x80\x9c\n'
+    shown '\n\n' 'remote: \nremote: \n'
+    shown 'open' 'remote: open\n'
+}
+
 case_our_client_fetches_over_a_connection_for_each_request() {
     local id
     id=$(git -C history-sha1 rev-parse HEAD)
@@ -183,7 +250,7 @@ case_our_client_tells_what_is_wrong() {
     expect 1 /dev/null <(fault ReadFault)
 }
 
-# A device that takes nothing: in the place of the server, of the transcript, and of the pack.
+# A device that takes nothing: in the place of the server, of the transcript, of the pack, and of the progress.
 case_our_client_tells_a_full_device() {
     local id
     advertisement sha1 > said
@@ -200,6 +267,10 @@ case_our_client_tells_a_full_device() {
     run git2show fetch --script script --pack /dev/full --transcript written < said
     expect_status 1
     expect_same 'standard error' <(fault WriteFault) err
+    { advertisement sha1; packet packfile; printf '0008\002hi\n'; printf 0000; } > said
+    status=0
+    limited git2show fetch --script script --pack pack --transcript written --progress < said > out 2> /dev/full || status=$?
+    expect_status 1
 }
 
 case_our_client_refuses_other_words() {

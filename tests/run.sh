@@ -69,7 +69,7 @@ fi
 command -v git > /dev/null || install_packages git || stop "no git, and it could not be installed"
 command -v gcc > /dev/null || install_packages gcc libc6-dev || stop "no C compiler, and it could not be installed"
 command -v valgrind > /dev/null || install_packages valgrind || echo 'no valgrind, and it could not be installed: nothing is run under it' >&2
-for tool in g++ man pkg-config rustc go; do
+for tool in g++ man pkg-config rustc go script; do
     command -v $tool > /dev/null || echo "no $tool: what needs it is passed over" >&2
 done
 

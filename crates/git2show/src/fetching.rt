@@ -1,14 +1,18 @@
 //! A client on standard input and output.
 
+ghost use Rattle.std.specs.Prelude.{◌≡◌, true, false};
+ghost use Rattle.git_client.specs.Client.{wants_input};
+
+use crate::remote_lines::RemoteLines;
 use crate::{PIECE, TURNS, ending_of, file_fault, format_of, read_requests};
 use clap::ArgMatches;
 use git_client::{Client, converse};
 use git_msg::Request;
-use git_pkt::{Retries, Told, escape_into};
+use git_pkt::{Discard, Output, Retries, RunFault, Told, escape_into};
 use git2show_lib::ProgramFault;
 use std::alloc::Global;
 use std::fs::File;
-use std::io::{self, BufWriter, Write};
+use std::io::{self, BufWriter, IsTerminal, Write};
 
 /// How many bytes of a message are shown at a time.
 const PART: usize = 256;
@@ -17,7 +21,8 @@ const PART: usize = 256;
 const SHOWN: usize = 4 * PART;
 
 /// Asks on standard output what the script that is named says, and hears on standard input. What comes of packs goes to the file that is
-/// named, and the transcript to one too, or to standard error.
+/// named, and the transcript to one too, or to standard error. Where the command line asks for it, or standard error is a terminal,
+/// the server's progress is shown there.
 pub(crate) fn run_fetch(rt: &HostRuntime, matches: &ArgMatches<'_>) -> Result<(), ProgramFault> {
     let requests = read_requests(rt, matches, format_of(matches))?;
     let pack = create(rt, matches.get_str("pack").unwrap_or(""))?;
@@ -30,8 +35,8 @@ pub(crate) fn run_fetch(rt: &HostRuntime, matches: &ArgMatches<'_>) -> Result<()
     }
 }
 
-/// Asks the requests in their order, and writes what comes of packs and the transcript. What the server tells where it refuses one goes to
-/// standard error.
+/// Asks the requests in their order, and writes what comes of packs, the transcript, and the server's progress where it is to be shown.
+/// What the server tells where it refuses one goes to standard error.
 fn fetch<O: Write + Drop>(
     rt: &HostRuntime,
     matches: &ArgMatches<'_>,
@@ -40,23 +45,50 @@ fn fetch<O: Write + Drop>(
     transcript: O,
 ) -> Result<(), ProgramFault> {
     let mut client = Client::new(format_of(matches), ending_of(matches));
-    let transcript = BufWriter::with_capacity(rt.alloc(), PIECE, transcript).map_err(
-        |_| ProgramFault::OutOfMemory,
-    )?;
-    let done = converse(
-        &mut Told::new(Retries::new(rt.stdin())),
-        &mut Told::new(rt.stdout()),
-        &mut [0; PIECE],
-        &mut client,
-        requests,
-        &mut Told::new(transcript),
-        &mut Told::new(pack),
-        TURNS,
-    );
+    let transcript = buffered(rt, transcript)?;
+    let done = if matches.get_flag("progress") || rt.stderr().is_terminal() {
+        let mut lines = RemoteLines::new(buffered(rt, rt.stderr())?);
+        let mut progress = Told::new(&mut lines);
+        let done = ask_all(rt, &mut client, requests, pack, transcript, &mut progress);
+        let _ = lines.end();
+        done
+    } else {
+        ask_all(rt, &mut client, requests, pack, transcript, &mut Discard)
+    };
     if let Some(message) = client.message() {
         let _ = tell_message(rt, message);
     }
     Ok(done?)
+}
+
+/// Asks the requests on standard output, and hears the server on standard input.
+fn ask_all<O: Write + Drop, E: Output>(
+    rt: &HostRuntime,
+    client: &mut Client<Global>,
+    requests: Vec<Request<Global>>,
+    pack: File,
+    transcript: O,
+    progress: &mut E,
+) -> Result<(), RunFault>
+    requires waits { wants_input client.old ≡ true }
+    requires sound { E.failed progress.old ≡ false }
+{
+    converse(
+        &mut Told::new(Retries::new(rt.stdin())),
+        &mut Told::new(rt.stdout()),
+        &mut [0; PIECE],
+        client,
+        requests,
+        &mut Told::new(transcript),
+        &mut Told::new(pack),
+        progress,
+        TURNS,
+    )
+}
+
+/// A writer over this one that passes on what it has at each flush, and before that only by large pieces.
+fn buffered<O: Write + Drop>(rt: &HostRuntime, inner: O) -> Result<BufWriter<O>, ProgramFault> {
+    BufWriter::with_capacity(rt.alloc(), PIECE, inner).map_err(|_| ProgramFault::OutOfMemory)
 }
 
 /// Makes the file of this name, or empties the one that is there.

@@ -3,6 +3,7 @@
 
 mod fetching;
 mod one_request;
+mod remote_lines;
 
 use crate::fetching::run_fetch;
 use crate::one_request::take_request;
@@ -127,6 +128,9 @@ fn fetch_command<'a>(alloc: Global) -> Result<Command<'a>, AllocError> {
                 .value_name("FILE")
                 .help("Where the transcript goes [usual: standard error]"),
         )?
+        .arg(flag_argument(alloc, "progress").help(
+            "Shows the server's progress on standard error even where that is no terminal",
+        ))?
         .arg(format_argument(alloc))?
         .arg(stateless_argument(
             alloc,

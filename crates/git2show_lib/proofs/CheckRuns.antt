@@ -33,7 +33,7 @@ use Rattle.git_client.specs.Conversation.{IsConversation, HasNoted}
 use Rattle.git_client.specs.Parts.{Terms}
 use Rattle.git_client.specs.RunSteps.{AsksNext, AsksTo, HearsFrom, HearsTo, HearsWhole, no_counts, window_of}
 use Rattle.git_client.specs.Runs.{IsInterrupted}
-use Rattle.git_client.specs.Events.{pack_bytes}
+use Rattle.git_client.specs.Events.{pack_bytes, progress_bytes}
 use Rattle.git_client.specs.Transcript.{transcript_from, transcript_of}
 use Rattle.git_client.specs.Turns.{takes_packets}
 use Rattle.git_client.specs.declared.client.Client.{Client}
@@ -56,7 +56,7 @@ use Rattle.git2show_lib.specs.declared.checking.CheckFault.TheVariants.{ReadFaul
 
 -- ---- what was read and written
 
--- where the packets that are asked and the packs go: nowhere
+-- where the packets that are asked, the packs and the progress go: nowhere
 abbrev pub silent : Flow
 silent = flow None None
 
@@ -139,9 +139,9 @@ module _ {A : Type 0} (t : Terms) where
   -- more bytes were used, or a write failed while they were
   heard_on : (broken : Bool) (front : List (Request A)) (old new : Client A) (waiting unused : List ℕ)
       {before held after out_before out_held out_after : Option (List ℕ)}
-      → (r : Running false t front old no_counts waiting (flow before held) silent (flow out_before out_held) silent)
-      → wants_input old ≡ true → (step : HearsFrom broken old new waiting unused (flow held after) (flow out_held out_after) silent)
-      → (on : Running broken t front new step.counts unused (flow before after) silent (flow out_before out_after) silent)
+      → (r : Running false t front old no_counts waiting (flow before held) silent (flow out_before out_held) silent silent)
+      → wants_input old ≡ true → (step : HearsFrom broken old new waiting unused (flow held after) (flow out_held out_after) silent silent)
+      → (on : Running broken t front new step.counts unused (flow before after) silent (flow out_before out_after) silent silent)
       × (on.h.used ≡ r.h.used ++ step.used)
   heard_on broken front old new waiting unused {before} {held} {after} {out_before} {out_held} {out_after} r waits step =
       let heard = step.bytes in
@@ -157,6 +157,7 @@ module _ {A : Type 0} (t : Terms) where
           said = in_silence broken r.h.given;
           told = written_then broken out_before out_held out_after r.lines lines r.told (heard.told (counts_on r.along heard.hears));
           sent = in_silence broken (r.packed ++ pack_bytes heard.events);
+          reported = in_silence broken (progress_bytes (r.h.events ++ heard.events));
         },
         refl,
       )
@@ -164,9 +165,9 @@ module _ {A : Type 0} (t : Terms) where
   -- a response was heard whole: at the next one the client counts from nothing
   heard_whole : (front : List (Request A)) (old new : Client A) (waiting : List ℕ) (window : Window) (piece : List ℕ)
       {before held after out_before out_held out_after : Option (List ℕ)}
-      → (r : Running false t front old no_counts waiting (flow before held) silent (flow out_before out_held) silent)
-      → wants_input old ≡ true → (step : HearsWhole window old new waiting piece (flow held after) (flow out_held out_after) silent)
-      → (on : Running false t front new no_counts (window_of window piece) (flow before after) silent (flow out_before out_after) silent)
+      → (r : Running false t front old no_counts waiting (flow before held) silent (flow out_before out_held) silent silent)
+      → wants_input old ≡ true → (step : HearsWhole window old new waiting piece (flow held after) (flow out_held out_after) silent silent)
+      → (on : Running false t front new no_counts (window_of window piece) (flow before after) silent (flow out_before out_after) silent silent)
       × (on.h.used ≡ r.h.used ++ step.hears.used)
   heard_whole front old new waiting window piece r waits step =
       let (on, grown) = heard_on false front old new waiting (window_of window piece) r waits step.hears in (
@@ -181,6 +182,7 @@ module _ {A : Type 0} (t : Terms) where
           said = on.said;
           told = on.told;
           sent = on.sent;
+          reported = on.reported;
         },
         grown,
       )
@@ -188,9 +190,9 @@ module _ {A : Type 0} (t : Terms) where
   -- a request was asked, or a write failed while it was
   asked_on : (broken : Bool) (front : List (Request A)) (old new : Client A) (request : Request A) (unused : List ℕ)
       {responses : Flow} {out_before out_held out_after : Option (List ℕ)}
-      → (r : Running false t front old no_counts unused responses silent (flow out_before out_held) silent)
+      → (r : Running false t front old no_counts unused responses silent (flow out_before out_held) silent silent)
       → can_ask old ≡ true → AsksNext broken old new request silent (flow out_held out_after)
-      → (on : Running broken t (front ++ request ∷ []) new no_counts unused responses silent (flow out_before out_after) silent)
+      → (on : Running broken t (front ++ request ∷ []) new no_counts unused responses silent (flow out_before out_after) silent silent)
       × (on.h.used ≡ r.h.used)
   asked_on broken front old new request unused {responses} {out_before} {out_held} {out_after} r ready step = (
     record {
@@ -204,6 +206,7 @@ module _ {A : Type 0} (t : Terms) where
       said = in_silence broken (r.h.given ++ step.given);
       told = written_then broken out_before out_held out_after r.lines _ r.told step.told;
       sent = in_silence broken r.packed;
+      reported = in_silence broken (progress_bytes r.h.events);
     },
     refl,
   )
@@ -222,7 +225,7 @@ module _ {A : Type 0} (t : Terms) where
     pub record Awaiting (broken : Bool) (front : List (Request A)) (client : Client A) (waiting : List ℕ) (requests responses out : Flow) : Type 0 where
       pub found : Found
       pub offer : Offer
-      pub runs : Running broken t front client no_counts waiting responses silent out silent
+      pub runs : Running broken t front client no_counts waiting responses silent out silent silent
       pub read : Consumes requests.before requests.after (found.used ++ found.unused)
       pub asks : AreAsked offer limit found.used found.asked found.left found.rest
       pub asked : found.asked ≡ map asked_of front
@@ -233,7 +236,7 @@ module _ {A : Type 0} (t : Terms) where
     -- the next request can come: those that were read were asked, and the response to each was heard whole
     pub record Checking (client : Client A) (stream : RequestStream A) (held waiting : List ℕ) (requests responses out : Flow) : Type 0 where
       pub front : List (Request A)
-      pub runs : Running false t front client no_counts waiting responses silent out silent
+      pub runs : Running false t front client no_counts waiting responses silent out silent silent
       pub reading : Reading (map asked_of front) stream held requests
       pub offered : IsOffered t runs.h.used (offer_of stream)
       pub ready : can_ask client ≡ true
@@ -285,7 +288,7 @@ module _ {A : Type 0} (t : Terms) where
     advertisement_due client offer requests responses out due stands = record {
       found = nothing_found;
       offer = offer;
-      runs = begins t client responses None None out None due stands tt;
+      runs = begins t client responses None None out None None due stands tt;
       read = Consumes-nil requests;
       asks = none_asked offer limit;
       asked = refl;
@@ -298,7 +301,7 @@ module _ {A : Type 0} (t : Terms) where
     pub advertised : (old new : Client A) (stream : RequestStream A) (window : Window) (piece : List ℕ) {requests : Option (List ℕ)}
         {before held after out_before out_held out_after : Option (List ℕ)}
         → Awaiting false [] old [] (flow requests requests) (flow before held) (flow out_before out_held)
-        → wants_input old ≡ true → HearsWhole window old new [] piece (flow held after) (flow out_held out_after) silent
+        → wants_input old ≡ true → HearsWhole window old new [] piece (flow held after) (flow out_held out_after) silent silent
         → HasRead [] [] stream → offer_of stream ≡ noted_offer (caps_of new) t.format → limit_of stream ≡ limit
         → Checking new stream [] (window_of window piece) (flow requests requests) (flow before after) (flow out_before out_after)
     advertised old new stream window piece {requests} a due heard reads offers kept =
@@ -352,7 +355,7 @@ module _ {A : Type 0} (t : Terms) where
         → Checking old stream held waiting (flow before left) (flow heard_before heard) (flow out_before out_held)
         → ReadsRequest ended stream next request held later (flow left after)
         → AsksNext false old middle request silent (flow out_held out_asked)
-        → wants_input middle ≡ true → HearsWhole window middle new waiting piece (flow heard heard_after) (flow out_asked out_after) silent
+        → wants_input middle ≡ true → HearsWhole window middle new waiting piece (flow heard heard_after) (flow out_asked out_after) silent silent
         → Checking new next later (window_of window piece) (flow before after) (flow heard_before heard_after) (flow out_before out_after)
     response_heard old middle new stream next request ended held later waiting window piece {before} {left} {after} c step asks due heard =
         let (asked, same) = asked_on false c.front old middle request waiting c.runs c.ready asks in
@@ -388,7 +391,7 @@ module _ (A : Type 0) (t : Terms) (limit : ℕ) {Q R : Type 0} (of_requests : To
   -- what the run of the client and the requests come to in a check that ends here
   ends : (result : Result (Unit {0}) CheckFault) (found : Found) (offer : Offer) (h : History) (front : List (Request A)) (client : Client A)
       (unused : List ℕ) (requests responses out : Flow) → Consumes requests.before requests.after (found.used ++ found.unused)
-      → Ran (is_broken (run_result result)) t h front client unused responses silent out silent → IsOffered t h.used offer ⊎ AreUnread found
+      → Ran (is_broken (run_result result)) t h front client unused responses silent out silent silent → IsOffered t h.used offer ⊎ AreUnread found
       → AreAsked offer limit found.used found.asked found.left found.rest
       → EndsAs A t offer limit result (standing_of of_requests) (standing_of of_responses) unused h found → CheckEnds result requests responses out
   ends result found offer h front client unused requests responses out read at offered asks ended = record {
@@ -419,7 +422,7 @@ module _ (A : Type 0) (t : Terms) (limit : ℕ) {Q R : Type 0} (of_requests : To
       (a : Awaiting t limit false front old waiting requests (flow before held) (flow out_before out_held)) (due : wants_input old ≡ true) where
     -- all that came of it was heard, and then this was told
     heard_up_to : (result : Result (Unit {0}) CheckFault) (unused : List ℕ)
-        (step : HearsFrom (is_broken (run_result result)) old new waiting unused (flow held after) (flow out_held out_after) silent)
+        (step : HearsFrom (is_broken (run_result result)) old new waiting unused (flow held after) (flow out_held out_after) silent silent)
         → ((h : History) → Converses t h new → AreAllAsked h a.found
         → EndsAs A t a.offer limit result (standing_of of_requests) (standing_of of_responses) unused h a.found)
         → CheckEnds result requests (flow before after) (flow out_before out_after)
@@ -432,7 +435,7 @@ module _ (A : Type 0) (t : Terms) (limit : ℕ) {Q R : Type 0} (of_requests : To
 
     -- it was not heard to its end
     pub hearing_stopped : (fault : RunFault) (piece : List ℕ) (turns : ℕ) (written : Bool) (F W : Type 0)
-        → HearsTo (Err fault) (has_ended of_responses) old new waiting piece (flow held after) (flow out_held out_after) silent
+        → HearsTo (Err fault) (has_ended of_responses) old new waiting piece (flow held after) (flow out_held out_after) silent silent
         → FailsAs {T = Window} (Err fault) (has_failed of_responses) written → IsShownBy F W (IsSpent of_responses turns) fault
         → CheckEnds (Err (fault_of_responses fault)) requests (flow before after) (flow out_before out_after)
     hearing_stopped ReadFault piece turns written F W step told shown =
@@ -471,7 +474,7 @@ module _ (A : Type 0) (t : Terms) (limit : ℕ) {Q R : Type 0} (of_requests : To
       let at = ran c.runs in
       let stands = at.stands in
       let lines = transcript_of h.asked h.events in
-      let so : Ran false t h c.front old waiting responses silent (flow out_before out_after) silent = record {
+      let so : Ran false t h c.front old waiting responses silent (flow out_before out_after) silent silent = record {
         stands = stands;
         in_turn = at.in_turn;
         read = at.read;
@@ -480,6 +483,7 @@ module _ (A : Type 0) (t : Terms) (limit : ℕ) {Q R : Type 0} (of_requests : To
             subst (WrittenAs false (flow out_before out_after)) (append-nil lines)
             (written_then false out_before out_held out_after lines [] at.told asks.told);
         sent = at.sent;
+        reported = at.reported;
       } in
       ends (Err (Responses fault)) (found_in t limit reading remaining rest) (offer_of next) h c.front old waiting _ _ _ reading.read so
       (inl (still_offered t step.reads.offer refl c.offered)) (asks_within t limit reading remaining rest are_asked) (inr (inl (record {
@@ -521,7 +525,7 @@ module _ (A : Type 0) (t : Terms) (limit : ℕ) {Q R : Type 0} (of_requests : To
         let at = ran c.runs in
         let reading = reads_none t limit c.reading step in
         let (remaining, rest, are_asked, stands) = asking reading.used (map asked_of c.front) reading.has_read in
-        let so : Ran false t h c.front client (waiting ++ came) (flow heard_before heard_after) silent out silent = record {
+        let so : Ran false t h c.front client (waiting ++ came) (flow heard_before heard_after) silent out silent silent = record {
           stands = at.stands;
           in_turn = at.in_turn;
           read =
@@ -530,9 +534,10 @@ module _ (A : Type 0) (t : Terms) (limit : ℕ) {Q R : Type 0} (of_requests : To
           said = at.said;
           told = at.told;
           sent = at.sent;
+          reported = at.reported;
         } in
         ends result (found_after reading.used unused remaining rest) (offer_of next) h c.front client (waiting ++ came) _ _ _ reading.read
-        (subst (λ (broken : Bool). Ran broken t h c.front client (waiting ++ came) (flow heard_before heard_after) silent out silent) (sym sound) so)
+        (subst (λ (broken : Bool). Ran broken t h c.front client (waiting ++ came) (flow heard_before heard_after) silent out silent silent) (sym sound) so)
         (inl (still_offered t step.offer refl c.offered)) (asks_within t limit reading remaining rest are_asked)
         (ended reading.used remaining rest stands (record { asked = sym c.runs.in_turn.are; whole = is_whole t h client at.stands c.ready }))
 

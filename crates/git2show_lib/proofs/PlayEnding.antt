@@ -286,13 +286,14 @@ module _ {R A : Type 0} (state : R → RepoState) (t : Terms) (limit : ℕ) (s0 
         ∙ ap (λ (owed : List Pkt). h.given ++ spelled owed) leaving.owes in
         let heard : (ps : List Pkt) → h.used ≡ spelled ps → suc (length h.asked) ≤ flushes ps =
         messages_heard (CanFail state s0.failures) t limit s0 h (is_whole t h old before p.ready) in
-        let ran : Ran false t now front new [] silent silent out pack = record {
+        let ran : Ran false t now front new [] silent silent out pack silent = record {
           stands = stands;
           in_turn = at.in_turn;
           read = tt;
           said = tt;
           told = at.told;
           sent = at.sent;
+          reported = tt;
         } in
         play_told t (CanFail state s0.failures) limit s0 requests (Ok tt) now front [] new split ran (record {
           first = talk_of (h.given ++ tells.says.given) h.used;

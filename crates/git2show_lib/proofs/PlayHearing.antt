@@ -14,24 +14,25 @@ use Rattle.git_client.specs.declared.client.Client.{Client}
 use Rattle.git_client.specs.declared.hearing.Counts.{Counts}
 use Rattle.git_client.proofs.HeardBytes.{heard_then}
 use Rattle.git_client.proofs.Phases.{not_ready_where_due}
+use Rattle.git2show_lib.specs.PlaySteps.{silent}
 use Rattle.git2show_lib.proofs.PlayTelling.{next_piece, left_after, piece_joined}
 
 module _ {A : Type 0} where
   -- no more bytes of a piece were heard than it has
   within_piece : (broken : Bool) (old new : Client A) (counts after : Counts) (piece : List ℕ) (used : ℕ) (out packs : Flow)
-      → HearsBytes broken old new counts after (take used piece) out packs
-      → HearsBytes broken old new counts after (take (min used (length piece)) piece) out packs
+      → HearsBytes broken old new counts after (take used piece) out packs silent
+      → HearsBytes broken old new counts after (take (min used (length piece)) piece) out packs silent
   within_piece broken old new counts after piece used out packs h =
-      subst (λ (l : List ℕ). HearsBytes broken old new counts after l out packs) (sym (take_min used piece)) h
+      subst (λ (l : List ℕ). HearsBytes broken old new counts after l out packs silent) (sym (take_min used piece)) h
 
   module _ (packet : List ℕ) (done k : ℕ) (within : done ≤ length packet) (old b c : Client A) (counts now after : Counts)
       {out_before out pack_before pack : Option (List ℕ)} (waits : wants_input b ≡ true)
-      (so_far : HearsBytes false old b counts now (take done packet) (flow out_before out) (flow pack_before pack)) where
+      (so_far : HearsBytes false old b counts now (take done packet) (flow out_before out) (flow pack_before pack) silent) where
     pub heard_on : {out_after pack_after : Option (List ℕ)} (broken : Bool) (u : ℕ) → u ≤ length (next_piece packet done k)
-        → HearsBytes broken b c now after (take u (next_piece packet done k)) (flow out out_after) (flow pack pack_after)
-        → HearsBytes broken old c counts after (take (done + u) packet) (flow out_before out_after) (flow pack_before pack_after)
+        → HearsBytes broken b c now after (take u (next_piece packet done k)) (flow out out_after) (flow pack pack_after) silent
+        → HearsBytes broken old c counts after (take (done + u) packet) (flow out_before out_after) (flow pack_before pack_after) silent
     heard_on {out_after} {pack_after} broken u few step =
-        subst (λ (l : List ℕ). HearsBytes broken old c counts after l (flow out_before out_after) (flow pack_before pack_after))
+        subst (λ (l : List ℕ). HearsBytes broken old c counts after l (flow out_before out_after) (flow pack_before pack_after) silent)
         (piece_joined packet done k u within few) (heard_then (not_ready_where_due (phase_of b) waits) so_far step)
 
     -- a fault that a piece shows is one that the packet shows
@@ -50,8 +51,8 @@ module _ {A : Type 0} where
 
     -- the hearing of a piece stopped
     pub hearing_stopped : (out_after pack_after : Option (List ℕ)) (fault : RunFault)
-        → HearsPieceTo (Err fault) b c now after (next_piece packet done k) (flow out out_after) (flow pack pack_after)
-        → HearsPieceTo (Err fault) old c counts after packet (flow out_before out_after) (flow pack_before pack_after)
+        → HearsPieceTo (Err fault) b c now after (next_piece packet done k) (flow out out_after) (flow pack pack_after) silent
+        → HearsPieceTo (Err fault) old c counts after packet (flow out_before out_after) (flow pack_before pack_after) silent
     hearing_stopped out_after pack_after ReadFault step = absurd step
     hearing_stopped out_after pack_after ReadLimit step = absurd step
     hearing_stopped out_after pack_after WriteFault step = record {

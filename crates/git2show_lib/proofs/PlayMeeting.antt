@@ -20,7 +20,7 @@ use Rattle.git_server.specs.declared.server.Pulled.{Pulled}
 use Rattle.git_server.specs.declared.server.Pulled.TheVariants.{Packet, NeedInput, Finished}
 use Rattle.git_server.specs.declared.server.Server.{Server}
 use Rattle.git_server.proofs.Outcomes.{too_long_before}
-use Rattle.git2show_lib.specs.PlaySteps.{GivesOn, Hears, HearsOut, HearsServerTo, IsSpent, Settled}
+use Rattle.git2show_lib.specs.PlaySteps.{GivesOn, Hears, HearsOut, HearsServerTo, IsSpent, Settled, silent}
 use denote.Ref.{Bor}
 
 -- ---- the server
@@ -67,7 +67,7 @@ module _ {R A : Type 0} (state : R → RepoState) where
       given = [];
       used = [];
       parts = refl;
-      heard = nothing_heard client counts told sent (not_ready_where_due (phase_of client) waits);
+      heard = nothing_heard client counts told sent None (not_ready_where_due (phase_of client) waits);
       server_goes = gives_still server;
     };
     due = λ _. refl;
@@ -87,7 +87,7 @@ module _ {R A : Type 0} (state : R → RepoState) where
         ∙ append-nil so_far.hears.used
 
     -- some of a packet was heard, as far as that went
-    hears_packet : (broken : Bool) (u : ℕ) → HearsBytes broken b c now after (take u bytes.now) (flow told told_after) (flow sent sent_after)
+    hears_packet : (broken : Bool) (u : ℕ) → HearsBytes broken b c now after (take u bytes.now) (flow told told_after) (flow sent sent_after) silent
         → Hears state broken old c counts after server new [] (drop u bytes.now) (flow told_before told_after) (flow sent_before sent_after)
     hears_packet broken u step = record {
       given = so_far.hears.given ++ bytes.now;
@@ -100,7 +100,7 @@ module _ {R A : Type 0} (state : R → RepoState) where
           (gives_packet middle new pulled bytes pulls is);
     }
 
-    module _ (u : ℕ) (step : HearsInPiece b c now after bytes.now u (flow told told_after) (flow sent sent_after)) where
+    module _ (u : ℕ) (step : HearsInPiece b c now after bytes.now u (flow told told_after) (flow sent sent_after) silent) where
       pub hearing_on : Hearing old c counts after server new (flow told_before told_after) (flow sent_before sent_after)
       hearing_on = record {
         unheard = drop u bytes.now;
@@ -110,7 +110,7 @@ module _ {R A : Type 0} (state : R → RepoState) where
       }
 
     -- the hearing of a packet stopped
-    pub meeting_stopped : (fault : RunFault) → HearsPieceTo (Err fault) b c now after bytes.now (flow told told_after) (flow sent sent_after)
+    pub meeting_stopped : (fault : RunFault) → HearsPieceTo (Err fault) b c now after bytes.now (flow told told_after) (flow sent sent_after) silent
         → HearsServerTo state (Err fault) old c counts after server new (flow told_before told_after) (flow sent_before sent_after)
     meeting_stopped ReadFault step = absurd step
     meeting_stopped ReadLimit step = absurd step

@@ -18,7 +18,7 @@ use Rattle.git_msg.specs.declared.requests.Request.{Request}
 use Rattle.git_client.specs.Client.{History, Converses, can_ask, caps_of, fault_of, nothing_yet}
 use Rattle.git_client.specs.Client.{phase_of, questions_of, request_of, said_of, spelled, wants_input}
 use Rattle.git_client.specs.Conversation.{IsConversation}
-use Rattle.git_client.specs.Events.{EventValue, pack_bytes}
+use Rattle.git_client.specs.Events.{EventValue, pack_bytes, progress_bytes}
 use Rattle.git_client.specs.Parts.{Terms}
 use Rattle.git_client.specs.RunSteps.{AsksNext, no_counts}
 use Rattle.git_client.specs.Runs.{HasSaid}
@@ -152,8 +152,9 @@ module _ {A : Type 0} (t : Terms) where
   has_stayed h client stands quietly = stands.left ∙ not_left (phase_of client) quietly
 
   pub ran_of : {broken : Bool} {h : History} {front : List (Request A)} {client : Client A} {counts : Counts} {out pack : Flow}
-      → Runs broken h front client counts out pack → Ran broken t h front client [] silent silent out pack
+      → Runs broken h front client counts out pack → Ran broken t h front client [] silent silent out pack silent
   ran_of {broken} {h} r = ran_by r.lines r.packed r.along r.in_turn tt (written_whole broken silent h.given tt) r.told r.sent
+      (written_whole broken silent (progress_bytes h.events) tt)
 
   module _ (Fails : Type 0) (limit : ℕ) (s0 : RepoState) (requests : List (Request A)) where
     -- how a play with this answer moved its streams
@@ -161,7 +162,7 @@ module _ {A : Type 0} (t : Terms) where
     PlayEnds result out pack = Moves (is_broken result) (Played Fails t limit s0 requests result) [] (out ∷ pack ∷ [])
 
     pub play_told : (result : Result (Unit {0}) RunFault) (h : History) (front rest : List (Request A)) (client : Client A) {out pack : Flow}
-        → requests ≡ front ++ rest → Ran (is_broken result) t h front client [] silent silent out pack → EndsAs Fails t limit s0 result rest h
+        → requests ≡ front ++ rest → Ran (is_broken result) t h front client [] silent silent out pack silent → EndsAs Fails t limit s0 result rest h
         → PlayEnds result out pack
     play_told result h front rest client split at ends = record {
       used = [];

@@ -21,7 +21,7 @@ use Rattle.git_client.proofs.HeardBytes.{heard_flushed, heard_quietly, heard_the
 use Rattle.git_client.proofs.Phases.{not_ready_where_due, not_ready_where_failed}
 use Rattle.git_server.specs.Repository.{RepoState}
 use Rattle.git_server.specs.declared.server.Server.{Server}
-use Rattle.git2show_lib.specs.PlaySteps.{Hears, HearsMessage, HearsMessageTo, HearsOut, HearsServerTo, IsSpent, end_of}
+use Rattle.git2show_lib.specs.PlaySteps.{Hears, HearsMessage, HearsMessageTo, HearsOut, HearsServerTo, IsSpent, end_of, silent}
 
 -- the packet after an answer, as it is written in the code
 abbrev pub end_bytes : List ℕ
@@ -85,7 +85,7 @@ module _ {R A : Type 0} (state : R → RepoState) where
 
     -- of the packet after the message some was heard, as far as that went
     end_heard : (broken : Bool) (new : Client A) (now : Counts) (told_after sent_after : Option (List ℕ)) (n : ℕ)
-        → HearsBytes broken middle new counts now (take n end_bytes) (flow told told_after) (flow sent sent_after)
+        → HearsBytes broken middle new counts now (take n end_bytes) (flow told told_after) (flow sent sent_after) silent
         → Hears state broken old new no_counts now server after (end_of alone) (drop n end_bytes) (flow told_before told_after) (flow sent_before sent_after)
     end_heard broken new now told_after sent_after n step =
         let all : heard.hears.given ≡ heard.hears.used =
@@ -103,7 +103,7 @@ module _ {R A : Type 0} (state : R → RepoState) where
 
     -- a fault was met in it
     pub end_stopped : (new : Client A) (now : Counts) (told_after sent_after : Option (List ℕ)) (fault : RunFault)
-        → HearsPieceTo (Err fault) middle new counts now end_bytes (flow told told_after) (flow sent sent_after)
+        → HearsPieceTo (Err fault) middle new counts now end_bytes (flow told told_after) (flow sent sent_after) silent
         → HearsMessageTo state (Err fault) alone old new server after (flow told_before told_after) (flow sent_before sent_after)
     end_stopped new now told_after sent_after ReadFault step = absurd step
     end_stopped new now told_after sent_after ReadLimit step = absurd step
@@ -154,7 +154,7 @@ module _ {R A : Type 0} (state : R → RepoState) where
   pub heard_with : (alone : Bool) (old middle new : Client A) (counts now : Counts) (server after : Server R A)
       (told_before told told_after sent_before sent sent_after : Option (List ℕ)) (n : ℕ) → alone ≡ true → wants_input middle ≡ true
       → HearsOut state old middle no_counts counts server after (flow told_before told) (flow sent_before sent)
-      → HearsInPiece middle new counts now end_bytes n (flow told told_after) (flow sent sent_after)
+      → HearsInPiece middle new counts now end_bytes n (flow told told_after) (flow sent sent_after) silent
       → MessageHeard alone old new server after (flow told_before told_after) (flow sent_before sent_after)
   heard_with alone old middle new counts now server after told_before told told_after sent_before sent sent_after n is waits h step = record {
     counts = now;
@@ -177,7 +177,7 @@ module _ {R A : Type 0} (state : R → RepoState) where
       used = heard.hears.used;
       parts = heard.hears.parts;
       heard = heard_flushed heard.hears.heard (written_flushed false told told told_after [] (written_nothing told) kept)
-          (written_flushed false sent sent sent_after [] (written_nothing sent) kept_pack);
+          (written_flushed false sent sent sent_after [] (written_nothing sent) kept_pack) (written_nothing None);
       server_goes = heard.hears.server_goes;
     }
 
@@ -198,8 +198,9 @@ module _ {R A : Type 0} (state : R → RepoState) where
         let flushed = hears_flushed false in
         let (all, spent) = heard.due waits in
         let nothing = heard_quietly heard.counts hears (not_ready_where_failed (phase_of closed) fault failed) (written_nothing told_after)
-        (written_nothing sent_after) in
-        let closing : HearsBytes false old closed no_counts heard.counts (flushed.used ++ []) (flow told_before told_after) (flow sent_before sent_after) =
+        (written_nothing sent_after) (written_nothing None) in
+        let closing : HearsBytes false old closed no_counts heard.counts (flushed.used ++ []) (flow told_before told_after)
+        (flow sent_before sent_after) silent =
         heard_then (not_ready_where_due (phase_of new) waits) flushed.heard nothing in (
           true,
           heard.counts,

@@ -19,7 +19,7 @@ use Rattle.git_server.specs.declared.outcome.Outcome.{Outcome}
 use Rattle.git_server.specs.declared.outcome.Outcome.TheVariants.{Refused}
 use Rattle.git_server.specs.declared.server.Server.{Server}
 
--- where what is said to a server goes: to no stream
+-- where what is said to a server goes, and the progress that it reports: to no stream
 abbrev pub silent : Flow
 silent = flow None None
 
@@ -67,7 +67,7 @@ module _ {R A : Type 0} (state : R → RepoState) where
     pub given : List ℕ
     pub used : List ℕ
     pub parts : given ++ end ≡ used ++ unheard
-    pub heard : HearsBytes broken old new counts counts_after used out packs
+    pub heard : HearsBytes broken old new counts counts_after used out packs silent
     pub server_goes : GivesOn server given after
 
   -- the client heard the server, up to where it can ask, or the server gives nothing more

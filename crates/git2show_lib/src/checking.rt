@@ -102,6 +102,7 @@ pub fn check<Q: Read, R: Read, O: Write, A: Allocator + Copy>(
         waiting,
         out,
         &mut Discard,
+        &mut Discard,
         turns,
     )?;
     let limits = Limits {
@@ -122,6 +123,7 @@ pub fn check<Q: Read, R: Read, O: Write, A: Allocator + Copy>(
             other_piece,
             left,
             out,
+            &mut Discard,
             &mut Discard,
             turns - requests.reads(),
         )?;

@@ -9,17 +9,18 @@ ghost use Rattle.git_client.specs.Parts.{terms_of};
 ghost use Rattle.git_client.specs.RunSteps.{HearsPieceTo};
 ghost use Rattle.git_server.specs.Server.{outcome_of};
 ghost use Rattle.git2show_lib.specs.Plays.{CanFail, Played, setting_of};
-ghost use Rattle.git2show_lib.specs.PlaySteps.{AsksServerTo, HearsMessageTo, HearsServerTo, Stands, StandsOn, TellsAll};
+ghost use Rattle.git2show_lib.specs.PlaySteps.{AsksServerTo, HearsMessageTo, HearsServerTo, Stands, StandsOn, TellsAll, silent};
 
 use git_client::{Client, Counts, Ending, Sent, hear_piece, write_asked};
 use git_msg::{Limits, Offer, Request};
 use git_names::Steps;
-use git_pkt::{Output, RunFault, Told, flush};
+use git_pkt::{Discard, Output, RunFault, Told, flush};
 use git_server::{Pulled, Repo, Server};
 use std::alloc::Allocator;
 use std::io::Write;
 
-/// Hears one whole packet in pieces of at most `cut` bytes, up to where the client can ask. Answers how many bytes were used.
+/// Hears one whole packet in pieces of at most `cut` bytes, up to where the client can ask. The server's progress is dropped. Answers
+/// how many bytes were used.
 fn hear_packet<O: Write, P: Output, A: Allocator + Copy>(
     client: &mut Client<A>,
     counts: &mut Counts,
@@ -34,7 +35,7 @@ fn hear_packet<O: Write, P: Output, A: Allocator + Copy>(
     requires sound_pack { P.failed pack.old ≡ false }
     ensures heard { HearsPieceTo result client.old client.new counts.old counts.new packet.now
         (flow (O.contents (inner_of out.old)) (O.contents (inner_of out.new)))
-        (flow (P.contents pack.old) (P.contents pack.new)) }
+        (flow (P.contents pack.old) (P.contents pack.new)) silent }
     ensures fault { IfErr result (IsShownBy ⊥ (IsTrue (has_failed out.new || P.failed pack.new)) ⊥) }
     ensures told { FailsAs result false (has_failed out.new || P.failed pack.new) }
 {
@@ -42,7 +43,7 @@ fn hear_packet<O: Write, P: Output, A: Allocator + Copy>(
     while used < packet.len() && client.wants_input() {
         let left = &packet[used..];
         let piece = &left[..cut.min(left.len())];
-        used += hear_piece(client, counts, piece, out, pack)?;
+        used += hear_piece(client, counts, piece, out, pack, &mut Discard)?;
     }
     Ok(used)
 }

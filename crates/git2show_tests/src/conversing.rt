@@ -4,7 +4,7 @@ use crate::stopping::{ALL, MANY, TURNS, expect_due, expect_front};
 use git_client::{Client, Ending, converse};
 use git_msg::{Limits, Request};
 use git_names::Format;
-use git_pkt::{Fault, Kind, RunFault, Stops, Told};
+use git_pkt::{Discard, Fault, Kind, RunFault, Stops, Told};
 use git2show_lib::read_script;
 use std::alloc::Global;
 use std::cell::Cell;
@@ -44,6 +44,9 @@ request ls-refs\nref aaaaaaaaaaaaaaaaaaaaaaaaaaaaaaaaaaaaaaaa HEAD\nend 0 0\nreq
 /// The pack.
 const PACK: &[u8] = b"ABC";
 
+/// The progress.
+const PROGRESS: &[u8] = b"hi\n";
+
 /// The requests of a script.
 pub fn requests(
     rt: &(impl Abort + AllocGlobal),
@@ -72,6 +75,7 @@ struct Given {
     said: Sink,
     out: Sink,
     pack: Sink,
+    progress: Sink,
 }
 
 /// After how many calls each stream stops, and how many reads may be made.
@@ -81,6 +85,7 @@ struct Stopping {
     says: u32,
     writes: u32,
     packs: u32,
+    reports: u32,
     turns: u64,
 }
 
@@ -90,6 +95,7 @@ const SOUND: Stopping = Stopping {
     says: ALL,
     writes: ALL,
     packs: ALL,
+    reports: ALL,
     turns: TURNS,
 };
 
@@ -103,6 +109,7 @@ fn run<R: Read + Drop>(
     let mut said = Sink::new(Vec::new(rt.alloc()), 40, NEVER);
     let mut out = Sink::new(Vec::new(rt.alloc()), usize::MAX, NEVER);
     let mut pack = Sink::new(Vec::new(rt.alloc()), usize::MAX, NEVER);
+    let mut progress = Sink::new(Vec::new(rt.alloc()), usize::MAX, NEVER);
     let mut client = Client::new(Format::Sha1, ending);
     let got = converse(
         &mut Told::new(Stops::new(answers, stopping.reads)),
@@ -112,6 +119,7 @@ fn run<R: Read + Drop>(
         requests(rt, SCRIPT)?,
         &mut Told::new(Stops::new(&mut out, stopping.writes)),
         &mut Told::new(Stops::new(&mut pack, stopping.packs)),
+        &mut Told::new(Stops::new(&mut progress, stopping.reports)),
         stopping.turns,
     );
     Ok(Given {
@@ -119,6 +127,7 @@ fn run<R: Read + Drop>(
         said,
         out,
         pack,
+        progress,
     })
 }
 
@@ -131,6 +140,7 @@ fn a_client_asks_and_hears_and_leaves(rt: HostRuntime) -> Result<(), Fail> {
     assert_eq!(rt; given.said.taken.as_slice(), joined(&rt, &SAID)?.as_slice());
     assert_eq!(rt; given.out.taken.as_slice(), TRANSCRIPT);
     assert_eq!(rt; given.pack.taken.as_slice(), b"ABC".as_slice());
+    assert_eq!(rt; given.progress.taken.as_slice(), b"hi\n".as_slice());
     Ok(())
 }
 
@@ -147,6 +157,7 @@ fn a_client_with_response_ends_asks_and_does_not_leave(rt: HostRuntime) -> Resul
     );
     assert_eq!(rt; given.out.taken.as_slice(), TRANSCRIPT);
     assert_eq!(rt; given.pack.taken.as_slice(), b"ABC".as_slice());
+    assert_eq!(rt; given.progress.taken.as_slice(), b"hi\n".as_slice());
     Ok(())
 }
 
@@ -165,14 +176,16 @@ const PIECES: [&[u8]; 11] = [
     b"0000",
 ];
 
-/// What is due after so many reads: to the server, in the transcript, and of the pack. Then nothing more is, up to the next of these.
-const DUE: [(u32, &[u8], &[u8], &[u8]); 8] = [
-    (2, b"", b"capability ls-refs\n", b""),
-    (3, b"", b"capability fetch=shallow\n", b""),
+/// What is due after so many reads: to the server, in the transcript, of the pack, and of the progress. Then nothing more is, up to the
+/// next of these.
+const DUE: [(u32, &[u8], &[u8], &[u8], &[u8]); 8] = [
+    (2, b"", b"capability ls-refs\n", b"", b""),
+    (3, b"", b"capability fetch=shallow\n", b"", b""),
     (
         4,
         LISTS,
         b"capability object-format=sha1\noffered\nrequest ls-refs\n",
+        b"",
         b"",
     ),
     (
@@ -180,21 +193,23 @@ const DUE: [(u32, &[u8], &[u8], &[u8]); 8] = [
         b"",
         b"ref aaaaaaaaaaaaaaaaaaaaaaaaaaaaaaaaaaaaaaaa HEAD\n",
         b"",
+        b"",
     ),
-    (6, FETCHES, b"end 0 0\nrequest fetch\n", b""),
-    (8, b"", b"", b"A"),
-    (9, b"", b"", b"B"),
-    (10, b"", b"", b"C"),
+    (6, FETCHES, b"end 0 0\nrequest fetch\n", b"", b""),
+    (8, b"", b"", b"A", b""),
+    (9, b"", b"", b"B", b"hi\n"),
+    (10, b"", b"", b"C", b""),
 ];
 
-/// How much of what is said, of the transcript and of the pack is due after so many reads.
-fn due_after(reads: u32) -> (usize, usize, usize) {
-    let mut due = (0usize, 0usize, 0usize);
-    for (number, said, out, pack) in DUE {
+/// How much of what is said, of the transcript, of the pack and of the progress is due after so many reads.
+fn due_after(reads: u32) -> (usize, usize, usize, usize) {
+    let mut due = (0usize, 0usize, 0usize, 0usize);
+    for (number, said, out, pack, progress) in DUE {
         if number <= reads {
             due.0 = due.0.saturating_add(said.len());
             due.1 = due.1.saturating_add(out.len());
             due.2 = due.2.saturating_add(pack.len());
+            due.3 = due.3.saturating_add(progress.len());
         }
     }
     due
@@ -207,12 +222,13 @@ fn expect_interrupted(
     reads: u32,
     fault: RunFault,
 ) -> Result<(), Fail> {
-    let (said, out, pack) = due_after(reads);
+    let (said, out, pack, progress) = due_after(reads);
     assert_eq!(rt; given.got, Err(fault));
     let all_said = joined(rt, &SAID)?;
     expect_due(rt, &given.said, all_said.get(..said).unwrap_or(&[]));
     expect_due(rt, &given.out, TRANSCRIPT.get(..out).unwrap_or(&[]));
     expect_due(rt, &given.pack, PACK.get(..pack).unwrap_or(&[]));
+    expect_due(rt, &given.progress, PROGRESS.get(..progress).unwrap_or(&[]));
     Ok(())
 }
 
@@ -246,6 +262,7 @@ struct Longest {
     said: usize,
     out: usize,
     pack: usize,
+    progress: usize,
 }
 
 /// That what was written begins what the whole run writes, and is no shorter than before. Whether the run is whole.
@@ -258,6 +275,7 @@ fn expect_fronts(
     expect_front(rt, &given.said, &said, &mut longest.said);
     expect_front(rt, &given.out, TRANSCRIPT, &mut longest.out);
     expect_front(rt, &given.pack, PACK, &mut longest.pack);
+    expect_front(rt, &given.progress, PROGRESS, &mut longest.progress);
     if given.got.is_err() {
         assert_eq!(rt; given.got, Err(RunFault::WriteFault));
         return Ok(false);
@@ -265,6 +283,7 @@ fn expect_fronts(
     assert_eq!(rt; longest.said, said.len());
     assert_eq!(rt; longest.out, TRANSCRIPT.len());
     assert_eq!(rt; longest.pack, PACK.len());
+    assert_eq!(rt; longest.progress, PROGRESS.len());
     Ok(true)
 }
 
@@ -272,7 +291,7 @@ fn expect_fronts(
 fn each_write_and_flush_fails_in_turn_while_a_client_converses(
     rt: HostRuntime,
 ) -> Result<(), Fail> {
-    for writer in 0..3 {
+    for writer in 0..4 {
         let mut longest = Longest::default();
         let mut is_whole = false;
         for calls in 0..MANY {
@@ -280,7 +299,8 @@ fn each_write_and_flush_fails_in_turn_while_a_client_converses(
             match writer {
                 0 => stopping.says = calls,
                 1 => stopping.writes = calls,
-                _ => stopping.packs = calls,
+                2 => stopping.packs = calls,
+                _ => stopping.reports = calls,
             }
             let given = run(&rt, Pieces::new(&PIECES), Ending::FlushOnly, stopping)?;
             is_whole = expect_fronts(&rt, &given, &mut longest)?;
@@ -310,6 +330,7 @@ fn run_fetch<R: Read + Drop>(
     let mut said = Sink::new(Vec::new(rt.alloc()), usize::MAX, NEVER);
     let mut out = Sink::new(Vec::new(rt.alloc()), usize::MAX, NEVER);
     let mut pack = Sink::new(Vec::new(rt.alloc()), usize::MAX, NEVER);
+    let mut progress = Sink::new(Vec::new(rt.alloc()), usize::MAX, NEVER);
     let mut client = Client::new(Format::Sha1, Ending::FlushOnly);
     let script = b"fetch\nwant aaaaaaaaaaaaaaaaaaaaaaaaaaaaaaaaaaaaaaaa\ndone\n";
     let got = converse(
@@ -320,6 +341,7 @@ fn run_fetch<R: Read + Drop>(
         requests(rt, script)?,
         &mut Told::new(&mut out),
         &mut Told::new(&mut pack),
+        &mut Told::new(&mut progress),
         turns,
     );
     expect_due(rt, &said, FETCHES_FROM_AN_AGENT);
@@ -329,6 +351,7 @@ fn run_fetch<R: Read + Drop>(
     );
     assert_eq!(rt; out.flushed, out.taken.len());
     assert_eq!(rt; pack.flushed, pack.taken.len());
+    assert_eq!(rt; progress.flushed, progress.taken.len());
     Ok((got, pack.taken))
 }
 
@@ -390,6 +413,7 @@ fn each_request_is_flushed_before_its_response_is_read(rt: HostRuntime) -> Resul
         requests(&rt, SCRIPT)?,
         &mut Told::new(Vec::new(rt.alloc())),
         &mut Told::new(Vec::new(rt.alloc())),
+        &mut Discard,
         TURNS,
     );
     assert_eq!(rt; got, Ok(()));
@@ -413,6 +437,7 @@ fn a_request_that_is_not_offered_is_not_said(rt: HostRuntime) -> Result<(), Fail
         requests(&rt, b"fetch\nwant-ref refs/heads/main\ndone\n")?,
         &mut Told::new(&mut out),
         &mut Told::new(Vec::new(rt.alloc())),
+        &mut Discard,
         TURNS,
     );
     let fault = Fault {

@@ -9,12 +9,12 @@ use Rattle.git_pkt.proofs.EngineLemmas.{AppendsFront-after}
 use Rattle.git_msg.specs.Asked.{Asked, command_asked}
 use Rattle.git_msg.specs.HeldRequest.{asked_of}
 use Rattle.git_msg.specs.declared.requests.Request.{Request}
-use Rattle.git_client.specs.Events.{EventValue, pack_bytes}
+use Rattle.git_client.specs.Events.{EventValue, pack_bytes, progress_bytes}
 use Rattle.git_client.specs.Parts.{Terms}
 use Rattle.git_pkt.specs.Streams.{Flow, flow, WrittenAs, IsTimely}
 use Rattle.git_client.specs.Transcript.{asked_line, next_asked, transcript_from, transcript_of}
 use Rattle.git_client.specs.Client.{History, Converses, HearsOn, can_ask, fault_of, nothing_yet, phase_of, wants_input}
-use Rattle.git_client.specs.RunSteps.{no_counts, counts_with, progress_bytes, CanCount, HearsBytes, AsksNext, FaultsInTime}
+use Rattle.git_client.specs.RunSteps.{no_counts, counts_with, CanCount, HearsBytes, AsksNext, FaultsInTime}
 use Rattle.git_client.specs.declared.client.Client.{Client}
 use Rattle.git_client.specs.declared.hearing.Counts.{Counts}
 use Rattle.git_client.proofs.Counting.{bytes_fit}
@@ -137,8 +137,8 @@ module _ {A : Type 0} where
         }
 
     -- bytes were heard
-    pub along_heard : {broken : Bool} {new : Client A} {counts_after : Counts} {used : List ℕ} {out packs : Flow} → wants_input client ≡ true
-        → (step : HearsBytes broken client new counts counts_after used out packs)
+    pub along_heard : {broken : Bool} {new : Client A} {counts_after : Counts} {used : List ℕ} {out packs progress : Flow} → wants_input client ≡ true
+        → (step : HearsBytes broken client new counts counts_after used out packs progress)
         → Along t (record h { used = h.used ++ used; events = h.events ++ step.events }) new
         (lines ++ transcript_from [] counts.pack counts.progress step.events) (packed ++ pack_bytes step.events) counts_after
     along_heard {new = new} {used = used} waits step =

@@ -1,5 +1,5 @@
 -- A run of a client over its streams so far, and what it comes to at each of its ends.
-use Rattle.std.proofs.Common.{arith, ◌≡◌, inl, inr, ℕ, Bool, true, false, List, [], ◌∷◌, ◌++◌, Option, Some, None}
+use Rattle.std.proofs.Common.{◌≡◌, inl, inr, ℕ, Bool, true, false, List, [], ◌∷◌, ◌++◌, Option, Some, None}
 use Rattle.std.proofs.Common.{◌||◌, IsTrue, Result, Ok, Err, is_err, IfErr, IsErrAnd, refl, sym, ap, ◌∙◌, subst, append_assoc, append-nil}
 use Rattle.std.proofs.Math.Bool.{or-false}
 use Rattle.std.proofs.lemmas.Bool.{or_from, or_left}
@@ -17,7 +17,7 @@ use Rattle.git_msg.specs.declared.requests.Request.{Request}
 use Rattle.git_names.specs.declared.object_format.Format.{Format}
 use Rattle.git_pkt.proofs.EngineLemmas.{holds_at_fault}
 use Rattle.git_client.specs.Parts.{Terms}
-use Rattle.git_client.specs.Events.{EventValue, pack_bytes}
+use Rattle.git_client.specs.Events.{EventValue, pack_bytes, progress_bytes}
 use Rattle.git_client.specs.Transcript.{transcript_from, transcript_of}
 use Rattle.git_client.specs.Turns.{takes_packets, fault_in, is_ready}
 use Rattle.git_client.specs.Client.{History, Converses, Leaves, nothing_yet, ask_checks, caps_of, ending_of, can_ask, fault_of, wants_input}
@@ -33,8 +33,9 @@ use Rattle.git_client.specs.declared.events.Ending.TheVariants.{FlushOnly, Respo
 use Rattle.git_client.specs.declared.hearing.Counts.{Counts}
 use Rattle.git_client.proofs.Alongs.{written_nothing, written_then, written_whole, in_part, in_time_where_sound, in_time_where_told}
 use Rattle.git_client.proofs.Alongs.{IsTold, Along, along_anew, along_asked, along_begun, along_heard, counts_on}
+use Rattle.git_client.proofs.Counting.{progress_bytes-append}
 use Rattle.git_client.proofs.Carries.{is_quiet, not_left, owes_nothing}
-use Rattle.git_client.proofs.Phases.{not_ready_where_due, sound_where_due, sound_where_ready}
+use Rattle.git_client.proofs.Phases.{sound_where_due, sound_where_ready}
 use Rattle.git_client.proofs.EventsHeard.{has_noted, awaits_more, is_whole, position_is, all_is_said}
 use Rattle.git_client.proofs.Faults.{first_fault}
 use Rattle.git_client.proofs.AskedInTurn.{AskedInTurn, asked_in_turn, has_asked, heard_in_turn, none_in_turn}
@@ -124,7 +125,7 @@ module _ {A : Type 0} where
   -- a run of a client so far, which can go on: it asked the requests of the front, these bytes were read beside those that it used,
   -- and so each stream moved
   pub record Running (broken : Bool) (t : Terms) (front : List (Request A)) (client : Client A) (counts : Counts) (unused : List ℕ)
-      (reader writer out pack : Flow) : Type 0 where
+      (reader writer out pack progress : Flow) : Type 0 where
     pub h : History
     pub lines : List ℕ
     pub packed : List ℕ
@@ -135,42 +136,49 @@ module _ {A : Type 0} where
     pub said : WrittenAs broken writer h.given
     pub told : WrittenAs broken out lines
     pub sent : WrittenAs broken pack packed
+    pub reported : WrittenAs broken progress (progress_bytes h.events)
 
   -- the same of a run that ends here, with this history
   pub record Ran (broken : Bool) (t : Terms) (h : History) (front : List (Request A)) (client : Client A) (unused : List ℕ)
-      (reader writer out pack : Flow) : Type 0 where
+      (reader writer out pack progress : Flow) : Type 0 where
     pub stands : Converses t h client
     pub in_turn : AskedInTurn t h.asked h.used h.events front
     pub read : Consumes reader.before reader.after (h.used ++ unused)
     pub said : WrittenAs broken writer h.given
     pub told : WrittenAs broken out (transcript_of h.asked h.events)
     pub sent : WrittenAs broken pack (pack_bytes h.events)
+    pub reported : WrittenAs broken progress (progress_bytes h.events)
 
   -- a run may end wherever it stands
   pub ran_by : {broken : Bool} {t : Terms} {h : History} {front : List (Request A)} {client : Client A} {counts : Counts} {unused : List ℕ}
-      {reader writer out pack : Flow} (lines packed : List ℕ) → Along t h client lines packed counts → AskedInTurn t h.asked h.used h.events front
+      {reader writer out pack progress : Flow} (lines packed : List ℕ) → Along t h client lines packed counts → AskedInTurn t h.asked h.used h.events front
       → Consumes reader.before reader.after (h.used ++ unused) → WrittenAs broken writer h.given → WrittenAs broken out lines
-      → WrittenAs broken pack packed → Ran broken t h front client unused reader writer out pack
-  ran_by {broken} {t} {h} {front} {client} {counts} {unused} {reader} {writer} {out} {pack} lines packed along in_turn read said told sent = record {
+      → WrittenAs broken pack packed → WrittenAs broken progress (progress_bytes h.events)
+      → Ran broken t h front client unused reader writer out pack progress
+  ran_by {broken} {t} {h} {front} {client} {counts} {unused} {reader} {writer} {out} {pack} {progress} lines packed along in_turn read said told sent
+      reported = record {
     stands = along.stands;
     in_turn = in_turn;
     read = read;
     said = said;
     told = subst (WrittenAs broken out) (all_told (can_ask client) h lines counts along.told) told;
     sent = subst (WrittenAs broken pack) along.pack_is sent;
+    reported = reported;
   }
 
-  pub ran : {broken : Bool} {t : Terms} {front : List (Request A)} {client : Client A} {counts : Counts} {unused : List ℕ} {reader writer out pack : Flow}
-      → (r : Running broken t front client counts unused reader writer out pack) → Ran broken t r.h front client unused reader writer out pack
-  ran r = ran_by r.lines r.packed r.along r.in_turn r.read r.said r.told r.sent
+  pub ran : {broken : Bool} {t : Terms} {front : List (Request A)} {client : Client A} {counts : Counts} {unused : List ℕ}
+      {reader writer out pack progress : Flow} → (r : Running broken t front client counts unused reader writer out pack progress)
+      → Ran broken t r.h front client unused reader writer out pack progress
+  ran r = ran_by r.lines r.packed r.along r.in_turn r.read r.said r.told r.sent r.reported
 
   -- ---- its steps
 
   module _ (t : Terms) where
     -- before the first byte: the writer was flushed, or failed in that
-    pub begins : (client : Client A) (reader writer flushed out pack : Option (List ℕ)) → wants_input client ≡ true → Converses t nothing_yet client
+    pub begins : (client : Client A) (reader writer flushed out pack progress : Option (List ℕ)) → wants_input client ≡ true → Converses t nothing_yet client
         → Keeps writer flushed → Running false t [] client no_counts [] (flow reader reader) (flow writer flushed) (flow out out) (flow pack pack)
-    begins client reader writer flushed out pack due stands kept = record {
+        (flow progress progress)
+    begins client reader writer flushed out pack progress due stands kept = record {
       h = nothing_yet;
       lines = [];
       packed = [];
@@ -181,12 +189,13 @@ module _ {A : Type 0} where
       said = Appends-kept writer writer flushed [] (written_nothing writer) kept;
       told = written_nothing out;
       sent = written_nothing pack;
+      reported = written_nothing progress;
     }
 
     -- at the next response a client that can ask counts from nothing
-    pub counts_anew : (front : List (Request A)) (client : Client A) (counts : Counts) (unused : List ℕ) {reader writer out pack : Flow}
-        → can_ask client ≡ true → Running false t front client counts unused reader writer out pack
-        → Running false t front client no_counts unused reader writer out pack
+    pub counts_anew : (front : List (Request A)) (client : Client A) (counts : Counts) (unused : List ℕ) {reader writer out pack progress : Flow}
+        → can_ask client ≡ true → Running false t front client counts unused reader writer out pack progress
+        → Running false t front client no_counts unused reader writer out pack progress
     counts_anew front client counts unused ready r = record {
       h = r.h;
       lines = r.lines;
@@ -198,15 +207,16 @@ module _ {A : Type 0} where
       said = r.said;
       told = r.told;
       sent = r.sent;
+      reported = r.reported;
     }
 
     -- a request was asked, or a write failed while it was
     pub asks_on : (broken : Bool) (front : List (Request A)) (old new : Client A) (request : Request A) (counts : Counts) (unused : List ℕ)
-        {reader pack : Flow} {writer_before writer_held writer_after out_before out_held out_after : Option (List ℕ)}
-        → Running false t front old counts unused reader (flow writer_before writer_held) (flow out_before out_held) pack
+        {reader pack progress : Flow} {writer_before writer_held writer_after out_before out_held out_after : Option (List ℕ)}
+        → Running false t front old counts unused reader (flow writer_before writer_held) (flow out_before out_held) pack progress
         → can_ask old ≡ true → AsksNext broken old new request (flow writer_held writer_after) (flow out_held out_after)
-        → Running broken t (front ++ request ∷ []) new no_counts unused reader (flow writer_before writer_after) (flow out_before out_after) pack
-    asks_on broken front old new request counts unused {reader} {pack} {writer_before = w0} {writer_held = w1} {writer_after = w2}
+        → Running broken t (front ++ request ∷ []) new no_counts unused reader (flow writer_before writer_after) (flow out_before out_after) pack progress
+    asks_on broken front old new request counts unused {reader} {pack} {progress} {writer_before = w0} {writer_held = w1} {writer_after = w2}
         {out_before = o0} {out_held = o1} {out_after = o2} r ready step = record {
           h = record r.h { asked = r.h.asked ++ asked_of request ∷ []; given = r.h.given ++ step.given };
           lines = _;
@@ -218,17 +228,22 @@ module _ {A : Type 0} where
           said = written_then broken w0 w1 w2 r.h.given step.given r.said step.said;
           told = written_then broken o0 o1 o2 r.lines _ r.told step.told;
           sent = written_whole broken pack r.packed r.sent;
+          reported = written_whole broken progress (progress_bytes r.h.events) r.reported;
         }
 
     -- bytes were heard, or a write failed while they were
     pub hears_on : (broken : Bool) (front : List (Request A)) (old new : Client A) (waiting unused : List ℕ)
         {writer : Flow} {left_before left left_after out_before out_held out_after pack_before pack_held pack_after : Option (List ℕ)}
+        {progress_before progress_held progress_after : Option (List ℕ)}
         → Running false t front old no_counts waiting (flow left_before left) writer (flow out_before out_held) (flow pack_before pack_held)
+        (flow progress_before progress_held)
         → wants_input old ≡ true
-        → (step : HearsFrom broken old new waiting unused (flow left left_after) (flow out_held out_after) (flow pack_held pack_after))
+        → (step : HearsFrom broken old new waiting unused (flow left left_after) (flow out_held out_after) (flow pack_held pack_after)
+        (flow progress_held progress_after))
         → Running broken t front new step.counts unused (flow left_before left_after) writer (flow out_before out_after) (flow pack_before pack_after)
+        (flow progress_before progress_after)
     hears_on broken front old new waiting unused {writer} {left_before = r0} {left = r1} {left_after = r2} {out_before = o0} {out_held = o1} {out_after = o2}
-        {pack_before = p0} {pack_held = p1} {pack_after = p2} r waits step =
+        {pack_before = p0} {pack_held = p1} {pack_after = p2} {progress_before = q0} {progress_held = q1} {progress_after = q2} r waits step =
         let heard = step.bytes in
         let lines = transcript_from [] 0 0 heard.events in
         record {
@@ -242,14 +257,17 @@ module _ {A : Type 0} where
           said = written_whole broken writer r.h.given r.said;
           told = written_then broken o0 o1 o2 r.lines lines r.told (heard.told (counts_on r.along heard.hears));
           sent = written_then broken p0 p1 p2 r.packed (pack_bytes heard.events) r.sent heard.sent;
+          reported = subst (WrittenAs broken (flow q0 q2)) (sym (progress_bytes-append r.h.events heard.events))
+              (written_then broken q0 q1 q2 (progress_bytes r.h.events) (progress_bytes heard.events) r.reported heard.reported);
         }
 
     -- the conversation was left, or a write failed while it was
     pub leaves_on : (broken : Bool) (front : List (Request A)) (old mid new : Client A) (counts : Counts) (unused : List ℕ)
-        {reader out pack : Flow} {before held after : Option (List ℕ)}
-        → (r : Running false t front old counts unused reader (flow before held) out pack) → Leaves old mid → (step : Says broken mid new (flow held after))
-        → Ran broken t (record r.h { left = true; given = r.h.given ++ step.given }) front new unused reader (flow before after) out pack
-    leaves_on broken front old mid new counts unused {reader} {out} {pack} {before} {held} {after} r leaving step =
+        {reader out pack progress : Flow} {before held after : Option (List ℕ)}
+        → (r : Running false t front old counts unused reader (flow before held) out pack progress) → Leaves old mid
+        → (step : Says broken mid new (flow held after))
+        → Ran broken t (record r.h { left = true; given = r.h.given ++ step.given }) front new unused reader (flow before after) out pack progress
+    leaves_on broken front old mid new counts unused {reader} {out} {pack} {progress} {before} {held} {after} r leaving step =
         let at = ran r in
         record {
           stands = step.says t (record r.h { left = true }) (leaving.leaves t r.h at.stands);
@@ -258,12 +276,14 @@ module _ {A : Type 0} where
           said = written_then broken before held after r.h.given step.given at.said step.written;
           told = written_whole broken out (transcript_of r.h.asked r.h.events) at.told;
           sent = written_whole broken pack (pack_bytes r.h.events) at.sent;
+          reported = written_whole broken progress (progress_bytes r.h.events) at.reported;
         }
 
     -- the writer was flushed, or failed in that
-    ran_flushed : {h : History} {front : List (Request A)} {client : Client A} {unused : List ℕ} {reader out pack : Flow} {before held after : Option (List ℕ)}
-        → Ran false t h front client unused reader (flow before held) out pack → Keeps held after
-        → Ran false t h front client unused reader (flow before after) out pack
+    ran_flushed : {h : History} {front : List (Request A)} {client : Client A} {unused : List ℕ} {reader out pack progress : Flow}
+        {before held after : Option (List ℕ)}
+        → Ran false t h front client unused reader (flow before held) out pack progress → Keeps held after
+        → Ran false t h front client unused reader (flow before after) out pack progress
     ran_flushed {h} {before} {held} {after} r kept = record {
       stands = r.stands;
       in_turn = r.in_turn;
@@ -271,18 +291,20 @@ module _ {A : Type 0} where
       said = Appends-kept before held after h.given r.said kept;
       told = r.told;
       sent = r.sent;
+      reported = r.reported;
     }
 
     -- where only a flush failed, all was written
-    ran_in_part : {h : History} {front : List (Request A)} {client : Client A} {unused : List ℕ} {reader writer out pack : Flow}
-        → Ran false t h front client unused reader writer out pack → Ran true t h front client unused reader writer out pack
-    ran_in_part {h} {writer} {out} {pack} r = record {
+    ran_in_part : {h : History} {front : List (Request A)} {client : Client A} {unused : List ℕ} {reader writer out pack progress : Flow}
+        → Ran false t h front client unused reader writer out pack progress → Ran true t h front client unused reader writer out pack progress
+    ran_in_part {h} {writer} {out} {pack} {progress} r = record {
       stands = r.stands;
       in_turn = r.in_turn;
       read = r.read;
       said = in_part writer h.given r.said;
       told = in_part out (transcript_of h.asked h.events) r.told;
       sent = in_part pack (pack_bytes h.events) r.sent;
+      reported = in_part progress (progress_bytes h.events) r.reported;
     }
 
 -- ---- the ends of a run
@@ -321,34 +343,35 @@ module _ {A : Type 0} (t : Terms) where
 
   module _ (requests : List (Request A)) where
     -- how a run with this answer moved its streams
-    abbrev pub RunEnds : Result (Unit {0}) RunFault → Bool → Client A → Flow → Flow → Flow → Flow → Type 0
-    RunEnds result ended client reader writer out pack =
-        Moves (is_broken result) (Conversed t requests result ended client) (reader ∷ []) (writer ∷ out ∷ pack ∷ [])
+    abbrev pub RunEnds : Result (Unit {0}) RunFault → Bool → Client A → Flow → Flow → Flow → Flow → Flow → Type 0
+    RunEnds result ended client reader writer out pack progress =
+        Moves (is_broken result) (Conversed t requests result ended client) (reader ∷ []) (writer ∷ out ∷ pack ∷ progress ∷ [])
 
     -- what `?` answers is the fault that it met
-    pub ends_at : (result : Result (Unit {0}) RunFault) (fault : RunFault) (ended : Bool) (client : Client A) (reader writer out pack : Flow)
-        → IsErrAnd result (λ e. e ≡ fault) → RunEnds (Err fault) ended client reader writer out pack → RunEnds result ended client reader writer out pack
-    ends_at result fault ended client reader writer out pack met ends =
+    pub ends_at : (result : Result (Unit {0}) RunFault) (fault : RunFault) (ended : Bool) (client : Client A) (reader writer out pack progress : Flow)
+        → IsErrAnd result (λ e. e ≡ fault) → RunEnds (Err fault) ended client reader writer out pack progress
+        → RunEnds result ended client reader writer out pack progress
+    ends_at result fault ended client reader writer out pack progress met ends =
         let (e, is, same) = err_from_is_err_and result met in
-        subst (λ (x : Result (Unit {0}) RunFault). RunEnds x ended client reader writer out pack) (sym (is ∙ ap Err same)) ends
+        subst (λ (x : Result (Unit {0}) RunFault). RunEnds x ended client reader writer out pack progress) (sym (is ∙ ap Err same)) ends
 
     -- a write failed in what `?` was asked of
-    pub ends_at_write : (result : Result (Unit {0}) RunFault) (fault : RunFault) (ended : Bool) (client : Client A) (reader writer out pack : Flow)
-        → IsErrAnd result (λ e. e ≡ fault) → fault ≡ WriteFault → RunEnds (Err WriteFault) ended client reader writer out pack
-        → RunEnds result ended client reader writer out pack
-    ends_at_write result fault ended client reader writer out pack met named ends =
-        ends_at result fault ended client reader writer out pack met
-        (subst (λ (f : RunFault). RunEnds (Err f) ended client reader writer out pack) (sym named) ends)
+    pub ends_at_write : (result : Result (Unit {0}) RunFault) (fault : RunFault) (ended : Bool) (client : Client A) (reader writer out pack progress : Flow)
+        → IsErrAnd result (λ e. e ≡ fault) → fault ≡ WriteFault → RunEnds (Err WriteFault) ended client reader writer out pack progress
+        → RunEnds result ended client reader writer out pack progress
+    ends_at_write result fault ended client reader writer out pack progress met named ends =
+        ends_at result fault ended client reader writer out pack progress met
+        (subst (λ (f : RunFault). RunEnds (Err f) ended client reader writer out pack progress) (sym named) ends)
 
     module _ (front rest : List (Request A)) (split : requests ≡ front ++ rest) where
-      moves : (result : Result (Unit {0}) RunFault) (ended : Bool) (h : History) (client : Client A) (unused : List ℕ) {reader writer out pack : Flow}
-          → Ran (is_broken result) t h front client unused reader writer out pack → EndsAs t result ended unused rest h
-          → FaultsInTime client ended unused → RunEnds result ended client reader writer out pack
+      moves : (result : Result (Unit {0}) RunFault) (ended : Bool) (h : History) (client : Client A) (unused : List ℕ) {reader writer out pack progress : Flow}
+          → Ran (is_broken result) t h front client unused reader writer out pack progress → EndsAs t result ended unused rest h
+          → FaultsInTime client ended unused → RunEnds result ended client reader writer out pack progress
       moves result ended h client unused r ends timely = record {
         used = (h.used ++ unused) ∷ [];
-        given = h.given ∷ transcript_of h.asked h.events ∷ pack_bytes h.events ∷ [];
+        given = h.given ∷ transcript_of h.asked h.events ∷ pack_bytes h.events ∷ progress_bytes h.events ∷ [];
         read = (r.read, tt);
-        written = (r.said, (r.told, (r.sent, tt)));
+        written = (r.said, (r.told, (r.sent, (r.reported, tt))));
         related = record {
           h = h;
           unused = unused;
@@ -367,25 +390,29 @@ module _ {A : Type 0} (t : Terms) where
       not_gone h stays = record { left_last = λ left. absurd (cc) }
 
       -- a write failed
-      pub breaks_off : (ended : Bool) (client : Client A) (counts : Counts) (unused : List ℕ) {reader writer out pack : Flow}
-          → FaultsInTime client ended unused → Running true t front client counts unused reader writer out pack
-          → RunEnds (Err WriteFault) ended client reader writer out pack
+      pub breaks_off : (ended : Bool) (client : Client A) (counts : Counts) (unused : List ℕ) {reader writer out pack progress : Flow}
+          → FaultsInTime client ended unused → Running true t front client counts unused reader writer out pack progress
+          → RunEnds (Err WriteFault) ended client reader writer out pack progress
       breaks_off ended client counts unused timely r = moves (Err WriteFault) ended r.h client unused (ran r) (not_gone r.h r.stays) timely
 
       -- a flush failed
-      pub breaks_unflushed : (ended : Bool) (client : Client A) (counts : Counts) (unused : List ℕ) {reader writer out pack : Flow}
-          → fault_of client ≡ None → Running false t front client counts unused reader writer out pack
-          → RunEnds (Err WriteFault) ended client reader writer out pack
+      pub breaks_unflushed : (ended : Bool) (client : Client A) (counts : Counts) (unused : List ℕ) {reader writer out pack progress : Flow}
+          → fault_of client ≡ None → Running false t front client counts unused reader writer out pack progress
+          → RunEnds (Err WriteFault) ended client reader writer out pack progress
       breaks_unflushed ended client counts unused sound r =
           moves (Err WriteFault) ended r.h client unused (ran_in_part t (ran r)) (not_gone r.h r.stays) (in_time_where_sound client ended unused sound)
 
       -- a response was not heard to its end
       pub hearing_stopped : (fault : RunFault) (ended : Bool) (old new : Client A) (waiting piece : List ℕ) {writer : Flow}
           {left_before left left_after out_before out_held out_after pack_before pack_held pack_after : Option (List ℕ)}
+          {progress_before progress_held progress_after : Option (List ℕ)}
           → Running false t front old no_counts waiting (flow left_before left) writer (flow out_before out_held) (flow pack_before pack_held)
+          (flow progress_before progress_held)
           → wants_input old ≡ true
           → HearsTo (Err fault) ended old new waiting piece (flow left left_after) (flow out_held out_after) (flow pack_held pack_after)
+          (flow progress_held progress_after)
           → RunEnds (Err fault) ended new (flow left_before left_after) writer (flow out_before out_after) (flow pack_before pack_after)
+          (flow progress_before progress_after)
       hearing_stopped ReadFault ended old new waiting piece r waits step =
           let on = hears_on t false front old new waiting [] r waits step.hears in
           moves (Err ReadFault) ended on.h new [] (ran on) (interrupted on.h new on.along.stands step.due) (due_in_time ended new step.due)
@@ -405,30 +432,31 @@ module _ {A : Type 0} (t : Terms) where
 
     -- a request was not asked, or a write failed while it was
     pub asking_stopped : (fault : RunFault) (ended : Bool) (front later : List (Request A)) (request : Request A) (old new : Client A)
-        (counts : Counts) (unused : List ℕ) {reader pack : Flow}
+        (counts : Counts) (unused : List ℕ) {reader pack progress : Flow}
         {writer_before writer_held writer_after out_before out_held out_after : Option (List ℕ)} → requests ≡ front ++ request ∷ later
-        → can_ask old ≡ true → Running false t front old counts unused reader (flow writer_before writer_held) (flow out_before out_held) pack
+        → can_ask old ≡ true → Running false t front old counts unused reader (flow writer_before writer_held) (flow out_before out_held) pack progress
         → AsksTo (Err fault) old new request (flow writer_held writer_after) (flow out_held out_after)
-        → RunEnds (Err fault) ended new reader (flow writer_before writer_after) (flow out_before out_after) pack
+        → RunEnds (Err fault) ended new reader (flow writer_before writer_after) (flow out_before out_after) pack progress
     asking_stopped ReadFault ended front later request old new counts unused split ready r step = absurd step
     asking_stopped WriteFault ended front later request old new counts unused split ready r step =
         breaks_off (front ++ request ∷ []) later (split ∙ sym (append_assoc front (request ∷ []) later)) ended new no_counts unused
         (in_time_where_sound new ended unused step.sound) (asks_on t true front old new request counts unused r ready step)
     asking_stopped ReadLimit ended front later request old new counts unused split ready r step = absurd step
-    asking_stopped (Refused fault) ended front later request old new counts unused {reader} {pack} {writer_before = w0} {writer_held = w1} {writer_after = w2}
-        {out_before = o0} {out_held = o1} {out_after = o2} split ready r step =
+    asking_stopped (Refused fault) ended front later request old new counts unused {reader} {pack} {progress} {writer_before = w0} {writer_held = w1}
+        {writer_after = w2} {out_before = o0} {out_held = o1} {out_after = o2} split ready r step =
         let at = ran r in
         let told = transcript_of r.h.asked r.h.events in
         let stands = at.stands in
-        let so : Ran false t r.h front old unused reader (flow w0 w2) (flow o0 o2) pack = record {
+        let so : Ran false t r.h front old unused reader (flow w0 w2) (flow o0 o2) pack progress = record {
           stands = stands;
           in_turn = at.in_turn;
           read = at.read;
           said = subst (WrittenAs false (flow w0 w2)) (append-nil r.h.given) (written_then false w0 w1 w2 r.h.given [] at.said step.said);
           told = subst (WrittenAs false (flow o0 o2)) (append-nil told) (written_then false o0 o1 o2 told [] at.told step.told);
           sent = at.sent;
+          reported = at.reported;
         } in
-        subst (λ (client : Client A). RunEnds (Err (Refused fault)) ended client reader (flow w0 w2) (flow o0 o2) pack) (sym step.stays)
+        subst (λ (client : Client A). RunEnds (Err (Refused fault)) ended client reader (flow w0 w2) (flow o0 o2) pack progress) (sym step.stays)
         (moves front (request ∷ later) split (Err (Refused fault)) ended r.h old unused so (
           inr (record {
             request = request;
@@ -448,23 +476,23 @@ module _ {A : Type 0} (t : Terms) where
 
     module _ (front : List (Request A)) (split : requests ≡ front ++ []) where
       -- the last flush of the writer, by its answer
-      finishes : (result : Result (Unit {0}) RunFault) (ended : Bool) (h : History) (client : Client A) (unused : List ℕ) {reader out pack : Flow}
+      finishes : (result : Result (Unit {0}) RunFault) (ended : Bool) (h : History) (client : Client A) (unused : List ℕ) {reader out pack progress : Flow}
           {before held after : Option (List ℕ)} → IfErr result (λ fault. fault ≡ WriteFault)
-          → Ran false t h front client unused reader (flow before held) out pack → Keeps held after → IsWholeRun {A = A} t [] h
-          → fault_of client ≡ None → RunEnds result ended client reader (flow before after) out pack
+          → Ran false t h front client unused reader (flow before held) out pack progress → Keeps held after → IsWholeRun {A = A} t [] h
+          → fault_of client ≡ None → RunEnds result ended client reader (flow before after) out pack progress
       finishes (Ok done) ended h client unused named r kept whole sound =
           moves front [] split (Ok done) ended h client unused (ran_flushed t r kept) whole (in_time_where_sound client ended unused sound)
-      finishes (Err fault) ended h client unused {reader} {out} {pack} {before} {held} {after} named r kept whole sound =
-          subst (λ (f : RunFault). RunEnds (Err f) ended client reader (flow before after) out pack) (sym named)
+      finishes (Err fault) ended h client unused {reader} {out} {pack} {progress} {before} {held} {after} named r kept whole sound =
+          subst (λ (f : RunFault). RunEnds (Err f) ended client reader (flow before after) out pack progress) (sym named)
           (moves front [] split (Err WriteFault) ended h client unused (ran_in_part t (ran_flushed t r kept))
           (record { left_last = λ left. (refl, whole.whole, sym whole.leaves ∙ left) })
           (in_time_where_sound client ended unused sound))
 
       -- each request has a connection of its own, and the client does not leave
       pub stays_to_the_end : (result : Result (Unit {0}) RunFault) (ended : Bool) (client : Client A) (counts : Counts) (unused : List ℕ)
-          {reader out pack : Flow} {before held after : Option (List ℕ)} → IfErr result (λ fault. fault ≡ WriteFault) → can_ask client ≡ true
-          → (ending_of client ≡ FlushOnly → ⊥) → Running false t front client counts unused reader (flow before held) out pack → Keeps held after
-          → RunEnds result ended client reader (flow before after) out pack
+          {reader out pack progress : Flow} {before held after : Option (List ℕ)} → IfErr result (λ fault. fault ≡ WriteFault) → can_ask client ≡ true
+          → (ending_of client ≡ FlushOnly → ⊥) → Running false t front client counts unused reader (flow before held) out pack progress → Keeps held after
+          → RunEnds result ended client reader (flow before after) out pack progress
       stays_to_the_end result ended client counts unused named ready other r kept =
           let stands = r.along.stands in
           let quiet = quiet_where_ready (phase_of client) ready in
@@ -477,9 +505,9 @@ module _ {A : Type 0} (t : Terms) where
 
       module _ (old mid new : Client A) (counts : Counts) (unused : List ℕ) (ready : can_ask old ≡ true) (leaving : Leaves old mid) where
         -- the client left, but a write failed
-        pub leaving_stopped : (ended : Bool) {reader out pack : Flow} {before held after : Option (List ℕ)} → ending_of old ≡ FlushOnly
-            → Running false t front old counts unused reader (flow before held) out pack → Says true mid new (flow held after)
-            → RunEnds (Err WriteFault) ended new reader (flow before after) out pack
+        pub leaving_stopped : (ended : Bool) {reader out pack progress : Flow} {before held after : Option (List ℕ)} → ending_of old ≡ FlushOnly
+            → Running false t front old counts unused reader (flow before held) out pack progress → Says true mid new (flow held after)
+            → RunEnds (Err WriteFault) ended new reader (flow before after) out pack progress
         leaving_stopped ended last r step =
             let stands = r.along.stands in
             moves front [] split (Err WriteFault) ended _ new unused (leaves_on t true front old mid new counts unused r leaving step)
@@ -487,10 +515,12 @@ module _ {A : Type 0} (t : Terms) where
             (in_time_where_sound new ended unused step.sound)
 
         -- the client left, and said so
-        pub leaves_at_the_end : (result : Result (Unit {0}) RunFault) (ended : Bool) {reader out pack : Flow} {before held flushed after : Option (List ℕ)}
+        pub leaves_at_the_end : (result : Result (Unit {0}) RunFault) (ended : Bool) {reader out pack progress : Flow}
+            {before held flushed after : Option (List ℕ)}
             → IfErr result (λ fault. fault ≡ WriteFault) → ending_of old ≡ FlushOnly
-            → Running false t front old counts unused reader (flow before held) out pack → Says false mid new (flow held flushed) → Keeps flushed after
-            → RunEnds result ended new reader (flow before after) out pack
+            → Running false t front old counts unused reader (flow before held) out pack progress → Says false mid new (flow held flushed)
+            → Keeps flushed after
+            → RunEnds result ended new reader (flow before after) out pack progress
         leaves_at_the_end result ended named last r step kept =
             let at = leaves_on t false front old mid new counts unused r leaving step in
             let stands = r.along.stands in

@@ -1,7 +1,7 @@
 -- The counts of a response: how they rise by its events.
 use Rattle.std.proofs.Common.{arith, ◌≡◌, ℕ, ◌+◌, ◌≤◌, List, [], ◌∷◌, ◌++◌, length, refl, ap, ◌∙◌, length-append}
-use Rattle.git_client.specs.Events.{EventValue, pack, progress, pack_bytes}
-use Rattle.git_client.specs.RunSteps.{progress_bytes, counts_with, CanCount}
+use Rattle.git_client.specs.Events.{EventValue, pack, progress, pack_bytes, progress_bytes}
+use Rattle.git_client.specs.RunSteps.{counts_with, CanCount}
 use Rattle.git_client.specs.declared.hearing.Counts.{Counts}
 use Rattle.git_client.proofs.Packs.{pack_bytes-append}
 
@@ -18,7 +18,7 @@ bytes_fit (pack byte ∷ events) = omega (arith, bytes_fit events)
 bytes_fit (progress byte ∷ events) = omega (arith, bytes_fit events)
 bytes_fit (event ∷ events) = omega (arith, bytes_fit events)
 
-progress_bytes-append : (events later : List EventValue) → progress_bytes (events ++ later) ≡ progress_bytes events ++ progress_bytes later
+pub progress_bytes-append : (events later : List EventValue) → progress_bytes (events ++ later) ≡ progress_bytes events ++ progress_bytes later
 progress_bytes-append [] later = refl
 progress_bytes-append (progress byte ∷ events) later = ap (λ (l : List ℕ). byte ∷ l) (progress_bytes-append events later)
 progress_bytes-append (event ∷ events) later = progress_bytes-append events later

@@ -28,12 +28,12 @@ module _ {A : Type 0} where
   back_written (Err fault) client named = back_unwritten fault client named
 
   -- a response was not heard to its end
-  pub back_from_hearing : (fault : RunFault) (ended : Bool) (old new : Client A) (waiting piece : List ℕ) (reader out packs : Flow)
-      → HearsTo (Err fault) ended old new waiting piece reader out packs → IsHandedBack (Err fault) new
-  back_from_hearing ReadFault ended old new waiting piece reader out packs step = step.due
-  back_from_hearing ReadLimit ended old new waiting piece reader out packs step = step.due
-  back_from_hearing WriteFault ended old new waiting piece reader out packs step = tt
-  back_from_hearing (Refused fault) ended old new waiting piece reader out packs step = inl step.told
+  pub back_from_hearing : (fault : RunFault) (ended : Bool) (old new : Client A) (waiting piece : List ℕ) (reader out packs progress : Flow)
+      → HearsTo (Err fault) ended old new waiting piece reader out packs progress → IsHandedBack (Err fault) new
+  back_from_hearing ReadFault ended old new waiting piece reader out packs progress step = step.due
+  back_from_hearing ReadLimit ended old new waiting piece reader out packs progress step = step.due
+  back_from_hearing WriteFault ended old new waiting piece reader out packs progress step = tt
+  back_from_hearing (Refused fault) ended old new waiting piece reader out packs progress step = inl step.told
 
   -- a request was not asked
   pub back_from_asking : (fault : RunFault) (old new : Client A) (request : Request A) (writer out : Flow) → can_ask old ≡ true

@@ -1,15 +1,15 @@
--- Bytes of a response that were heard, one part after another: their events, their lines and their bytes of the pack.
-use Rattle.std.proofs.Common.{◌≡◌, ℕ, ◌+◌, Bool, true, false, List, [], ◌++◌, length, Option, refl, sym, ap, ◌∙◌, subst, append_assoc, append-nil}
+-- Bytes of a response that were heard, one part after another: their events, their lines, and their bytes of the pack and the progress.
+use Rattle.std.proofs.Common.{◌≡◌, ℕ, Bool, true, false, List, [], ◌++◌, Option, sym, ap, ◌∙◌, subst, append_assoc, append-nil}
 use Rattle.git_pkt.specs.Streams.{Flow, flow, WrittenAs}
 use Rattle.git_client.specs.Parts.{Terms}
-use Rattle.git_client.specs.Events.{EventValue, pack_bytes}
+use Rattle.git_client.specs.Events.{EventValue, pack_bytes, progress_bytes}
 use Rattle.git_client.specs.Transcript.{transcript_from}
 use Rattle.git_client.specs.Client.{History, Converses, HearsOn, can_ask}
-use Rattle.git_client.specs.RunSteps.{progress_bytes, counts_with, CanCount, IsOneTurn, HearsBytes}
+use Rattle.git_client.specs.RunSteps.{counts_with, CanCount, IsOneTurn, HearsBytes}
 use Rattle.git_client.specs.declared.client.Client.{Client}
 use Rattle.git_client.specs.declared.hearing.Counts.{Counts}
 use Rattle.git_client.proofs.Alongs.{written_nothing, written_then, written_whole, in_part}
-use Rattle.git_client.proofs.Counting.{counts_stay, counts_then, can_count_then}
+use Rattle.git_client.proofs.Counting.{counts_stay, counts_then, can_count_then, progress_bytes-append}
 use Rattle.git_client.proofs.OneTurn.{turn_then, turn_adds}
 use Rattle.git_client.proofs.Packs.{pack_bytes-append}
 
@@ -35,27 +35,31 @@ module _ {A : Type 0} where
   -- ---- what was heard
 
   -- bytes that say nothing were heard
-  pub heard_quietly : {broken : Bool} {old new : Client A} {used : List ℕ} {out packs : Flow} (counts : Counts) → HearsOn old used [] new
-      → can_ask new ≡ false → WrittenAs false out [] → WrittenAs false packs [] → HearsBytes broken old new counts counts used out packs
-  heard_quietly {broken = broken} {out = out} {packs = packs} counts hears quiet told sent = record {
+  pub heard_quietly : {broken : Bool} {old new : Client A} {used : List ℕ} {out packs progress : Flow} (counts : Counts) → HearsOn old used [] new
+      → can_ask new ≡ false → WrittenAs false out [] → WrittenAs false packs [] → WrittenAs false progress []
+      → HearsBytes broken old new counts counts used out packs progress
+  heard_quietly {broken = broken} {out = out} {packs = packs} {progress = progress} counts hears quiet told sent reported = record {
     events = [];
     hears = hears;
     one_turn = quiet;
     counted = λ can. counts_stay counts;
     told = λ can. written_whole broken out [] told;
     sent = written_whole broken packs [] sent;
+    reported = written_whole broken progress [] reported;
   }
 
   -- no byte was heard
-  pub nothing_heard : (c : Client A) (counts : Counts) (told sent : Option (List ℕ)) → can_ask c ≡ false
-      → HearsBytes false c c counts counts [] (flow told told) (flow sent sent)
-  nothing_heard c counts told sent quiet = heard_quietly counts (hears_none c) quiet (written_nothing told) (written_nothing sent)
+  pub nothing_heard : (c : Client A) (counts : Counts) (told sent reported : Option (List ℕ)) → can_ask c ≡ false
+      → HearsBytes false c c counts counts [] (flow told told) (flow sent sent) (flow reported reported)
+  nothing_heard c counts told sent reported quiet =
+      heard_quietly counts (hears_none c) quiet (written_nothing told) (written_nothing sent) (written_nothing reported)
 
-  module _ {a b c : Client A} {k l m : Counts} {u v : List ℕ} {told_before told told_after sent_before sent sent_after : Option (List ℕ)}
-      (quiet : can_ask b ≡ false) (first : HearsBytes false a b k l u (flow told_before told) (flow sent_before sent)) where
+  module _ {a b c : Client A} {k l m : Counts} {u v : List ℕ}
+      {told_before told told_after sent_before sent sent_after reported_before reported reported_after : Option (List ℕ)}
+      (quiet : can_ask b ≡ false) (first : HearsBytes false a b k l u (flow told_before told) (flow sent_before sent) (flow reported_before reported)) where
     -- bytes were heard, and then others
-    pub heard_then : {broken : Bool} → HearsBytes broken b c l m v (flow told told_after) (flow sent sent_after)
-        → HearsBytes broken a c k m (u ++ v) (flow told_before told_after) (flow sent_before sent_after)
+    pub heard_then : {broken : Bool} → HearsBytes broken b c l m v (flow told told_after) (flow sent sent_after) (flow reported reported_after)
+        → HearsBytes broken a c k m (u ++ v) (flow told_before told_after) (flow sent_before sent_after) (flow reported_before reported_after)
     heard_then {broken = broken} second =
         let events = first.events in
         let later = second.events in
@@ -81,27 +85,32 @@ module _ {A : Type 0} where
               (written_then broken told_before told told_after lines (transcript_from [] now.pack now.progress later) (first.told first_can) more);
           sent = subst (WrittenAs broken (flow sent_before sent_after)) (sym (pack_bytes-append events later))
               (written_then broken sent_before sent sent_after (pack_bytes events) (pack_bytes later) first.sent second.sent);
+          reported = subst (WrittenAs broken (flow reported_before reported_after)) (sym (progress_bytes-append events later))
+              (written_then broken reported_before reported reported_after (progress_bytes events) (progress_bytes later) first.reported second.reported);
         }
 
   -- what was written whole counts as written where a flush failed
-  pub heard_in_part : {a b : Client A} {k l : Counts} {u : List ℕ} {out packs : Flow} → HearsBytes false a b k l u out packs
-      → HearsBytes true a b k l u out packs
-  heard_in_part {k = k} {out = out} {packs = packs} heard = record {
+  pub heard_in_part : {a b : Client A} {k l : Counts} {u : List ℕ} {out packs progress : Flow} → HearsBytes false a b k l u out packs progress
+      → HearsBytes true a b k l u out packs progress
+  heard_in_part {k = k} {out = out} {packs = packs} {progress = progress} heard = record {
     events = heard.events;
     hears = heard.hears;
     one_turn = heard.one_turn;
     counted = heard.counted;
     told = λ can. in_part out (transcript_from [] k.pack k.progress heard.events) (heard.told can);
     sent = in_part packs (pack_bytes heard.events) heard.sent;
+    reported = in_part progress (progress_bytes heard.events) heard.reported;
   }
 
-  -- the transcript and the pack were flushed, as far as that went
+  -- the transcript, the pack and the progress were flushed, as far as that went
   pub heard_flushed : {broken : Bool} {a b : Client A} {k l : Counts} {u : List ℕ}
-      {told_before told told_after sent_before sent sent_after : Option (List ℕ)} → HearsBytes false a b k l u (flow told_before told) (flow sent_before sent)
-      → WrittenAs false (flow told told_after) [] → WrittenAs false (flow sent sent_after) []
-      → HearsBytes broken a b k l u (flow told_before told_after) (flow sent_before sent_after)
+      {told_before told told_after sent_before sent sent_after reported_before reported reported_after : Option (List ℕ)}
+      → HearsBytes false a b k l u (flow told_before told) (flow sent_before sent) (flow reported_before reported)
+      → WrittenAs false (flow told told_after) [] → WrittenAs false (flow sent sent_after) [] → WrittenAs false (flow reported reported_after) []
+      → HearsBytes broken a b k l u (flow told_before told_after) (flow sent_before sent_after) (flow reported_before reported_after)
   heard_flushed {broken = broken} {k = k} {told_before = told_before} {told = told} {told_after = told_after} {sent_before = sent_before} {sent = sent}
-      {sent_after = sent_after} heard flushed flushed_pack =
+      {sent_after = sent_after} {reported_before = reported_before} {reported = reported} {reported_after = reported_after} heard flushed flushed_pack
+      flushed_progress =
       let then_nothing : (before held after : Option (List ℕ)) (bytes : List ℕ) → WrittenAs false (flow before held) bytes
       → WrittenAs false (flow held after) [] → WrittenAs broken (flow before after) bytes = λ before held after bytes written kept.
       written_whole broken (flow before after) bytes
@@ -113,4 +122,5 @@ module _ {A : Type 0} where
         counted = heard.counted;
         told = λ can. then_nothing told_before told told_after (transcript_from [] k.pack k.progress heard.events) (heard.told can) flushed;
         sent = then_nothing sent_before sent sent_after (pack_bytes heard.events) heard.sent flushed_pack;
+        reported = then_nothing reported_before reported reported_after (progress_bytes heard.events) heard.reported flushed_progress;
       }

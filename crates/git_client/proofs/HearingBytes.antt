@@ -57,59 +57,65 @@ shown_in_time fault ended used piece shown =
 module _ {A : Type 0} where
   -- of the bytes that waited and those that came all but the last were heard. The counts, which `HearsFrom` hides, are named here: the
   -- next piece is heard with them.
-  pub record HeardSoFar (broken : Bool) (old new : Client A) (counts : Counts) (waiting unused : List ℕ) (reader out packs : Flow) : Type 0 where
+  pub record HeardSoFar (broken : Bool) (old new : Client A) (counts : Counts) (waiting unused : List ℕ) (reader out packs progress : Flow) : Type 0 where
     pub came : List ℕ
     pub used : List ℕ
     pub read : Consumes reader.before reader.after came
     pub parts : waiting ++ came ≡ used ++ unused
-    pub bytes : HearsBytes broken old new no_counts counts used out packs
+    pub bytes : HearsBytes broken old new no_counts counts used out packs progress
 
-  pub hears_from : {broken : Bool} {old new : Client A} {counts : Counts} {waiting unused : List ℕ} {reader out packs : Flow}
-      → HeardSoFar broken old new counts waiting unused reader out packs → HearsFrom broken old new waiting unused reader out packs
+  pub hears_from : {broken : Bool} {old new : Client A} {counts : Counts} {waiting unused : List ℕ} {reader out packs progress : Flow}
+      → HeardSoFar broken old new counts waiting unused reader out packs progress → HearsFrom broken old new waiting unused reader out packs progress
   hears_from so_far =
       record { came = so_far.came; used = so_far.used; counts = _; read = so_far.read; parts = so_far.parts; bytes = so_far.bytes }
 
   -- a flush failed where the client has no fault
-  pub hears_unflushed : {old new : Client A} {counts : Counts} {waiting unused : List ℕ} {reader out packs : Flow} (ended : Bool)
-      → fault_of new ≡ None → HeardSoFar true old new counts waiting unused reader out packs → HearsBroken ended old new waiting reader out packs
+  pub hears_unflushed : {old new : Client A} {counts : Counts} {waiting unused : List ℕ} {reader out packs progress : Flow} (ended : Bool)
+      → fault_of new ≡ None → HeardSoFar true old new counts waiting unused reader out packs progress
+      → HearsBroken ended old new waiting reader out packs progress
   hears_unflushed {new = new} {unused = unused} ended sound so_far =
       record { unused = unused; hears = hears_from so_far; timely = in_time_where_sound new ended unused sound }
 
   -- what a `?` answers is the fault that it met
   pub hears_at : (result : Result Window RunFault) (fault met : RunFault) (ended : Bool) (old new : Client A) (waiting buffer : List ℕ)
-      (reader out packs : Flow) → IsErrAnd result (λ e. e ≡ fault) → fault ≡ met → HearsTo (Err met) ended old new waiting buffer reader out packs
-      → HearsTo result ended old new waiting buffer reader out packs
-  hears_at result fault met ended old new waiting buffer reader out packs answered is hears =
-      at_fault result fault met (λ (r : Result Window RunFault). HearsTo r ended old new waiting buffer reader out packs) is answered hears
+      (reader out packs progress : Flow) → IsErrAnd result (λ e. e ≡ fault) → fault ≡ met
+      → HearsTo (Err met) ended old new waiting buffer reader out packs progress
+      → HearsTo result ended old new waiting buffer reader out packs progress
+  hears_at result fault met ended old new waiting buffer reader out packs progress answered is hears =
+      at_fault result fault met (λ (r : Result Window RunFault). HearsTo r ended old new waiting buffer reader out packs progress) is answered hears
 
   -- before the first piece all that waits is left
-  pub heard_nothing : (client : Client A) (waiting : List ℕ) (left told sent : Option (List ℕ)) → wants_input client ≡ true
-      → HeardSoFar false client client no_counts waiting waiting (flow left left) (flow told told) (flow sent sent)
-  heard_nothing client waiting left told sent waits = record {
+  pub heard_nothing : (client : Client A) (waiting : List ℕ) (left told sent reported : Option (List ℕ)) → wants_input client ≡ true
+      → HeardSoFar false client client no_counts waiting waiting (flow left left) (flow told told) (flow sent sent) (flow reported reported)
+  heard_nothing client waiting left told sent reported waits = record {
     came = [];
     used = [];
     read = Consumes-nil left;
     parts = append-nil waiting;
-    bytes = nothing_heard client no_counts told sent (not_ready_where_due (phase_of client) waits);
+    bytes = nothing_heard client no_counts told sent reported (not_ready_where_due (phase_of client) waits);
   }
 
-  module _ {old middle : Client A} {counts : Counts} {waiting unused : List ℕ} {left_before left told_before told sent_before sent : Option (List ℕ)}
-      (so_far : HeardSoFar false old middle counts waiting unused (flow left_before left) (flow told_before told) (flow sent_before sent)) where
-    -- the transcript and the pack were flushed, as far as that went
-    pub heard_and_flushed : (broken : Bool) {told_after sent_after : Option (List ℕ)} → WrittenAs false (flow told told_after) []
-        → WrittenAs false (flow sent sent_after) []
+  module _ {old middle : Client A} {counts : Counts} {waiting unused : List ℕ}
+      {left_before left told_before told sent_before sent reported_before reported : Option (List ℕ)}
+      (so_far : HeardSoFar false old middle counts waiting unused (flow left_before left) (flow told_before told) (flow sent_before sent)
+      (flow reported_before reported)) where
+    -- the transcript, the pack and the progress were flushed, as far as that went
+    pub heard_and_flushed : (broken : Bool) {told_after sent_after reported_after : Option (List ℕ)} → WrittenAs false (flow told told_after) []
+        → WrittenAs false (flow sent sent_after) [] → WrittenAs false (flow reported reported_after) []
         → HeardSoFar broken old middle counts waiting unused (flow left_before left) (flow told_before told_after) (flow sent_before sent_after)
-    heard_and_flushed broken flushed flushed_pack = record {
+        (flow reported_before reported_after)
+    heard_and_flushed broken flushed flushed_pack flushed_progress = record {
       came = so_far.came;
       used = so_far.used;
       read = so_far.read;
       parts = so_far.parts;
-      bytes = heard_flushed so_far.bytes flushed flushed_pack;
+      bytes = heard_flushed so_far.bytes flushed flushed_pack flushed_progress;
     }
 
     -- a read failed
     pub heard_unread : {left_after : Option (List ℕ)} → Keeps left left_after
         → HeardSoFar false old middle counts waiting unused (flow left_before left_after) (flow told_before told) (flow sent_before sent)
+        (flow reported_before reported)
     heard_unread {left_after = left_after} kept = record {
       came = so_far.came;
       used = so_far.used;
@@ -121,9 +127,11 @@ module _ {A : Type 0} where
     module _ (waits : wants_input middle ≡ true) where
       -- one more piece was heard, of what was left and what was read
       pub heard_on : {broken : Bool} {new : Client A} {counts_after : Counts} {piece rest : List ℕ}
-          {left_after told_after sent_after : Option (List ℕ)} (used : ℕ) (came : List ℕ) → Consumes left left_after came → unused ++ came ≡ piece
-          → drop used piece ≡ rest → HearsBytes broken middle new counts counts_after (take used piece) (flow told told_after) (flow sent sent_after)
+          {left_after told_after sent_after reported_after : Option (List ℕ)} (used : ℕ) (came : List ℕ) → Consumes left left_after came
+          → unused ++ came ≡ piece → drop used piece ≡ rest
+          → HearsBytes broken middle new counts counts_after (take used piece) (flow told told_after) (flow sent sent_after) (flow reported reported_after)
           → HeardSoFar broken old new counts_after waiting rest (flow left_before left_after) (flow told_before told_after) (flow sent_before sent_after)
+          (flow reported_before reported_after)
       heard_on {piece = piece} {left_after = left_after} used came read is rest_is hears = record {
         came = so_far.came ++ came;
         used = so_far.used ++ take used piece;
@@ -137,17 +145,18 @@ module _ {A : Type 0} where
 
       -- a fault ended a piece
       pub heard_until : (fault : RunFault) (ended : Bool) (new : Client A) (counts_after : Counts) (came piece buffer : List ℕ)
-          (left_after told_after sent_after : Option (List ℕ)) → Consumes left left_after came → unused ++ came ≡ piece
-          → HearsPieceTo (Err fault) middle new counts counts_after piece (flow told told_after) (flow sent sent_after)
+          (left_after told_after sent_after reported_after : Option (List ℕ)) → Consumes left left_after came → unused ++ came ≡ piece
+          → HearsPieceTo (Err fault) middle new counts counts_after piece (flow told told_after) (flow sent sent_after) (flow reported reported_after)
           → HearsTo (Err fault) ended old new waiting buffer (flow left_before left_after) (flow told_before told_after) (flow sent_before sent_after)
-      heard_until ReadFault ended new counts_after came piece buffer left_after told_after sent_after read is step = absurd step
-      heard_until WriteFault ended new counts_after came piece buffer left_after told_after sent_after read is step = record {
+          (flow reported_before reported_after)
+      heard_until ReadFault ended new counts_after came piece buffer left_after told_after sent_after reported_after read is step = absurd step
+      heard_until WriteFault ended new counts_after came piece buffer left_after told_after sent_after reported_after read is step = record {
         unused = drop step.used piece;
         hears = hears_from (heard_on step.used came read is refl step.hears);
         timely = λ fault failed. shown_in_time fault ended step.used piece (step.shown fault failed);
       }
-      heard_until ReadLimit ended new counts_after came piece buffer left_after told_after sent_after read is step = absurd step
-      heard_until (Refused fault) ended new counts_after came piece buffer left_after told_after sent_after read is step = record {
+      heard_until ReadLimit ended new counts_after came piece buffer left_after told_after sent_after reported_after read is step = absurd step
+      heard_until (Refused fault) ended new counts_after came piece buffer left_after told_after sent_after reported_after read is step = record {
         unused = drop step.used piece;
         hears = hears_from (heard_on step.used came read is refl step.hears);
         told = step.told;
@@ -158,21 +167,25 @@ module _ {A : Type 0} where
       pub heard_end : {fault : Fault} {ended : Bool} {new : Client A} {left_after : Option (List ℕ)} → unused ≡ [] → Consumes left left_after []
           → ended ≡ true → fault.kind ≡ Truncated → fault_of new ≡ Some fault → HearsOn middle [] [] new
           → HearsFault fault ended old new waiting (flow left_before left_after) (flow told_before told) (flow sent_before sent)
+          (flow reported_before reported)
       heard_end {fault = fault} {ended = ended} {new = new} all read at_end kind failed hears = record {
         unused = [];
         hears = hears_from (heard_on 0 [] read (append-nil unused ∙ all) refl
-            (heard_quietly counts hears (not_ready_where_failed (phase_of new) fault failed) (written_nothing told) (written_nothing sent)));
+            (heard_quietly counts hears (not_ready_where_failed (phase_of new) fault failed) (written_nothing told) (written_nothing sent)
+            (written_nothing reported)));
         told = failed;
         timely = subst (λ (k : Kind). IsTimely k ended []) (sym kind) (refl, at_end);
       }
 
-  -- before a read all that came was used, and the transcript and the pack were flushed
-  pub heard_before_read : {old new : Client A} {counts : Counts} {waiting : List ℕ} {reader : Flow} {told_before told sent_before sent : Option (List ℕ)}
-      (window : Window) (piece : List ℕ) (told_after sent_after : Option (List ℕ)) → window.start ≡ window.end
-      → HeardSoFar false old new counts waiting (window_of window piece) reader (flow told_before told) (flow sent_before sent)
-      → WrittenAs false (flow told told_after) [] → WrittenAs false (flow sent sent_after) []
-      → HeardSoFar false old new counts waiting [] reader (flow told_before told_after) (flow sent_before sent_after)
+  -- before a read all that came was used, and the transcript, the pack and the progress were flushed
+  pub heard_before_read : {old new : Client A} {counts : Counts} {waiting : List ℕ} {reader : Flow}
+      {told_before told sent_before sent reported_before reported : Option (List ℕ)}
+      (window : Window) (piece : List ℕ) (told_after sent_after reported_after : Option (List ℕ)) → window.start ≡ window.end
+      → HeardSoFar false old new counts waiting (window_of window piece) reader (flow told_before told) (flow sent_before sent) (flow reported_before reported)
+      → WrittenAs false (flow told told_after) [] → WrittenAs false (flow sent sent_after) [] → WrittenAs false (flow reported reported_after) []
+      → HeardSoFar false old new counts waiting [] reader (flow told_before told_after) (flow sent_before sent_after) (flow reported_before reported_after)
   heard_before_read {old = old} {new = new} {counts = counts} {waiting = waiting} {reader = reader} {told_before = told_before} {told = told}
-      {sent_before = sent_before} {sent = sent} window piece told_after sent_after all so_far flushed flushed_pack =
-      heard_and_flushed (subst (λ (unused : List ℕ). HeardSoFar false old new counts waiting unused reader (flow told_before told) (flow sent_before sent))
-      (none_left window piece all) so_far) false flushed flushed_pack
+      {sent_before = sent_before} {sent = sent} {reported_before = reported_before} {reported = reported} window piece told_after sent_after reported_after all
+      so_far flushed flushed_pack flushed_progress =
+      heard_and_flushed (subst (λ (unused : List ℕ). HeardSoFar false old new counts waiting unused reader (flow told_before told) (flow sent_before sent)
+      (flow reported_before reported)) (none_left window piece all) so_far) false flushed flushed_pack flushed_progress

@@ -6,7 +6,7 @@ use Rattle.git_pkt.specs.declared.fault.Fault.{Fault}
 use Rattle.git_pkt.specs.declared.fault.RunFault.{RunFault}
 use Rattle.git_pkt.specs.declared.fault.RunFault.TheVariants.{WriteFault}
 use Rattle.git_pkt.proofs.Pieces.{take_joined, left_of}
-use Rattle.git_client.specs.Events.{EventValue, pack, progress, pack_bytes, turns_of}
+use Rattle.git_client.specs.Events.{EventValue, pack, progress, pack_bytes, progress_bytes, turns_of}
 use Rattle.git_client.specs.Transcript.{lines_of}
 use Rattle.git_client.specs.Turns.{values_of}
 use Rattle.git_pkt.specs.Streams.{flow, is_broken, WrittenAs}
@@ -57,9 +57,10 @@ abbrev pub left : List ℕ → ℕ → List ℕ
 left piece done = take (length piece - done) (drop done piece)
 
 module _ {A : Type 0} where
-  module _ {old b c : Client A} {counts now : Counts} (piece : List ℕ) (done : ℕ) {heard : Heard} {told_before told sent_before sent : Option (List ℕ)}
+  module _ {old b c : Client A} {counts now : Counts} (piece : List ℕ) (done : ℕ) {heard : Heard}
+      {told_before told sent_before sent reported_before reported : Option (List ℕ)}
       (waits : wants_input b ≡ true) (within : done ≤ length piece)
-      (so_far : HearsBytes false old b counts now (take done piece) (flow told_before told) (flow sent_before sent))
+      (so_far : HearsBytes false old b counts now (take done piece) (flow told_before told) (flow sent_before sent) (flow reported_before reported))
       (feeds : Feeds b (left piece done) heard c) where
     hears_by : (got : HeardGot) → heard.got ≡ got → HearsOn b (take heard.used (left piece done)) (events_of got) c
     hears_by got is = subst (λ (x : HeardGot). HearsOn b (take heard.used (left piece done)) (events_of x) c) is feeds.hears
@@ -70,22 +71,26 @@ module _ {A : Type 0} where
     rest_length : length (left piece done) ≡ length piece - done
     rest_length = ap length (left_of piece done within) ∙ length-drop done piece
 
-    hears_then : (broken : Bool) (after : Counts) (told_after sent_after : Option (List ℕ))
-        → HearsBytes broken b c now after (take heard.used (left piece done)) (flow told told_after) (flow sent sent_after)
+    hears_then : (broken : Bool) (after : Counts) (told_after sent_after reported_after : Option (List ℕ))
+        → HearsBytes broken b c now after (take heard.used (left piece done)) (flow told told_after) (flow sent sent_after) (flow reported reported_after)
         → HearsBytes broken old c counts after (take (done + heard.used) piece) (flow told_before told_after) (flow sent_before sent_after)
-    hears_then broken after told_after sent_after hears =
-        subst (λ (used : List ℕ). HearsBytes broken old c counts after used (flow told_before told_after) (flow sent_before sent_after))
+        (flow reported_before reported_after)
+    hears_then broken after told_after sent_after reported_after hears =
+        subst (λ (used : List ℕ). HearsBytes broken old c counts after used (flow told_before told_after) (flow sent_before sent_after)
+        (flow reported_before reported_after))
         (take_joined piece done heard.used within) (heard_then (not_ready_where_due (phase_of b) waits) so_far hears)
 
     -- all of the piece was used, and more is due
-    pub heard_all : heard.got ≡ More → HearsInPiece old c counts now piece (length piece) (flow told_before told) (flow sent_before sent)
+    pub heard_all : heard.got ≡ More
+        → HearsInPiece old c counts now piece (length piece) (flow told_before told) (flow sent_before sent) (flow reported_before reported)
     heard_all is =
         let (used, due) = tells_by More is waits in
         let all : done + heard.used ≡ length piece = omega (arith, used, rest_length, within) in
         record {
-          hears = subst (λ (n : ℕ). HearsBytes false old c counts now (take n piece) (flow told_before told) (flow sent_before sent)) all
-              (hears_then false now told sent (heard_quietly now (hears_by More is) (not_ready_where_due (phase_of c) due) (written_nothing told)
-              (written_nothing sent)));
+          hears = subst (λ (n : ℕ). HearsBytes false old c counts now (take n piece) (flow told_before told) (flow sent_before sent)
+              (flow reported_before reported)) all
+              (hears_then false now told sent reported (heard_quietly now (hears_by More is) (not_ready_where_due (phase_of c) due) (written_nothing told)
+              (written_nothing sent) (written_nothing reported)));
           within = omega arith;
           all = λ e. refl;
           sound = sound_where_due (phase_of c) due;
@@ -100,29 +105,30 @@ module _ {A : Type 0} where
         record { not_the_end = shown.not_the_end; one_more = λ e. omega (arith, shown.one_more e, rest_length) }
 
     -- and the streams were flushed, of which one may have failed
-    heard_failed_then : (broken : Bool) (fault : Fault) (told_after sent_after : Option (List ℕ)) → heard.got ≡ Failed fault
-        → WrittenAs false (flow told told_after) [] → WrittenAs false (flow sent sent_after) []
+    heard_failed_then : (broken : Bool) (fault : Fault) (told_after sent_after reported_after : Option (List ℕ)) → heard.got ≡ Failed fault
+        → WrittenAs false (flow told told_after) [] → WrittenAs false (flow sent sent_after) [] → WrittenAs false (flow reported reported_after) []
         → HearsBytes broken old c counts now (take (done + heard.used) piece) (flow told_before told_after) (flow sent_before sent_after)
-    heard_failed_then broken fault told_after sent_after is line bytes =
+        (flow reported_before reported_after)
+    heard_failed_then broken fault told_after sent_after reported_after is line bytes report =
         let quiet : can_ask c ≡ false = not_ready_where_failed (phase_of c) fault (tells_by (Failed fault) is) in
-        hears_then broken now told_after sent_after (heard_quietly now (hears_by (Failed fault) is) quiet line bytes)
+        hears_then broken now told_after sent_after reported_after (heard_quietly now (hears_by (Failed fault) is) quiet line bytes report)
 
-    pub heard_failed : (fault : Fault) (told_after sent_after : Option (List ℕ)) → heard.got ≡ Failed fault
-        → WrittenAs false (flow told told_after) [] → WrittenAs false (flow sent sent_after) []
-        → HearsToFault fault old c counts now piece (flow told_before told_after) (flow sent_before sent_after)
-    heard_failed fault told_after sent_after is line bytes = record {
+    pub heard_failed : (fault : Fault) (told_after sent_after reported_after : Option (List ℕ)) → heard.got ≡ Failed fault
+        → WrittenAs false (flow told told_after) [] → WrittenAs false (flow sent sent_after) [] → WrittenAs false (flow reported reported_after) []
+        → HearsToFault fault old c counts now piece (flow told_before told_after) (flow sent_before sent_after) (flow reported_before reported_after)
+    heard_failed fault told_after sent_after reported_after is line bytes report = record {
       used = done + heard.used;
-      hears = heard_failed_then false fault told_after sent_after is line bytes;
+      hears = heard_failed_then false fault told_after sent_after reported_after is line bytes report;
       told = tells_by (Failed fault) is;
       shown = shown_where_failed fault is;
     }
 
-    pub heard_failed_unflushed : (fault : Fault) (told_after sent_after : Option (List ℕ)) → heard.got ≡ Failed fault
-        → WrittenAs false (flow told told_after) [] → WrittenAs false (flow sent sent_after) []
-        → HearsPieceBroken old c counts now piece (flow told_before told_after) (flow sent_before sent_after)
-    heard_failed_unflushed fault told_after sent_after is line bytes = record {
+    pub heard_failed_unflushed : (fault : Fault) (told_after sent_after reported_after : Option (List ℕ)) → heard.got ≡ Failed fault
+        → WrittenAs false (flow told told_after) [] → WrittenAs false (flow sent sent_after) [] → WrittenAs false (flow reported reported_after) []
+        → HearsPieceBroken old c counts now piece (flow told_before told_after) (flow sent_before sent_after) (flow reported_before reported_after)
+    heard_failed_unflushed fault told_after sent_after reported_after is line bytes report = record {
       used = done + heard.used;
-      hears = heard_failed_then true fault told_after sent_after is line bytes;
+      hears = heard_failed_then true fault told_after sent_after reported_after is line bytes report;
       shown = λ met failed.
           let told : fault_of c ≡ Some fault = tells_by (Failed fault) is in
           let same : fault ≡ met = cc in
@@ -131,33 +137,39 @@ module _ {A : Type 0} where
 
     -- an event was met, and what it says was written, or a front of it
     module _ (e : Event) (is : heard.got ≡ EventGot e) where
-      pub heard_event : (broken : Bool) (after : Counts) (told_after sent_after : Option (List ℕ))
+      pub heard_event : (broken : Bool) (after : Counts) (told_after sent_after reported_after : Option (List ℕ))
           → (CanCount now (values_of e) → after ≡ counts_with now (values_of e))
           → WrittenAs broken (flow told told_after) (lines_of (values_of e) now.pack now.progress)
           → WrittenAs broken (flow sent sent_after) (pack_bytes (values_of e))
+          → WrittenAs broken (flow reported reported_after) (progress_bytes (values_of e))
           → HearsBytes broken old c counts after (take (done + heard.used) piece) (flow told_before told_after) (flow sent_before sent_after)
-      heard_event broken after told_after sent_after count line bytes = hears_then broken after told_after sent_after (record {
-        events = values_of e;
-        hears = hears_by (EventGot e) is;
-        one_turn = event_turn e c (tells_by (EventGot e) is).3;
-        counted = count;
-        told = λ can. subst (WrittenAs broken (flow told told_after)) (event_lines e now.pack now.progress) line;
-        sent = bytes;
-      })
+          (flow reported_before reported_after)
+      heard_event broken after told_after sent_after reported_after count line bytes report =
+          hears_then broken after told_after sent_after reported_after (record {
+            events = values_of e;
+            hears = hears_by (EventGot e) is;
+            one_turn = event_turn e c (tells_by (EventGot e) is).3;
+            counted = count;
+            told = λ can. subst (WrittenAs broken (flow told told_after)) (event_lines e now.pack now.progress) line;
+            sent = bytes;
+            reported = report;
+          })
 
       pub heard_sound : fault_of c ≡ None
       heard_sound = sound_after e c (tells_by (EventGot e) is).3
 
-      pub heard_event_front : (result : Result (Unit {0}) RunFault) (fault : RunFault) (after : Counts) (told_after sent_after : Option (List ℕ))
-          → result ≡ Err fault → fault ≡ WriteFault → (CanCount now (values_of e) → after ≡ counts_with now (values_of e))
+      pub heard_event_front : (result : Result (Unit {0}) RunFault) (fault : RunFault) (after : Counts)
+          (told_after sent_after reported_after : Option (List ℕ)) → result ≡ Err fault → fault ≡ WriteFault
+          → (CanCount now (values_of e) → after ≡ counts_with now (values_of e))
           → WrittenAs (is_broken result) (flow told told_after) (lines_of (values_of e) now.pack now.progress)
           → WrittenAs (is_broken result) (flow sent sent_after) (pack_bytes (values_of e))
-          → HearsPieceBroken old c counts after piece (flow told_before told_after) (flow sent_before sent_after)
-      heard_event_front result fault after told_after sent_after failed named count line bytes = record {
+          → WrittenAs (is_broken result) (flow reported reported_after) (progress_bytes (values_of e))
+          → HearsPieceBroken old c counts after piece (flow told_before told_after) (flow sent_before sent_after) (flow reported_before reported_after)
+      heard_event_front result fault after told_after sent_after reported_after failed named count line bytes report = record {
         used = done + heard.used;
         hears = subst (λ (broken : Bool). HearsBytes broken old c counts after (take (done + heard.used) piece) (flow told_before told_after)
-            (flow sent_before sent_after)) (ap is_broken (failed ∙ ap Err named))
-            (heard_event (is_broken result) after told_after sent_after count line bytes);
+            (flow sent_before sent_after) (flow reported_before reported_after)) (ap is_broken (failed ∙ ap Err named))
+            (heard_event (is_broken result) after told_after sent_after reported_after count line bytes report);
         shown = λ met told. let sound : fault_of c ≡ None = heard_sound in absurd (cc);
       }
 

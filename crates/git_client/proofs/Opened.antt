@@ -1,5 +1,5 @@
 -- What has come of an open packet: bytes on a band, none of which is a turn.
-use Rattle.std.proofs.Common.{arith, ◌≡◌, ◌≢◌, ℕ, ◌+◌, ◌≤◌, ◌==◌, Bool, true, false, cond, List, [], ◌∷◌, ◌++◌, length, map, drop}
+use Rattle.std.proofs.Common.{arith, ◌≡◌, ◌≢◌, ℕ, ◌≤◌, ◌==◌, Bool, true, false, cond, List, [], ◌∷◌, ◌++◌, length, map, drop}
 use Rattle.std.proofs.Common.{Option, Some, None, Ok, Err, refl, ap, sym, ◌∙◌, append_assoc, is_some, length-append, length-drop}
 use Rattle.std.proofs.lemmas.List.{length-map}
 use Rattle.git_names.specs.declared.object_format.Format.{Format}

@@ -1,9 +1,9 @@
--- What a phase is where bytes are due, where the client can ask, and where it has failed.
+-- What a phase is where bytes are due, where the client can ask, where it has left, and where it has failed.
 use Rattle.std.proofs.Common.{◌≡◌, true, false, Some, None, refl}
 use Rattle.git_pkt.specs.declared.fault.Fault.{Fault}
-use Rattle.git_client.specs.Turns.{takes_packets, fault_in, is_ready}
+use Rattle.git_client.specs.Turns.{takes_packets, fault_in, is_ready, has_left_in}
 use Rattle.git_client.specs.declared.phase.Phase.{Phase}
-use Rattle.git_client.specs.declared.phase.Phase.TheVariants.{Hearing, Ready, Failed}
+use Rattle.git_client.specs.declared.phase.Phase.TheVariants.{Hearing, Ready, Leaving, Left, Failed}
 
 pub not_ready_where_due : (phase : Phase) → takes_packets phase ≡ true → is_ready phase ≡ false
 not_ready_where_due (Hearing due) e = refl
@@ -20,3 +20,13 @@ sound_where_due phase e = absurd (cc)
 pub sound_where_ready : (phase : Phase) → is_ready phase ≡ true → fault_in phase ≡ None
 sound_where_ready Ready e = refl
 sound_where_ready phase e = absurd (cc)
+
+pub not_ready_where_left : (phase : Phase) → has_left_in phase ≡ true → is_ready phase ≡ false
+not_ready_where_left Leaving e = refl
+not_ready_where_left Left e = refl
+not_ready_where_left phase e = absurd (cc)
+
+pub sound_where_left : (phase : Phase) → has_left_in phase ≡ true → fault_in phase ≡ None
+sound_where_left Leaving e = refl
+sound_where_left Left e = refl
+sound_where_left phase e = absurd (cc)

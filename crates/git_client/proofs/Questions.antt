@@ -11,7 +11,6 @@ use Rattle.git_pkt.specs.Splits.{Given}
 use Rattle.git_pkt.specs.PacketReader.{bytes_held, Reads, is_open, held_of, fault_of as reader_fault_of}
 use Rattle.git_pkt.specs.LentHold.{with_hold, with_hold_by}
 use Rattle.git_pkt.specs.ReaderState.{is_open_in}
-use Rattle.git_pkt.specs.declared.fault.Fault.{Fault}
 use Rattle.git_pkt.specs.declared.reader.PacketReader.{PacketReader}
 use Rattle.git_pkt.proofs.OpenLengths.{shut_counts_none}
 use Rattle.git_pkt.proofs.LentHolds.{lent_reads}

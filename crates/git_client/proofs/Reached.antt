@@ -1,7 +1,7 @@
 -- Where a conversation stands once a client has read some bytes: by whole packets, or in the packfile section by bytes that pass.
-use Rattle.std.proofs.Common.{◌≡◌, ◌≢◌, ℕ, Bool, true, false, cond, List, [], ◌∷◌, ◌++◌, length, Option, Some, None, refl, ap, sym, ◌∙◌, subst}
+use Rattle.std.proofs.Common.{◌≡◌, ◌≢◌, ℕ, Bool, true, false, cond, List, [], ◌∷◌, ◌++◌, length, Option, refl, ap, sym, ◌∙◌, subst}
 use Rattle.std.proofs.Common.{append_assoc, append-nil}
-use Rattle.git_pkt.specs.Packets.{Pkt, flush, delim, resp_end, payload}
+use Rattle.git_pkt.specs.Packets.{Pkt, payload}
 use Rattle.git_pkt.specs.Splits.{Given, Splits}
 use Rattle.git_pkt.specs.Passed.{OnBand, is_on_band, others, passed_by, passed_by_all, passed_by_rest, passed_in}
 use Rattle.git_pkt.specs.PacketReader.{Reads, ReadsOn}
@@ -12,7 +12,7 @@ use Rattle.git_msg.specs.Advertisement.{noted_of}
 use Rattle.git_msg.specs.Asked.{Asked}
 use Rattle.git_msg.specs.declared.offers.Caps.{Caps}
 use Rattle.git_client.specs.Parts.{Terms, nearest, advertisement_of}
-use Rattle.git_client.specs.Places.{Place, packfile, place_after}
+use Rattle.git_client.specs.Places.{Place, place_after}
 use Rattle.git_client.specs.Events.{EventValue}
 use Rattle.git_client.specs.Opened.{events_on, opened_in}
 use Rattle.git_client.specs.Conversation.{GivesAt, GiveAll}

@@ -1,5 +1,5 @@
 -- What a client that says a question comes to, one packet after another, and what asking does to its history.
-use Rattle.std.proofs.Common.{arith, ◌≡◌, ◌≢◌, inl, inr, ℕ, Bool, true, false, List, [], ◌∷◌, ◌++◌, Option, None}
+use Rattle.std.proofs.Common.{◌≡◌, ◌≢◌, inl, inr, ℕ, Bool, true, false, List, [], ◌∷◌, ◌++◌, Option, None}
 use Rattle.std.proofs.Common.{Result, Ok, Err, IfErr, refl, sym, ap, ◌∙◌, subst, append_assoc, append-nil}
 use Rattle.std.proofs.KnownBytes.{Appends-kept, Appends-nil, Appends-trans}
 use Rattle.std.specs.Io.KnownBytes.{Appends, Keeps}
@@ -12,7 +12,7 @@ use Rattle.git_msg.specs.declared.requests.Request.{Request}
 use Rattle.git_pkt.specs.Streams.{Flow, flow, WrittenAs, is_broken}
 use Rattle.git_client.specs.Transcript.{asked_line}
 use Rattle.git_client.specs.Turns.{takes_packets, fault_in, is_ready, is_asking, has_left_in, left_in}
-use Rattle.git_client.specs.Client.{History, Converses, Asks, SaysOn, Pulls, TellsSent, given_by, can_ask, fault_of, has_left, left_to_say}
+use Rattle.git_client.specs.Client.{Converses, Asks, SaysOn, Pulls, TellsSent, given_by, can_ask, fault_of, has_left, left_to_say}
 use Rattle.git_client.specs.Client.{wants_input}
 use Rattle.git_client.specs.RunSteps.{BreaksOff, Says, AsksNext, AsksTo}
 use Rattle.git_client.specs.declared.phase.Phase.{Phase}

@@ -1,13 +1,13 @@
--- What one event comes to: its line, its bytes of the pack, and the counts after it.
+-- What one event comes to: its line, its bytes of the pack and of the progress, and the counts after it.
 use Rattle.std.proofs.Common.{arith, ◌≡◌, ℕ, ◌+◌, min, Bool, false, List, [], ◌∷◌, length, map, Bor}
 use Rattle.std.proofs.Common.{Option, Result, Ok, Err, OnOk, OnErr, IfErr, refl, sym, ap, ◌∙◌, subst}
 use Rattle.std.specs.Io.KnownBytes.{Appends}
 use Rattle.git_pkt.specs.Told.{AppendsFront}
 use Rattle.git_pkt.specs.declared.fault.RunFault.{RunFault}
 use Rattle.git_pkt.specs.declared.fault.RunFault.TheVariants.{WriteFault}
-use Rattle.git_client.specs.Events.{pack, progress, pack_bytes}
+use Rattle.git_client.specs.Events.{pack, progress, pack_bytes, progress_bytes}
 use Rattle.git_pkt.specs.Streams.{flow, is_broken, WrittenAs}
-use Rattle.git_client.specs.RunSteps.{progress_bytes, counts_with, CanCount}
+use Rattle.git_client.specs.RunSteps.{counts_with, CanCount}
 use Rattle.git_client.specs.Transcript.{lines_of}
 use Rattle.git_client.specs.Turns.{values_of}
 use Rattle.git_client.specs.declared.events.Event.{Event}
@@ -41,7 +41,7 @@ no_lines_of_progress : (bytes : List ℕ) (p q : ℕ) → lines_of (map progress
 no_lines_of_progress [] p q = refl
 no_lines_of_progress (byte ∷ bytes) p q = no_lines_of_progress bytes p q
 
-no_progress_of_pack : (bytes : List ℕ) → length (progress_bytes (map pack bytes)) ≡ 0
+no_progress_of_pack : (bytes : List ℕ) → progress_bytes (map pack bytes) ≡ []
 no_progress_of_pack [] = refl
 no_progress_of_pack (byte ∷ bytes) = no_progress_of_pack bytes
 
@@ -56,12 +56,13 @@ module _ (e : Event) (bytes : Bor (List ℕ)) where
   pub pack_sent : e ≡ Pack bytes → pack_bytes (values_of e) ≡ bytes.now
   pack_sent is = ap (λ (x : Event). pack_bytes (values_of x)) is ∙ (band_is (1 ∷ bytes.now) (map pack bytes.now) refl).1
 
+  pub pack_unreported : e ≡ Pack bytes → progress_bytes (values_of e) ≡ []
+  pack_unreported is = ap (λ (x : Event). progress_bytes (values_of x)) is ∙ no_progress_of_pack bytes.now
+
   pub pack_counted : e ≡ Pack bytes → (counts : Counts) (n : ℕ) → n ≡ min (counts.pack + length bytes.now) 18446744073709551615
       → CanCount counts (values_of e) → counts_of n counts.progress ≡ counts_with counts (values_of e)
   pack_counted is counts n total can =
-      let none : length (progress_bytes (values_of e)) ≡ 0 =
-      ap (λ (x : Event). length (progress_bytes (values_of x))) is ∙ no_progress_of_pack bytes.now in
-      same_counts n counts.progress _ _ (omega (arith, total, can.pack, ap length (pack_sent is))) (omega (arith, none))
+      same_counts n counts.progress _ _ (omega (arith, total, can.pack, ap length (pack_sent is))) (omega (arith, ap length (pack_unreported is)))
 
   pub progress_lines : e ≡ Progress bytes → (p q : ℕ) → lines_of (values_of e) p q ≡ []
   progress_lines is p q = ap (λ (x : Event). lines_of (values_of x) p q) is ∙ no_lines_of_progress bytes.now p q
@@ -69,9 +70,11 @@ module _ (e : Event) (bytes : Bor (List ℕ)) where
   pub progress_unsent : e ≡ Progress bytes → pack_bytes (values_of e) ≡ []
   progress_unsent is = ap (λ (x : Event). pack_bytes (values_of x)) is ∙ (band_is (2 ∷ bytes.now) (map progress bytes.now) refl).1
 
+  pub progress_reported : e ≡ Progress bytes → progress_bytes (values_of e) ≡ bytes.now
+  progress_reported is = ap (λ (x : Event). progress_bytes (values_of x)) is ∙ progress_is bytes.now
+
   pub progress_counted : e ≡ Progress bytes → (counts : Counts) (n : ℕ) → n ≡ min (counts.progress + length bytes.now) 18446744073709551615
       → CanCount counts (values_of e) → counts_of counts.pack n ≡ counts_with counts (values_of e)
   progress_counted is counts n total can =
-      let all : length (progress_bytes (values_of e)) ≡ length bytes.now =
-      ap (λ (x : Event). length (progress_bytes (values_of x))) is ∙ ap length (progress_is bytes.now) in
-      same_counts counts.pack n _ _ (omega (arith, ap length (progress_unsent is))) (omega (arith, total, can.progress, all))
+      same_counts counts.pack n _ _ (omega (arith, ap length (progress_unsent is)))
+      (omega (arith, total, can.progress, ap length (progress_reported is)))

@@ -159,6 +159,12 @@ pack_bytes [] = []
 pack_bytes (pack byte ∷ events) = byte ∷ pack_bytes events
 pack_bytes (event ∷ events) = pack_bytes events
 
+-- the bytes of the progress
+abbrev pub progress_bytes : List EventValue → List ℕ
+progress_bytes [] = []
+progress_bytes (progress byte ∷ events) = byte ∷ progress_bytes events
+progress_bytes (event ∷ events) = progress_bytes events
+
 -- how many bytes the parts of an event have, its object names as digits
 abbrev pub parts_length : EventValue → ℕ
 parts_length (capability key value) = length key + option_map_or length value 0

@@ -12,19 +12,13 @@ use Rattle.git_msg.specs.Checks.{Passes, Refuses as RefusesBy}
 use Rattle.git_msg.specs.HeldRequest.{asked_of}
 use Rattle.git_msg.specs.declared.requests.Request.{Request}
 use Rattle.git_client.specs.Parts.{Terms}
-use Rattle.git_client.specs.Events.{EventValue, offered, progress, ended as response_ended, pack_bytes}
+use Rattle.git_client.specs.Events.{EventValue, offered, ended as response_ended, pack_bytes, progress_bytes}
 use Rattle.git_client.specs.Transcript.{transcript_from, asked_line}
 use Rattle.git_client.specs.Client.{History, Converses, HearsOn, SaysOn, ask_checks, bytes_used, can_ask, caps_of, fault_of, format_of}
 use Rattle.git_client.specs.Client.{has_left, left_to_say, wants_input}
 use Rattle.git_client.specs.declared.client.Client.{Client}
 use Rattle.git_client.specs.declared.hearing.Counts.{Counts}
 use Rattle.git_client.specs.declared.hearing.Window.{Window}
-
--- the bytes of the progress
-abbrev pub progress_bytes : List EventValue → List ℕ
-progress_bytes [] = []
-progress_bytes (progress byte ∷ events) = byte ∷ progress_bytes events
-progress_bytes (event ∷ events) = progress_bytes events
 
 abbrev pub no_counts : Counts
 no_counts = record { pack = 0; progress = 0 }
@@ -63,18 +57,19 @@ pub record BreaksOff (stream : Flow) (given : List ℕ) : Type 0 where
 
 module _ {A : Type 0} where
   -- these bytes were heard: the lines of the transcript that they say were written, after what was counted of the response before, and
-  -- their bytes of the pack
-  pub record HearsBytes (broken : Bool) (old new : Client A) (counts counts_after : Counts) (used : List ℕ) (out packs : Flow) : Type 0 where
+  -- their bytes of the pack and of the progress
+  pub record HearsBytes (broken : Bool) (old new : Client A) (counts counts_after : Counts) (used : List ℕ) (out packs progress : Flow) : Type 0 where
     pub events : List EventValue
     pub hears : HearsOn old used events new
     pub one_turn : IsOneTurn events (can_ask new)
     pub counted : CanCount counts events → counts_after ≡ counts_with counts events
     pub told : CanCount counts events → WrittenAs broken out (transcript_from [] counts.pack counts.progress events)
     pub sent : WrittenAs broken packs (pack_bytes events)
+    pub reported : WrittenAs broken progress (progress_bytes events)
 
   -- all of the piece was used, or the client can ask
-  pub record HearsInPiece (old new : Client A) (counts counts_after : Counts) (piece : List ℕ) (used : ℕ) (out packs : Flow) : Type 0 where
-    pub hears : HearsBytes false old new counts counts_after (take used piece) out packs
+  pub record HearsInPiece (old new : Client A) (counts counts_after : Counts) (piece : List ℕ) (used : ℕ) (out packs progress : Flow) : Type 0 where
+    pub hears : HearsBytes false old new counts counts_after (take used piece) out packs progress
     pub within : used ≤ length piece
     pub all : wants_input new ≡ true → used ≡ length piece
     pub sound : fault_of new ≡ None
@@ -82,70 +77,71 @@ module _ {A : Type 0} where
     pub moves : 0 < length piece → 0 < used
 
   -- a fault was met in the piece
-  pub record HearsToFault (fault : Fault) (old new : Client A) (counts counts_after : Counts) (piece : List ℕ) (out packs : Flow) : Type 0 where
+  pub record HearsToFault (fault : Fault) (old new : Client A) (counts counts_after : Counts) (piece : List ℕ) (out packs progress : Flow) : Type 0 where
     pub used : ℕ
-    pub hears : HearsBytes false old new counts counts_after (take used piece) out packs
+    pub hears : HearsBytes false old new counts counts_after (take used piece) out packs progress
     pub told : fault_of new ≡ Some fault
     pub shown : ShownByFeed fault used piece
 
   -- a write or a flush failed; a fault that the client has is one that the piece shows
-  pub record HearsPieceBroken (old new : Client A) (counts counts_after : Counts) (piece : List ℕ) (out packs : Flow) : Type 0 where
+  pub record HearsPieceBroken (old new : Client A) (counts counts_after : Counts) (piece : List ℕ) (out packs progress : Flow) : Type 0 where
     pub used : ℕ
-    pub hears : HearsBytes true old new counts counts_after (take used piece) out packs
+    pub hears : HearsBytes true old new counts counts_after (take used piece) out packs progress
     pub shown : (fault : Fault) → fault_of new ≡ Some fault → ShownByFeed fault used piece
 
   -- how a piece was heard
-  abbrev pub HearsPieceTo : Result ℕ RunFault → Client A → Client A → Counts → Counts → List ℕ → Flow → Flow → Type 0
-  HearsPieceTo (Ok used) old new counts counts_after piece out packs = HearsInPiece old new counts counts_after piece used out packs
-  HearsPieceTo (Err WriteFault) old new counts counts_after piece out packs = HearsPieceBroken old new counts counts_after piece out packs
-  HearsPieceTo (Err (Refused fault)) old new counts counts_after piece out packs = HearsToFault fault old new counts counts_after piece out packs
-  HearsPieceTo (Err fault) old new counts counts_after piece out packs = ⊥
+  abbrev pub HearsPieceTo : Result ℕ RunFault → Client A → Client A → Counts → Counts → List ℕ → Flow → Flow → Flow → Type 0
+  HearsPieceTo (Ok used) old new counts counts_after piece out packs progress = HearsInPiece old new counts counts_after piece used out packs progress
+  HearsPieceTo (Err WriteFault) old new counts counts_after piece out packs progress = HearsPieceBroken old new counts counts_after piece out packs progress
+  HearsPieceTo (Err (Refused fault)) old new counts counts_after piece out packs progress =
+      HearsToFault fault old new counts counts_after piece out packs progress
+  HearsPieceTo (Err fault) old new counts counts_after piece out packs progress = ⊥
 
   -- a fault that the client has is truncated only where the input has ended, and too long only where one more byte was read
   abbrev pub FaultsInTime : Client A → Bool → List ℕ → Type 0
   FaultsInTime client ended unused = (fault : Fault) → fault_of client ≡ Some fault → IsTimely fault.kind ended unused
 
   -- of the bytes that waited and those that came, all but the last were heard
-  pub record HearsFrom (broken : Bool) (old new : Client A) (waiting unused : List ℕ) (reader out packs : Flow) : Type 0 where
+  pub record HearsFrom (broken : Bool) (old new : Client A) (waiting unused : List ℕ) (reader out packs progress : Flow) : Type 0 where
     pub came : List ℕ
     pub used : List ℕ
     pub counts : Counts
     pub read : Consumes reader.before reader.after came
     pub parts : waiting ++ came ≡ used ++ unused
-    pub bytes : HearsBytes broken old new no_counts counts used out packs
+    pub bytes : HearsBytes broken old new no_counts counts used out packs progress
 
   -- a response was heard whole
-  pub record HearsWhole (window : Window) (old new : Client A) (waiting piece : List ℕ) (reader out packs : Flow) : Type 0 where
-    pub hears : HearsFrom false old new waiting (window_of window piece) reader out packs
+  pub record HearsWhole (window : Window) (old new : Client A) (waiting piece : List ℕ) (reader out packs progress : Flow) : Type 0 where
+    pub hears : HearsFrom false old new waiting (window_of window piece) reader out packs progress
     pub ordered : window.start ≤ window.end
     pub within : window.end ≤ length piece
     pub can_ask_on : can_ask new ≡ true
 
   -- all bytes were heard, and more are due
-  pub record HearsAll (old new : Client A) (waiting : List ℕ) (reader out packs : Flow) : Type 0 where
-    pub hears : HearsFrom false old new waiting [] reader out packs
+  pub record HearsAll (old new : Client A) (waiting : List ℕ) (reader out packs progress : Flow) : Type 0 where
+    pub hears : HearsFrom false old new waiting [] reader out packs progress
     pub due : wants_input new ≡ true
 
   -- a fault was met
-  pub record HearsFault (fault : Fault) (ended : Bool) (old new : Client A) (waiting : List ℕ) (reader out packs : Flow) : Type 0 where
+  pub record HearsFault (fault : Fault) (ended : Bool) (old new : Client A) (waiting : List ℕ) (reader out packs progress : Flow) : Type 0 where
     pub unused : List ℕ
-    pub hears : HearsFrom false old new waiting unused reader out packs
+    pub hears : HearsFrom false old new waiting unused reader out packs progress
     pub told : fault_of new ≡ Some fault
     pub timely : IsTimely fault.kind ended unused
 
   -- a write or a flush failed; a fault that the client has came in time
-  pub record HearsBroken (ended : Bool) (old new : Client A) (waiting : List ℕ) (reader out packs : Flow) : Type 0 where
+  pub record HearsBroken (ended : Bool) (old new : Client A) (waiting : List ℕ) (reader out packs progress : Flow) : Type 0 where
     pub unused : List ℕ
-    pub hears : HearsFrom true old new waiting unused reader out packs
+    pub hears : HearsFrom true old new waiting unused reader out packs progress
     pub timely : FaultsInTime new ended unused
 
   -- how a response was heard
-  abbrev pub HearsTo : Result Window RunFault → Bool → Client A → Client A → List ℕ → List ℕ → Flow → Flow → Flow → Type 0
-  HearsTo (Ok window) ended old new waiting piece reader out packs = HearsWhole window old new waiting piece reader out packs
-  HearsTo (Err ReadFault) ended old new waiting piece reader out packs = HearsAll old new waiting reader out packs
-  HearsTo (Err ReadLimit) ended old new waiting piece reader out packs = HearsAll old new waiting reader out packs
-  HearsTo (Err WriteFault) ended old new waiting piece reader out packs = HearsBroken ended old new waiting reader out packs
-  HearsTo (Err (Refused fault)) ended old new waiting piece reader out packs = HearsFault fault ended old new waiting reader out packs
+  abbrev pub HearsTo : Result Window RunFault → Bool → Client A → Client A → List ℕ → List ℕ → Flow → Flow → Flow → Flow → Type 0
+  HearsTo (Ok window) ended old new waiting piece reader out packs progress = HearsWhole window old new waiting piece reader out packs progress
+  HearsTo (Err ReadFault) ended old new waiting piece reader out packs progress = HearsAll old new waiting reader out packs progress
+  HearsTo (Err ReadLimit) ended old new waiting piece reader out packs progress = HearsAll old new waiting reader out packs progress
+  HearsTo (Err WriteFault) ended old new waiting piece reader out packs progress = HearsBroken ended old new waiting reader out packs progress
+  HearsTo (Err (Refused fault)) ended old new waiting piece reader out packs progress = HearsFault fault ended old new waiting reader out packs progress
 
   -- packets that were owed were given, and written; all of them, unless a write failed, and then no more were given than that
   pub record Says (broken : Bool) (old new : Client A) (writer : Flow) : Type 0 where

@@ -1,4 +1,4 @@
--- What a run of a client over its streams comes to: what it asked and heard, what it said, the transcript and the pack.
+-- What a run of a client over its streams comes to: what it asked and heard, what it said, the transcript, the pack and the progress.
 use Rattle.std.specs.Prelude.{◌≡◌, ◌⊎◌, ◌≤◌, All, Bool, true, false, ℕ, List, [], ◌∷◌, ◌++◌, length, Some, Result, Ok, Err, map}
 use Rattle.git_pkt.specs.Streams.{IsTimely}
 use Rattle.git_pkt.specs.declared.fault.Fault.{Fault}
@@ -9,7 +9,7 @@ use Rattle.git_msg.specs.HeldRequest.{asked_of}
 use Rattle.git_msg.specs.declared.offers.Caps.{Caps}
 use Rattle.git_msg.specs.declared.requests.Request.{Request}
 use Rattle.git_client.specs.Parts.{Terms}
-use Rattle.git_client.specs.Events.{pack_bytes, turns_of}
+use Rattle.git_client.specs.Events.{pack_bytes, progress_bytes, turns_of}
 use Rattle.git_client.specs.Conversation.{HasNoted, FirstMalformed, GoesOn, IsConversation}
 use Rattle.git_client.specs.Transcript.{transcript_of}
 use Rattle.git_client.specs.Client.{History, Converses, ask_checks, can_ask, fault_of, said_of, spelled, wants_input}
@@ -92,14 +92,14 @@ module _ {A : Type 0} where
   IsHandedBack (Err (Refused fault)) client = (fault_of client ≡ Some fault) ⊎ (can_ask client ≡ true)
 
   -- what a client that was asked these requests has to do with the bytes of its run: it used those read but the last of them, and
-  -- the bytes given are what it said, the transcript, and the pack; a fault that it has came in time
+  -- the bytes given are what it said, the transcript, the pack, and the progress; a fault that it has came in time
   pub record Conversed (t : Terms) (requests : List (Request A)) (result : Result (Unit {0}) RunFault) (ended : Bool) (client : Client A)
       (read given : List (List ℕ)) : Type 0 where
     pub h : History
     pub unused : List ℕ
     pub rest : List (Request A)
     pub heard : read ≡ (h.used ++ unused) ∷ []
-    pub told : given ≡ h.given ∷ transcript_of h.asked h.events ∷ pack_bytes h.events ∷ []
+    pub told : given ≡ h.given ∷ transcript_of h.asked h.events ∷ pack_bytes h.events ∷ progress_bytes h.events ∷ []
     pub stands : Converses t h client
     pub asked : HasAsked t requests rest h
     pub ends : EndsAs t result ended unused rest h

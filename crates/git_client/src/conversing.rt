@@ -20,16 +20,16 @@ use std::io::{Read, Write};
 
 /// Runs a client that is new over a reader of what the server says and a writer to it: it hears the advertisement, asks the
 /// requests in their order, hears the response to each, and leaves after the last, unless each request has a connection of its
-/// own. The transcript is written to `out`, and what came of packs, in order, to `pack`. The piece is where the bytes that are read go; it
-/// may not be empty.
+/// own. The transcript is written to `out`; what came of packs, in order, to `pack`, and what came of the server's progress, on the
+/// second side band, to `progress`, as it came. The piece is where the bytes that are read go; it may not be empty.
 ///
-/// The writer is flushed before each read and at the end, and so are `out` and `pack`.
+/// The writer is flushed before each read and at the end, and so are `out`, `pack` and `progress`.
 ///
 /// `Refused` with the first fault of what the server said, or with what [`Client::ask`] refused of a request, after the
 /// responses to those before it; `ReadFault` where a read fails, `WriteFault` where a write or a flush does, and
 /// `ReadLimit` where a further read than the `turns` that are allowed would be needed. After `WriteFault` the client is spent, since it may
 /// have heard or given more than was written.
-pub fn converse<R: Read, W: Write, O: Write, P: Write, A: Allocator + Copy>(
+pub fn converse<R: Read, W: Write, O: Write, P: Write, E: Output, A: Allocator + Copy>(
     reader: &mut Told<R>,
     writer: &mut Told<W>,
     piece: &mut [u8],
@@ -37,6 +37,7 @@ pub fn converse<R: Read, W: Write, O: Write, P: Write, A: Allocator + Copy>(
     requests: Vec<Request<A>>,
     out: &mut Told<O>,
     pack: &mut Told<P>,
+    progress: &mut E,
     turns: u64,
 ) -> Result<(), RunFault>
     requires room { 0 < length piece.old }
@@ -45,6 +46,7 @@ pub fn converse<R: Read, W: Write, O: Write, P: Write, A: Allocator + Copy>(
     requires sound_writer { has_failed writer.old ≡ false }
     requires sound_out { has_failed out.old ≡ false }
     requires sound_pack { has_failed pack.old ≡ false }
+    requires sound_progress { E.failed progress.old ≡ false }
 
     ensures reads { reads_of reader.new ≤ turns }
     ensures useful { has_wasted reader.new ≡ false }
@@ -53,18 +55,20 @@ pub fn converse<R: Read, W: Write, O: Write, P: Write, A: Allocator + Copy>(
         (flow (R.remaining (inner_of reader.old)) (R.remaining (inner_of reader.new)) ∷ [])
         (flow (W.contents (inner_of writer.old)) (W.contents (inner_of writer.new))
         ∷ flow (O.contents (inner_of out.old)) (O.contents (inner_of out.new))
-        ∷ flow (P.contents (inner_of pack.old)) (P.contents (inner_of pack.new)) ∷ []) }
+        ∷ flow (P.contents (inner_of pack.old)) (P.contents (inner_of pack.new))
+        ∷ flow (E.contents progress.old) (E.contents progress.new) ∷ []) }
     ensures fault { IfErr result (IsShownBy (IsTrue (has_failed reader.new))
-        (IsTrue (has_failed writer.new || (has_failed out.new || has_failed pack.new))) (IsSpent reader.new turns)) }
-    ensures told { FailsAs result (has_failed reader.new) (has_failed writer.new || (has_failed out.new || has_failed pack.new)) }
+        (IsTrue (has_failed writer.new || (has_failed out.new || (has_failed pack.new || E.failed progress.new)))) (IsSpent reader.new turns)) }
+    ensures told { FailsAs result (has_failed reader.new)
+        (has_failed writer.new || (has_failed out.new || (has_failed pack.new || E.failed progress.new))) }
     ensures handed_back { IsHandedBack result client.new }
 {
     flush(writer)?;
     let nothing = Window { start: 0, end: 0 };
-    let mut waiting = hear(client, reader, piece, nothing, out, pack, turns)?;
+    let mut waiting = hear(client, reader, piece, nothing, out, pack, progress, turns)?;
     for request in requests {
         ask_next(client, request, writer, out)?;
-        waiting = hear(client, reader, piece, waiting, out, pack, turns)?;
+        waiting = hear(client, reader, piece, waiting, out, pack, progress, turns)?;
     }
     if client.ending == Ending::FlushOnly {
         client.leave();

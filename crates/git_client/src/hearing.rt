@@ -1,11 +1,11 @@
-//! A response, heard over a reader: its transcript and its pack are written.
+//! A response, heard over a reader: its transcript, its pack and its progress are written.
 
 ghost use Rattle.std.specs.Prelude.{[], ◌≡◌, ◌≤◌, ◌<◌, ◌||◌, length, true, false, IsTrue, OnOk, IfErr, is_err};
 ghost use Rattle.git_pkt.specs.Told.{inner_of, reads_of, has_failed, has_ended, has_wasted};
 ghost use Rattle.git_pkt.specs.Engine.{FailsAs, IsShownBy, IsSpent};
 ghost use Rattle.git_pkt.specs.Streams.{flow, is_broken, WrittenAs};
 ghost use Rattle.git_client.specs.Client.{wants_input};
-ghost use Rattle.git_client.specs.Events.{pack_bytes};
+ghost use Rattle.git_client.specs.Events.{pack_bytes, progress_bytes};
 ghost use Rattle.git_client.specs.RunSteps.{counts_with, window_of, CanCount, HearsPieceTo, HearsTo};
 ghost use Rattle.git_client.specs.Transcript.{lines_of};
 ghost use Rattle.git_client.specs.Turns.{values_of};
@@ -37,20 +37,21 @@ pub struct Counts {
 }
 
 /// Hears what is due, the advertisement or a response, or the rest of one, up to where the client can ask. What waits of the piece is heard
-/// first, and then what is read into it. The transcript's lines are written to `out` and the bytes of the pack to `pack`; both
-/// are flushed before each read and at the end. The line at a response's end counts what was heard by this call. Answers what of the
-/// piece was not used.
+/// first, and then what is read into it. The transcript's lines are written to `out`, the bytes of the pack to `pack`, and those of
+/// the server's progress to `progress`; all three are flushed before each read and at the end. The line at a response's end counts
+/// what was heard by this call. Answers what of the piece was not used.
 ///
 /// `Refused` with the first fault of what was heard; `ReadFault` where a read fails, `WriteFault` where a write or a flush
 /// does, and `ReadLimit` where the reader has made as many reads as `turns` and needs one more. After `ReadFault` and `ReadLimit` the
 /// client waits for the rest; after `WriteFault` it is spent, since it may have heard more than was written.
-pub fn hear<R: Read, O: Write, P: Output, A: Allocator + Copy>(
+pub fn hear<R: Read, O: Write, P: Output, E: Output, A: Allocator + Copy>(
     client: &mut Client<A>,
     reader: &mut Told<R>,
     piece: &mut [u8],
     waiting: Window,
     out: &mut Told<O>,
     pack: &mut P,
+    progress: &mut E,
     turns: u64,
 ) -> Result<Window, RunFault>
     requires waits { wants_input client.old ≡ true }
@@ -62,26 +63,35 @@ pub fn hear<R: Read, O: Write, P: Output, A: Allocator + Copy>(
     requires turns { reads_of reader.old ≤ turns }
     requires sound_out { has_failed out.old ≡ false }
     requires sound_pack { P.failed pack.old ≡ false }
+    requires sound_progress { E.failed progress.old ≡ false }
 
     ensures reads { reads_of reader.new ≤ turns }
     ensures useful { has_wasted reader.new ≡ has_wasted reader.old }
     ensures heard { HearsTo result (has_ended reader.new) client.old client.new (window_of waiting piece.old) piece.new
         (flow (R.remaining (inner_of reader.old)) (R.remaining (inner_of reader.new)))
         (flow (O.contents (inner_of out.old)) (O.contents (inner_of out.new)))
-        (flow (P.contents pack.old) (P.contents pack.new)) }
+        (flow (P.contents pack.old) (P.contents pack.new)) (flow (E.contents progress.old) (E.contents progress.new)) }
     ensures room { length piece.new ≡ length piece.old }
     ensures goes_on { OnOk result (has_ended reader.new ≡ false) }
-    ensures fault { IfErr result (IsShownBy (IsTrue (has_failed reader.new)) (IsTrue (has_failed out.new || P.failed pack.new)) (IsSpent reader.new turns)) }
-    ensures told { FailsAs result (has_failed reader.new) (has_failed out.new || P.failed pack.new) }
+    ensures fault { IfErr result (IsShownBy (IsTrue (has_failed reader.new))
+        (IsTrue (has_failed out.new || (P.failed pack.new || E.failed progress.new))) (IsSpent reader.new turns)) }
+    ensures told { FailsAs result (has_failed reader.new) (has_failed out.new || (P.failed pack.new || E.failed progress.new)) }
 {
     let mut counts = Counts {
         pack: 0,
         progress: 0,
     };
     let mut left = waiting;
-    left.start += hear_piece(client, &mut counts, &piece[left.start..left.end], out, pack)?;
+    left.start += hear_piece(
+        client,
+        &mut counts,
+        &piece[left.start..left.end],
+        out,
+        pack,
+        progress,
+    )?;
     while client.wants_input() {
-        flush_both(out, pack)?;
+        flush_all(out, pack, progress)?;
         if reader.reads() == turns {
             return Err(RunFault::ReadLimit);
         }
@@ -89,10 +99,10 @@ pub fn hear<R: Read, O: Write, P: Output, A: Allocator + Copy>(
         if end == 0 {
             return Err(RunFault::Refused(client.close()));
         }
-        let start = hear_piece(client, &mut counts, &piece[..end], out, pack)?;
+        let start = hear_piece(client, &mut counts, &piece[..end], out, pack, progress)?;
         left = Window { start, end };
     }
-    flush_both(out, pack)?;
+    flush_all(out, pack, progress)?;
     Ok(left)
 }
 
@@ -101,21 +111,23 @@ pub fn hear<R: Read, O: Write, P: Output, A: Allocator + Copy>(
 ///
 /// `Refused` with the first fault of what was heard, and `WriteFault` where a write or a flush fails: the client is spent then, since it
 /// may have heard more than was written.
-pub fn hear_piece<O: Write, P: Output, A: Allocator + Copy>(
+pub fn hear_piece<O: Write, P: Output, E: Output, A: Allocator + Copy>(
     client: &mut Client<A>,
     counts: &mut Counts,
     piece: &[u8],
     out: &mut Told<O>,
     pack: &mut P,
+    progress: &mut E,
 ) -> Result<usize, RunFault>
     requires waits { wants_input client.old ≡ true }
     requires sound_out { has_failed out.old ≡ false }
     requires sound_pack { P.failed pack.old ≡ false }
+    requires sound_progress { E.failed progress.old ≡ false }
     ensures heard { HearsPieceTo result client.old client.new counts.old counts.new piece.now
         (flow (O.contents (inner_of out.old)) (O.contents (inner_of out.new)))
-        (flow (P.contents pack.old) (P.contents pack.new)) }
-    ensures fault { IfErr result (IsShownBy ⊥ (IsTrue (has_failed out.new || P.failed pack.new)) ⊥) }
-    ensures told { FailsAs result false (has_failed out.new || P.failed pack.new) }
+        (flow (P.contents pack.old) (P.contents pack.new)) (flow (E.contents progress.old) (E.contents progress.new)) }
+    ensures fault { IfErr result (IsShownBy ⊥ (IsTrue (has_failed out.new || (P.failed pack.new || E.failed progress.new))) ⊥) }
+    ensures told { FailsAs result false (has_failed out.new || (P.failed pack.new || E.failed progress.new)) }
 {
     let mut used = 0;
     let mut steps = Steps::new();
@@ -124,30 +136,35 @@ pub fn hear_piece<O: Write, P: Output, A: Allocator + Copy>(
         match heard.got {
             HeardGot::More => return Ok(piece.len()),
             HeardGot::Failed(fault) => {
-                flush_both(out, pack)?;
+                flush_all(out, pack, progress)?;
                 return Err(RunFault::Refused(fault));
             }
-            HeardGot::Event(event) => tell(&event, counts, out, pack)?,
+            HeardGot::Event(event) => tell(&event, counts, out, pack, progress)?,
         }
         used += heard.used;
     }
     Ok(used)
 }
 
-/// Writes what an event says: its line, which is that of the counts so far, and its bytes of the pack. Counts its bytes.
-fn tell<O: Write, P: Output>(
+/// Writes what an event says: its line, which is that of the counts so far, and its bytes of the pack and of the progress. Counts its
+/// bytes.
+fn tell<O: Write, P: Output, E: Output>(
     event: &Event<'_>,
     counts: &mut Counts,
     out: &mut Told<O>,
     pack: &mut P,
+    progress: &mut E,
 ) -> Result<(), RunFault>
     ensures told { WrittenAs (is_broken result) (flow (O.contents (inner_of out.old)) (O.contents (inner_of out.new)))
         (lines_of (values_of event.now) counts.old.pack counts.old.progress) }
     ensures sent { WrittenAs (is_broken result) (flow (P.contents pack.old) (P.contents pack.new))
         (pack_bytes (values_of event.now)) }
+    ensures reported { WrittenAs (is_broken result) (flow (E.contents progress.old) (E.contents progress.new))
+        (progress_bytes (values_of event.now)) }
     ensures counts { CanCount counts.old (values_of event.now) → counts.new ≡ counts_with counts.old (values_of event.now) }
     ensures fault { IfErr result (λ fault. fault ≡ RunFault.WriteFault) }
-    ensures failed { (has_failed out.new || P.failed pack.new) ≡ ((has_failed out.old || P.failed pack.old) || is_err result) }
+    ensures failed { (has_failed out.new || (P.failed pack.new || E.failed progress.new))
+        ≡ ((has_failed out.old || (P.failed pack.old || E.failed progress.old)) || is_err result) }
 {
     // Both are read in each case: a number behind a reference is known to fit its type once it was read.
     let Counts {
@@ -161,19 +178,26 @@ fn tell<O: Write, P: Output>(
         }
         Event::Progress(bytes) => {
             counts.progress = told.saturating_add(bytes.len() as u64);
-            Ok(())
+            progress.send(bytes)
         }
         event => write_event(out, event, packed, told),
     }
 }
 
-/// Flushes both writers, up to the first that fails.
-fn flush_both<O: Write, P: Output>(out: &mut Told<O>, pack: &mut P) -> Result<(), RunFault>
+/// Flushes the three writers, up to the first that fails: the progress first, so that the line at a response's end is seen after it.
+fn flush_all<O: Write, P: Output, E: Output>(
+    out: &mut Told<O>,
+    pack: &mut P,
+    progress: &mut E,
+) -> Result<(), RunFault>
     ensures told { WrittenAs false (flow (O.contents (inner_of out.old)) (O.contents (inner_of out.new))) [] }
     ensures sent { WrittenAs false (flow (P.contents pack.old) (P.contents pack.new)) [] }
+    ensures reported { WrittenAs false (flow (E.contents progress.old) (E.contents progress.new)) [] }
     ensures fault { IfErr result (λ fault. fault ≡ RunFault.WriteFault) }
-    ensures failed { (has_failed out.new || P.failed pack.new) ≡ ((has_failed out.old || P.failed pack.old) || is_err result) }
+    ensures failed { (has_failed out.new || (P.failed pack.new || E.failed progress.new))
+        ≡ ((has_failed out.old || (P.failed pack.old || E.failed progress.old)) || is_err result) }
 {
+    progress.flush()?;
     flush(out)?;
     pack.flush()
 }

@@ -7,6 +7,7 @@ use Rattle.git_client.specs.RunSteps.{HearsPieceTo}
 use Rattle.git_client.proofs.Alongs.{at_fault}
 use Rattle.git_client.proofs.HeardBytes.{nothing_heard}
 use Rattle.git_client.proofs.Phases.{not_ready_where_due, sound_where_due}
+use Rattle.git2show_lib.specs.PlaySteps.{silent}
 use Rattle.git2show_lib.proofs.PlayHearing.{heard_on, hearing_stopped}
 use Rattle.git2show_lib.proofs.PlayTelling.{piece_fits, piece_some}
 use Rattle.git2show_lib.proofs.playing.hear_packet.Goals as goal
@@ -19,7 +20,7 @@ loop-used-init g c = record {
   moves = λ none. let waits = c.requires.waits in absurd (cc);
   out_stays = search rules;
   pack_stays = search rules;
-  hears = nothing_heard _ _ _ _ (not_ready_where_due _ c.requires.waits);
+  hears = nothing_heard _ _ _ _ _ (not_ready_where_due _ c.requires.waits);
 }
 
 pub loop-used-smaller : goal.loop-used-smaller
@@ -38,7 +39,7 @@ returns-in_err-used-clause-heard g c =
     at_fault c.from_residual.result _ c.in_err-used.field-0.0 (λ result. HearsPieceTo result c.args.client.now c.hear_piece.new.client c.args.counts.now
     c.hear_piece.new.counts c.args.packet.now
     (flow (g.O.Write.contents (inner_of c.args.out.now)) (g.O.Write.contents (inner_of c.hear_piece.new.out)))
-    (flow (g.P.Output.contents c.args.pack.now) (g.P.Output.contents c.hear_piece.new.pack))) refl c.from_residual.ensures.1
+    (flow (g.P.Output.contents c.args.pack.now) (g.P.Output.contents c.hear_piece.new.pack)) silent) refl c.from_residual.ensures.1
     (hearing_stopped c.args.packet.now at.used c.min.result at.invariant.within c.args.client.now at.client c.hear_piece.new.client c.args.counts.now
     at.counts c.hear_piece.new.counts waits at.invariant.hears _ _ c.in_err-used.field-0.0 c.in_err-used.ensures.heard)
 
@@ -55,7 +56,7 @@ loop-used-preserved g c =
       stands = step.whole;
       moves = λ none. omega (arith, step.moves some);
       out_stays = (or_parts _ _ c.in_ok-used.ensures.told.1).0;
-      pack_stays = (or_parts _ _ c.in_ok-used.ensures.told.1).1;
+      pack_stays = (or_parts _ _ (or_parts _ _ c.in_ok-used.ensures.told.1).1).0;
       hears = heard_on c.args.packet.now at.used c.min.result at.invariant.within c.args.client.now at.client c.hear_piece.new.client c.args.counts.now
           at.counts c.hear_piece.new.counts waits at.invariant.hears false _ step.within step.hears;
     }

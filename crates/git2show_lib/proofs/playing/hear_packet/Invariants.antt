@@ -4,6 +4,7 @@ use Rattle.git_pkt.specs.Told.{inner_of, has_failed}
 use Rattle.git_pkt.specs.Streams.{flow}
 use Rattle.git_client.specs.Client.{fault_of, can_ask, wants_input}
 use Rattle.git_client.specs.RunSteps.{HearsBytes}
+use Rattle.git2show_lib.specs.PlaySteps.{silent}
 use Rattle.git2show_lib.proofs.playing.hear_packet.Given as goal
 
 abbrev pub invariant-loop-used : goal.invariant-loop-used
@@ -16,7 +17,7 @@ invariant-loop-used g l = record {
   pack_stays : g.P.Output.failed l.pack ≡ false;
   hears : HearsBytes false l.fn.client l.client l.fn.counts l.counts (take l.used l.packet)
       (flow (g.O.Write.contents (inner_of l.fn.out)) (g.O.Write.contents (inner_of l.out)))
-      (flow (g.P.Output.contents l.fn.pack) (g.P.Output.contents l.pack));
+      (flow (g.P.Output.contents l.fn.pack) (g.P.Output.contents l.pack)) silent;
 }
 
 -- each piece of some bytes takes some

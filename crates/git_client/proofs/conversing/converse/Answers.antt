@@ -18,7 +18,7 @@ use Rattle.git_client.proofs.ClientRuns.{RunEnds, begins, counts_anew, asks_on, 
 use Rattle.git_client.proofs.ClientRuns.{hearing_stopped, asking_stopped, stays_to_the_end, leaving_stopped, leaves_at_the_end}
 use Rattle.git_client.proofs.ClientRuns.{fails_at, shown_at, flush_fails, flush_shows, sound_last, sound_first}
 use Rattle.git_client.proofs.HandedBack.{back_at, back_unwritten, back_written, back_from_hearing, back_from_asking}
-use Rattle.git_client.proofs.Phases.{sound_where_due}
+use Rattle.git_client.proofs.Phases.{sound_where_due, not_ready_where_left, sound_where_left}
 use Rattle.git_client.proofs.Writing.{no_failure}
 use Rattle.git_client.proofs.conversing.converse.Goals as goal
 use Rattle.git_client.proofs.conversing.converse.Goals.{then-eq+in_ok-say, else-eq}
@@ -40,21 +40,21 @@ none_more {X} all front rest split none = split ∙ ap (λ (l : List X). front +
 pub returns-in_err-flush-clause-conversed : goal.returns-in_err-flush-clause-conversed
 returns-in_err-flush-clause-conversed g c =
     λ t begun.
-    ends_at_write t c.args.requests.items c.from_residual.result _ _ _ _ _ _ _ c.from_residual.ensures.1 c.in_err-flush.ensures.fault
+    ends_at_write t c.args.requests.items c.from_residual.result _ _ _ _ _ _ _ _ c.from_residual.ensures.1 c.in_err-flush.ensures.fault
     (breaks_unflushed t c.args.requests.items [] c.args.requests.items refl _ c.args.client.now no_counts [] (sound_where_due _ c.requires.waits)
     (begins t c.args.client.now (g.R.Read.remaining (inner_of c.args.reader.now)) (g.W.Write.contents (inner_of c.args.writer.now))
     (g.W.Write.contents (inner_of c.flush.new.writer)) (g.O.Write.contents (inner_of c.args.out.now)) (g.P.Write.contents (inner_of c.args.pack.now))
-    c.requires.waits begun c.flush.ensures.bytes))
+    (g.E.Output.contents c.args.progress.now) c.requires.waits begun c.flush.ensures.bytes))
 
 pub returns-in_err-waiting-clause-conversed : goal.returns-in_err-waiting-clause-conversed
 returns-in_err-waiting-clause-conversed g c =
     λ t begun.
-    ends_at t c.args.requests.items c.from_residual-in_err-waiting.result c.in_err-waiting.field-0.0 _ _ _ _ _ _ c.from_residual-in_err-waiting.ensures.1
+    ends_at t c.args.requests.items c.from_residual-in_err-waiting.result c.in_err-waiting.field-0.0 _ _ _ _ _ _ _ c.from_residual-in_err-waiting.ensures.1
     (hearing_stopped t c.args.requests.items [] c.args.requests.items refl c.in_err-waiting.field-0.0 _ c.args.client.now c.hear.new.client []
     c.hear.new.piece
     (begins t c.args.client.now (g.R.Read.remaining (inner_of c.args.reader.now)) (g.W.Write.contents (inner_of c.args.writer.now))
     (g.W.Write.contents (inner_of c.flush.new.writer)) (g.O.Write.contents (inner_of c.args.out.now)) (g.P.Write.contents (inner_of c.args.pack.now))
-    c.requires.waits begun c.flush.ensures.bytes) c.requires.waits c.in_err-waiting.ensures.heard)
+    (g.E.Output.contents c.args.progress.now) c.requires.waits begun c.flush.ensures.bytes) c.requires.waits c.in_err-waiting.ensures.heard)
 
 pub loop-request-init : goal.loop-request-init
 loop-request-init g c =
@@ -66,7 +66,7 @@ loop-request-init g c =
           (hears_on t false [] c.args.client.now c.hear.new.client [] unused
           (begins t c.args.client.now (g.R.Read.remaining (inner_of c.args.reader.now)) (g.W.Write.contents (inner_of c.args.writer.now))
           (g.W.Write.contents (inner_of c.flush.new.writer)) (g.O.Write.contents (inner_of c.args.out.now)) (g.P.Write.contents (inner_of c.args.pack.now))
-          c.requires.waits begun c.flush.ensures.bytes) c.requires.waits heard.hears);
+          (g.E.Output.contents c.args.progress.now) c.requires.waits begun c.flush.ensures.bytes) c.requires.waits heard.hears);
       ready = heard.can_ask_on;
       left_to_ask = sym c.into_iter-request-iterator.ensures.into_iter_gives.0;
       counted = search rules;
@@ -79,7 +79,8 @@ loop-request-init g c =
       useful = c.in_ok-waiting.ensures.useful ∙ c.requires.new_reader.useful;
       sound_writer = no_failure _ _ _ c.in_ok-flush.ensures.failed c.requires.sound_writer;
       sound_out = (or_parts _ _ c.in_ok-waiting.ensures.told.1).0;
-      sound_pack = (or_parts _ _ c.in_ok-waiting.ensures.told.1).1;
+      sound_pack = (or_parts _ _ (or_parts _ _ c.in_ok-waiting.ensures.told.1).1).0;
+      sound_progress = (or_parts _ _ (or_parts _ _ c.in_ok-waiting.ensures.told.1).1).1;
     }
 
 pub returns-in_err-ask_next-clause-conversed : goal.returns-in_err-ask_next-clause-conversed
@@ -88,7 +89,7 @@ returns-in_err-ask_next-clause-conversed g c =
     let request = c.in-Some.request in
     let later = into_iter_items c.next.new.self in
     λ t begun.
-    ends_at t c.args.requests.items c.from_residual-in_err-ask_next.result c.in_err-ask_next.field-0.0 _ _ _ _ _ _
+    ends_at t c.args.requests.items c.from_residual-in_err-ask_next.result c.in_err-ask_next.field-0.0 _ _ _ _ _ _ _
     c.from_residual-in_err-ask_next.ensures.1
     (asking_stopped t c.args.requests.items c.in_err-ask_next.field-0.0 _ at.yielded later request at.client c.ask_next.new.client no_counts
     (window_of at.waiting at.piece)
@@ -99,14 +100,18 @@ pub returns-in_err-ask_next-clause-fault : goal.returns-in_err-ask_next-clause-f
 returns-in_err-ask_next-clause-fault g c =
     shown_at c.from_residual-in_err-ask_next.result c.in_err-ask_next.field-0.0 _ _
     (has_failed c.ask_next.new.writer || has_failed c.ask_next.new.out) _ c.from_residual-in_err-ask_next.ensures.1 (λ none. absurd none) (λ none. absurd none)
-    (sound_last (has_failed c.ask_next.new.writer) (has_failed c.ask_next.new.out) (has_failed c.loop-request.pack) c.loop-request.invariant.sound_pack)
+    (sound_last (has_failed c.ask_next.new.writer) (has_failed c.ask_next.new.out)
+    (has_failed c.loop-request.pack || g.E.Output.failed c.loop-request.progress)
+    (or_from _ _ c.loop-request.invariant.sound_pack c.loop-request.invariant.sound_progress))
     c.in_err-ask_next.ensures.fault
 
 pub returns-in_err-ask_next-clause-told : goal.returns-in_err-ask_next-clause-told
 returns-in_err-ask_next-clause-told g c =
     fails_at c.from_residual-in_err-ask_next.result c.in_err-ask_next.field-0.0 false _ (has_failed c.ask_next.new.writer || has_failed c.ask_next.new.out) _
     c.from_residual-in_err-ask_next.ensures.1 (sym c.loop-request.invariant.sound_reader)
-    (sound_last (has_failed c.ask_next.new.writer) (has_failed c.ask_next.new.out) (has_failed c.loop-request.pack) c.loop-request.invariant.sound_pack)
+    (sound_last (has_failed c.ask_next.new.writer) (has_failed c.ask_next.new.out)
+    (has_failed c.loop-request.pack || g.E.Output.failed c.loop-request.progress)
+    (or_from _ _ c.loop-request.invariant.sound_pack c.loop-request.invariant.sound_progress))
     c.in_err-ask_next.ensures.told
 
 pub hear-requires-in-loop-request-clause-sound_out : goal.hear-requires-in-loop-request-clause-sound_out
@@ -118,7 +123,7 @@ returns-in_err-waiting-2-clause-conversed g c =
     let request = c.in-Some.request in
     let later = into_iter_items c.next.new.self in
     λ t begun.
-    ends_at t c.args.requests.items c.from_residual-in_err-waiting-2.result c.in_err-waiting-2.field-0.0 _ _ _ _ _ _
+    ends_at t c.args.requests.items c.from_residual-in_err-waiting-2.result c.in_err-waiting-2.field-0.0 _ _ _ _ _ _ _
     c.from_residual-in_err-waiting-2.ensures.1
     (hearing_stopped t c.args.requests.items (at.yielded ++ request ∷ []) later
     (one_more c.args.requests.items at.yielded (into_iter_items at.request-iterator) later request at.invariant.left_to_ask c.in-Some.ensures.steps.0)
@@ -129,14 +134,16 @@ returns-in_err-waiting-2-clause-conversed g c =
 pub returns-in_err-waiting-2-clause-fault : goal.returns-in_err-waiting-2-clause-fault
 returns-in_err-waiting-2-clause-fault g c =
     shown_at c.from_residual-in_err-waiting-2.result c.in_err-waiting-2.field-0.0 _ _
-    (has_failed c.hear-in-loop-request.new.out || has_failed c.hear-in-loop-request.new.pack) _ c.from_residual-in_err-waiting-2.ensures.1
+    (has_failed c.hear-in-loop-request.new.out
+    || (has_failed c.hear-in-loop-request.new.pack || g.E.Output.failed c.hear-in-loop-request.new.progress)) _ c.from_residual-in_err-waiting-2.ensures.1
     (λ failed. failed) (λ spent. spent) (sound_first (has_failed c.ask_next.new.writer) _ (or_parts _ _ c.in_ok-ask_next.ensures.told.1).0)
     c.in_err-waiting-2.ensures.fault
 
 pub returns-in_err-waiting-2-clause-told : goal.returns-in_err-waiting-2-clause-told
 returns-in_err-waiting-2-clause-told g c =
     fails_at c.from_residual-in_err-waiting-2.result c.in_err-waiting-2.field-0.0 _ _
-    (has_failed c.hear-in-loop-request.new.out || has_failed c.hear-in-loop-request.new.pack) _ c.from_residual-in_err-waiting-2.ensures.1 refl
+    (has_failed c.hear-in-loop-request.new.out
+    || (has_failed c.hear-in-loop-request.new.pack || g.E.Output.failed c.hear-in-loop-request.new.progress)) _ c.from_residual-in_err-waiting-2.ensures.1 refl
     (sound_first (has_failed c.ask_next.new.writer) _ (or_parts _ _ c.in_ok-ask_next.ensures.told.1).0) c.in_err-waiting-2.ensures.told
 
 pub loop-request-preserved : goal.loop-request-preserved
@@ -166,14 +173,21 @@ loop-request-preserved g c =
       useful = c.in_ok-waiting-2.ensures.useful ∙ at.invariant.useful;
       sound_writer = (or_parts _ _ c.in_ok-ask_next.ensures.told.1).0;
       sound_out = (or_parts _ _ c.in_ok-waiting-2.ensures.told.1).0;
-      sound_pack = (or_parts _ _ c.in_ok-waiting-2.ensures.told.1).1;
+      sound_pack = (or_parts _ _ (or_parts _ _ c.in_ok-waiting-2.ensures.told.1).1).0;
+      sound_progress = (or_parts _ _ (or_parts _ _ c.in_ok-waiting-2.ensures.told.1).1).1;
     }
+
+pub say-requires-clause-speaks : goal.say-requires-clause-speaks
+say-requires-clause-speaks g c = not_ready_where_left _ c.leave.ensures.no_more
+
+pub say-requires-clause-sound : goal.say-requires-clause-sound
+say-requires-clause-sound g c = sound_where_left _ c.leave.ensures.no_more
 
 pub returns-in_err-say-clause-conversed : goal.returns-in_err-say-clause-conversed
 returns-in_err-say-clause-conversed g c =
     let at = c.loop-request in
     λ t begun.
-    ends_at_write t c.args.requests.items c.from_residual-in_err-say.result c.in_err-say.field-0.0 _ _ _ _ _ _ c.from_residual-in_err-say.ensures.1
+    ends_at_write t c.args.requests.items c.from_residual-in_err-say.result c.in_err-say.field-0.0 _ _ _ _ _ _ _ c.from_residual-in_err-say.ensures.1
     c.in_err-say.ensures.fault
     (leaving_stopped t c.args.requests.items at.yielded
     (none_more c.args.requests.items at.yielded (into_iter_items at.request-iterator) at.invariant.left_to_ask
@@ -193,6 +207,7 @@ returns-clause-conversed g c =
     let writer = flow (g.W.Write.contents (inner_of c.args.writer.now)) (g.W.Write.contents (inner_of c.flush-2.new.writer)) in
     let out = flow (g.O.Write.contents (inner_of c.args.out.now)) (g.O.Write.contents (inner_of at.out)) in
     let pack = flow (g.P.Write.contents (inner_of c.args.pack.now)) (g.P.Write.contents (inner_of at.pack)) in
+    let progress = flow (g.E.Output.contents c.args.progress.now) (g.E.Output.contents at.progress) in
     λ t begun.
     elim c.if-eq.branch [
       | then-eq+in_ok-say w ↦
@@ -200,7 +215,7 @@ returns-clause-conversed g c =
           let kept : Keeps (g.W.Write.contents (inner_of w.say.new.writer)) (g.W.Write.contents (inner_of c.flush-2.new.writer)) =
           subst (λ (told : Told _). Keeps (g.W.Write.contents (inner_of told)) (g.W.Write.contents (inner_of c.flush-2.new.writer))) w.writer-is
           c.flush-2.ensures.bytes in
-          subst (λ (client : Client _). RunEnds t c.args.requests.items c.flush-2.result ended client reader writer out pack) (sym w.client-is)
+          subst (λ (client : Client _). RunEnds t c.args.requests.items c.flush-2.result ended client reader writer out pack progress) (sym w.client-is)
           (leaves_at_the_end t c.args.requests.items at.yielded all at.client w.leave.new.self w.say.new.client no_counts (window_of at.waiting at.piece)
           at.invariant.ready w.leave.ensures c.flush-2.result ended c.flush-2.ensures.fault last (at.invariant.runs t begun) w.in_ok-say.ensures.says kept)
       | else-eq w ↦
@@ -209,7 +224,7 @@ returns-clause-conversed g c =
           let kept : Keeps (g.W.Write.contents (inner_of at.writer)) (g.W.Write.contents (inner_of c.flush-2.new.writer)) =
           subst (λ (told : Told _). Keeps (g.W.Write.contents (inner_of told)) (g.W.Write.contents (inner_of c.flush-2.new.writer))) w.writer-is
           c.flush-2.ensures.bytes in
-          subst (λ (client : Client _). RunEnds t c.args.requests.items c.flush-2.result ended client reader writer out pack) (sym w.client-is)
+          subst (λ (client : Client _). RunEnds t c.args.requests.items c.flush-2.result ended client reader writer out pack progress) (sym w.client-is)
           (stays_to_the_end t c.args.requests.items at.yielded all c.flush-2.result ended at.client no_counts (window_of at.waiting at.piece)
           c.flush-2.ensures.fault at.invariant.ready other (at.invariant.runs t begun) kept)
     ]
@@ -220,7 +235,8 @@ returns-clause-fault g c =
       | then-eq+in_ok-say w ↦ ap has_failed w.writer-is ∙ no_failure _ _ _ w.in_ok-say.ensures.failed c.loop-request.invariant.sound_writer
       | else-eq w ↦ ap has_failed w.writer-is ∙ c.loop-request.invariant.sound_writer
     ] in
-    flush_shows (has_failed c.if-eq.writer) (has_failed c.flush-2.new.writer) (has_failed c.loop-request.out || has_failed c.loop-request.pack) sound
+    flush_shows (has_failed c.if-eq.writer) (has_failed c.flush-2.new.writer)
+    (has_failed c.loop-request.out || (has_failed c.loop-request.pack || g.E.Output.failed c.loop-request.progress)) sound
     c.flush-2.result _ _ c.flush-2.ensures.failed c.flush-2.ensures.fault
 
 pub returns-clause-told : goal.returns-clause-told
@@ -230,8 +246,9 @@ returns-clause-told g c =
       | then-eq+in_ok-say w ↦ ap has_failed w.writer-is ∙ no_failure _ _ _ w.in_ok-say.ensures.failed at.sound_writer
       | else-eq w ↦ ap has_failed w.writer-is ∙ at.sound_writer
     ] in
-    flush_fails (has_failed c.if-eq.writer) (has_failed c.flush-2.new.writer) (has_failed c.loop-request.out || has_failed c.loop-request.pack) sound
-    c.flush-2.result _ at.sound_reader (or_from _ _ at.sound_out at.sound_pack) c.flush-2.ensures.failed c.flush-2.ensures.fault
+    flush_fails (has_failed c.if-eq.writer) (has_failed c.flush-2.new.writer)
+    (has_failed c.loop-request.out || (has_failed c.loop-request.pack || g.E.Output.failed c.loop-request.progress)) sound c.flush-2.result _
+    at.sound_reader (or_from _ _ at.sound_out (or_from _ _ at.sound_pack at.sound_progress)) c.flush-2.ensures.failed c.flush-2.ensures.fault
 
 pub returns-in_err-flush-clause-handed_back : goal.returns-in_err-flush-clause-handed_back
 returns-in_err-flush-clause-handed_back g c = back_at c.from_residual.result _ _ c.from_residual.ensures.1 (back_unwritten _ _ c.in_err-flush.ensures.fault)
@@ -239,7 +256,7 @@ returns-in_err-flush-clause-handed_back g c = back_at c.from_residual.result _ _
 pub returns-in_err-waiting-clause-handed_back : goal.returns-in_err-waiting-clause-handed_back
 returns-in_err-waiting-clause-handed_back g c =
     back_at c.from_residual-in_err-waiting.result _ _ c.from_residual-in_err-waiting.ensures.1
-    (back_from_hearing c.in_err-waiting.field-0.0 _ c.args.client.now c.hear.new.client _ _ _ _ _ c.in_err-waiting.ensures.heard)
+    (back_from_hearing c.in_err-waiting.field-0.0 _ c.args.client.now c.hear.new.client _ _ _ _ _ _ c.in_err-waiting.ensures.heard)
 
 pub returns-in_err-ask_next-clause-handed_back : goal.returns-in_err-ask_next-clause-handed_back
 returns-in_err-ask_next-clause-handed_back g c =
@@ -250,7 +267,7 @@ returns-in_err-ask_next-clause-handed_back g c =
 pub returns-in_err-waiting-2-clause-handed_back : goal.returns-in_err-waiting-2-clause-handed_back
 returns-in_err-waiting-2-clause-handed_back g c =
     back_at c.from_residual-in_err-waiting-2.result _ _ c.from_residual-in_err-waiting-2.ensures.1
-    (back_from_hearing c.in_err-waiting-2.field-0.0 _ c.ask_next.new.client c.hear-in-loop-request.new.client _ _ _ _ _ c.in_err-waiting-2.ensures.heard)
+    (back_from_hearing c.in_err-waiting-2.field-0.0 _ c.ask_next.new.client c.hear-in-loop-request.new.client _ _ _ _ _ _ c.in_err-waiting-2.ensures.heard)
 
 pub returns-in_err-say-clause-handed_back : goal.returns-in_err-say-clause-handed_back
 returns-in_err-say-clause-handed_back g c =

@@ -16,7 +16,8 @@ invariant-loop-request g l = record {
       (flow (g.R.Read.remaining (inner_of l.fn.reader)) (g.R.Read.remaining (inner_of l.reader)))
       (flow (g.W.Write.contents (inner_of l.fn.writer)) (g.W.Write.contents (inner_of l.writer)))
       (flow (g.O.Write.contents (inner_of l.fn.out)) (g.O.Write.contents (inner_of l.out)))
-      (flow (g.P.Write.contents (inner_of l.fn.pack)) (g.P.Write.contents (inner_of l.pack)));
+      (flow (g.P.Write.contents (inner_of l.fn.pack)) (g.P.Write.contents (inner_of l.pack)))
+      (flow (g.E.Output.contents l.fn.progress) (g.E.Output.contents l.progress));
   ready : can_ask l.client ≡ true;
   left_to_ask : l.fn.requests.items ≡ l.yielded ++ into_iter_items l.request-iterator;
   counted : into_iter_len l.request-iterator ≡ length (into_iter_items l.request-iterator);
@@ -30,4 +31,5 @@ invariant-loop-request g l = record {
   sound_writer : has_failed l.writer ≡ false;
   sound_out : has_failed l.out ≡ false;
   sound_pack : has_failed l.pack ≡ false;
+  sound_progress : g.E.Output.failed l.progress ≡ false;
 }

@@ -20,10 +20,12 @@ invariant-loop-left g l = record {
   useful : has_wasted l.reader ≡ has_wasted l.fn.reader;
   sound_out : has_failed l.out ≡ false;
   sound_pack : g.P.Output.failed l.pack ≡ false;
+  sound_progress : g.E.Output.failed l.progress ≡ false;
   heard : HeardSoFar false l.fn.client l.client l.counts (window_of l.fn.waiting l.fn.piece) (window_of l.left l.piece)
       (flow (g.R.Read.remaining (inner_of l.fn.reader)) (g.R.Read.remaining (inner_of l.reader)))
       (flow (g.O.Write.contents (inner_of l.fn.out)) (g.O.Write.contents (inner_of l.out)))
-      (flow (g.P.Output.contents l.fn.pack) (g.P.Output.contents l.pack));
+      (flow (g.P.Output.contents l.fn.pack) (g.P.Output.contents l.pack))
+      (flow (g.E.Output.contents l.fn.progress) (g.E.Output.contents l.progress));
 }
 
 -- each turn is one read

@@ -19,7 +19,8 @@ loop-used-init g c = record {
   moves = λ none. let waits = c.requires.waits in absurd (cc);
   out_stays = search rules;
   pack_stays = search rules;
-  hears = nothing_heard _ _ _ _ (not_ready_where_due _ c.requires.waits);
+  progress_stays = search rules;
+  hears = nothing_heard _ _ _ _ _ (not_ready_where_due _ c.requires.waits);
 }
 
 pub returns-in-More-clause-heard : goal.returns-in-More-clause-heard
@@ -27,23 +28,24 @@ returns-in-More-clause-heard g c =
     let waits : wants_input c.loop-used.client ≡ true = sym c.wants_input.ensures.value ∙ c.if-wants_input.true in
     heard_all c.args.piece.now c.loop-used.used waits c.loop-used.invariant.within c.loop-used.invariant.hears c.feed-heard.follows.holds-at-none.0 c.in-More.is
 
-pub returns-in_err-flush_both-in-Failed-clause-heard :
-    goal.returns-in_err-flush_both-in-Failed-clause-heard
-returns-in_err-flush_both-in-Failed-clause-heard g c =
+pub returns-in_err-flush_all-in-Failed-clause-heard :
+    goal.returns-in_err-flush_all-in-Failed-clause-heard
+returns-in_err-flush_all-in-Failed-clause-heard g c =
     let waits : wants_input c.loop-used.client ≡ true = sym c.wants_input.ensures.value ∙ c.if-wants_input.true in
-    let named : c.in_err-flush_both-in-Failed.field-0.0 ≡ WriteFault = search rules in
+    let named : c.in_err-flush_all-in-Failed.field-0.0 ≡ WriteFault = search rules in
     at_fault c.from_residual.result _ WriteFault (λ result. HearsPieceTo result c.args.client.now c.feed-heard.follows.lender-at-none c.args.counts.now
     c.loop-used.counts c.args.piece.now
-    (flow (g.O.Write.contents (inner_of c.args.out.now)) (g.O.Write.contents (inner_of c.flush_both.new.out)))
-    (flow (g.P.Output.contents c.args.pack.now) (g.P.Output.contents c.flush_both.new.pack))) named c.from_residual.ensures.1
+    (flow (g.O.Write.contents (inner_of c.args.out.now)) (g.O.Write.contents (inner_of c.flush_all.new.out)))
+    (flow (g.P.Output.contents c.args.pack.now) (g.P.Output.contents c.flush_all.new.pack))
+    (flow (g.E.Output.contents c.args.progress.now) (g.E.Output.contents c.flush_all.new.progress))) named c.from_residual.ensures.1
     (heard_failed_unflushed c.args.piece.now c.loop-used.used waits c.loop-used.invariant.within c.loop-used.invariant.hears
-    c.feed-heard.follows.holds-at-none.0 _ _ _ c.in-Failed.is c.flush_both.ensures.told c.flush_both.ensures.sent)
+    c.feed-heard.follows.holds-at-none.0 _ _ _ _ c.in-Failed.is c.flush_all.ensures.told c.flush_all.ensures.sent c.flush_all.ensures.reported)
 
 pub returns-in-Failed-clause-heard : goal.returns-in-Failed-clause-heard
 returns-in-Failed-clause-heard g c =
     let waits : wants_input c.loop-used.client ≡ true = sym c.wants_input.ensures.value ∙ c.if-wants_input.true in
     heard_failed c.args.piece.now c.loop-used.used waits c.loop-used.invariant.within c.loop-used.invariant.hears c.feed-heard.follows.holds-at-none.0
-    _ _ _ c.in-Failed.is c.flush_both.ensures.told c.flush_both.ensures.sent
+    _ _ _ _ c.in-Failed.is c.flush_all.ensures.told c.flush_all.ensures.sent c.flush_all.ensures.reported
 
 pub returns-in_err-tell-in-Event-clause-heard : goal.returns-in_err-tell-in-Event-clause-heard
 returns-in_err-tell-in-Event-clause-heard g c =
@@ -52,11 +54,12 @@ returns-in_err-tell-in-Event-clause-heard g c =
     at_fault c.from_residual-in_err-tell-in-Event.result _ WriteFault (λ result. HearsPieceTo result c.args.client.now
     c.feed-heard.follows.lender-at-none c.args.counts.now c.tell.new.counts c.args.piece.now
     (flow (g.O.Write.contents (inner_of c.args.out.now)) (g.O.Write.contents (inner_of c.tell.new.out)))
-    (flow (g.P.Output.contents c.args.pack.now) (g.P.Output.contents c.tell.new.pack))) named
+    (flow (g.P.Output.contents c.args.pack.now) (g.P.Output.contents c.tell.new.pack))
+    (flow (g.E.Output.contents c.args.progress.now) (g.E.Output.contents c.tell.new.progress))) named
     c.from_residual-in_err-tell-in-Event.ensures.1
     (heard_event_front c.args.piece.now c.loop-used.used waits c.loop-used.invariant.within c.loop-used.invariant.hears
-    c.feed-heard.follows.holds-at-none.0 _ c.in-Event.is c.tell.result _ _ _ _ c.in_err-tell-in-Event.was named
-    c.tell.ensures.counts c.tell.ensures.told c.tell.ensures.sent)
+    c.feed-heard.follows.holds-at-none.0 _ c.in-Event.is c.tell.result _ _ _ _ _ c.in_err-tell-in-Event.was named
+    c.tell.ensures.counts c.tell.ensures.told c.tell.ensures.sent c.tell.ensures.reported)
 
 pub loop-used-preserved : goal.loop-used-preserved
 loop-used-preserved g c =
@@ -72,6 +75,8 @@ loop-used-preserved g c =
           c.feed-heard.follows.holds-at-none.0 _ c.in-Event.is;
       out_stays = search rules;
       pack_stays = search rules;
+      progress_stays = search rules;
       hears = heard_event c.args.piece.now c.loop-used.used waits c.loop-used.invariant.within c.loop-used.invariant.hears c.feed-heard.follows.holds-at-none.0
-          _ c.in-Event.is false _ _ _ c.in_ok-tell-in-Event.ensures.counts c.in_ok-tell-in-Event.ensures.told c.in_ok-tell-in-Event.ensures.sent;
+          _ c.in-Event.is false _ _ _ _ c.in_ok-tell-in-Event.ensures.counts c.in_ok-tell-in-Event.ensures.told c.in_ok-tell-in-Event.ensures.sent
+          c.in_ok-tell-in-Event.ensures.reported;
     }

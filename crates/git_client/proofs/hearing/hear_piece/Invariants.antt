@@ -14,9 +14,11 @@ invariant-loop-used g l = record {
   moves : wants_input l.client ≡ false → 0 < l.used;
   out_stays : has_failed l.out ≡ false;
   pack_stays : g.P.Output.failed l.pack ≡ false;
+  progress_stays : g.E.Output.failed l.progress ≡ false;
   hears : HearsBytes false l.fn.client l.client l.fn.counts l.counts (take l.used l.piece)
       (flow (g.O.Write.contents (inner_of l.fn.out)) (g.O.Write.contents (inner_of l.out)))
-      (flow (g.P.Output.contents l.fn.pack) (g.P.Output.contents l.pack));
+      (flow (g.P.Output.contents l.fn.pack) (g.P.Output.contents l.pack))
+      (flow (g.E.Output.contents l.fn.progress) (g.E.Output.contents l.progress));
 }
 
 abbrev pub decreases-loop-used : goal.decreases-loop-used

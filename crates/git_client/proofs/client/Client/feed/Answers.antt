@@ -1,5 +1,5 @@
-use Rattle.std.proofs.Common.{arith, ◌≡◌, ◌≢◌, ◌≤◌, ◌∙◌, ap, sym, refl, ℕ, zero, suc, ◌<◌, List, [], drop, subst, take, true, false}
-use Rattle.git_pkt.specs.Credit.{Pays, credit_of}
+use Rattle.std.proofs.Common.{arith, ◌≡◌, ◌≢◌, ◌≤◌, ◌∙◌, ap, sym, refl, ℕ, zero, suc, List, [], drop, subst, take, true, false}
+use Rattle.git_pkt.specs.Credit.{Pays}
 use Rattle.git_pkt.specs.Packets.{longest_payload}
 use Rattle.git_pkt.specs.PacketReader.{held_of, is_open}
 use Rattle.git_client.specs.Events.{EventValue, turns_of, all_parts_length}
