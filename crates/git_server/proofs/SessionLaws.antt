@@ -33,7 +33,7 @@ owes_now (Ended outcome) left none waits_not h = absurd (cc)
 module _ {R A : Type 0} (state : R → RepoState) (server : Server R A) (s : Setting) (used : List ℕ)
     (over : Bool) (given : List ℕ) (r : Running state s used over given server) where
   -- without an outcome the session goes on
-  going : StandsBy None s used over given server → (over ≡ false) × GoesOn s used given
+  pub going : StandsBy None s used over given server → (over ≡ false) × GoesOn s used given
   going (not_over, h) = (
     not_over,
     record {
