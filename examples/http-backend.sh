@@ -1,7 +1,8 @@
 #!/bin/sh
 # Git's smart HTTP for fetches, as a CGI script: a web server runs it for each request below an address, and Git fetches from
 # that address. GIT_PROJECT_ROOT is a folder that has NAME.repo, a repository text, and NAME.pack for each repository, of which
-# the path is /NAME or /NAME.git. It needs `git2show` on the path, and `gzip`: Git's client packs the body of a longer request.
+# the path is /NAME or /NAME.git; where NAME.filtered is there too, it is the pack of requests with a filter. It needs `git2show` on
+# the path, and `gzip`: Git's client packs the body of a longer request.
 set -eu
 
 # say STATUS TEXT: answers with a line for the user, which Git prints.
@@ -21,6 +22,7 @@ body() {
 }
 
 serve() {
+    if [ -r "$root/$name.filtered" ]; then set -- --filtered "$root/$name.filtered" "$@"; fi
     git2show serve --repo "$root/$name.repo" --pack "$root/$name.pack" "$@"
 }
 

@@ -519,27 +519,17 @@ case_a_daemon_in_c_serves_git() {
 
 # A clone with a filter gets the pack for these, and has what it has of Git's own server; one without gets all.
 case_a_daemon_in_c_serves_a_filtered_pack() {
-    cp -r history-sha1 partial
-    git -C partial config uploadpack.allowFilter true
-    git -C partial pack-objects -q --all --revs --stdout --filter=blob:none < /dev/null > partial.filtered
-    start_daemon history-sha1 bash -c 'exec daemon-watched "$@" partial.filtered' daemon
+    write_filtered
+    start_daemon history-sha1 bash -c 'exec daemon-watched "$@" history-sha1.filtered' daemon
     clone "$address" ours --bare --filter=blob:none
-    clone_from_git partial --bare --filter=blob:none
+    clone_partly_from_git history-sha1 --bare --filter=blob:none
     same_clones
-    sent command=fetch 'filter blob:none' 'done'
-    left_out theirs > wanted
-    left_out ours > written
-    expect_same 'what is left out' wanted written
-    [ -s wanted ] || differs 'a clone that is whole'
+    misses_blobs history-sha1
+    sent_filter 1
     clone "$address" ours --mirror
     has_all history-sha1
     end_daemon
     expect_same 'what the daemon told' /dev/null daemon.err
-}
-
-# left_out FOLDER: the names of the objects that a partial clone has not.
-left_out() {
-    git -C "$1" rev-list --all --objects --missing=print | sed -n 's/^?//p' | sort
 }
 
 case_a_daemon_in_c_serves_git_sha256() {

@@ -3,10 +3,11 @@
 a=$(printf 'a%.0s' {1..40})
 d=$(printf 'd%.0s' {1..40})
 
-# A repository of one commit, with its text and its pack of five bytes.
+# A repository of one commit, with its text, its pack of five bytes and its filtered pack of four.
 write_played() {
     printf '%s\n' 'format sha1' "ref $a HEAD symref-target:refs/heads/main" "ref $a refs/heads/main" "object $a 12" > played.repo
     printf 'PACK!' > played.pack
+    printf TINY > played.filtered
 }
 
 # play [OPTION..] < SCRIPT
@@ -50,7 +51,7 @@ case_play_of_no_request() {
 
 # Where the server refuses a request the client hears an error packet in the place of its answer.
 expect_refused_want() {
-    expect 1 <(offer_told; echo 'request fetch') <(fault 'RemoteError at 155')
+    expect 1 <(offer_told; echo 'request fetch') <(fault 'RemoteError at 162')
 }
 
 case_play_tells_what_the_server_refuses() {
@@ -59,7 +60,7 @@ case_play_tells_what_the_server_refuses() {
 
 # A request that the client can't ask has no line.
 expect_unasked() {
-    expect 1 <(offer_told) <(fault 'NoWants at 155')
+    expect 1 <(offer_told) <(fault 'NoWants at 162')
 }
 
 case_play_tells_what_the_client_refuses() {
@@ -74,6 +75,25 @@ expect_all_commands() {
 case_play_of_each_command() {
     each_way expect_all_commands \
         "object-info\nsize\noid $d\noid $a\n\nfetch\nwant $a\nhave $a\nhave $d\n\nfetch\nwant $a\nhave $d\n\n\nls-refs"
+}
+
+# play_filtered [OPTION..]: plays a request with a filter, and one without.
+play_filtered() {
+    play "$@" < <(printf 'fetch\nfilter tree:0\nwant %s\ndone\n\nfetch\nwant %s\ndone\n' "$a" "$a")
+}
+
+# The end of a response counts the bytes of its own pack.
+case_play_of_a_filtered_pack() {
+    local words
+    write_played
+    for words in '' '--cut 1' --stateless; do
+        # shellcheck disable=SC2086 # The words are parted here.
+        play_filtered --filtered played.filtered $words
+        expect 0 <(offer_told; printf '%s\n' 'request fetch' 'end 4 0' 'request fetch' 'end 5 0') /dev/null
+        # shellcheck disable=SC2086
+        play_filtered $words
+        expect 0 <(offer_told; printf '%s\n' 'request fetch' 'end 5 0' 'request fetch' 'end 5 0') /dev/null
+    done
 }
 
 case_play_tells_a_wrong_script() {
@@ -92,8 +112,12 @@ case_play_tells_a_missing_file() {
     expect 1 /dev/null <(fault File)
     run git2show play --repo nowhere --pack played.pack --script /dev/null
     expect 1 /dev/null <(fault File)
+    play --filtered nowhere < /dev/null
+    expect 1 /dev/null <(fault File)
     printf 'no line of a repository\n' > bad.repo
     run git2show play --repo bad.repo --pack played.pack --script nowhere
+    expect 1 /dev/null <(fault File)
+    run git2show play --repo bad.repo --pack played.pack --filtered nowhere --script /dev/null
     expect 1 /dev/null <(fault File)
     run git2show play --repo bad.repo --pack played.pack --script /dev/null
     expect 1 /dev/null <(fault 'BadRepo at 1')

@@ -10,7 +10,7 @@ advertisement() {
     packet 'version 2'
     packet agent=git2/1
     packet ls-refs=unborn
-    packet 'fetch=shallow ref-in-want wait-for-done'
+    packet 'fetch=shallow ref-in-want wait-for-done filter'
     packet server-option
     packet "object-format=$1"
     packet object-info
@@ -33,6 +33,20 @@ fetch() {
     local object
     packet command=fetch
     printf 0001
+    for object; do
+        packet "want $object"
+    done
+    packet 'done'
+    printf 0000
+}
+
+# fetch_filtered FILTER OBJECT..: asks for a pack of these objects, without what the filter leaves out.
+fetch_filtered() {
+    local object filter=$1
+    shift
+    packet command=fetch
+    printf 0001
+    packet "filter $filter"
     for object; do
         packet "want $object"
     done
@@ -86,6 +100,12 @@ pack_answer() {
     printf '000a\001PACK!0000'
 }
 
+# And that to a fetch with a filter, where it has a filtered pack too.
+filtered_answer() {
+    packet packfile
+    printf '0009\001TINY0000'
+}
+
 # Names of objects of wanted.repo, and one that it does not have.
 one=1111111111111111111111111111111111111111
 two=2222222222222222222222222222222222222222
@@ -135,6 +155,8 @@ case_words_that_are_no_command_are_refused() {
     expect_refused serve --repo small.repo
     expect_refused serve --pack empty.pack
     expect_refused serve --repo small.repo --pack empty.pack --limit x
+    expect_refused serve --repo small.repo --pack empty.pack --filtered
+    expect_refused serve --repo small.repo --filtered empty.pack
 }
 
 case_a_word_that_is_no_utf8_is_refused() {
@@ -156,6 +178,30 @@ case_serve_answers_each_request() {
 case_serve_sends_its_pack() {
     serve_pack < <(fetch $one; request 'ref-prefix refs/tags/'; fetch $two $one $two; printf 0000)
     expect 0 <(advertisement sha1; pack_answer; tags_answer; pack_answer) /dev/null
+}
+
+# Whatever the filter is; a request without one has the other pack.
+case_serve_sends_its_filtered_pack() {
+    serve_pack --filtered filtered.pack < <(fetch_filtered blob:none $one; fetch $one; fetch_filtered 'no filter' $two; printf 0000)
+    expect 0 <(advertisement sha1; filtered_answer; pack_answer; filtered_answer) /dev/null
+    serve_pack --filtered filtered.pack --stateless-rpc < <(fetch_filtered blob:none $one)
+    expect 0 <(filtered_answer) /dev/null
+    serve_pack --filtered empty.pack < <(fetch_filtered blob:none $one)
+    expect 0 <(advertisement sha1; packet packfile; printf 0000) /dev/null
+}
+
+# And a request with one too, where no pack is filtered.
+case_serve_sends_its_pack_where_none_is_filtered() {
+    serve_pack < <(fetch_filtered blob:none $one)
+    expect 0 <(advertisement sha1; pack_answer) /dev/null
+}
+
+# A filter has seven bytes more than its text, a want 45, and `done` four.
+case_serve_keeps_to_its_limit_of_filters() {
+    serve_pack --filtered filtered.pack --limit 65 < <(fetch_filtered blob:none $one)
+    expect 0 <(advertisement sha1; filtered_answer) /dev/null
+    serve_pack --filtered filtered.pack --limit 64 < <(fetch_filtered blob:none $one)
+    expect 1 <(advertisement sha1; packet 'ERR TooMuchKept at 93') <(fault 'TooMuchKept at 93')
 }
 
 # The pack is cut into packets, of which each has some bytes of it; together they have them all.
@@ -343,12 +389,20 @@ case_serve_tells_a_missing_file() {
     expect 1 /dev/null <(fault File)
     run git2show serve --repo small.repo --pack /
     expect 1 /dev/null <(fault File)
+    serve --filtered nowhere.pack
+    expect 1 /dev/null <(fault File)
+    serve --filtered /
+    expect 1 /dev/null <(fault File)
 }
 
 case_serve_reads_its_files_before_it_judges_the_text() {
     echo 'format md5' > wrong.repo
     run git2show serve --repo wrong.repo --pack nowhere.pack
     expect 1 /dev/null <(fault File)
+    run git2show serve --repo wrong.repo --pack empty.pack --filtered nowhere.pack
+    expect 1 /dev/null <(fault File)
+    run git2show serve --repo wrong.repo --pack empty.pack --filtered filtered.pack
+    expect 1 /dev/null <(fault 'BadRepo at 1')
 }
 
 # expect_next WHAT WANTED: that a server whose input stays open has written just this so far.
@@ -396,7 +450,7 @@ case_show_tells_an_input_that_cannot_be_read() {
 
 # capabilities FORMAT: what `check` shows of an advertisement before its end.
 capabilities() {
-    printf 'capability %s\n' agent=git2/1 ls-refs=unborn "fetch=shallow ref-in-want wait-for-done" server-option "object-format=$1" object-info
+    printf 'capability %s\n' agent=git2/1 ls-refs=unborn "fetch=shallow ref-in-want wait-for-done filter" server-option "object-format=$1" object-info
 }
 
 case_check_ends_well() {

@@ -129,6 +129,14 @@ case_check_takes_wanted_references() {
     expect_line 'the transcript' "wanted-ref $(git -C history-sha1 rev-parse alone) refs/heads/alone" transcript
 }
 
+case_check_takes_a_partial_clone() {
+    rm -rf ours
+    recorded clone -q --bare --filter=blob:none 'ext::record history-sha1 -c uploadpack.allowFilter=true' ours
+    checks
+    misses_blobs history-sha1
+    grep -a -q '0014filter blob:none' requests || differs 'a fetch without its filter' requests
+}
+
 case_check_takes_sessions_without_a_state() {
     write_stateless_recorder
     rm -rf ours

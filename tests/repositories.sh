@@ -9,13 +9,14 @@ write_repositories() {
         text "$format" > "$format.repo"
     done
     cp "$top/sample/small.repo" .
-    # The same repository, with its objects: those that may be wanted. Nobody here looks into its pack.
+    # The same repository, with its objects: those that may be wanted. Nobody here looks into its packs.
     cat small.repo - > wanted.repo << 'EOF'
 object 1111111111111111111111111111111111111111 230
 object 2222222222222222222222222222222222222222 140
 object 3333333333333333333333333333333333333333 230
 EOF
     printf 'PACK!' > wanted.pack
+    printf TINY > filtered.pack
     echo 'format sha1' > empty.repo
     : > empty.pack
 }

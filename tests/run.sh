@@ -1,6 +1,6 @@
 #!/usr/bin/env bash
-# Tests the built program `git2show` from outside: as the real Git calls it (real_git.sh, clones.sh and fetches.sh), over HTTP
-# (http.sh), and by hand (program.sh); our client, as it asks the real Git (asking.sh); what both ends of the real Git say, as `check`
+# Tests the built program `git2show` from outside: as the real Git calls it (real_git.sh, clones.sh, partial_clones.sh and fetches.sh),
+# over HTTP (http.sh), and by hand (program.sh); our client, as it asks the real Git (asking.sh); what both ends of the real Git say, as `check`
 # judges it (recorded.sh); both of our ends against each other (playing.sh); the library for programs in C, as the examples use it
 # (library.sh), and one of them between both ends of the real Git (watching.sh); and a daemon and `serve` after a thousand clients that
 # mean harm (soak.sh).
@@ -92,6 +92,7 @@ export PATH=$room/bin:$PATH
 . "$top/tests/repositories.sh"
 . "$top/tests/real_git.sh"
 . "$top/tests/clones.sh"
+. "$top/tests/partial_clones.sh"
 . "$top/tests/fetches.sh"
 . "$top/tests/http.sh"
 . "$top/tests/asking.sh"

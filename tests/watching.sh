@@ -123,6 +123,15 @@ case_a_watcher_passes_on_wanted_references() {
     expect_line 'the transcript' "wanted-ref $(git -C history-sha1 rev-parse alone) refs/heads/alone" <(told_by_the_watcher)
 }
 
+case_a_watcher_passes_on_a_partial_clone() {
+    rm -rf ours
+    over_watched clone -q --bare --filter=blob:none 'ext::watched history-sha1 -c uploadpack.allowFilter=true' ours
+    clone_partly_from_git history-sha1 --bare --filter=blob:none
+    same_clones
+    misses_blobs history-sha1
+    went_on
+}
+
 # The sizes of objects, which Git's client does not ask for. Two requests come at once, and then the input's end.
 case_a_watcher_passes_on_sizes() {
     local id

@@ -36,7 +36,7 @@ nothing : (c : Command) → IsNoArgument c []
 nothing LsRefs = (((λ e. cc), ((λ e. cc), ((λ e. cc), tt))), ((λ rest e. cc), tt))
 nothing Fetch = (
   ((λ e. cc), ((λ e. cc), ((λ e. cc), ((λ e. cc), ((λ e. cc), ((λ e. cc), ((λ e. cc), tt))))))),
-  ((λ rest e. cc), ((λ rest e. cc), ((λ rest e. cc), ((λ rest e. cc), ((λ rest e. cc), ((λ rest e. cc), ((λ rest e. cc), tt))))))),
+  ((λ rest e. cc), ((λ rest e. cc), ((λ rest e. cc), ((λ rest e. cc), ((λ rest e. cc), ((λ rest e. cc), ((λ rest e. cc), ((λ rest e. cc), tt)))))))),
 )
 nothing ObjectInfo = (((λ e. cc), tt), ((λ rest e. cc), tt))
 

@@ -15,7 +15,7 @@ use std::test::Fail;
 const REFUSED: &[u8] =
     b"0014command=ls-refs\n00010009peel\n001bref-prefix refs/heads/\n001aref-prefix refs/tags/\n0000\
 0012command=fetch\n00010032want aaaaaaaaaaaaaaaaaaaaaaaaaaaaaaaaaaaaaaaa\n0032have bbbbbbbbbbbbbbbbbbbbbbbbbbbbbbbbbbbbbbbb\n0000\
-0012command=fetch\n00010032want aaaaaaaaaaaaaaaaaaaaaaaaaaaaaaaaaaaaaaaa\n0012deepen-not v1\n0012want-ref HEAD\n000csymrefs\n0000";
+0012command=fetch\n00010032want aaaaaaaaaaaaaaaaaaaaaaaaaaaaaaaaaaaaaaaa\n0012deepen-not v1\n0015filter blob:none\n0012want-ref HEAD\n000csymrefs\n0000";
 
 /// A request for an object that the server does not have, after others.
 const NOT_OURS: &[u8] =
@@ -24,7 +24,7 @@ const NOT_OURS: &[u8] =
 
 /// What a server says to a client: its advertisement, and a pack that breaks off.
 const BROKEN_OFF: &[u8] =
-    b"000eversion 2\n000cls-refs\n0012fetch=shallow\n0017object-format=sha1\n0000\
+    b"000eversion 2\n000cls-refs\n0019fetch=shallow filter\n0017object-format=sha1\n0000\
 0014acknowledgments\n0031ACK bbbbbbbbbbbbbbbbbbbbbbbbbbbbbbbbbbbbbbbb\n000aready\n0001000dpackfile\n0007\x01AB0008\x02hi\n0008\x03no\n";
 
 /// Whose memory it is.
@@ -83,6 +83,7 @@ fn request<'h>(rt: &impl Abort, heap: &'h LocalHeap) -> Option<Request<&'h Local
     request.add(Argument::Want(id)).ok()?;
     request.add(Argument::Have(id)).ok()?;
     request.add(Argument::DeepenNot(b"v1")).ok()?;
+    request.add(Argument::Filter(b"blob:none")).ok()?;
     Some(request)
 }
 
@@ -181,7 +182,7 @@ fn all_is_given_back_where_a_growth_is_refused(rt: HostRuntime) -> Result<(), Fa
 
 #[test]
 fn a_request_is_given_back_wherever_it_breaks_off(rt: HostRuntime) -> Result<(), Fail> {
-    for packets in 0..8 {
+    for packets in 0..9 {
         let heap = LocalHeap::new(rt.alloc(), ENOUGH)?;
         let most = ask(&rt, &heap, BROKEN_OFF, packets);
         assert!(rt; 0 < most);
@@ -205,7 +206,7 @@ fn a_request_is_written_without_memory(rt: HostRuntime) -> Result<(), Fail> {
         packets = packets.saturating_add(1);
         assert_eq!(rt; heap.used(), before);
     }
-    // The command, the delimiter, the revision, the object that is wanted, the one that is had, and the flush.
-    assert_eq!(rt; packets, 6);
+    // The command, the delimiter, the filter, the revision, the object that is wanted, the one that is had, and the flush.
+    assert_eq!(rt; packets, 7);
     Ok(())
 }

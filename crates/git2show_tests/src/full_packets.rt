@@ -39,6 +39,7 @@ fn repository(rt: &(impl Abort + AllocGlobal), pack: Vec<u8>) -> Result<ListRepo
         Vec::new(rt.alloc()),
         pack,
         None,
+        None,
     );
     Ok(repo.expect(rt, "a repository"))
 }

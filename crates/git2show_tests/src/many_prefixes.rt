@@ -43,6 +43,7 @@ fn repository(rt: &(impl Abort + AllocGlobal)) -> Result<ListRepo, Fail> {
         boundaries,
         Vec::new(rt.alloc()),
         None,
+        None,
     );
     Ok(repo.expect(rt, "a repository"))
 }
@@ -86,6 +87,7 @@ fn check_answer(rt: &(impl Abort + AllocGlobal), order: Order) -> Result<(), Fai
         shallow: false,
         ref_in_want: false,
         wait_for_done: false,
+        filter: false,
         object_info: false,
         server_option: false,
     };

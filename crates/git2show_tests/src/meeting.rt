@@ -58,7 +58,7 @@ fn a_client_hears_why_a_server_refuses(rt: HostRuntime) -> Result<(), Fail> {
     assert_eq!(rt; server.fault(), Some(refused));
     let told = Fault {
         kind: Kind::RemoteError,
-        offset: 139,
+        offset: 146,
     };
     assert_eq!(rt; hear(&mut server, &mut client), Some(told));
     let message = client.message().expect(&rt, "a message");
@@ -88,7 +88,7 @@ fn refused_within(rt: &(impl Abort + AllocGlobal), size: usize) -> Result<Option
     assert_eq!(rt; refused.kind, Kind::OutOfMemory);
     let told = Fault {
         kind: Kind::RemoteError,
-        offset: 139,
+        offset: 146,
     };
     assert_eq!(rt; heard, Some(told));
     let message = format!(in rt.alloc(); "OutOfMemory at {}", refused.offset)?;

@@ -20,6 +20,7 @@ fn repository(rt: &(impl Abort + AllocGlobal)) -> Result<ListRepo, Fail> {
         Vec::new(rt.alloc()),
         Vec::from_slice(rt.alloc(), PACK)?,
         None,
+        None,
     );
     Ok(repo.expect(rt, "a repository"))
 }

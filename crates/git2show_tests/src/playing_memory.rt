@@ -9,20 +9,20 @@ use linked_list_allocator::LocalHeap;
 use std::process::Abort;
 use std::test::Fail;
 
-/// What the client asks: a pack for an object name and a text, which both ends keep.
+/// What the client asks: a pack for an object name and two texts, which both ends keep.
 const SCRIPT: &[u8] =
-    b"fetch\nwant aaaaaaaaaaaaaaaaaaaaaaaaaaaaaaaaaaaaaaaa\ndeepen-not v1\ndone\n";
+    b"fetch\nfilter blob:none\nwant aaaaaaaaaaaaaaaaaaaaaaaaaaaaaaaaaaaaaaaa\ndeepen-not v1\ndone\n";
 
 /// The transcript of what the server offers, and of the request.
 const ASKED: &[u8] =
-    b"capability agent=git2/1\ncapability ls-refs=unborn\ncapability fetch=shallow ref-in-want wait-for-done\n\
+    b"capability agent=git2/1\ncapability ls-refs=unborn\ncapability fetch=shallow ref-in-want wait-for-done filter\n\
 capability server-option\ncapability object-format=sha1\ncapability object-info\noffered\nrequest fetch\n";
 
 /// And of the response.
-const ANSWERED: &[u8] = b"end 5 0\n";
+const ANSWERED: &[u8] = b"end 4 0\n";
 
 /// Where the first response begins.
-const OFFERED: u64 = 155;
+const OFFERED: u64 = 162;
 
 /// More memory than both ends take.
 const ENOUGH: usize = 8_192;
@@ -65,14 +65,14 @@ fn play_within<'h>(
     Ok(Played { ended, out, pack })
 }
 
-/// That the client was told of an error of the server, or got the pack. Whether it was an error.
+/// That the client was told of an error of the server, or got the filtered pack. Whether it was an error.
 fn is_refused(rt: &impl Abort, played: &Played) -> bool {
     assert!(rt; played.out.as_slice().starts_with(ASKED));
     let rest = &played.out.as_slice()[ASKED.len().min(played.out.len())..];
     match played.ended {
         Ok(()) => {
             assert_eq!(rt; rest, ANSWERED);
-            assert_eq!(rt; played.pack.as_slice(), b"PACK!".as_slice());
+            assert_eq!(rt; played.pack.as_slice(), b"TINY".as_slice());
             false
         }
         Err(fault) => {

@@ -16,6 +16,7 @@ const OFFER: Offer = Offer {
     shallow: true,
     ref_in_want: true,
     wait_for_done: true,
+    filter: true,
     object_info: false,
     server_option: true,
 };
@@ -60,6 +61,67 @@ fn each_growth_of_a_request_is_refused_in_turn(rt: HostRuntime) -> Result<(), Al
         let kept = kept_within(&rt, rt.alloc(), size)?;
         assert_eq!(&rt; kept, due_within(size), "with {size} bytes");
     }
+    Ok(())
+}
+
+/// Two filters, which take the blocks that the two prefixes do: their bytes are 14, and then 24, with those of their lengths.
+const FILTERS: [&[u8]; 2] = [b"blob:limit=8", b"tree:100"];
+
+/// Adds the filters to a fetch that may use this much memory, and says how many were kept.
+fn filters_within(rt: &impl Abort, alloc: Global, size: usize) -> Result<u32, AllocError> {
+    let heap = LocalHeap::new(alloc, size)?;
+    let mut request = Request::new(&heap, Command::Fetch, Format::Sha1, Limits { args: 1000 });
+    assert_eq!(rt; request.add(Argument::WaitForDone), Ok(()));
+    let mut kept = 0u32;
+    for spec in FILTERS {
+        let before = request.kept();
+        match request.add(Argument::Filter(spec)) {
+            Ok(()) => {
+                assert_eq!(rt; request.filter(kept as usize), Some(spec));
+                kept = kept.saturating_add(1);
+            }
+            Err(kind) => {
+                assert_eq!(rt; kind, Kind::OutOfMemory);
+                assert_eq!(rt; request.kept(), before);
+                break;
+            }
+        }
+    }
+    assert_eq!(rt; request.filter(kept as usize), None);
+    assert!(rt; request.wait_for_done());
+    Ok(kept)
+}
+
+#[test]
+fn each_growth_of_the_filters_is_refused_in_turn(rt: HostRuntime) -> Result<(), AllocError> {
+    for size in 0..256 {
+        let kept = filters_within(&rt, rt.alloc(), size)?;
+        assert_eq!(&rt; kept, due_within(size), "with {size} bytes");
+    }
+    Ok(())
+}
+
+#[test]
+fn filters_are_kept_in_order(rt: HostRuntime) -> Result<(), AllocError> {
+    let mut request = Request::new(
+        rt.alloc(),
+        Command::Fetch,
+        Format::Sha1,
+        Limits { args: 57 },
+    );
+    for spec in [FILTERS[0], FILTERS[1], FILTERS[0]] {
+        assert_eq!(&rt; request.add(Argument::Filter(spec)), Ok(()));
+    }
+    // Each counts with the seven bytes of its word and the space, and its repetition counts again.
+    assert_eq!(&rt; request.kept(), 53);
+    assert_eq!(&rt; request.filter(0), Some(FILTERS[0]));
+    assert_eq!(&rt; request.filter(1), Some(FILTERS[1]));
+    assert_eq!(&rt; request.filter(2), Some(FILTERS[0]));
+    assert_eq!(&rt; request.filter(3), None);
+    assert_eq!(&rt; request.add(Argument::Filter(b"")), Err(Kind::BadLine));
+    assert_eq!(&rt; request.add(Argument::Filter(b"x")), Err(Kind::TooMuchKept));
+    assert_eq!(&rt; request.kept(), 53);
+    assert_eq!(&rt; request.filter(3), None);
     Ok(())
 }
 
@@ -169,12 +231,13 @@ fn a_request_of_flags_takes_no_memory(rt: HostRuntime) -> Result<(), AllocError>
 }
 
 /// Lines of a fetch that take memory, one of each kind.
-const KEPT: [&[u8]; 5] = [
+const KEPT: [&[u8]; 6] = [
     b"want aaaaaaaaaaaaaaaaaaaaaaaaaaaaaaaaaaaaaaaa\n",
     b"have aaaaaaaaaaaaaaaaaaaaaaaaaaaaaaaaaaaaaaaa\n",
     b"shallow aaaaaaaaaaaaaaaaaaaaaaaaaaaaaaaaaaaaaaaa\n",
     b"deepen-not v1\n",
     b"want-ref HEAD\n",
+    b"filter blob:none\n",
 ];
 
 /// Reads the flags and numbers of a fetch, and then this line, with so much memory. What comes of the line.

@@ -8,8 +8,28 @@ use std::process::Abort;
 use std::test::Fail;
 
 /// A request that keeps two texts.
-const REQUEST: &[u8] =
-    b"0014command=ls-refs\n00010009peel\n001bref-prefix refs/heads/\n001aref-prefix refs/tags/\n0000";
+struct Kept {
+    request: &'static [u8],
+    /// Where the packet of each text begins.
+    places: [u64; 2],
+    /// The answer to it.
+    answer: &'static [u8],
+}
+
+/// Two prefixes.
+const PREFIXES: Kept = Kept {
+    request: b"0014command=ls-refs\n00010009peel\n001bref-prefix refs/heads/\n001aref-prefix refs/tags/\n0000",
+    places: [33, 60],
+    answer: b"003daaaaaaaaaaaaaaaaaaaaaaaaaaaaaaaaaaaaaaaa refs/heads/main\n\
+006abbbbbbbbbbbbbbbbbbbbbbbbbbbbbbbbbbbbbbbb refs/tags/v1 peeled:aaaaaaaaaaaaaaaaaaaaaaaaaaaaaaaaaaaaaaaa\n0000",
+};
+
+/// Two filters.
+const FILTERS: Kept = Kept {
+    request: b"0012command=fetch\n00010012wait-for-done\n0018filter blob:limit=8\n0014filter tree:100\n0000",
+    places: [40, 64],
+    answer: b"0014acknowledgments\n0008NAK\n0000",
+};
 
 // What is written for the input by a server that has so much memory and reads it from a stream, and how its run ends.
 fn serve_with(
@@ -31,40 +51,42 @@ fn serve_with(
     Ok((written, run))
 }
 
-/// The answer to it.
-const ANSWER: &[u8] = b"003daaaaaaaaaaaaaaaaaaaaaaaaaaaaaaaaaaaaaaaa refs/heads/main\n\
-006abbbbbbbbbbbbbbbbbbbbbbbbbbbbbbbbbbbbbbbb refs/tags/v1 peeled:aaaaaaaaaaaaaaaaaaaaaaaaaaaaaaaaaaaaaaaa\n0000";
-
-// What is given for it with a heap of this size, and how the session ends. The first prefix takes two blocks of 16 bytes, for the
+// What is given for it with a heap of this size, and how the session ends. The first text takes two blocks of 16 bytes, for the
 // places of four texts and for its bytes; the second makes the bytes move to a block of 32, while the old one is still taken.
-fn due_with(size: usize) -> (&'static [u8], Outcome) {
-    match size {
-        0..=16 => (
-            b"001aERR OutOfMemory at 33\n",
-            refusal(Kind::OutOfMemory, 33),
-        ),
-        17..=48 => (
-            b"001aERR OutOfMemory at 60\n",
-            refusal(Kind::OutOfMemory, 60),
-        ),
-        _ => (ANSWER, Outcome::Closed),
-    }
+fn due_with(alloc: Global, kept: &Kept, size: usize) -> Result<(Vec<u8>, Outcome), AllocError> {
+    let offset = match size {
+        0..=16 => kept.places[0],
+        17..=48 => kept.places[1],
+        _ => return Ok((Vec::from_slice(alloc, kept.answer)?, Outcome::Closed)),
+    };
+    let told = format!(in alloc; "001aERR OutOfMemory at {offset}\n")?;
+    Ok((told.into_bytes(), refusal(Kind::OutOfMemory, offset)))
 }
 
-#[test]
-fn each_growth_is_refused_in_turn(rt: HostRuntime) -> Result<(), Fail> {
+// That a server with each size of memory is refused the growth that is due.
+fn expect_refusals(rt: &(impl Abort + AllocGlobal), kept: &Kept) -> Result<(), Fail> {
     for size in 0..256 {
         let heap = LocalHeap::new(rt.alloc(), size)?;
-        let mut server = new_server(&rt, &heap, usual())?;
-        let (given, ended) = converse(&mut server, rt.alloc(), &[REQUEST])?;
-        let (written, run) = serve_with(&rt, REQUEST, size)?;
-        let (due, outcome) = due_with(size);
-        assert_eq!(rt; given.as_slice(), due, "with {size} bytes");
+        let mut server = new_server(rt, &heap, usual())?;
+        let (given, ended) = converse(&mut server, rt.alloc(), &[kept.request])?;
+        let (written, run) = serve_with(rt, kept.request, size)?;
+        let (due, outcome) = due_with(rt.alloc(), kept, size)?;
+        assert_eq!(rt; given.as_slice(), due.as_slice(), "with {size} bytes");
         assert_eq!(rt; ended, Some(outcome), "with {size} bytes");
-        assert_eq!(rt; written.as_slice(), due, "with {size} bytes");
+        assert_eq!(rt; written.as_slice(), due.as_slice(), "with {size} bytes");
         assert_eq!(rt; run, Ok(outcome), "with {size} bytes");
     }
     Ok(())
+}
+
+#[test]
+fn each_growth_of_the_prefixes_is_refused_in_turn(rt: HostRuntime) -> Result<(), Fail> {
+    expect_refusals(&rt, &PREFIXES)
+}
+
+#[test]
+fn each_growth_of_the_filters_is_refused_in_turn(rt: HostRuntime) -> Result<(), Fail> {
+    expect_refusals(&rt, &FILTERS)
 }
 
 // A fetch of the same object so many times.

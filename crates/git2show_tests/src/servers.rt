@@ -61,7 +61,7 @@ fn entry(
     Ok(RefEntry::new(name, id, target, peeled).expect(rt, "a reference"))
 }
 
-/// A symbolic reference, a branch, and a tag of another object; these two objects, and a pack.
+/// A symbolic reference, a branch, and a tag of another object; these two objects, a pack, and a filtered one.
 pub fn repository(rt: &(impl Abort + AllocGlobal), format: Format) -> Result<ListRepo, Fail> {
     let a = object(rt, format, b'a');
     let b = object(rt, format, b'b');
@@ -73,6 +73,7 @@ pub fn repository(rt: &(impl Abort + AllocGlobal), format: Format) -> Result<Lis
     objects.push((a, 12))?;
     objects.push((b, 30))?;
     let pack = Vec::from_slice(rt.alloc(), b"PACK!")?;
+    let filtered = Vec::from_slice(rt.alloc(), b"TINY")?;
     let repo = ListRepo::new(
         format,
         refs,
@@ -81,6 +82,7 @@ pub fn repository(rt: &(impl Abort + AllocGlobal), format: Format) -> Result<Lis
         Vec::new(rt.alloc()),
         pack,
         None,
+        Some(filtered),
     );
     Ok(repo.expect(rt, "a repository"))
 }

@@ -157,7 +157,7 @@ const PIECES: [&[u8]; 6] = [
 
 /// What is due before the first read, and after each but the last.
 const ANSWERS: [&[u8]; 6] = [
-    b"000eversion 2\n0011agent=git2/1\n0013ls-refs=unborn\n002cfetch=shallow ref-in-want wait-for-done\n\
+    b"000eversion 2\n0011agent=git2/1\n0013ls-refs=unborn\n0033fetch=shallow ref-in-want wait-for-done filter\n\
 0012server-option\n0017object-format=sha1\n0000",
     b"",
     b"0032aaaaaaaaaaaaaaaaaaaaaaaaaaaaaaaaaaaaaaaa HEAD\n\

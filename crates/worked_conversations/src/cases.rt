@@ -3,7 +3,7 @@
 use crate::asking::Asking;
 use crate::ends::End;
 use crate::script::{Given, Recording, Script};
-use crate::sessions::{Reads, Setup};
+use crate::sessions::{Contents, Reads, Setup};
 use crate::tables::Table;
 use crate::trouble::Trouble;
 use crate::{checks, clients, plays, runs};
@@ -19,9 +19,10 @@ const USUAL: u32 = 16_777_216;
 /// The files that a case names.
 #[derive(Drop)]
 struct Files {
-    /// The text of a server's repository, and its pack.
+    /// The text of a server's repository, and its packs.
     repository: Vec<u8>,
     pack: Vec<u8>,
+    filtered: Option<Vec<u8>>,
     /// What a client has heard before.
     heard: Vec<u8>,
     recording: Option<Recording>,
@@ -31,7 +32,7 @@ struct Files {
 #[derive(Drop)]
 enum Subject<'a> {
     End(End<'a>),
-    Play(plays::Setup<'a>),
+    Play(Contents<'a>),
     Table(Table),
     Asking(Asking),
 }
@@ -151,11 +152,19 @@ fn table_of(words: Words<'_>) -> Option<Table> {
     }
 }
 
+// What a server gives by these files.
+fn contents_of<'a>(files: &'a Files) -> Contents<'a> {
+    Contents {
+        text: files.repository.as_slice(),
+        pack: files.pack.as_slice(),
+        filtered: files.filtered.as_deref(),
+    }
+}
+
 // The server that these words set up.
 fn server_of<'a>(words: Words<'_>, files: &'a Files) -> Result<Setup<'a>, Trouble> {
     Ok(Setup {
-        repository: files.repository.as_slice(),
-        pack: files.pack.as_slice(),
+        contents: contents_of(files),
         reads: words.reads()?,
         limit: words.limit()?,
         features: words.features(),
@@ -177,14 +186,6 @@ fn check_of(words: Words<'_>) -> checks::Setup {
     checks::Setup {
         format: words.format(),
         ending: words.ending(),
-    }
-}
-
-// The two ends that play, of which the files set up the server.
-fn play_of<'a>(files: &'a Files) -> plays::Setup<'a> {
-    plays::Setup {
-        repository: files.repository.as_slice(),
-        pack: files.pack.as_slice(),
     }
 }
 
@@ -221,20 +222,28 @@ fn subject_of<'a>(words: Words<'_>, files: &'a Files) -> Result<Subject<'a>, Tro
         return Ok(Subject::Asking(asking_of(words)?));
     }
     if words.has("play") {
-        return Ok(Subject::Play(play_of(files)));
+        return Ok(Subject::Play(contents_of(files)));
     }
     Ok(Subject::End(end_of(words, files)?))
 }
 
-// The file that stands after this word, or nothing where the word does not stand there.
+// The file that stands after this word, where the word stands there.
+fn named_file(rt: &HostRuntime, words: Words<'_>, word: &str) -> Result<Option<Vec<u8>>, Trouble> {
+    match words.after(word) {
+        Some(path) => Ok(Some(fs::read(rt, path)?)),
+        None => Ok(None),
+    }
+}
+
+// The same, or nothing.
 fn file_after(
     rt: &HostRuntime,
     alloc: Global,
     words: Words<'_>,
     word: &str,
 ) -> Result<Vec<u8>, Trouble> {
-    match words.after(word) {
-        Some(path) => Ok(fs::read(rt, path)?),
+    match named_file(rt, words, word)? {
+        Some(file) => Ok(file),
         None => Ok(Vec::new(alloc)),
     }
 }
@@ -271,6 +280,7 @@ fn read_files(rt: &HostRuntime, alloc: Global, words: Words<'_>) -> Result<Files
     Ok(Files {
         repository: file_after(rt, alloc, words, words.end())?,
         pack: file_after(rt, alloc, words, "pack")?,
+        filtered: named_file(rt, words, "filtered")?,
         heard: file_after(rt, alloc, words, "after")?,
         recording: read_recording(rt, alloc, words)?,
     })
@@ -292,9 +302,9 @@ fn goes(rt: &HostRuntime, alloc: Global, setup: &str, lines: &[&str]) -> Result<
             }
             runs::goes(alloc, &end, &script)
         }
-        Subject::Play(setup) => {
+        Subject::Play(contents) => {
             let script = Script::read(alloc, lines, Given::Talk)?;
-            plays::goes(alloc, setup, &script)
+            plays::goes(alloc, contents, &script)
         }
         Subject::Table(table) => {
             let script = Script::read(alloc, lines, Given::Lines)?;

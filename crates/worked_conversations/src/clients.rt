@@ -41,6 +41,7 @@ pub fn append_noted(line: &mut String, caps: &Caps) -> Result<(), AllocError> {
     append_word(line, caps.shallow, "shallow")?;
     append_word(line, caps.ref_in_want, "ref-in-want")?;
     append_word(line, caps.wait_for_done, "wait-for-done")?;
+    append_word(line, caps.filter, "filter")?;
     append_word(line, caps.server_option, "server-option")?;
     append_word(line, caps.object_info, "object-info")?;
     append_word(line, caps.object_format, "object-format")?;

@@ -104,7 +104,7 @@ pub fn made(alloc: Global, format: Format, text: &str) -> Result<String, Trouble
         unborn,
     } = lists;
     let pack = Vec::new(alloc);
-    match ListRepo::new(format, refs, objects, None, boundaries, pack, unborn) {
+    match ListRepo::new(format, refs, objects, None, boundaries, pack, unborn, None) {
         Ok(_) => Ok(String::from_str(alloc, "taken")?),
         Err(fault) => Ok(format!(in alloc; "{fault}")?),
     }

@@ -4,7 +4,7 @@ ghost use Rattle.std.specs.Prelude.{◌<◌};
 
 use crate::runs::{Due, Known, Run, compare};
 use crate::script::Script;
-use crate::sessions::repository;
+use crate::sessions::{Contents, repository};
 use crate::setup::limits;
 use crate::trouble::Trouble;
 use git_client::Ending;
@@ -25,15 +25,6 @@ const LONGEST: usize = 65_536;
 /// How many bytes a response end has.
 const RESPONSE_END: u64 = 4;
 
-/// What a server gives.
-#[derive(Clone, Copy)]
-pub struct Setup<'a> {
-    /// The text of its repository.
-    pub repository: &'a [u8],
-    /// Its pack.
-    pub pack: &'a [u8],
-}
-
 fn ending_of(alloc: Global, ended: Result<(), RunFault>) -> Result<String, AllocError> {
     match ended {
         Ok(()) => String::from_str(alloc, "closed\n"),
@@ -44,14 +35,14 @@ fn ending_of(alloc: Global, ended: Result<(), RunFault>) -> Result<String, Alloc
 // Plays what the script says.
 fn played(
     alloc: Global,
-    setup: Setup<'_>,
+    contents: Contents<'_>,
     script: &Script,
     cut: usize,
     ending: Ending,
 ) -> Result<Run, Trouble>
     requires { 0 < cut }
 {
-    let repo = repository(alloc, setup.repository, setup.pack)?;
+    let repo = repository(alloc, contents)?;
     let mut out = Sink::new(Vec::new(alloc), usize::MAX, u32::MAX);
     let mut pack = Sink::new(Vec::new(alloc), usize::MAX, u32::MAX);
     let text = script.input.as_slice();
@@ -119,7 +110,7 @@ fn due(alloc: Global, script: &Script, ending: Ending) -> Result<Due, Trouble> {
 // Plays it in pieces of each length. Answers how many runs were made.
 fn goes_with(
     alloc: Global,
-    setup: Setup<'_>,
+    contents: Contents<'_>,
     script: &Script,
     ending: Ending,
 ) -> Result<usize, Trouble> {
@@ -128,20 +119,20 @@ fn goes_with(
     for cut in 1..=SHORT {
         compare(
             alloc,
-            &played(alloc, setup, script, cut, ending)?,
+            &played(alloc, contents, script, cut, ending)?,
             &due,
             cut,
         )?;
         runs = runs.saturating_add(1);
     }
-    let run = played(alloc, setup, script, LONGEST, ending)?;
+    let run = played(alloc, contents, script, LONGEST, ending)?;
     compare(alloc, &run, &due, LONGEST)?;
     Ok(runs.saturating_add(1))
 }
 
 /// The play goes as the script says, with either ending of the responses. Answers how many runs were made.
-pub fn goes(alloc: Global, setup: Setup<'_>, script: &Script) -> Result<usize, Trouble> {
-    let by_flush = goes_with(alloc, setup, script, Ending::FlushOnly)?;
-    let by_response_end = goes_with(alloc, setup, script, Ending::ResponseEnd)?;
+pub fn goes(alloc: Global, contents: Contents<'_>, script: &Script) -> Result<usize, Trouble> {
+    let by_flush = goes_with(alloc, contents, script, Ending::FlushOnly)?;
+    let by_response_end = goes_with(alloc, contents, script, Ending::ResponseEnd)?;
     Ok(by_flush.saturating_add(by_response_end))
 }

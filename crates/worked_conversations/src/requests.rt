@@ -123,6 +123,21 @@ fn append_shallow(
     append_flags(lines, &[(request.deepen_relative(), "deepen-relative")])
 }
 
+// Appends the filters of a request.
+fn append_filters(
+    alloc: Global,
+    lines: &mut Vec<u8>,
+    request: &Request<Global>,
+) -> Result<(), AllocError> {
+    for i in 0..MANY {
+        match request.filter(i) {
+            Some(spec) => append_text(alloc, lines, "filter", spec)?,
+            None => break,
+        }
+    }
+    Ok(())
+}
+
 // Appends what a request asks for, a line each.
 fn append_request(
     alloc: Global,
@@ -144,6 +159,7 @@ fn append_request(
         (request.wait_for_done(), "wait-for-done"),
     ];
     append_flags(lines, &flags)?;
+    append_filters(alloc, lines, request)?;
     for i in 0..MANY {
         match request.ref_prefix(i) {
             Some(prefix) => append_text(alloc, lines, "ref-prefix", prefix)?,

@@ -5,7 +5,7 @@ use crate::setup::{MANY, TURNS, limits, offer};
 use crate::trouble::Trouble;
 use git_names::Steps;
 use git_pkt::{Fault, Told};
-use git_repository::{TextFault, read_repo};
+use git_repository::{Packs, TextFault, read_repo};
 use git_server::{Faulty, ListRepo, Outcome, Pulled, Repo, Server, serve};
 use std::alloc::{AllocError, Global};
 use test_streams::Pieces;
@@ -19,13 +19,21 @@ pub struct Reads {
     pub most: usize,
 }
 
+/// What a server gives.
+#[derive(Clone, Copy)]
+pub struct Contents<'a> {
+    /// The text of its repository.
+    pub text: &'a [u8],
+    /// Its pack.
+    pub pack: &'a [u8],
+    /// Its pack for requests that have a filter, where they do not get the other.
+    pub filtered: Option<&'a [u8]>,
+}
+
 /// How a server is set up.
 #[derive(Drop)]
 pub struct Setup<'a> {
-    /// The text of its repository.
-    pub repository: &'a [u8],
-    /// Its pack.
-    pub pack: &'a [u8],
+    pub contents: Contents<'a>,
     /// How the pack is read, where that is not as always.
     pub reads: Option<Reads>,
     /// How many bytes of a request's arguments it keeps at the most.
@@ -36,10 +44,17 @@ pub struct Setup<'a> {
     pub advertises: bool,
 }
 
-/// The repository of a text and a pack.
-pub fn repository(alloc: Global, text: &[u8], pack: &[u8]) -> Result<ListRepo, Trouble> {
-    let pack = Vec::from_slice(alloc, pack)?;
-    match read_repo(alloc, text, pack) {
+/// The repository of a text and its packs.
+pub fn repository(alloc: Global, contents: Contents<'_>) -> Result<ListRepo, Trouble> {
+    let filtered = match contents.filtered {
+        Some(filtered) => Some(Vec::from_slice(alloc, filtered)?),
+        None => None,
+    };
+    let packs = Packs {
+        pack: Vec::from_slice(alloc, contents.pack)?,
+        filtered,
+    };
+    match read_repo(alloc, contents.text, packs) {
         Ok(repo) => Ok(repo),
         Err(TextFault::OutOfMemory) => Err(Trouble::OutOfMemory),
         Err(TextFault::Bad { .. }) => Err(Trouble::BadCase("no repository text")),
@@ -144,7 +159,7 @@ fn fed_to<R: Repo + Drop>(
 
 /// Feeds the pieces to a server, after which the input ends.
 pub fn fed(alloc: Global, setup: &Setup<'_>, pieces: &[&[u8]]) -> Result<Run, Trouble> {
-    let repo = repository(alloc, setup.repository, setup.pack)?;
+    let repo = repository(alloc, setup.contents)?;
     match setup.reads {
         Some(Reads { fail_from, most }) => {
             let repo = Faulty::new(repo, fail_from, most.max(1));
@@ -178,7 +193,7 @@ fn served_by<R: Repo + Drop>(
 
 /// Serves the pieces.
 pub fn served(alloc: Global, setup: &Setup<'_>, pieces: &[&[u8]]) -> Result<Run, Trouble> {
-    let repo = repository(alloc, setup.repository, setup.pack)?;
+    let repo = repository(alloc, setup.contents)?;
     match setup.reads {
         Some(Reads { fail_from, most }) => {
             let repo = Faulty::new(repo, fail_from, most.max(1));

@@ -27,6 +27,7 @@ pub fn offer(format: Format, features: bool) -> Offer
         shallow: features,
         ref_in_want: features,
         wait_for_done: features,
+        filter: features,
         object_info: features,
         server_option: true,
     }

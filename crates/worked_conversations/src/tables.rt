@@ -10,7 +10,7 @@ use crate::trouble::Trouble;
 use git_msg::{Argument, Caps, Command, read_argument, read_capability, read_reference};
 use git_names::{Format, Oid, RefName, Steps};
 use git_pkt::{Hold, Packet, put, text};
-use git_repository::{TextFault, read_repo};
+use git_repository::{Packs, TextFault, read_repo};
 use git_server::Repo;
 use git2show_lib::read_script;
 use std::alloc::{AllocError, Global};
@@ -149,6 +149,7 @@ fn say_notes(alloc: Global, lines: &mut Vec<u8>, text: &[u8]) -> Result<(), Allo
         (offer.shallow, " shallow"),
         (offer.ref_in_want, " ref-in-want"),
         (offer.wait_for_done, " wait-for-done"),
+        (offer.filter, " filter"),
         (offer.object_info, " object-info"),
         (offer.server_option, " server-option"),
     ] {
@@ -182,6 +183,7 @@ fn say_argument(
         Argument::IncludeTag => say(alloc, lines, "include-tag", Said::Nothing),
         Argument::OfsDelta => say(alloc, lines, "ofs-delta", Said::Nothing),
         Argument::WaitForDone => say(alloc, lines, "wait-for-done", Said::Nothing),
+        Argument::Filter(spec) => say(alloc, lines, "filter", Said::Bytes(spec)),
         Argument::Have(id) => say_object(alloc, lines, "have", id),
         Argument::Shallow(id) => say_object(alloc, lines, "shallow", id),
         Argument::Deepen(depth) => say_number(alloc, lines, "deepen", depth),
@@ -220,7 +222,11 @@ fn say_reference(
 
 // Appends the format of a repository text, what its `HEAD` points to where that is unborn, and its references.
 fn say_repository(alloc: Global, lines: &mut Vec<u8>, text: &[u8]) -> Result<(), Trouble> {
-    let repo = match read_repo(alloc, text, Vec::new(alloc)) {
+    let packs = Packs {
+        pack: Vec::new(alloc),
+        filtered: None,
+    };
+    let repo = match read_repo(alloc, text, packs) {
         Ok(repo) => repo,
         Err(TextFault::OutOfMemory) => return Err(Trouble::OutOfMemory),
         Err(fault) => {
