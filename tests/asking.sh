@@ -135,13 +135,14 @@ case_our_client_shows_the_progress_on_a_terminal() {
     command -v script > /dev/null || return 0
     id=$(git -C history-sha1 rev-parse HEAD)
     printf '%s\n' fetch "want $id" 'done' > script
+    rm -f to from
     mkfifo to from
     GIT_PROTOCOL=version=2 limited git upload-pack history-sha1 < to > from 2> err &
     status=0
-    limited script -q -e -c 'git2show fetch --script script --pack pack --transcript written > to < from' terminal < /dev/null > out || status=$?
+    limited script -q -e -c 'git2show fetch --script script --pack pack --transcript written > to < from' /dev/null < /dev/null > terminal || status=$?
     wait $!
     expect_status 0
-    sed -e '/^Script /d' -e 's/\r$//' terminal > shown
+    sed 's/\r$//' terminal > shown
     is_progress shown
     is_whole sha1 history-sha1 "$id"
 }
