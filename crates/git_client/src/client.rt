@@ -1,4 +1,19 @@
 //! The client: it asks, reads what a server says in pieces of any size, and hands out events.
+//!
+//! How a conversation stands, and which call moves it on; `due` is what a packet is judged by, and goes on with each:
+//!
+//! ```text
+//!               feed: the last packet of what is due
+//!  Hearing(due) ------------------------------------> Ready ---------> Leaving ----------------> Left
+//!     ^   ^  |                                          |     leave            pull: the flush
+//!     |   +--+ feed: one more                           | ask
+//!     |                                                 v
+//!     +--------------- pull: the last packet --------- Asking(writer) --+
+//!     |                                                       ^         | pull: one more
+//!     | feed, close: a fault                                  +---------+
+//!     v
+//!  Failed(fault)
+//! ```
 
 ghost use Rattle.std.specs.Prelude.{◌≡◌, ◌≢◌, ◌+◌, ◌-◌, ◌≤◌, ◌<◌, ◌↔◌, IsTrue, ℕ, suc, List, [], ◌∷◌, None, Err, true, false, length, take, drop, MatchOption, ◌*◌};
 ghost use Rattle.std.specs.Option.{ForSome};

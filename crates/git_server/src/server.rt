@@ -1,4 +1,22 @@
 //! The server's end of a conversation, as a machine that takes bytes in pieces and gives packets.
+//!
+//! How a session stands, and which call moves it on:
+//!
+//! ```text
+//!                pull: the flush            feed: the first packet
+//!  Advertising ------------------> Between ------------------------> Within <--+ feed: one more
+//!                                  |  ^  |                           |  |  |   |
+//!      feed: a flush alone, close  |  |  |                           |  |  +---+
+//!                  +---------------+  |  +-- feed: a fault --+       |  |
+//!                  v                  |                      v       |  | feed: the flush
+//!                Ended         pull: the flush            Refusing <-+  |
+//!                ^   ^                |                      |   feed, close: a fault
+//!                |   |                +------ Answering <----|----------+
+//!                |   +-- pull: the pack is lost --+          |
+//!                +-- pull: the error packet -----------------+
+//!
+//!  An error packet of the client leads to Ended at once. Each other pull gives a packet and stays; in Between and Within it asks for input.
+//! ```
 
 ghost use Rattle.std.specs.Prelude.{◌≡◌, true, false, None};
 ghost use Rattle.git_pkt.specs.PacketReader.{is_open, passes_of};
