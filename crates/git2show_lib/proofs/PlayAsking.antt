@@ -1,5 +1,5 @@
 -- What a client owes said to a server, one packet after another.
-use Rattle.std.proofs.Common.{◌≡◌, ℕ, true, false, List, [], ◌++◌, None, sym, ◌∙◌, subst, append_assoc, append-nil, refl}
+use Rattle.std.proofs.Common.{◌≡◌, ℕ, false, List, [], ◌++◌, None, sym, ◌∙◌, subst, append_assoc, append-nil, refl}
 use Rattle.git_pkt.specs.Streams.{Flow, WrittenAs}
 use Rattle.git_msg.specs.Asked.{command_asked}
 use Rattle.git_msg.specs.HeldRequest.{asked_of}

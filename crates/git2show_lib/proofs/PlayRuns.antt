@@ -1,6 +1,6 @@
 -- A play so far: what the client asked and heard, and how the server stands that it hears.
 use Rattle.std.proofs.Common.{arith, ◌≡◌, inl, ℕ, ◌+◌, ◌≤◌, Bool, true, false, List, [], ◌∷◌, ◌++◌, length, Option, Some}
-use Rattle.std.proofs.Common.{Result, refl, sym, ap, ◌∙◌, subst, append_assoc, append-nil, length-append}
+use Rattle.std.proofs.Common.{Result, refl, sym, ap, ◌∙◌, append_assoc, append-nil, length-append}
 use Rattle.std.proofs.lemmas.List.Elements.{All-nil}
 use Rattle.git_pkt.specs.Digits.{digits_of}
 use Rattle.git_pkt.specs.Packets.{Pkt, flushes, body_of, length_field, spelling_of}
@@ -35,7 +35,6 @@ use Rattle.git_client.proofs.AskedInTurn.{AskedInTurn, asked_in_turn, has_asked,
 use Rattle.git_client.proofs.ClientRuns.{Ran, ran_by}
 use Rattle.git_client.proofs.EventsHeard.{all_is_said, has_events, has_noted}
 use Rattle.git_client.proofs.Faults.{first_fault}
-use Rattle.git_client.proofs.Phases.{not_ready_where_due}
 use Rattle.git_server.specs.Answers.{AllFit}
 use Rattle.git_server.specs.Repository.{RepoState}
 use Rattle.git_server.specs.Server.{wants_input as waits_for_input}
