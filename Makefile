@@ -8,16 +8,36 @@ LIBRARY ?= crates/gitwire/out/libgitwire.a
 KIT = $(shell dirname "$$($(RT) doc)")
 VERSION = 0.2.0
 
-.PHONY: run library install test test-program audit cases bench
+.PHONY: run program library install test test-program audit cases bench
 
-# Proves and builds the program, and shows a recorded conversation of Git.
+# The crates of this repository that a crate stands on, lowest first, and it: its line of crates.txt names them in that order.
+with_those_below = $(foreach it,$(shell sed -n 's/^$(1)\( staticlib\)\{0,1\}: //p' crates.txt) $(1),$(if $(wildcard crates/$(it)),$(it)))
+
+# Proves these crates one after another, and prints before each which of how many it is; the last one by `rt` and the words given. What
+# has not changed since it was proved is passed over in a second.
+define prove
+	@set -- $(call with_those_below,$(1)) && at=0 && \
+	for it in "$$@"; do \
+		at=$$((at + 1)) && echo "crate $$at of $$#: $$it" && \
+		if [ $$it = $(1) ]; then (cd crates/$$it && $(RT) $(2)); else (cd crates/$$it && $(RT) lib); fi || exit; \
+	done
+endef
+
+# Shows a recorded conversation of Git by the program as it is, with nothing proved and nothing built to stay.
 run:
-	@cd crates/git2show && $(RT) run -- show < ../../sample/conversation.pkt
+	@echo 'make run: shows sample/conversation.pkt in about a minute; nothing is proved, which is what make program is for' >&2
+	@cd crates/git2show && $(RT) try -- show < ../../sample/conversation.pkt
+
+# Proves and builds the program, crates/git2show/out/git2show. `rt` has no word that builds a program and does not run it, so the run
+# is one that ends at once.
+program:
+	@echo 'make program: proves and builds the program, which takes half an hour and more the first time'
+	$(call prove,git2show,run -- --version)
 
 # Proves and builds the library for programs in C. What it takes memory by is in the kit's own archive, which a program has to
 # link as well; `make install` puts both into one.
 library:
-	@cd crates/gitwire && $(RT) lib
+	$(call prove,gitwire,lib)
 
 # Installs the program with its manual page, and the library with its own, its header, what that names (the page on the protocol, the
 # script that writes a repository text, the examples), and what pkg-config tells of it: a C program is then built with
@@ -51,19 +71,19 @@ install: $(PROGRAM) $(LIBRARY)
 
 $(PROGRAM):
 	@echo "make install: $@ is not there: it is proved with all that it stands on, and built, which can take half an hour and more"
-	@cd crates/git2show && $(RT) run -- --version > /dev/null
+	@$(MAKE) --no-print-directory program
 
 $(LIBRARY):
 	@echo "make install: $@ is not there: it is proved with all that it stands on, and built, which can take half an hour and more"
-	@cd crates/gitwire && $(RT) lib
+	@$(MAKE) --no-print-directory library
 
 # The merge gate: every proof from nothing, the edits that must fail, the tests and the programs. Its last line is the
 # gate's own.
 test:
 	@$(RT) ci
 
-# The built program from outside: as the real Git calls it, and by hand. It is what `make test` or `make run` left, and is
-# built first where they left none.
+# The built program from outside: as the real Git calls it, and by hand. It is what `make test` or `make program` left, and is
+# built first where they left none. CASES, if given, chooses some of the cases by a pattern of their names.
 test-program:
 	@RT="$(RT)" tests/run.sh
 
@@ -83,6 +103,5 @@ bench:
 	@cd crates/bench_packets && $(RT) run < stdin > /dev/null
 	@cd crates/bench_client && $(RT) run < stdin > /dev/null
 	@cd crates/bench_names && $(RT) run > /dev/null
-	@cd crates/git2show && $(RT) run -- show < ../../sample/conversation.pkt > /dev/null
-	@cd crates/gitwire && $(RT) lib > /dev/null
+	@$(MAKE) --no-print-directory program library > /dev/null
 	@bench/run.sh

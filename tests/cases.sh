@@ -66,10 +66,10 @@ run_case() {
     tail -n +2 told
 }
 
-# Runs every case, and ends with the plain closing line.
+# Runs every case, or those whose names CASES matches, and ends with the plain closing line.
 run_cases() {
     local name
-    for name in $(compgen -A function case_); do
+    for name in $(compgen -A function case_ | grep -E -e "${CASES:-}"); do
         run_case "$name"
     done
     echo "$passed passed, $failed failed"

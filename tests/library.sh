@@ -88,19 +88,23 @@ case_library_is_installed_below_another_folder() {
     expect_same 'what is installed' <(cd "$installed" && find . ! -type d | sort) <(cd staged/usr && find . ! -type d | sort)
 }
 
-# What is not there is built, and that is told before. This `rt` makes a file where it lies in a library's folder, and else where a program
-# would be run.
+# What is not there is built, and that is reported before, as is each crate on the way. This `rt` makes a file where it lies in a library's
+# folder, and else where a program would be run.
 case_library_that_is_not_built_is_told() {
     local told='is not there: it is proved with all that it stands on, and built, which can take half an hour and more'
-    mkdir -p unbuilt/crates/{git2show,gitwire}/src
-    cp -r "$top"/{Makefile,gitwire.map,gitwire.pc.in,docs,include,sample,examples} unbuilt
+    mkdir -p unbuilt/crates/{git_names,git_pkt,git2show,gitwire}/src
+    cp -r "$top"/{Makefile,crates.txt,gitwire.map,gitwire.pc.in,docs,include,sample,examples} unbuilt
     printf '%s\n' '#!/bin/sh' 'case $1 in' "doc) exec ${RT:-rt} doc ;;" "lib) it=libgitwire.a from=$library ;;" \
         "run) it=git2show from=$program ;;" esac 'mkdir -p out && cp "$from" "out/$it"' > bin/no-rt
     chmod +x bin/no-rt
     run make -s -C unbuilt install PREFIX="$room/built" RT="$room/bin/no-rt"
     expect_status 0
     expect_same 'what is told' <(
-        printf "make install: %s $told\n" crates/git2show/out/git2show crates/gitwire/out/libgitwire.a
+        printf "make install: %s $told\n" crates/git2show/out/git2show
+        echo 'make program: proves and builds the program, which takes half an hour and more the first time'
+        printf 'crate %s\n' '1 of 3: git_names' '2 of 3: git_pkt' '3 of 3: git2show'
+        printf "make install: %s $told\n" crates/gitwire/out/libgitwire.a
+        printf 'crate %s\n' '1 of 3: git_names' '2 of 3: git_pkt' '3 of 3: gitwire'
         printf 'make install: takes %s as it was built\n' crates/git2show/out/git2show crates/gitwire/out/libgitwire.a
     ) out
     expect_same 'what is installed' <(cd "$installed" && find . ! -type d | sort) <(cd built && find . ! -type d | sort)

@@ -7,8 +7,9 @@
 #
 #     tests/run.sh [PROGRAM [LIBRARY]]
 #
-# PROGRAM is the program to test, and LIBRARY the static library; without them, what the gate, `make run` and `make library` left
-# in this repository, which is built first where it is missing or older than a source. Where there is no git, no C compiler or no
+# PROGRAM is the program to test, and LIBRARY the static library; without them, what the gate, `make program` and `make library` left
+# in this repository, which is built first where it is missing or older than a source. CASES, if given, is an extended regular expression:
+# only the cases whose names it matches are run, as `CASES=over_http tests/run.sh`. Where there is no git, no C compiler or no
 # valgrind, Debian's package is installed; where another tool is missing, it is told, and what needs it is passed over. Each failed
 # case is told as it fails; the last line is 'N passed, N failed', and the status is 1 where one failed.
 set -eu -o pipefail
@@ -33,12 +34,11 @@ is_current() {
     [ -f "$1" ] && [ -z "$(find "$top"/crates/*/src -name '*.rt' -newer "$1" -print -quit)" ]
 }
 
-# built CRATE: prints where the crate's program lies. `rt` has no word that builds a program and does not run it, so the run is
-# one that ends at once, well or not.
-built() {
-    local it=$top/crates/$1/out/$1
-    is_current "$it" || (cd "$top/crates/$1" && timeout 3600 "${RT:-rt}" run -- --version < /dev/null >&2) || true
-    is_current "$it" || stop "the program $1 could not be built"
+# built_program: prints where the program lies, which `make program` builds where it is not there or not of these sources.
+built_program() {
+    local it=$top/crates/git2show/out/git2show
+    is_current "$it" || env -u MAKEFLAGS timeout 3600 make -s -C "$top" program RT="${RT:-rt}" < /dev/null >&2 || true
+    is_current "$it" || stop 'the program could not be built'
     echo "$it"
 }
 
@@ -57,7 +57,7 @@ built_library() {
 if [ $# -gt 0 ]; then
     program=$(realpath -m "$1")
 else
-    program=$(built git2show)
+    program=$(built_program)
 fi
 if [ $# -gt 1 ]; then
     library=$(realpath -m "$2")
