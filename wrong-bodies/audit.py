@@ -11,7 +11,7 @@ run at a time (2). Edits of different functions are tried in one check: a functi
 calls, so an edit of one leaves the proofs of the others as they are. An edit that no function's proof tells of is tried again
 alone. An edit is counted by what was said first:
 
-    goal      A goal is not proved: what an edit is for.
+    goal      A goal is not proved, or what counts each field of a machine lacks a new one: what an edit is for.
     proof     A written proof is of another statement than its goal is now: a wrong value stands in it, or the body came to
               another form. Such a line is to be read.
     hollow    A proof names what the edit took away: the contract was not tried.
@@ -33,8 +33,11 @@ FUNCTION = re.compile(r"^(\s*)(?:pub(?:\([a-z]+\))? )?(?:const )?fn (\w+)")
 MESSAGE = re.compile(r"(?:note: )?(?:\./)?(\S+?):(\d+):\d+: ")
 # What a proof says that names what an edit took away.
 HOLLOW = re.compile(r"only because|record `|projects from|has no field|has no `|is not in scope|was not admitted")
-# The second is said of the invariant of a type; the last is how `cc` tells that it proves nothing.
-GOAL = re.compile(r"it is not proved that|`search` found no proof|`(omega|search|grind|simp)`:|list the missing equation")
+# The second is said of the invariant of a type.
+# The last but one is how `cc` tells that it proves nothing; the last is said where a definition that counts each field lacks a new one.
+GOAL = re.compile(
+    r"it is not proved that|`search` found no proof|`(omega|search|grind|simp)`:|list the missing equation|which this pattern leaves out"
+)
 
 
 class Edit:

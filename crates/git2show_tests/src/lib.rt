@@ -1,6 +1,6 @@
 //! Tests that need code: memory that is refused, and given back, packs that come in parts or fail, readers and writers that fail or are
-//! asked when they were flushed, bytes of a pack as they pass, many packets and prefixes at once, and the names and texts of
-//! faults. What a text can tell is a case of `worked_conversations`.
+//! asked when they were flushed, what a repository is asked, bytes of a pack as they pass, many packets and prefixes at once, and the
+//! names and texts of faults. What a text can tell is a case of `worked_conversations`.
 #![tactic(auto)]
 
 #[cfg(test)]
@@ -29,6 +29,8 @@ mod names;
 mod packs;
 #[cfg(test)]
 mod playing_memory;
+#[cfg(test)]
+mod readiness;
 #[cfg(test)]
 mod repository_text;
 #[cfg(test)]

@@ -157,14 +157,14 @@ module _ {A : Type 0} where
       → Ran broken t h front client unused reader writer out pack progress
   ran_by {broken} {t} {h} {front} {client} {counts} {unused} {reader} {writer} {out} {pack} {progress} lines packed along in_turn read said told sent
       reported = record {
-    stands = along.stands;
-    in_turn = in_turn;
-    read = read;
-    said = said;
-    told = subst (WrittenAs broken out) (all_told (can_ask client) h lines counts along.told) told;
-    sent = subst (WrittenAs broken pack) along.pack_is sent;
-    reported = reported;
-  }
+        stands = along.stands;
+        in_turn = in_turn;
+        read = read;
+        said = said;
+        told = subst (WrittenAs broken out) (all_told (can_ask client) h lines counts along.told) told;
+        sent = subst (WrittenAs broken pack) along.pack_is sent;
+        reported = reported;
+      }
 
   pub ran : {broken : Bool} {t : Terms} {front : List (Request A)} {client : Client A} {counts : Counts} {unused : List ℕ}
       {reader writer out pack progress : Flow} → (r : Running broken t front client counts unused reader writer out pack progress)
