@@ -14,7 +14,8 @@ use Rattle.git_pkt.specs.declared.reader.BandFed.{BandFed}
 use Rattle.git_pkt.specs.declared.reader.BandGot.{BandGot}
 use Rattle.git_pkt.specs.declared.reader.BandGot.TheVariants.{More, Part, Packet, Failed}
 use Rattle.git_pkt.specs.declared.progress.BandProgress.{BandProgress}
-use Rattle.git_pkt.specs.declared.progress.BandProgress.TheVariants.{Open as OpenYet, Empty as EmptyPacket, Part as PartCame, Whole as WholePacket, Failed as FailedStep}
+use Rattle.git_pkt.specs.declared.progress.BandProgress.TheVariants.{Open as OpenYet, Empty as EmptyPacket, Part as PartCame, Whole as WholePacket}
+use Rattle.git_pkt.specs.declared.progress.BandProgress.TheVariants.{Failed as FailedStep}
 
 -- an open packet that `feed` began is on no band whose bytes pass
 abbrev pub MayPass : PacketReader → Type 0
