@@ -182,8 +182,6 @@ static void run_request(void)
 	bool first, second, third;
 
 	if (is_made(gitwire_request_new(&request, GITWIRE_FETCH, GITWIRE_SHA1, 1000), "a request")) {
-		add_without_memory(&request, "done");
-		add_without_memory(&request, "deepen 1");
 		first = add(&request, "want " ONE);
 		expect(gitwire_request_item(&request, GITWIRE_LIST_WANTS, 0, room, sizeof room).kind
 			== (first ? GITWIRE_DONE : GITWIRE_NOTHING), "a want");
@@ -195,6 +193,27 @@ static void run_request(void)
 		expect(gitwire_request_item(&request, GITWIRE_LIST_FILTERS, 0, room, sizeof room).kind
 			== (third ? GITWIRE_DONE : GITWIRE_NOTHING), "a filter");
 	}
+	gitwire_request_free(&request);
+}
+
+/* Each flag of a command, and each number, takes no memory. */
+static void run_flags(void)
+{
+	static const struct {
+		uint8_t command;
+		const char *lines[10];
+	} all[] = {
+		{ GITWIRE_LS_REFS, { "symrefs", "peel", "unborn" } },
+		{ GITWIRE_FETCH, { "done", "thin-pack", "no-progress", "include-tag", "ofs-delta", "wait-for-done", "deepen-relative",
+			"deepen 1", "deepen-since 1" } },
+		{ GITWIRE_OBJECT_INFO, { "size" } },
+	};
+	gitwire_request request = GITWIRE_NONE;
+
+	for (size_t i = 0; i < sizeof all / sizeof *all; i++)
+		if (is_made(gitwire_request_new(&request, all[i].command, GITWIRE_SHA1, 1000), "a request of flags"))
+			for (const char *const *line = all[i].lines; *line; line++)
+				add_without_memory(&request, *line);
 	gitwire_request_free(&request);
 }
 
@@ -423,7 +442,7 @@ static bool run(void (*scenario)(void), long at, bool after)
 
 int main(void)
 {
-	static void (*const scenarios[])(void) = { run_packet_reader, run_writer, run_request_reader, run_request, run_repository,
+	static void (*const scenarios[])(void) = { run_packet_reader, run_writer, run_request_reader, run_request, run_flags, run_repository,
 		run_filtered_repository, run_server, run_client, run_broken_requests, run_broken_session, run_broken_conversation };
 
 	for (size_t i = 0; i < sizeof scenarios / sizeof *scenarios; i++) {
