@@ -33,17 +33,16 @@ use Rattle.git_client.specs.Conversation.{IsConversation, HasNoted}
 use Rattle.git_client.specs.Parts.{Terms}
 use Rattle.git_client.specs.RunSteps.{AsksNext, AsksTo, HearsFrom, HearsTo, HearsWhole, no_counts, window_of}
 use Rattle.git_client.specs.Runs.{IsInterrupted}
-use Rattle.git_client.specs.Events.{pack_bytes, progress_bytes}
-use Rattle.git_client.specs.Transcript.{transcript_from, transcript_of}
+use Rattle.git_client.specs.Transcript.{transcript_of}
 use Rattle.git_client.specs.Turns.{takes_packets}
 use Rattle.git_client.specs.declared.client.Client.{Client}
 use Rattle.git_client.specs.declared.hearing.Window.{Window}
 use Rattle.git_client.specs.declared.phase.Phase.{Phase}
 use Rattle.git_client.specs.declared.phase.Phase.TheVariants.{Hearing}
-use Rattle.git_client.proofs.Alongs.{written_then, along_anew, along_asked, along_heard, counts_on}
+use Rattle.git_client.proofs.Alongs.{written_then}
 use Rattle.git_client.proofs.Carries.{is_quiet, not_left, owes_nothing}
-use Rattle.git_client.proofs.AskedInTurn.{asked_in_turn, commands_advertised, heard_in_turn}
-use Rattle.git_client.proofs.ClientRuns.{Running, Ran, ran, begins}
+use Rattle.git_client.proofs.AskedInTurn.{commands_advertised}
+use Rattle.git_client.proofs.ClientRuns.{Running, Ran, ran, begins, asks_on, hears_on, hears_whole, read_on}
 use Rattle.git_client.proofs.EventsHeard.{all_is_said, awaits_more, has_events, has_noted, is_whole, position_is}
 use Rattle.git_client.proofs.Faults.{first_fault}
 use Rattle.git2show_lib.specs.CheckFaults.{run_fault, run_result, standing_of}
@@ -59,18 +58,6 @@ use Rattle.git2show_lib.specs.declared.checking.CheckFault.TheVariants.{ReadFaul
 -- where the packets that are asked, the packs and the progress go: nowhere
 abbrev pub silent : Flow
 silent = flow None None
-
--- there all bytes count as written
-in_silence : (broken : Bool) (bytes : List ℕ) → WrittenAs broken silent bytes
-in_silence false bytes = tt
-in_silence true bytes = ([], bytes, refl, tt)
-
--- of the bytes that waited and those that came, some were used
-bytes_on : (before held after : Option (List ℕ)) (used waiting came more unused : List ℕ) → Consumes before held (used ++ waiting)
-    → Consumes held after came → waiting ++ came ≡ more ++ unused → Consumes before after ((used ++ more) ++ unused)
-bytes_on before held after used waiting came more unused first second parts =
-    subst (Consumes before after) (append_assoc used waiting came ∙ ap (λ (l : List ℕ). used ++ l) parts ∙ sym (append_assoc used more unused))
-    (Consumes-trans before held after (used ++ waiting) came first second)
 
 -- ---- where bytes of the server are due
 
@@ -134,83 +121,6 @@ none_asked : (offer : Offer) (limit : ℕ) → AreAsked offer limit [] [] [] []
 none_asked offer limit = record { packets = []; splits = record { spelled = refl; ends = none_begins_nothing }; requests = refl }
 
 module _ {A : Type 0} (t : Terms) where
-  -- ---- the steps of the client, of which the bytes that it used are known
-
-  -- more bytes were used, or a write failed while they were
-  heard_on : (broken : Bool) (front : List (Request A)) (old new : Client A) (waiting unused : List ℕ)
-      {before held after out_before out_held out_after : Option (List ℕ)}
-      → (r : Running false t front old no_counts waiting (flow before held) silent (flow out_before out_held) silent silent)
-      → wants_input old ≡ true → (step : HearsFrom broken old new waiting unused (flow held after) (flow out_held out_after) silent silent)
-      → (on : Running broken t front new step.counts unused (flow before after) silent (flow out_before out_after) silent silent)
-      × (on.h.used ≡ r.h.used ++ step.used)
-  heard_on broken front old new waiting unused {before} {held} {after} {out_before} {out_held} {out_after} r waits step =
-      let heard = step.bytes in
-      let lines = transcript_from [] 0 0 heard.events in (
-        record {
-          h = record r.h { used = r.h.used ++ step.used; events = r.h.events ++ heard.events };
-          lines = r.lines ++ lines;
-          packed = r.packed ++ pack_bytes heard.events;
-          along = along_heard r.along waits heard;
-          stays = r.stays;
-          in_turn = heard_in_turn t r.h.asked r.h.used step.used r.h.events heard.events front r.in_turn;
-          read = bytes_on before held after r.h.used waiting step.came step.used unused r.read step.read step.parts;
-          said = in_silence broken r.h.given;
-          told = written_then broken out_before out_held out_after r.lines lines r.told (heard.told (counts_on r.along heard.hears));
-          sent = in_silence broken (r.packed ++ pack_bytes heard.events);
-          reported = in_silence broken (progress_bytes (r.h.events ++ heard.events));
-        },
-        refl,
-      )
-
-  -- a response was heard whole: at the next one the client counts from nothing
-  heard_whole : (front : List (Request A)) (old new : Client A) (waiting : List ℕ) (window : Window) (piece : List ℕ)
-      {before held after out_before out_held out_after : Option (List ℕ)}
-      → (r : Running false t front old no_counts waiting (flow before held) silent (flow out_before out_held) silent silent)
-      → wants_input old ≡ true → (step : HearsWhole window old new waiting piece (flow held after) (flow out_held out_after) silent silent)
-      → (on : Running false t front new no_counts (window_of window piece) (flow before after) silent (flow out_before out_after) silent silent)
-      × (on.h.used ≡ r.h.used ++ step.hears.used)
-  heard_whole front old new waiting window piece r waits step =
-      let (on, grown) = heard_on false front old new waiting (window_of window piece) r waits step.hears in (
-        record {
-          h = on.h;
-          lines = on.lines;
-          packed = on.packed;
-          along = along_anew on.along step.can_ask_on;
-          stays = on.stays;
-          in_turn = on.in_turn;
-          read = on.read;
-          said = on.said;
-          told = on.told;
-          sent = on.sent;
-          reported = on.reported;
-        },
-        grown,
-      )
-
-  -- a request was asked, or a write failed while it was
-  asked_on : (broken : Bool) (front : List (Request A)) (old new : Client A) (request : Request A) (unused : List ℕ)
-      {responses : Flow} {out_before out_held out_after : Option (List ℕ)}
-      → (r : Running false t front old no_counts unused responses silent (flow out_before out_held) silent silent)
-      → can_ask old ≡ true → AsksNext broken old new request silent (flow out_held out_after)
-      → (on : Running broken t (front ++ request ∷ []) new no_counts unused responses silent (flow out_before out_after) silent silent)
-      × (on.h.used ≡ r.h.used)
-  asked_on broken front old new request unused {responses} {out_before} {out_held} {out_after} r ready step = (
-    record {
-      h = record r.h { asked = r.h.asked ++ asked_of request ∷ []; given = r.h.given ++ step.given };
-      lines = _;
-      packed = r.packed;
-      along = along_asked r.along ready step;
-      stays = r.stays;
-      in_turn = asked_in_turn t r.h old front request r.along.stands ready step.passes r.in_turn;
-      read = r.read;
-      said = in_silence broken (r.h.given ++ step.given);
-      told = written_then broken out_before out_held out_after r.lines _ r.told step.told;
-      sent = in_silence broken r.packed;
-      reported = in_silence broken (progress_bytes r.h.events);
-    },
-    refl,
-  )
-
   module _ (limit : ℕ) where
     -- ---- how a check stands
 
@@ -250,7 +160,7 @@ module _ {A : Type 0} (t : Terms) where
     reads_on {asked} {more} {old} {new} {waiting} {unused} {before} {held} {after} r step = record {
       used = r.used ++ step.used;
       has_read = step.reads r.used asked r.has_read;
-      read = bytes_on before held after r.used waiting step.came step.used unused r.read step.read step.parts;
+      read = read_on before held after r.used waiting step.came step.used unused r.read step.read step.parts;
       limit_is = step.limit ∙ r.limit_is;
     }
 
@@ -305,7 +215,7 @@ module _ {A : Type 0} (t : Terms) where
         → HasRead [] [] stream → offer_of stream ≡ noted_offer (caps_of new) t.format → limit_of stream ≡ limit
         → Checking new stream [] (window_of window piece) (flow requests requests) (flow before after) (flow out_before out_after)
     advertised old new stream window piece {requests} a due heard reads offers kept =
-        let (on, grown) = heard_whole [] old new [] window piece a.runs due heard in
+        let (on, grown) = hears_whole t [] old new [] window piece a.runs due heard in
         let stands = on.along.stands in
         record {
           front = [];
@@ -335,7 +245,7 @@ module _ {A : Type 0} (t : Terms) where
         let asked = map asked_of c.front ++ asked_of request ∷ [] in
         let reading = reads_on c.reading step.reads in
         let (left, rest, are_asked, (nothing, none)) = step.alone reading.used asked reading.has_read in
-        let (on, same) = asked_on broken c.front old new request waiting c.runs c.ready asks in
+        let (on, same) = asks_on t broken c.front old new request no_counts waiting c.runs c.ready asks in
         record {
           found = found_in reading left rest;
           offer = offer_of next;
@@ -358,8 +268,8 @@ module _ {A : Type 0} (t : Terms) where
         → wants_input middle ≡ true → HearsWhole window middle new waiting piece (flow heard heard_after) (flow out_asked out_after) silent silent
         → Checking new next later (window_of window piece) (flow before after) (flow heard_before heard_after) (flow out_before out_after)
     response_heard old middle new stream next request ended held later waiting window piece {before} {left} {after} c step asks due heard =
-        let (asked, same) = asked_on false c.front old middle request waiting c.runs c.ready asks in
-        let (on, grown) = heard_whole (c.front ++ request ∷ []) middle new waiting window piece asked due heard in
+        let (asked, same) = asks_on t false c.front old middle request no_counts waiting c.runs c.ready asks in
+        let (on, grown) = hears_whole t (c.front ++ request ∷ []) middle new waiting window piece asked due heard in
         record {
           front = c.front ++ request ∷ [];
           runs = on;
@@ -427,7 +337,7 @@ module _ (A : Type 0) (t : Terms) (limit : ℕ) {Q R : Type 0} (of_requests : To
         → EndsAs A t a.offer limit result (standing_of of_requests) (standing_of of_responses) unused h a.found)
         → CheckEnds result requests (flow before after) (flow out_before out_after)
     heard_up_to result unused step ended =
-        let (on, grown) = heard_on t (is_broken (run_result result)) front old new waiting unused a.runs due step in
+        let (on, grown) = hears_on t (is_broken (run_result result)) front old new waiting unused a.runs due step in
         let all_asked : AreAllAsked on.h a.found =
         record { asked = a.asked ∙ sym on.in_turn.are; nothing_left = a.nothing_left; no_rest = a.no_rest } in
         ends result a.found a.offer on.h front new unused _ _ _ a.read (ran on)

@@ -23,7 +23,7 @@ use Rattle.git_client.specs.Turns.{takes_packets, fault_in, is_ready}
 use Rattle.git_client.specs.Client.{History, Converses, Leaves, nothing_yet, ask_checks, caps_of, ending_of, can_ask, fault_of, wants_input}
 use Rattle.git_client.specs.Client.{left_to_say, phase_of, request_of}
 use Rattle.git_pkt.specs.Streams.{Flow, flow, WrittenAs, Moves, is_broken}
-use Rattle.git_client.specs.RunSteps.{HearsFrom, HearsTo, Says, AsksNext, AsksTo, FaultsInTime, no_counts}
+use Rattle.git_client.specs.RunSteps.{HearsFrom, HearsTo, HearsWhole, Says, AsksNext, AsksTo, FaultsInTime, no_counts, window_of}
 use Rattle.git_client.specs.Runs.{leaves_last, HasSaid, IsBrokenRun, IsInterrupted, IsWholeRun, EndsAs, Conversed}
 use Rattle.git_client.specs.declared.phase.Phase.{Phase}
 use Rattle.git_client.specs.declared.phase.Phase.TheVariants.{Hearing, Ready, Failed}
@@ -31,6 +31,7 @@ use Rattle.git_client.specs.declared.client.Client.{Client}
 use Rattle.git_client.specs.declared.events.Ending.{Ending}
 use Rattle.git_client.specs.declared.events.Ending.TheVariants.{FlushOnly, ResponseEnd}
 use Rattle.git_client.specs.declared.hearing.Counts.{Counts}
+use Rattle.git_client.specs.declared.hearing.Window.{Window}
 use Rattle.git_client.proofs.Alongs.{written_nothing, written_then, written_whole, in_part, in_time_where_sound, in_time_where_told}
 use Rattle.git_client.proofs.Alongs.{IsTold, Along, along_anew, along_asked, along_begun, along_heard, counts_on}
 use Rattle.git_client.proofs.Counting.{progress_bytes-append}
@@ -57,7 +58,7 @@ quiet_where_failed phase fault e = absurd (cc)
 -- ---- what was read and written
 
 -- of the bytes that waited and those that came, some were used
-read_on : (before held after : Option (List ℕ)) (used waiting came more unused : List ℕ) → Consumes before held (used ++ waiting)
+pub read_on : (before held after : Option (List ℕ)) (used waiting came more unused : List ℕ) → Consumes before held (used ++ waiting)
     → Consumes held after came → waiting ++ came ≡ more ++ unused → Consumes before after ((used ++ more) ++ unused)
 read_on before held after used waiting came more unused first second parts =
     subst (Consumes before after) (append_assoc used waiting came ∙ ap (λ (l : List ℕ). used ++ l) parts ∙ sym (append_assoc used more unused))
@@ -192,74 +193,91 @@ module _ {A : Type 0} where
       reported = written_nothing progress;
     }
 
-    -- at the next response a client that can ask counts from nothing
-    pub counts_anew : (front : List (Request A)) (client : Client A) (counts : Counts) (unused : List ℕ) {reader writer out pack progress : Flow}
-        → can_ask client ≡ true → Running false t front client counts unused reader writer out pack progress
-        → Running false t front client no_counts unused reader writer out pack progress
-    counts_anew front client counts unused ready r = record {
-      h = r.h;
-      lines = r.lines;
-      packed = r.packed;
-      along = along_anew r.along ready;
-      stays = r.stays;
-      in_turn = r.in_turn;
-      read = r.read;
-      said = r.said;
-      told = r.told;
-      sent = r.sent;
-      reported = r.reported;
-    }
-
     -- a request was asked, or a write failed while it was
     pub asks_on : (broken : Bool) (front : List (Request A)) (old new : Client A) (request : Request A) (counts : Counts) (unused : List ℕ)
         {reader pack progress : Flow} {writer_before writer_held writer_after out_before out_held out_after : Option (List ℕ)}
-        → Running false t front old counts unused reader (flow writer_before writer_held) (flow out_before out_held) pack progress
+        → (r : Running false t front old counts unused reader (flow writer_before writer_held) (flow out_before out_held) pack progress)
         → can_ask old ≡ true → AsksNext broken old new request (flow writer_held writer_after) (flow out_held out_after)
-        → Running broken t (front ++ request ∷ []) new no_counts unused reader (flow writer_before writer_after) (flow out_before out_after) pack progress
+        → (on : Running broken t (front ++ request ∷ []) new no_counts unused reader (flow writer_before writer_after) (flow out_before out_after) pack
+        progress) × (on.h.used ≡ r.h.used)
     asks_on broken front old new request counts unused {reader} {pack} {progress} {writer_before = w0} {writer_held = w1} {writer_after = w2}
-        {out_before = o0} {out_held = o1} {out_after = o2} r ready step = record {
-          h = record r.h { asked = r.h.asked ++ asked_of request ∷ []; given = r.h.given ++ step.given };
-          lines = _;
-          packed = r.packed;
-          along = along_asked r.along ready step;
-          stays = r.stays;
-          in_turn = asked_in_turn t r.h old front request r.along.stands ready step.passes r.in_turn;
-          read = r.read;
-          said = written_then broken w0 w1 w2 r.h.given step.given r.said step.said;
-          told = written_then broken o0 o1 o2 r.lines _ r.told step.told;
-          sent = written_whole broken pack r.packed r.sent;
-          reported = written_whole broken progress (progress_bytes r.h.events) r.reported;
-        }
+        {out_before = o0} {out_held = o1} {out_after = o2} r ready step = (
+          record {
+            h = record r.h { asked = r.h.asked ++ asked_of request ∷ []; given = r.h.given ++ step.given };
+            lines = _;
+            packed = r.packed;
+            along = along_asked r.along ready step;
+            stays = r.stays;
+            in_turn = asked_in_turn t r.h old front request r.along.stands ready step.passes r.in_turn;
+            read = r.read;
+            said = written_then broken w0 w1 w2 r.h.given step.given r.said step.said;
+            told = written_then broken o0 o1 o2 r.lines _ r.told step.told;
+            sent = written_whole broken pack r.packed r.sent;
+            reported = written_whole broken progress (progress_bytes r.h.events) r.reported;
+          },
+          refl,
+        )
 
     -- bytes were heard, or a write failed while they were
     pub hears_on : (broken : Bool) (front : List (Request A)) (old new : Client A) (waiting unused : List ℕ)
         {writer : Flow} {left_before left left_after out_before out_held out_after pack_before pack_held pack_after : Option (List ℕ)}
         {progress_before progress_held progress_after : Option (List ℕ)}
-        → Running false t front old no_counts waiting (flow left_before left) writer (flow out_before out_held) (flow pack_before pack_held)
-        (flow progress_before progress_held)
+        → (r : Running false t front old no_counts waiting (flow left_before left) writer (flow out_before out_held) (flow pack_before pack_held)
+        (flow progress_before progress_held))
         → wants_input old ≡ true
         → (step : HearsFrom broken old new waiting unused (flow left left_after) (flow out_held out_after) (flow pack_held pack_after)
         (flow progress_held progress_after))
-        → Running broken t front new step.counts unused (flow left_before left_after) writer (flow out_before out_after) (flow pack_before pack_after)
-        (flow progress_before progress_after)
+        → (on : Running broken t front new step.counts unused (flow left_before left_after) writer (flow out_before out_after) (flow pack_before pack_after)
+        (flow progress_before progress_after)) × (on.h.used ≡ r.h.used ++ step.used)
     hears_on broken front old new waiting unused {writer} {left_before = r0} {left = r1} {left_after = r2} {out_before = o0} {out_held = o1} {out_after = o2}
         {pack_before = p0} {pack_held = p1} {pack_after = p2} {progress_before = q0} {progress_held = q1} {progress_after = q2} r waits step =
         let heard = step.bytes in
-        let lines = transcript_from [] 0 0 heard.events in
-        record {
-          h = record r.h { used = r.h.used ++ step.used; events = r.h.events ++ heard.events };
-          lines = r.lines ++ lines;
-          packed = r.packed ++ pack_bytes heard.events;
-          along = along_heard r.along waits heard;
-          stays = r.stays;
-          in_turn = heard_in_turn t r.h.asked r.h.used step.used r.h.events heard.events front r.in_turn;
-          read = read_on r0 r1 r2 r.h.used waiting step.came step.used unused r.read step.read step.parts;
-          said = written_whole broken writer r.h.given r.said;
-          told = written_then broken o0 o1 o2 r.lines lines r.told (heard.told (counts_on r.along heard.hears));
-          sent = written_then broken p0 p1 p2 r.packed (pack_bytes heard.events) r.sent heard.sent;
-          reported = subst (WrittenAs broken (flow q0 q2)) (sym (progress_bytes-append r.h.events heard.events))
-              (written_then broken q0 q1 q2 (progress_bytes r.h.events) (progress_bytes heard.events) r.reported heard.reported);
-        }
+        let lines = transcript_from [] 0 0 heard.events in (
+          record {
+            h = record r.h { used = r.h.used ++ step.used; events = r.h.events ++ heard.events };
+            lines = r.lines ++ lines;
+            packed = r.packed ++ pack_bytes heard.events;
+            along = along_heard r.along waits heard;
+            stays = r.stays;
+            in_turn = heard_in_turn t r.h.asked r.h.used step.used r.h.events heard.events front r.in_turn;
+            read = read_on r0 r1 r2 r.h.used waiting step.came step.used unused r.read step.read step.parts;
+            said = written_whole broken writer r.h.given r.said;
+            told = written_then broken o0 o1 o2 r.lines lines r.told (heard.told (counts_on r.along heard.hears));
+            sent = written_then broken p0 p1 p2 r.packed (pack_bytes heard.events) r.sent heard.sent;
+            reported = subst (WrittenAs broken (flow q0 q2)) (sym (progress_bytes-append r.h.events heard.events))
+                (written_then broken q0 q1 q2 (progress_bytes r.h.events) (progress_bytes heard.events) r.reported heard.reported);
+          },
+          refl,
+        )
+
+    -- a response was heard whole: at the next one the client counts from nothing
+    pub hears_whole : (front : List (Request A)) (old new : Client A) (waiting : List ℕ) (window : Window) (piece : List ℕ)
+        {writer : Flow} {left_before left left_after out_before out_held out_after pack_before pack_held pack_after : Option (List ℕ)}
+        {progress_before progress_held progress_after : Option (List ℕ)}
+        → (r : Running false t front old no_counts waiting (flow left_before left) writer (flow out_before out_held) (flow pack_before pack_held)
+        (flow progress_before progress_held))
+        → wants_input old ≡ true
+        → (step : HearsWhole window old new waiting piece (flow left left_after) (flow out_held out_after) (flow pack_held pack_after)
+        (flow progress_held progress_after))
+        → (on : Running false t front new no_counts (window_of window piece) (flow left_before left_after) writer (flow out_before out_after)
+        (flow pack_before pack_after) (flow progress_before progress_after)) × (on.h.used ≡ r.h.used ++ step.hears.used)
+    hears_whole front old new waiting window piece r waits step =
+        let (on, grown) = hears_on false front old new waiting (window_of window piece) r waits step.hears in (
+          record {
+            h = on.h;
+            lines = on.lines;
+            packed = on.packed;
+            along = along_anew on.along step.can_ask_on;
+            stays = on.stays;
+            in_turn = on.in_turn;
+            read = on.read;
+            said = on.said;
+            told = on.told;
+            sent = on.sent;
+            reported = on.reported;
+          },
+          grown,
+        )
 
     -- the conversation was left, or a write failed while it was
     pub leaves_on : (broken : Bool) (front : List (Request A)) (old mid new : Client A) (counts : Counts) (unused : List ℕ)
@@ -414,15 +432,15 @@ module _ {A : Type 0} (t : Terms) where
           → RunEnds (Err fault) ended new (flow left_before left_after) writer (flow out_before out_after) (flow pack_before pack_after)
           (flow progress_before progress_after)
       hearing_stopped ReadFault ended old new waiting piece r waits step =
-          let on = hears_on t false front old new waiting [] r waits step.hears in
+          let on = (hears_on t false front old new waiting [] r waits step.hears).0 in
           moves (Err ReadFault) ended on.h new [] (ran on) (interrupted on.h new on.along.stands step.due) (due_in_time ended new step.due)
       hearing_stopped WriteFault ended old new waiting piece r waits step =
-          breaks_off ended new step.hears.counts step.unused step.timely (hears_on t true front old new waiting step.unused r waits step.hears)
+          breaks_off ended new step.hears.counts step.unused step.timely (hears_on t true front old new waiting step.unused r waits step.hears).0
       hearing_stopped ReadLimit ended old new waiting piece r waits step =
-          let on = hears_on t false front old new waiting [] r waits step.hears in
+          let on = (hears_on t false front old new waiting [] r waits step.hears).0 in
           moves (Err ReadLimit) ended on.h new [] (ran on) (interrupted on.h new on.along.stands step.due) (due_in_time ended new step.due)
       hearing_stopped (Refused fault) ended old new waiting piece r waits step =
-          let on = hears_on t false front old new waiting step.unused r waits step.hears in
+          let on = (hears_on t false front old new waiting step.unused r waits step.hears).0 in
           let quiet = quiet_where_failed (phase_of new) fault step.told in
           moves (Err (Refused fault)) ended on.h new step.unused (ran on) (
             inl (record { first = first_fault t on.h new fault on.along.stands step.told; timely = step.timely }),
@@ -440,7 +458,7 @@ module _ {A : Type 0} (t : Terms) where
     asking_stopped ReadFault ended front later request old new counts unused split ready r step = absurd step
     asking_stopped WriteFault ended front later request old new counts unused split ready r step =
         breaks_off (front ++ request ∷ []) later (split ∙ sym (append_assoc front (request ∷ []) later)) ended new no_counts unused
-        (in_time_where_sound new ended unused step.sound) (asks_on t true front old new request counts unused r ready step)
+        (in_time_where_sound new ended unused step.sound) (asks_on t true front old new request counts unused r ready step).0
     asking_stopped ReadLimit ended front later request old new counts unused split ready r step = absurd step
     asking_stopped (Refused fault) ended front later request old new counts unused {reader} {pack} {progress} {writer_before = w0} {writer_held = w1}
         {writer_after = w2} {out_before = o0} {out_held = o1} {out_after = o2} split ready r step =

@@ -14,7 +14,7 @@ use Rattle.git_client.specs.contracts.events.Ending.{the_type}
 use Rattle.git_client.specs.Client.{ending_of}
 use Rattle.git_pkt.specs.Streams.{flow, is_broken}
 use Rattle.git_client.specs.RunSteps.{Says, no_counts, window_of}
-use Rattle.git_client.proofs.ClientRuns.{RunEnds, begins, counts_anew, asks_on, hears_on, ends_at, ends_at_write, breaks_unflushed}
+use Rattle.git_client.proofs.ClientRuns.{RunEnds, begins, asks_on, hears_whole, ends_at, ends_at_write, breaks_unflushed}
 use Rattle.git_client.proofs.ClientRuns.{hearing_stopped, asking_stopped, stays_to_the_end, leaving_stopped, leaves_at_the_end}
 use Rattle.git_client.proofs.ClientRuns.{fails_at, shown_at, flush_fails, flush_shows, sound_last, sound_first}
 use Rattle.git_client.proofs.HandedBack.{back_at, back_unwritten, back_written, back_from_hearing, back_from_asking}
@@ -59,14 +59,12 @@ returns-in_err-waiting-clause-conversed g c =
 pub loop-request-init : goal.loop-request-init
 loop-request-init g c =
     let heard = c.in_ok-waiting.ensures.heard in
-    let unused = window_of c.in_ok-waiting.waiting c.hear.new.piece in
     record {
       runs = λ t begun.
-          counts_anew t [] c.hear.new.client heard.hears.counts unused heard.can_ask_on
-          (hears_on t false [] c.args.client.now c.hear.new.client [] unused
+          (hears_whole t [] c.args.client.now c.hear.new.client [] c.in_ok-waiting.waiting c.hear.new.piece
           (begins t c.args.client.now (g.R.Read.remaining (inner_of c.args.reader.now)) (g.W.Write.contents (inner_of c.args.writer.now))
           (g.W.Write.contents (inner_of c.flush.new.writer)) (g.O.Write.contents (inner_of c.args.out.now)) (g.P.Write.contents (inner_of c.args.pack.now))
-          (g.E.Output.contents c.args.progress.now) c.requires.waits begun c.flush.ensures.bytes) c.requires.waits heard.hears);
+          (g.E.Output.contents c.args.progress.now) c.requires.waits begun c.flush.ensures.bytes) c.requires.waits heard).0;
       ready = heard.can_ask_on;
       left_to_ask = sym c.into_iter-request-iterator.ensures.into_iter_gives.0;
       counted = search rules;
@@ -129,7 +127,7 @@ returns-in_err-waiting-2-clause-conversed g c =
     (one_more c.args.requests.items at.yielded (into_iter_items at.request-iterator) later request at.invariant.left_to_ask c.in-Some.ensures.steps.0)
     c.in_err-waiting-2.field-0.0 _ c.ask_next.new.client c.hear-in-loop-request.new.client (window_of at.waiting at.piece) c.hear-in-loop-request.new.piece
     (asks_on t false at.yielded at.client c.ask_next.new.client request no_counts (window_of at.waiting at.piece) (at.invariant.runs t begun)
-    at.invariant.ready c.in_ok-ask_next.ensures.asked.0) c.in_ok-ask_next.ensures.asked.1 c.in_err-waiting-2.ensures.heard)
+    at.invariant.ready c.in_ok-ask_next.ensures.asked.0).0 c.in_ok-ask_next.ensures.asked.1 c.in_err-waiting-2.ensures.heard)
 
 pub returns-in_err-waiting-2-clause-fault : goal.returns-in_err-waiting-2-clause-fault
 returns-in_err-waiting-2-clause-fault g c =
@@ -153,13 +151,12 @@ loop-request-preserved g c =
     let later = into_iter_items c.next.new.self in
     let heard = c.in_ok-waiting-2.ensures.heard in
     let waiting = window_of at.waiting at.piece in
-    let unused = window_of c.in_ok-waiting-2.waiting c.hear-in-loop-request.new.piece in
     record {
       runs = λ t begun.
-          counts_anew t (at.yielded ++ request ∷ []) c.hear-in-loop-request.new.client heard.hears.counts unused heard.can_ask_on
-          (hears_on t false (at.yielded ++ request ∷ []) c.ask_next.new.client c.hear-in-loop-request.new.client waiting unused
+          (hears_whole t (at.yielded ++ request ∷ []) c.ask_next.new.client c.hear-in-loop-request.new.client waiting
+          c.in_ok-waiting-2.waiting c.hear-in-loop-request.new.piece
           (asks_on t false at.yielded at.client c.ask_next.new.client request no_counts waiting (at.invariant.runs t begun)
-          at.invariant.ready c.in_ok-ask_next.ensures.asked.0) c.in_ok-ask_next.ensures.asked.1 heard.hears);
+          at.invariant.ready c.in_ok-ask_next.ensures.asked.0).0 c.in_ok-ask_next.ensures.asked.1 heard).0;
       ready = heard.can_ask_on;
       left_to_ask =
           one_more c.args.requests.items at.yielded (into_iter_items at.request-iterator) later request at.invariant.left_to_ask c.in-Some.ensures.steps.0;
