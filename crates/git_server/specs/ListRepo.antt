@@ -1,27 +1,36 @@
 -- What a clause sees of a `ListRepo`.
-use Rattle.std.specs.Prelude.{◌≡◌, ◌<◌, ℕ, Bool, true, false, List, Option, Some, None, filter, length, unwrap_or, if◌then◌else◌}
+use Rattle.std.specs.Prelude.{◌≡◌, ◌<◌, ℕ, Bool, true, false, List, Option, Some, None, Vec, filter, length, unwrap_or, if◌then◌else◌}
 use Rattle.std.proofs.Common.{refl}
 use Rattle.std.specs.Option.{ForSome}
 use Rattle.git_server.specs.declared.list_repo.ListRepo.{ListRepo}
+use Rattle.git_names.specs.ObjectName.{ObjectName}
+use Rattle.git_names.specs.declared.object_format.Format.{Format}
 use Rattle.git_msg.specs.Asked.{FetchAsked, is_empty}
+use Rattle.git_msg.specs.declared.Boundary.{Boundary}
 use Rattle.git_server.specs.BoundaryLaws.{told_keep, told_unshallow}
-use Rattle.git_server.specs.Repository.{IsSound, RepoState, bytes_of}
+use Rattle.git_server.specs.Repository.{Entry, IsSound, RepoState, bytes_of}
 use Rattle.git_server.specs.Lists.{Lists, pack_for}
 use Rattle.git_server.specs.Objects.{has_object, object_of, size_among}
 use Rattle.git_server.specs.ToldBoundary.{boundary_for, is_enough}
 
+module _ {A : Type 0} where
+  -- the lists that vectors have
+  abbrev pub lists_from : Format → Vec Entry A → Vec (ObjectName × ℕ) A → Option ℕ → Vec Boundary A → Vec ℕ A → Option (Vec ℕ A)
+      → Option (Vec ℕ A) → Lists
+  lists_from format refs objects ready_after boundaries pack unborn filtered = record {
+    format = format;
+    refs = refs.items;
+    objects = objects.items;
+    ready_after = ready_after;
+    boundaries = boundaries.items;
+    pack = pack.items;
+    unborn = bytes_of unborn;
+    filtered = bytes_of filtered;
+  }
+
 -- the lists that it is made of
 abbrev pub lists_of : ListRepo → Lists
-lists_of repo = record {
-  format = repo.format;
-  refs = repo.refs.items;
-  objects = repo.objects.items;
-  ready_after = repo.ready_after;
-  boundaries = repo.boundaries.items;
-  pack = repo.pack.items;
-  unborn = bytes_of repo.unborn;
-  filtered = bytes_of repo.filtered;
-}
+lists_of repo = lists_from repo.format repo.refs repo.objects repo.ready_after repo.boundaries repo.pack repo.unborn repo.filtered
 
 -- what it answers: none of its reads fails
 abbrev pub state_of : ListRepo → RepoState

@@ -73,7 +73,7 @@ pub struct ListRepo {
 
 impl ListRepo {
     ghost use Rattle.git_server.specs.Lists.{IsRepository, IsUnfit, Lists, pack_for};
-    ghost use Rattle.git_server.specs.ListRepo.{lists_of};
+    ghost use Rattle.git_server.specs.ListRepo.{lists_from, lists_of};
 
     /// The repository with these references, these objects with their sizes in bytes, this shallow boundary and
     /// this pack for each request, or where `filtered` is there, that for each request that has a filter. It is ready
@@ -94,16 +94,7 @@ impl ListRepo {
         unborn: Option<Vec<u8>>,
         filtered: Option<Vec<u8>>,
     ) -> Result<ListRepo, RepoFault>
-        ensures { let lists : Lists = record {
-          format = format;
-          refs = refs.items;
-          objects = objects.items;
-          ready_after = ready_after;
-          boundaries = boundaries.items;
-          pack = pack.items;
-          unborn = bytes_of unborn;
-          filtered = bytes_of filtered;
-        } in
+        ensures { let lists : Lists = lists_from format refs objects ready_after boundaries pack unborn filtered in
             MatchResult result (λ repo. (lists_of repo ≡ lists) × IsRepository lists) (λ fault. IsUnfit fault lists) }
     {
         if !are_sorted_refs(&refs) {
@@ -144,29 +135,9 @@ impl ListRepo {
         unborn: Option<Vec<u8>>,
         filtered: Option<Vec<u8>>,
     ) -> ListRepo
-        requires fit { let lists : Lists = record {
-          format = format;
-          refs = refs.items;
-          objects = objects.items;
-          ready_after = ready_after;
-          boundaries = boundaries.items;
-          pack = pack.items;
-          unborn = bytes_of unborn;
-          filtered = bytes_of filtered;
-        } in
-            IsRepository lists }
+        requires fit { IsRepository (lists_from format refs objects ready_after boundaries pack unborn filtered) }
         requires named { All (λ ref. IsNamed ref.name ref.target) refs.items }
-        ensures { let lists : Lists = record {
-          format = format;
-          refs = refs.items;
-          objects = objects.items;
-          ready_after = ready_after;
-          boundaries = boundaries.items;
-          pack = pack.items;
-          unborn = bytes_of unborn;
-          filtered = bytes_of filtered;
-        } in
-            lists_of result ≡ lists }
+        ensures { lists_of result ≡ lists_from format refs objects ready_after boundaries pack unborn filtered }
     {
         ListRepo {
             format,
