@@ -28,3 +28,4 @@ pub mod PlayAsking
 pub mod PlayMeeting
 pub mod PlayServers
 pub mod PlayOpening
+pub mod ScriptValues

@@ -1,8 +1,8 @@
 //! What follows from the definitions of a script's text alone.
 
-ghost use Rattle.std.specs.Prelude.{◌≡◌, ℕ, List};
+ghost use Rattle.std.specs.Prelude.{◌≡◌, ℕ, List, All};
 ghost use Rattle.git_msg.specs.declared.offers.Offer.{Offer};
-ghost use Rattle.git_msg.specs.Asked.{Asked};
+ghost use Rattle.git_msg.specs.Asked.{Asked, HasValues};
 ghost use Rattle.git_msg.specs.Kept.{Kept};
 ghost use Rattle.git_repository.specs.RepositoryLines.{lines_of};
 ghost use Rattle.git2show_lib.specs.Scripts.{HasBadScriptLine, IsScript};
@@ -23,4 +23,10 @@ pub fn script_or_bad()
 pub fn one_bad_script_line()
     ensures { (offer : Offer) (limit : ℕ) (text : List ℕ) (number other : ℕ) → HasBadScriptLine offer limit (lines_of text) number
         → HasBadScriptLine offer limit (lines_of text) other → number ≡ other }
+{}
+
+/// Each request of a script has values that may stand in a request of its command and format, as what is played has to.
+pub fn script_requests_have_values()
+    ensures { (offer : Offer) (limit : ℕ) (text : List ℕ) (requests : List (Kept Asked)) → IsScript offer limit text requests
+        → All (λ request. HasValues request.format request.asked) requests }
 {}

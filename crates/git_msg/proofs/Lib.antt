@@ -36,3 +36,4 @@ pub mod PooledTexts
 pub mod TextOrder
 pub mod PrefixOrder
 mod PrunedRequests
+pub mod AskedValues

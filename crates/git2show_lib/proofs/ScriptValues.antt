@@ -1,0 +1,51 @@
+-- Each request of a script has values that may stand in it.
+use Rattle.std.proofs.Common.{◌≡◌, ℕ, List, [], ◌∷◌, Option, Some, refl, sym, subst, All}
+use Rattle.std.proofs.lemmas.List.Elements.{All-cons, All-nil}
+use Rattle.git_msg.specs.declared.offers.Offer.{Offer}
+use Rattle.git_msg.specs.declared.arguments.Command.{Command}
+use Rattle.git_msg.specs.Arguments.{IsValue}
+use Rattle.git_msg.specs.Asked.{Asked, HasValues}
+use Rattle.git_msg.specs.Kept.{Kept}
+use Rattle.git_msg.proofs.AskedValues.{asked_has_values, says_value}
+use Rattle.git_repository.specs.RepositoryLines.{lines_of}
+use Rattle.git2show_lib.specs.Scripts.{ScriptLine, blank, command, argument, FollowAll, IsArgumentAfter, IsScript, arguments_upto, open_after, requests_in}
+
+-- the same command is open
+one_open : (c d : Command) (asked : Option Command) → asked ≡ Some c → asked ≡ Some d → c ≡ d
+one_open c d asked h k = cc
+
+module _ (offer : Offer) (limit : ℕ) where
+  abbrev Has : Kept Asked → Type 0
+  Has q = HasValues q.format q.asked
+
+  -- the arguments of the request that is open may stand in it
+  values_upto : (c : Command) (before : List ScriptLine) (texts : List (List ℕ)) (lines : List ScriptLine) → FollowAll offer limit before texts lines
+      → open_after before ≡ Some c → All (IsValue c offer.format) (arguments_upto lines)
+  values_upto c before [] [] h is = All-nil (IsValue c offer.format)
+  values_upto c before (text ∷ texts) [] h is = All-nil (IsValue c offer.format)
+  values_upto c before [] (line ∷ lines) h is = absurd h
+  values_upto c before (text ∷ texts) (blank ∷ lines) h is = All-nil (IsValue c offer.format)
+  values_upto c before (text ∷ texts) (command d ∷ lines) h is = All-nil (IsValue c offer.format)
+  values_upto c before (text ∷ texts) (argument arg ∷ lines) h is =
+      let after : IsArgumentAfter offer limit before text arg = h.0 in
+      let same : after.of ≡ c = one_open after.of c (open_after before) after.is_open is in
+      let value = says_value after.of offer.format text arg after.reads.is_argument in
+      All-cons (IsValue c offer.format) arg (arguments_upto lines) (subst (λ (d : Command). IsValue d offer.format arg) same value)
+      (values_upto c (argument arg ∷ before) texts lines h.1 is)
+
+  requests_have : (before : List ScriptLine) (texts : List (List ℕ)) (lines : List ScriptLine) → FollowAll offer limit before texts lines
+      → All Has (requests_in offer.format limit lines)
+  requests_have before [] [] h = All-nil Has
+  requests_have before (text ∷ texts) [] h = All-nil Has
+  requests_have before [] (line ∷ lines) h = absurd h
+  requests_have before (text ∷ texts) (blank ∷ lines) h = requests_have (blank ∷ before) texts lines h.1
+  requests_have before (text ∷ texts) (command c ∷ lines) h =
+      All-cons Has _ (requests_in offer.format limit lines)
+      (asked_has_values c offer.format (arguments_upto lines) (values_upto c (command c ∷ before) texts lines h.1 refl))
+      (requests_have (command c ∷ before) texts lines h.1)
+  requests_have before (text ∷ texts) (argument arg ∷ lines) h = requests_have (argument arg ∷ before) texts lines h.1
+
+pub script_values : (offer : Offer) (limit : ℕ) (text : List ℕ) (requests : List (Kept Asked)) → IsScript offer limit text requests
+    → All (λ q. HasValues q.format q.asked) requests
+script_values offer limit text requests h =
+    subst (All (Has offer limit)) (sym h.requests_are) (requests_have offer limit [] (lines_of text) h.lines h.follow)
