@@ -1,12 +1,52 @@
 //! What C holds: for each of the library's values a handle that has one, or none.
 
-ghost use Rattle.std.specs.Prelude.{◌≡◌, None, MatchOption, IsSome, true};
+ghost use Rattle.std.specs.Prelude.{◌≡◌, Option, Some, None, MatchOption, IsSome, true};
+ghost use Rattle.gitwire.specs.RequestsTold.{HasOrNone};
 ghost use Rattle.gitwire.specs.Machines.{is_none_or, packet_reader_of, request_reader_of, request_of, repository_of, server_of, client_of, writer_of};
 
 use crate::held::Handle;
 use crate::machine::Machine;
+use crate::told::What;
+use git_server::{Server, SharedRepo};
 use std::alloc::Global;
 use std::mem::replace;
+
+/// What a call takes out of a handle, and the box in which it lay, so that to put it back takes no memory.
+#[derive(Drop)]
+pub(crate) struct Taken<T> {
+    pub(crate) inner: Box<T, Global>,
+    shell: Box<Machine, Global>,
+}
+
+/// A handle, which has a value of its kind or none.
+pub(crate) trait Holds: Sized {
+    type Inner: Drop;
+
+    ghost has: { Self → Option Self.Inner };
+
+    fn none(alloc: Global) -> Self
+        ensures { has result ≡ None };
+
+    /// Takes out what the handle has, which is to be put back before the call ends.
+    fn take(&mut self, alloc: Global) -> Option<Taken<Self::Inner>>
+        ensures taken { MatchOption result (has self.old ≡ None) (λ taken. has self.old ≡ Some taken.inner.value) }
+        ensures empty { has self.new ≡ None };
+
+    fn put(&mut self, taken: Taken<Self::Inner>)
+        ensures { has self.new ≡ Some taken.inner.value };
+}
+
+/// Makes what is in the box that of the handle, which had none. `Done`; or `OutOfMemory`, and it has none.
+pub(crate) fn fill<H: Holds>(handle: &mut H, alloc: Global, inner: Box<H::Inner, Global>) -> u8
+    requires { H.has handle.old ≡ None }
+    ensures { HasOrNone result inner.value (H.has handle.new) }
+{
+    let Ok(shell) = Box::new(alloc, Machine::Empty) else {
+        return What::OutOfMemory.number();
+    };
+    handle.put(Taken { inner, shell });
+    What::Done.number()
+}
 
 /// A packet reader, or none.
 #[repr(C)]
@@ -160,31 +200,33 @@ pub struct GitwireServer {
     ghost kind: { is_none_or server_of handle.held.machine ≡ true },
 }
 
-impl GitwireServer {
+impl Holds for GitwireServer {
     ghost use Rattle.gitwire.specs.Handles.{server_in};
 
-    pub(crate) fn none(alloc: Global) -> GitwireServer
-        ensures { server_in result ≡ None }
-    {
+    type Inner = Server<SharedRepo, Global>;
+
+    ghost has = { server_in };
+
+    fn none(alloc: Global) -> GitwireServer {
         GitwireServer {
             handle: Handle::none(alloc),
         }
     }
 
-    pub(crate) fn of(machine: Box<Machine, Global>) -> GitwireServer
-        requires { IsSome (server_of machine.value) }
-        ensures { server_in result ≡ server_of machine.value }
-    {
-        GitwireServer {
-            handle: Handle::of(machine),
-        }
+    fn take(&mut self, alloc: Global) -> Option<Taken<Server<SharedRepo, Global>>> {
+        let Some((machine, shell)) = replace(self, GitwireServer::none(alloc)).handle.open() else {
+            return None;
+        };
+        let Machine::Server(inner) = machine else {
+            unreachable!()
+        };
+        Some(Taken { inner, shell })
     }
 
-    pub(crate) fn into_machine(self) -> Option<Box<Machine, Global>>
-        ensures { MatchOption result (server_in self ≡ None)
-            (λ machine. (server_in self ≡ server_of machine.value) × IsSome (server_of machine.value)) }
+    fn put(&mut self, taken: Taken<Server<SharedRepo, Global>>)
+        ensures { server_in self.new ≡ Some taken.inner.value }
     {
-        self.handle.into_machine()
+        self.handle = Handle::shut(taken.shell, Machine::Server(taken.inner));
     }
 }
 

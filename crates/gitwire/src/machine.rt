@@ -17,4 +17,6 @@ pub(crate) enum Machine {
     Server(Box<Server<SharedRepo, Global>, Global>),
     Client(Box<Client<Global>, Global>),
     Writer(Box<Hold, Global>),
+    /// None of them, while a call has it.
+    Empty,
 }
