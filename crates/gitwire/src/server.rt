@@ -5,7 +5,6 @@ ghost use Rattle.gitwire.specs.Handles.{repository_in, server_in};
 ghost use Rattle.gitwire.specs.ServerTold.{BeginsOver, BeginsWithin, ClosesIn, ClosesTold, FeedsIn, FeedsTold, PullsIn, PullsInRoom, Starts};
 
 use crate::handles::{GitwireRepository, GitwireServer, Holds, fill};
-use crate::machine::Machine;
 use crate::told::{GitwireTold, What};
 use git_msg::{Limits, Offer};
 use git_names::Steps;
@@ -32,15 +31,11 @@ pub extern "C" fn gitwire_server_new(
     ensures begins { BeginsOver (repository_in repository.old) limit advertise (server_in server.old) result (server_in server.new) }
     ensures stays { repository_in repository.new ≡ repository_in repository.old }
 {
-    let taken = replace(repository, GitwireRepository::none(alloc));
-    let Some(machine) = taken.into_machine() else {
+    let Some(taken) = repository.take(alloc) else {
         return What::NoHandle.number();
     };
-    let Machine::Repository(shared) = &*machine else {
-        unreachable!()
-    };
-    let told = begin(alloc, server, shared, limit, advertise);
-    *repository = GitwireRepository::of(machine);
+    let told = begin(alloc, server, &taken.inner, limit, advertise);
+    repository.put(taken);
     told
 }
 
@@ -60,7 +55,7 @@ fn begin(
     let Some(made) = make(alloc, repo, Limits { args: limit }, advertise) else {
         return What::OutOfMemory.number();
     };
-    fill(server, alloc, made)
+    fill(server, alloc, made).number()
 }
 
 /// A server at the beginning of its session; none where memory runs out.
@@ -96,7 +91,7 @@ pub extern "C" fn gitwire_server_feed(
     let Some(mut taken) = server.take(alloc) else {
         return GitwireTold::of(What::NoHandle);
     };
-    let told = feed(&mut *taken.inner, piece);
+    let told = feed(&mut taken.inner, piece);
     server.put(taken);
     told
 }
@@ -117,7 +112,7 @@ pub extern "C" fn gitwire_server_close(alloc: Global, server: &mut GitwireServer
     let Some(mut taken) = server.take(alloc) else {
         return What::NoHandle.number();
     };
-    let told = close(&mut *taken.inner);
+    let told = close(&mut taken.inner);
     server.put(taken);
     told
 }
@@ -145,7 +140,7 @@ pub extern "C" fn gitwire_server_pull(
     let Some(mut taken) = server.take(alloc) else {
         return GitwireTold::of(What::NoHandle);
     };
-    let told = pull(&mut *taken.inner, room);
+    let told = pull(&mut taken.inner, room);
     server.put(taken);
     told
 }
