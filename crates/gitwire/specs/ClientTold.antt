@@ -1,5 +1,5 @@
 -- What C is told of a client's calls.
-use Rattle.std.specs.Prelude.{◌≡◌, ℕ, ◌+◌, ◌<◌, ◌≤◌, Bool, true, false, List, [], ◌∷◌, ◌++◌, length, take, Option, Some, None, MatchOption}
+use Rattle.std.specs.Prelude.{◌≡◌, ℕ, ◌+◌, ◌<◌, ◌≤◌, Bool, true, false, List, [], ◌∷◌, ◌++◌, length, take, Option, Some, None, MatchOption, IsSomeAnd}
 use Rattle.std.specs.Global.{Global}
 use Rattle.git_names.specs.declared.object_format.Format.{Format}
 use Rattle.git_pkt.specs.Packets.{longest_payload}
@@ -87,8 +87,7 @@ pub record FeedsInRoom (filled_with : HeardGot → List ℕ → List ℕ) (old :
 -- a handle that is fed
 abbrev pub FeedsIn : (HeardGot → List ℕ → List ℕ) → Option (Client Global) → List ℕ → List ℕ → GitwireEvent → List ℕ → Option (Client Global) → Type 0
 FeedsIn filled_with None piece room told filled new = (told ≡ telling_none 0 What.NoHandle) × (filled ≡ room) × (new ≡ None)
-FeedsIn filled_with (Some old) piece room told filled new =
-    (client : Client Global) × (new ≡ Some client) × FeedsInRoom filled_with old piece room told filled client
+FeedsIn filled_with (Some old) piece room told filled new = IsSomeAnd new (FeedsInRoom filled_with old piece room told filled)
 
 -- what C is told of what is to be done next
 abbrev pub told_of_sent : Sent → GitwireTold
@@ -119,7 +118,7 @@ pub record PullsInRoom (old : Client Global) (room : List ℕ) (told : GitwireTo
 -- a handle that is pulled from
 abbrev pub PullsIn : Option (Client Global) → List ℕ → GitwireTold → List ℕ → Option (Client Global) → Type 0
 PullsIn None room told filled new = (told ≡ telling What.NoHandle) × (filled ≡ room) × (new ≡ None)
-PullsIn (Some old) room told filled new = (client : Client Global) × (new ≡ Some client) × PullsInRoom old room told filled client
+PullsIn (Some old) room told filled new = IsSomeAnd new (PullsInRoom old room told filled)
 
 -- a request that the client takes
 pub record TakesRequest (old : Client Global) (request : Request Global) (new : Client Global) : Type 0 where
@@ -147,7 +146,7 @@ AsksTold old request told new (Some kept) = LeavesRequest old request told new k
 abbrev pub AsksIn : Option (Client Global) → Option (Request Global) → GitwireTold → Option (Client Global) → Option (Request Global) → Type 0
 AsksIn None request told new kept = (told ≡ telling What.NoHandle) × (new ≡ None) × (kept ≡ request)
 AsksIn (Some old) None told new kept = (told ≡ telling What.NoHandle) × (new ≡ Some old) × (kept ≡ None)
-AsksIn (Some old) (Some request) told new kept = (client : Client Global) × (new ≡ Some client) × AsksTold old request told client kept
+AsksIn (Some old) (Some request) told new kept = IsSomeAnd new (λ client. AsksTold old request told client kept)
 
 -- C is told whether the client leaves
 pub record LeavesTold (old : Client Global) (told : ℕ) (new : Client Global) : Type 0 where
@@ -157,7 +156,7 @@ pub record LeavesTold (old : Client Global) (told : ℕ) (new : Client Global) :
 -- a handle by which C leaves
 abbrev pub LeavesIn : Option (Client Global) → ℕ → Option (Client Global) → Type 0
 LeavesIn None told new = (told ≡ what_number What.NoHandle) × (new ≡ None)
-LeavesIn (Some old) told new = (client : Client Global) × (new ≡ Some client) × LeavesTold old told client
+LeavesIn (Some old) told new = IsSomeAnd new (LeavesTold old told)
 
 -- the input ends where more was due: at the end of the last whole packet
 pub record CutsShort (old : Client Global) (told : GitwireTold) (new : Client Global) : Type 0 where
@@ -177,7 +176,7 @@ pub record ClosesTold (old : Client Global) (told : GitwireTold) (new : Client G
 -- a handle whose input ends
 abbrev pub ClosesIn : Option (Client Global) → GitwireTold → Option (Client Global) → Type 0
 ClosesIn None told new = (told ≡ telling What.NoHandle) × (new ≡ None)
-ClosesIn (Some old) told new = (client : Client Global) × (new ≡ Some client) × ClosesTold old told client
+ClosesIn (Some old) told new = IsSomeAnd new (ClosesTold old told)
 
 -- a message, if there is one, is put into the room, if that is large enough
 pub record PutsMessage (message room : List ℕ) (told : GitwireTold) (filled : List ℕ) : Type 0 where

@@ -1,3 +1,4 @@
+pub mod Calls
 pub mod ClientTold
 pub mod EventsTold
 pub mod FaultsTold

@@ -1,18 +1,19 @@
 -- What a machine is.
-use Rattle.std.specs.Prelude.{ℕ, List, Option, Some, None, Bool, true, is_some}
+use Rattle.std.specs.Prelude.{Option, Some, None, Bool, true, is_some}
 use Rattle.std.specs.Global.{Global}
-use Rattle.git_pkt.specs.declared.reader.PacketReader.{PacketReader}
 use Rattle.git_msg.specs.declared.requests.Request.{Request}
 use Rattle.git_msg.specs.declared.streams.RequestStream.{RequestStream}
 use Rattle.git_server.specs.declared.server.Server.{Server}
 use Rattle.git_server.specs.declared.shared_repo.SharedRepo.{SharedRepo}
 use Rattle.git_client.specs.declared.client.Client.{Client}
+use Rattle.gitwire.specs.declared.gatherer.Gatherer.{Gatherer}
 use Rattle.gitwire.specs.declared.machine.Machine.{Machine}
+use Rattle.gitwire.specs.declared.machine.PacketBuffer.{PacketBuffer}
 
 -- the packet reader that a machine is
-abbrev pub packet_reader_of : Machine → Option PacketReader
-packet_reader_of (Machine.PacketReader gatherer) = Some gatherer.value.reader
-packet_reader_of other = None
+abbrev pub gatherer_of : Machine → Option Gatherer
+gatherer_of (Machine.PacketReader gatherer) = Some gatherer.value
+gatherer_of other = None
 
 -- the request reader that a machine is
 abbrev pub request_reader_of : Machine → Option (RequestStream Global)
@@ -21,12 +22,12 @@ request_reader_of other = None
 
 -- the request that a machine is
 abbrev pub request_of : Machine → Option (Request Global)
-request_of (Machine.Request request) = Some request
+request_of (Machine.Request request) = Some request.value
 request_of other = None
 
 -- the repository that a machine is
 abbrev pub repository_of : Machine → Option SharedRepo
-repository_of (Machine.Repository repository) = Some repository
+repository_of (Machine.Repository repository) = Some repository.value
 repository_of other = None
 
 -- the server that a machine is
@@ -39,10 +40,10 @@ abbrev pub client_of : Machine → Option (Client Global)
 client_of (Machine.Client client) = Some client.value
 client_of other = None
 
--- what the buffer has of the writer that a machine is
-abbrev pub writer_of : Machine → Option (List ℕ)
-writer_of (Machine.Writer hold) = Some hold.value.items
-writer_of other = None
+-- the packet buffer that a machine is
+abbrev pub buffer_of : Machine → Option PacketBuffer
+buffer_of (Machine.Writer buffer) = Some buffer.value
+buffer_of other = None
 
 module _ {X : Type 0} where
   -- what a handle has, read as one kind of machine

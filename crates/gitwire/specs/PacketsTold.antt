@@ -1,5 +1,5 @@
 -- What C is told of a packet reader's calls.
-use Rattle.std.specs.Prelude.{◌≡◌, ℕ, ◌+◌, ◌≤◌, ◌<◌, true, false, List, [], length, Option, Some, None}
+use Rattle.std.specs.Prelude.{◌≡◌, ℕ, ◌+◌, ◌≤◌, ◌<◌, true, false, List, [], length, Option, Some, None, IsSomeAnd}
 use Rattle.git_pkt.specs.Packets.{longest_payload}
 use Rattle.git_pkt.specs.PacketReader.{Feeds, Reads, ReadsOn, fault_of, is_open, open_length, position_of}
 use Rattle.git_pkt.specs.declared.fault.Fault.{Fault}
@@ -53,7 +53,7 @@ pub record FeedsInRoom (old : PacketReader) (piece room : List ℕ) (told : Gitw
 -- a handle that is fed
 abbrev pub FeedsIn : Option PacketReader → List ℕ → List ℕ → GitwireTold → List ℕ → Option PacketReader → Type 0
 FeedsIn None piece room told filled new = (told ≡ telling What.NoHandle) × (filled ≡ room) × (new ≡ None)
-FeedsIn (Some old) piece room told filled new = (reader : PacketReader) × (new ≡ Some reader) × FeedsInRoom old piece room told filled reader
+FeedsIn (Some old) piece room told filled new = IsSomeAnd new (FeedsInRoom old piece room told filled)
 
 -- a fault at the end: the one that the reader had, or that a packet is cut off
 pub record FailsAtEnd (old : PacketReader) (fault : Fault) (new : PacketReader) : Type 0 where
@@ -81,4 +81,4 @@ pub record ClosesTold (old : PacketReader) (told : GitwireTold) (new : PacketRea
 -- a handle that is closed
 abbrev pub ClosesIn : Option PacketReader → GitwireTold → Option PacketReader → Type 0
 ClosesIn None told new = (told ≡ telling What.NoHandle) × (new ≡ None)
-ClosesIn (Some old) told new = (reader : PacketReader) × (new ≡ Some reader) × ClosesTold old told reader
+ClosesIn (Some old) told new = IsSomeAnd new (ClosesTold old told)

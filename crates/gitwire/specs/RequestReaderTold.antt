@@ -1,5 +1,5 @@
 -- What C is told of a request reader's calls.
-use Rattle.std.specs.Prelude.{◌≡◌, ◌⊎◌, ℕ, ◌<◌, ◌≤◌, Bool, true, false, List, [], length, Option, Some, None, Result, Ok, Err}
+use Rattle.std.specs.Prelude.{◌≡◌, ◌⊎◌, ℕ, ◌<◌, ◌≤◌, Bool, true, false, List, [], length, Option, Some, None, IsSomeAnd, Result, Ok, Err}
 use Rattle.std.specs.Global.{Global}
 use Rattle.git_names.specs.declared.object_format.Format.TheVariants as Format
 use Rattle.git_pkt.specs.declared.fault.Fault.{Fault}
@@ -70,8 +70,8 @@ abbrev pub FeedsHandle : RequestStream Global → List ℕ → Option (Request G
     → Option (RequestStream Global) → Option (Request Global) → Type 0
 FeedsHandle old piece request told new kept =
     ((request ≡ None) × (told ≡ telling What.OutOfMemory) × (new ≡ Some old) × (kept ≡ None))
-    ⊎ ((held : Request Global) × Holds request held × (reader : RequestStream Global) × (new ≡ Some reader)
-    × (next : Request Global) × (kept ≡ Some next) × FeedsTold old piece held told reader next)
+    ⊎ ((held : Request Global) × Holds request held
+    × IsSomeAnd new (λ reader. IsSomeAnd kept (λ next. FeedsTold old piece held told reader next)))
 
 -- a handle that is fed
 abbrev pub FeedsIn : Option (RequestStream Global) → List ℕ → Option (Request Global) → GitwireTold
@@ -98,4 +98,4 @@ pub record ClosesTold (old : RequestStream Global) (told : GitwireTold) (new : R
 -- a handle that is closed
 abbrev pub ClosesIn : Option (RequestStream Global) → GitwireTold → Option (RequestStream Global) → Type 0
 ClosesIn None told new = (told ≡ telling What.NoHandle) × (new ≡ None)
-ClosesIn (Some old) told new = (reader : RequestStream Global) × (new ≡ Some reader) × ClosesTold old told reader
+ClosesIn (Some old) told new = IsSomeAnd new (ClosesTold old told)

@@ -1,5 +1,5 @@
 -- What C is told of a request's calls.
-use Rattle.std.specs.Prelude.{◌≡◌, ◌⊎◌, ℕ, ◌<◌, ◌≤◌, Bool, false, List, length, Option, Some, None, Result, Ok, Err, unwrap_or, slice_get}
+use Rattle.std.specs.Prelude.{◌≡◌, ◌⊎◌, ℕ, ◌<◌, ◌≤◌, Bool, false, List, length, Option, Some, None, IsSomeAnd, Result, Ok, Err, unwrap_or, slice_get}
 use Rattle.std.specs.Option.{option_map}
 use Rattle.std.specs.Global.{Global}
 use Rattle.git_names.specs.ObjectName.{hex_of}
@@ -78,7 +78,7 @@ pub record AddsTold (old : Request Global) (line : List ℕ) (told : GitwireTold
 -- a handle to whose request a line is added
 abbrev pub AddsIn : Option (Request Global) → List ℕ → GitwireTold → Option (Request Global) → Type 0
 AddsIn None line told new = (told ≡ telling What.NoHandle) × (new ≡ None)
-AddsIn (Some old) line told new = (request : Request Global) × (new ≡ Some request) × AddsTold old line told request
+AddsIn (Some old) line told new = IsSomeAnd new (AddsTold old line told)
 
 -- what is asked for is whole, or it is not, by this name
 abbrev pub JudgesEnd : Asked → Result (Unit {0}) Kind → Type 0

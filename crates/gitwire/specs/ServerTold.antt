@@ -1,5 +1,5 @@
 -- What C is told of a server's calls.
-use Rattle.std.specs.Prelude.{◌≡◌, ◌⊎◌, ℕ, ◌≤◌, ◌<◌, Bool, true, false, List, [], length, take, Option, Some, None, IsSome}
+use Rattle.std.specs.Prelude.{◌≡◌, ◌⊎◌, ℕ, ◌≤◌, ◌<◌, Bool, true, false, List, [], length, take, Option, Some, None, IsSome, IsSomeAnd}
 use Rattle.std.specs.Global.{Global}
 use Rattle.git_msg.specs.Advertisement.{everything}
 use Rattle.git_msg.specs.Arguments.{most_limit}
@@ -59,7 +59,7 @@ pub record FeedsTold (old : Server SharedRepo Global) (piece : List ℕ) (told :
 -- a handle that is fed
 abbrev pub FeedsIn : Option (Server SharedRepo Global) → List ℕ → GitwireTold → Option (Server SharedRepo Global) → Type 0
 FeedsIn None piece told new = (told ≡ telling What.NoHandle) × (new ≡ None)
-FeedsIn (Some old) piece told new = (server : Server SharedRepo Global) × (new ≡ Some server) × FeedsTold old piece told server
+FeedsIn (Some old) piece told new = IsSomeAnd new (FeedsTold old piece told)
 
 -- the input ends where the server waits for it
 pub record ClosesTold (old : Server SharedRepo Global) (told : ℕ) (new : Server SharedRepo Global) : Type 0 where
@@ -69,7 +69,7 @@ pub record ClosesTold (old : Server SharedRepo Global) (told : ℕ) (new : Serve
 -- a handle that is closed
 abbrev pub ClosesIn : Option (Server SharedRepo Global) → ℕ → Option (Server SharedRepo Global) → Type 0
 ClosesIn None told new = (told ≡ what_number What.NoHandle) × (new ≡ None)
-ClosesIn (Some old) told new = (server : Server SharedRepo Global) × (new ≡ Some server) × ClosesTold old told server
+ClosesIn (Some old) told new = IsSomeAnd new (ClosesTold old told)
 
 -- what C is told of what is pulled
 abbrev pub told_of : Pulled → GitwireTold
@@ -100,5 +100,4 @@ pub record PullsInRoom (old : Server SharedRepo Global) (room : List ℕ) (told 
 -- a handle from which is pulled
 abbrev pub PullsIn : Option (Server SharedRepo Global) → List ℕ → GitwireTold → List ℕ → Option (Server SharedRepo Global) → Type 0
 PullsIn None room told filled new = (told ≡ telling What.NoHandle) × (filled ≡ room) × (new ≡ None)
-PullsIn (Some old) room told filled new =
-    (server : Server SharedRepo Global) × (new ≡ Some server) × PullsInRoom old room told filled server
+PullsIn (Some old) room told filled new = IsSomeAnd new (PullsInRoom old room told filled)

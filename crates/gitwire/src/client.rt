@@ -9,8 +9,7 @@ ghost use Rattle.gitwire.specs.Handles.{client_in, request_in};
 ghost use Rattle.gitwire.specs.Numbers.{formats};
 
 use crate::event::{EventParts, GitwireEvent};
-use crate::handles::{GitwireClient, GitwireRequest};
-use crate::machine::Machine;
+use crate::handles::{GitwireClient, GitwireRequest, Holds, fill};
 use crate::numbers::format_numbered;
 use crate::offer::features_noted;
 use crate::told::{GitwireTold, What};
@@ -66,11 +65,7 @@ pub extern "C" fn gitwire_client_new(
     let Ok(made) = Box::new(alloc, Client::new(format, ending)) else {
         return What::OutOfMemory.number();
     };
-    let Ok(made) = Box::new(alloc, Machine::Client(made)) else {
-        return What::OutOfMemory.number();
-    };
-    *client = GitwireClient::of(made);
-    What::Done.number()
+    fill(client, alloc, made).number()
 }
 
 /// The ending of this number.
@@ -95,15 +90,11 @@ pub extern "C" fn gitwire_client_feed(
 ) -> GitwireEvent
     ensures { FeedsIn filled_by (client_in client.old) piece.now room.old result room.new (client_in client.new) }
 {
-    let taken = replace(client, GitwireClient::none(alloc));
-    let Some(mut machine) = taken.into_machine() else {
+    let Some(mut taken) = client.take(alloc) else {
         return GitwireEvent::none(0, What::NoHandle);
     };
-    let Machine::Client(inner) = &mut *machine else {
-        unreachable!()
-    };
-    let told = feed(inner, piece, room);
-    *client = GitwireClient::of(machine);
+    let told = feed(&mut taken.inner, piece, room);
+    client.put(taken);
     told
 }
 
@@ -118,15 +109,11 @@ pub extern "C" fn gitwire_client_feed_in_place(
 ) -> GitwireEvent
     ensures { FeedsIn filled_beside (client_in client.old) piece.now room.old result room.new (client_in client.new) }
 {
-    let taken = replace(client, GitwireClient::none(alloc));
-    let Some(mut machine) = taken.into_machine() else {
+    let Some(mut taken) = client.take(alloc) else {
         return GitwireEvent::none(0, What::NoHandle);
     };
-    let Machine::Client(inner) = &mut *machine else {
-        unreachable!()
-    };
-    let told = feed_in_place(inner, piece, room);
-    *client = GitwireClient::of(machine);
+    let told = feed_in_place(&mut taken.inner, piece, room);
+    client.put(taken);
     told
 }
 
@@ -183,15 +170,11 @@ pub extern "C" fn gitwire_client_pull(
 ) -> GitwireTold
     ensures { PullsIn (client_in client.old) room.old result room.new (client_in client.new) }
 {
-    let taken = replace(client, GitwireClient::none(alloc));
-    let Some(mut machine) = taken.into_machine() else {
+    let Some(mut taken) = client.take(alloc) else {
         return GitwireTold::of(What::NoHandle);
     };
-    let Machine::Client(inner) = &mut *machine else {
-        unreachable!()
-    };
-    let told = pull(inner, room);
-    *client = GitwireClient::of(machine);
+    let told = pull(&mut taken.inner, room);
+    client.put(taken);
     told
 }
 
@@ -223,27 +206,19 @@ pub extern "C" fn gitwire_client_ask(
 ) -> GitwireTold
     ensures { AsksIn (client_in client.old) (request_in request.old) result (client_in client.new) (request_in request.new) }
 {
-    let taken = replace(client, GitwireClient::none(alloc));
-    let Some(mut machine) = taken.into_machine() else {
+    let Some(mut taken) = client.take(alloc) else {
         return GitwireTold::of(What::NoHandle);
     };
-    let taken_request = replace(request, GitwireRequest::none(alloc));
-    let Some(mut asked) = taken_request.into_machine() else {
-        *client = GitwireClient::of(machine);
+    let Some(mut asked) = request.take(alloc) else {
+        client.put(taken);
         return GitwireTold::of(What::NoHandle);
     };
-    let Machine::Client(inner) = &mut *machine else {
-        unreachable!()
-    };
-    let Machine::Request(held) = &mut *asked else {
-        unreachable!()
-    };
-    let answer = ask(alloc, inner, held);
-    *client = GitwireClient::of(machine);
+    let answer = ask(alloc, &mut taken.inner, &mut asked.inner);
+    client.put(taken);
     match answer {
         Ok(()) => GitwireTold::of(What::Done),
         Err(told) => {
-            *request = GitwireRequest::of(asked);
+            request.put(asked);
             told
         }
     }
@@ -277,15 +252,11 @@ fn ask(
 pub extern "C" fn gitwire_client_leave(alloc: Global, client: &mut GitwireClient) -> u8
     ensures { LeavesIn (client_in client.old) result (client_in client.new) }
 {
-    let taken = replace(client, GitwireClient::none(alloc));
-    let Some(mut machine) = taken.into_machine() else {
+    let Some(mut taken) = client.take(alloc) else {
         return What::NoHandle.number();
     };
-    let Machine::Client(inner) = &mut *machine else {
-        unreachable!()
-    };
-    let told = leave(inner);
-    *client = GitwireClient::of(machine);
+    let told = leave(&mut taken.inner);
+    client.put(taken);
     told
 }
 
@@ -305,15 +276,11 @@ fn leave(client: &mut Client<Global>) -> u8
 pub extern "C" fn gitwire_client_close(alloc: Global, client: &mut GitwireClient) -> GitwireTold
     ensures { ClosesIn (client_in client.old) result (client_in client.new) }
 {
-    let taken = replace(client, GitwireClient::none(alloc));
-    let Some(mut machine) = taken.into_machine() else {
+    let Some(mut taken) = client.take(alloc) else {
         return GitwireTold::of(What::NoHandle);
     };
-    let Machine::Client(inner) = &mut *machine else {
-        unreachable!()
-    };
-    let told = close(inner);
-    *client = GitwireClient::of(machine);
+    let told = close(&mut taken.inner);
+    client.put(taken);
     told
 }
 
@@ -336,15 +303,11 @@ pub extern "C" fn gitwire_client_message(
 ) -> GitwireTold
     ensures { MessageIn (client_in client.old) room.old result room.new (client_in client.new) }
 {
-    let taken = replace(client, GitwireClient::none(alloc));
-    let Some(machine) = taken.into_machine() else {
+    let Some(taken) = client.take(alloc) else {
         return GitwireTold::of(What::NoHandle);
     };
-    let Machine::Client(inner) = &*machine else {
-        unreachable!()
-    };
-    let told = message(inner, room);
-    *client = GitwireClient::of(machine);
+    let told = message(&taken.inner, room);
+    client.put(taken);
     told
 }
 
@@ -370,15 +333,11 @@ pub extern "C" fn gitwire_client_caps(
 ) -> u8
     ensures { CapsIn (client_in client.old) caps.old result caps.new (client_in client.new) }
 {
-    let taken = replace(client, GitwireClient::none(alloc));
-    let Some(machine) = taken.into_machine() else {
+    let Some(taken) = client.take(alloc) else {
         return What::NoHandle.number();
     };
-    let Machine::Client(inner) = &*machine else {
-        unreachable!()
-    };
-    *caps = noted(inner);
-    *client = GitwireClient::of(machine);
+    *caps = noted(&taken.inner);
+    client.put(taken);
     What::Done.number()
 }
 

@@ -1,46 +1,89 @@
 //! What C holds: for each of the library's values a handle that has one, or none.
 
-ghost use Rattle.std.specs.Prelude.{◌≡◌, None, MatchOption, IsSome, true};
-ghost use Rattle.gitwire.specs.Machines.{is_none_or, packet_reader_of, request_reader_of, request_of, repository_of, server_of, client_of, writer_of};
+ghost use Rattle.std.specs.Prelude.{◌≡◌, Option, Some, None, MatchOption, true};
+ghost use Rattle.gitwire.specs.Calls.{IsMade};
+ghost use Rattle.gitwire.specs.Machines.{is_none_or, gatherer_of, request_reader_of, request_of, repository_of, server_of, client_of, buffer_of};
 
+use crate::gatherer::Gatherer;
 use crate::held::Handle;
-use crate::machine::Machine;
+use crate::machine::{Machine, PacketBuffer};
+use crate::told::What;
+use git_client::Client;
+use git_msg::{Request, RequestStream};
+use git_server::{Server, SharedRepo};
 use std::alloc::Global;
 use std::mem::replace;
+
+/// A handle, which has a value of its kind or none.
+pub(crate) trait Holds: Sized {
+    type Inner: Drop;
+
+    ghost has: { Self → Option Self.Inner };
+
+    fn none(alloc: Global) -> Self
+        ensures { has result ≡ None };
+
+    /// Takes out what the handle has, which is to be put back before the call ends.
+    fn take(&mut self, alloc: Global) -> Option<Taken<Self::Inner>>
+        ensures taken { MatchOption result (has self.old ≡ None) (λ taken. has self.old ≡ Some taken.inner.value) }
+        ensures empty { has self.new ≡ None };
+
+    fn put(&mut self, taken: Taken<Self::Inner>)
+        ensures { has self.new ≡ Some taken.inner.value };
+}
+
+/// What a call takes out of a handle, and the box in which it lay, so that to put it back takes no memory.
+#[derive(Drop)]
+pub(crate) struct Taken<T> {
+    pub(crate) inner: Box<T, Global>,
+    shell: Box<Machine, Global>,
+}
+
+/// Makes what is in the box that of the handle, which had none. `Done`; or `OutOfMemory`, and it has none.
+pub(crate) fn fill<H: Holds>(handle: &mut H, alloc: Global, inner: Box<H::Inner, Global>) -> What
+    requires { H.has handle.old ≡ None }
+    ensures { IsMade result inner.value (H.has handle.new) }
+{
+    let Ok(shell) = Box::new(alloc, Machine::Empty) else {
+        return What::OutOfMemory;
+    };
+    handle.put(Taken { inner, shell });
+    What::Done
+}
 
 /// A packet reader, or none.
 #[repr(C)]
 #[derive(Drop)]
 pub struct GitwirePacketReader {
     handle: Handle,
-    ghost kind: { is_none_or packet_reader_of handle.held.machine ≡ true },
+    ghost kind: { is_none_or gatherer_of handle.held.machine ≡ true },
 }
 
-impl GitwirePacketReader {
-    ghost use Rattle.gitwire.specs.Handles.{packet_reader_in};
+impl Holds for GitwirePacketReader {
+    ghost use Rattle.gitwire.specs.Handles.{gatherer_in};
 
-    pub(crate) fn none(alloc: Global) -> GitwirePacketReader
-        ensures { packet_reader_in result ≡ None }
-    {
+    type Inner = Gatherer;
+
+    ghost has = { gatherer_in };
+
+    fn none(alloc: Global) -> Self {
         GitwirePacketReader {
             handle: Handle::none(alloc),
         }
     }
 
-    pub(crate) fn of(machine: Box<Machine, Global>) -> GitwirePacketReader
-        requires { IsSome (packet_reader_of machine.value) }
-        ensures { packet_reader_in result ≡ packet_reader_of machine.value }
-    {
-        GitwirePacketReader {
-            handle: Handle::of(machine),
-        }
+    fn take(&mut self, alloc: Global) -> Option<Taken<Self::Inner>> {
+        let (machine, shell) = replace(self, Self::none(alloc)).handle.open()?;
+        let Machine::PacketReader(inner) = machine else {
+            unreachable!()
+        };
+        Some(Taken { inner, shell })
     }
 
-    pub(crate) fn into_machine(self) -> Option<Box<Machine, Global>>
-        ensures { MatchOption result (packet_reader_in self ≡ None)
-            (λ machine. (packet_reader_in self ≡ packet_reader_of machine.value) × IsSome (packet_reader_of machine.value)) }
+    fn put(&mut self, taken: Taken<Self::Inner>)
+        ensures { gatherer_in self.new ≡ Some taken.inner.value }
     {
-        self.handle.into_machine()
+        self.handle = Handle::shut(taken.shell, Machine::PacketReader(taken.inner));
     }
 }
 
@@ -52,31 +95,31 @@ pub struct GitwireRequestReader {
     ghost kind: { is_none_or request_reader_of handle.held.machine ≡ true },
 }
 
-impl GitwireRequestReader {
+impl Holds for GitwireRequestReader {
     ghost use Rattle.gitwire.specs.Handles.{request_reader_in};
 
-    pub(crate) fn none(alloc: Global) -> GitwireRequestReader
-        ensures { request_reader_in result ≡ None }
-    {
+    type Inner = RequestStream<Global>;
+
+    ghost has = { request_reader_in };
+
+    fn none(alloc: Global) -> Self {
         GitwireRequestReader {
             handle: Handle::none(alloc),
         }
     }
 
-    pub(crate) fn of(machine: Box<Machine, Global>) -> GitwireRequestReader
-        requires { IsSome (request_reader_of machine.value) }
-        ensures { request_reader_in result ≡ request_reader_of machine.value }
-    {
-        GitwireRequestReader {
-            handle: Handle::of(machine),
-        }
+    fn take(&mut self, alloc: Global) -> Option<Taken<Self::Inner>> {
+        let (machine, shell) = replace(self, Self::none(alloc)).handle.open()?;
+        let Machine::RequestReader(inner) = machine else {
+            unreachable!()
+        };
+        Some(Taken { inner, shell })
     }
 
-    pub(crate) fn into_machine(self) -> Option<Box<Machine, Global>>
-        ensures { MatchOption result (request_reader_in self ≡ None)
-            (λ machine. (request_reader_in self ≡ request_reader_of machine.value) × IsSome (request_reader_of machine.value)) }
+    fn put(&mut self, taken: Taken<Self::Inner>)
+        ensures { request_reader_in self.new ≡ Some taken.inner.value }
     {
-        self.handle.into_machine()
+        self.handle = Handle::shut(taken.shell, Machine::RequestReader(taken.inner));
     }
 }
 
@@ -88,31 +131,31 @@ pub struct GitwireRequest {
     ghost kind: { is_none_or request_of handle.held.machine ≡ true },
 }
 
-impl GitwireRequest {
+impl Holds for GitwireRequest {
     ghost use Rattle.gitwire.specs.Handles.{request_in};
 
-    pub(crate) fn none(alloc: Global) -> GitwireRequest
-        ensures { request_in result ≡ None }
-    {
+    type Inner = Request<Global>;
+
+    ghost has = { request_in };
+
+    fn none(alloc: Global) -> Self {
         GitwireRequest {
             handle: Handle::none(alloc),
         }
     }
 
-    pub(crate) fn of(machine: Box<Machine, Global>) -> GitwireRequest
-        requires { IsSome (request_of machine.value) }
-        ensures { request_in result ≡ request_of machine.value }
-    {
-        GitwireRequest {
-            handle: Handle::of(machine),
-        }
+    fn take(&mut self, alloc: Global) -> Option<Taken<Self::Inner>> {
+        let (machine, shell) = replace(self, Self::none(alloc)).handle.open()?;
+        let Machine::Request(inner) = machine else {
+            unreachable!()
+        };
+        Some(Taken { inner, shell })
     }
 
-    pub(crate) fn into_machine(self) -> Option<Box<Machine, Global>>
-        ensures { MatchOption result (request_in self ≡ None)
-            (λ machine. (request_in self ≡ request_of machine.value) × IsSome (request_of machine.value)) }
+    fn put(&mut self, taken: Taken<Self::Inner>)
+        ensures { request_in self.new ≡ Some taken.inner.value }
     {
-        self.handle.into_machine()
+        self.handle = Handle::shut(taken.shell, Machine::Request(taken.inner));
     }
 }
 
@@ -124,31 +167,31 @@ pub struct GitwireRepository {
     ghost kind: { is_none_or repository_of handle.held.machine ≡ true },
 }
 
-impl GitwireRepository {
+impl Holds for GitwireRepository {
     ghost use Rattle.gitwire.specs.Handles.{repository_in};
 
-    pub(crate) fn none(alloc: Global) -> GitwireRepository
-        ensures { repository_in result ≡ None }
-    {
+    type Inner = SharedRepo;
+
+    ghost has = { repository_in };
+
+    fn none(alloc: Global) -> Self {
         GitwireRepository {
             handle: Handle::none(alloc),
         }
     }
 
-    pub(crate) fn of(machine: Box<Machine, Global>) -> GitwireRepository
-        requires { IsSome (repository_of machine.value) }
-        ensures { repository_in result ≡ repository_of machine.value }
-    {
-        GitwireRepository {
-            handle: Handle::of(machine),
-        }
+    fn take(&mut self, alloc: Global) -> Option<Taken<Self::Inner>> {
+        let (machine, shell) = replace(self, Self::none(alloc)).handle.open()?;
+        let Machine::Repository(inner) = machine else {
+            unreachable!()
+        };
+        Some(Taken { inner, shell })
     }
 
-    pub(crate) fn into_machine(self) -> Option<Box<Machine, Global>>
-        ensures { MatchOption result (repository_in self ≡ None)
-            (λ machine. (repository_in self ≡ repository_of machine.value) × IsSome (repository_of machine.value)) }
+    fn put(&mut self, taken: Taken<Self::Inner>)
+        ensures { repository_in self.new ≡ Some taken.inner.value }
     {
-        self.handle.into_machine()
+        self.handle = Handle::shut(taken.shell, Machine::Repository(taken.inner));
     }
 }
 
@@ -160,31 +203,31 @@ pub struct GitwireServer {
     ghost kind: { is_none_or server_of handle.held.machine ≡ true },
 }
 
-impl GitwireServer {
+impl Holds for GitwireServer {
     ghost use Rattle.gitwire.specs.Handles.{server_in};
 
-    pub(crate) fn none(alloc: Global) -> GitwireServer
-        ensures { server_in result ≡ None }
-    {
+    type Inner = Server<SharedRepo, Global>;
+
+    ghost has = { server_in };
+
+    fn none(alloc: Global) -> Self {
         GitwireServer {
             handle: Handle::none(alloc),
         }
     }
 
-    pub(crate) fn of(machine: Box<Machine, Global>) -> GitwireServer
-        requires { IsSome (server_of machine.value) }
-        ensures { server_in result ≡ server_of machine.value }
-    {
-        GitwireServer {
-            handle: Handle::of(machine),
-        }
+    fn take(&mut self, alloc: Global) -> Option<Taken<Self::Inner>> {
+        let (machine, shell) = replace(self, Self::none(alloc)).handle.open()?;
+        let Machine::Server(inner) = machine else {
+            unreachable!()
+        };
+        Some(Taken { inner, shell })
     }
 
-    pub(crate) fn into_machine(self) -> Option<Box<Machine, Global>>
-        ensures { MatchOption result (server_in self ≡ None)
-            (λ machine. (server_in self ≡ server_of machine.value) × IsSome (server_of machine.value)) }
+    fn put(&mut self, taken: Taken<Self::Inner>)
+        ensures { server_in self.new ≡ Some taken.inner.value }
     {
-        self.handle.into_machine()
+        self.handle = Handle::shut(taken.shell, Machine::Server(taken.inner));
     }
 }
 
@@ -196,31 +239,31 @@ pub struct GitwireClient {
     ghost kind: { is_none_or client_of handle.held.machine ≡ true },
 }
 
-impl GitwireClient {
+impl Holds for GitwireClient {
     ghost use Rattle.gitwire.specs.Handles.{client_in};
 
-    pub(crate) fn none(alloc: Global) -> GitwireClient
-        ensures { client_in result ≡ None }
-    {
+    type Inner = Client<Global>;
+
+    ghost has = { client_in };
+
+    fn none(alloc: Global) -> Self {
         GitwireClient {
             handle: Handle::none(alloc),
         }
     }
 
-    pub(crate) fn of(machine: Box<Machine, Global>) -> GitwireClient
-        requires { IsSome (client_of machine.value) }
-        ensures { client_in result ≡ client_of machine.value }
-    {
-        GitwireClient {
-            handle: Handle::of(machine),
-        }
+    fn take(&mut self, alloc: Global) -> Option<Taken<Self::Inner>> {
+        let (machine, shell) = replace(self, Self::none(alloc)).handle.open()?;
+        let Machine::Client(inner) = machine else {
+            unreachable!()
+        };
+        Some(Taken { inner, shell })
     }
 
-    pub(crate) fn into_machine(self) -> Option<Box<Machine, Global>>
-        ensures { MatchOption result (client_in self ≡ None)
-            (λ machine. (client_in self ≡ client_of machine.value) × IsSome (client_of machine.value)) }
+    fn put(&mut self, taken: Taken<Self::Inner>)
+        ensures { client_in self.new ≡ Some taken.inner.value }
     {
-        self.handle.into_machine()
+        self.handle = Handle::shut(taken.shell, Machine::Client(taken.inner));
     }
 }
 
@@ -229,37 +272,33 @@ impl GitwireClient {
 #[derive(Drop)]
 pub struct GitwireWriter {
     handle: Handle,
-    ghost kind: { is_none_or writer_of handle.held.machine ≡ true },
+    ghost kind: { is_none_or buffer_of handle.held.machine ≡ true },
 }
 
-impl GitwireWriter {
-    ghost use Rattle.gitwire.specs.Handles.{writer_in};
+impl Holds for GitwireWriter {
+    ghost use Rattle.gitwire.specs.Handles.{buffer_in};
 
-    pub(crate) fn none(alloc: Global) -> GitwireWriter
-        ensures { writer_in result ≡ None }
-    {
+    type Inner = PacketBuffer;
+
+    ghost has = { buffer_in };
+
+    fn none(alloc: Global) -> Self {
         GitwireWriter {
             handle: Handle::none(alloc),
         }
     }
 
-    pub(crate) fn of(machine: Box<Machine, Global>) -> GitwireWriter
-        requires { IsSome (writer_of machine.value) }
-        ensures { writer_in result ≡ writer_of machine.value }
-    {
-        GitwireWriter {
-            handle: Handle::of(machine),
-        }
+    fn take(&mut self, alloc: Global) -> Option<Taken<Self::Inner>> {
+        let (machine, shell) = replace(self, Self::none(alloc)).handle.open()?;
+        let Machine::Writer(inner) = machine else {
+            unreachable!()
+        };
+        Some(Taken { inner, shell })
     }
 
-    /// Takes out what the handle has, which is to be put back before the call ends.
-    pub(crate) fn take(&mut self, alloc: Global) -> Option<Box<Machine, Global>>
-        ensures taken { MatchOption result (writer_in self.old ≡ None)
-            (λ machine. (writer_in self.old ≡ writer_of machine.value) × IsSome (writer_of machine.value)) }
-        ensures empty { writer_in self.new ≡ None }
+    fn put(&mut self, taken: Taken<Self::Inner>)
+        ensures { buffer_in self.new ≡ Some taken.inner.value }
     {
-        replace(self, GitwireWriter::none(alloc))
-            .handle
-            .into_machine()
+        self.handle = Handle::shut(taken.shell, Machine::Writer(taken.inner));
     }
 }

@@ -8,6 +8,7 @@ use crate::machine::Machine;
 use crate::parts::Parts;
 use std::alloc::Global;
 use std::marker::Model;
+use std::mem::replace;
 use std::ptr::null_mut;
 
 /// A machine on the heap, or none. It cannot be dropped: what has one is taken apart, and what has none is left.
@@ -102,6 +103,25 @@ impl Handle {
             return None;
         }
         Some(held.into_parts().into_box())
+    }
+
+    /// The machine, and the box in which it lay.
+    pub(crate) fn open(self) -> Option<(Machine, Box<Machine, Global>)>
+        ensures { MatchOption result (self.held.machine ≡ None) (λ opened. self.held.machine ≡ Some opened.0) }
+    {
+        let Some(mut shell) = self.into_machine() else {
+            return None;
+        };
+        let machine = replace(&mut *shell, Machine::Empty);
+        Some((machine, shell))
+    }
+
+    /// A handle of the machine, which lies in this box from now on.
+    pub(crate) fn shut(mut shell: Box<Machine, Global>, machine: Machine) -> Handle
+        ensures { result.held.machine ≡ Some machine }
+    {
+        *shell = machine;
+        Handle::of(shell)
     }
 }
 

@@ -8,8 +8,7 @@ ghost use Rattle.git_msg.specs.References.{IsMaybeObjectName};
 ghost use Rattle.gitwire.specs.Handles.{writer_in};
 ghost use Rattle.gitwire.specs.WrittenForC.{Makes, MeansAck, MeansBoundary, MeansInfo, MeansReference, MeansWanted, Names, Writes, WritesIn, boundary_of, given};
 
-use crate::handles::GitwireWriter;
-use crate::machine::Machine;
+use crate::handles::{GitwireWriter, Holds};
 use crate::numbers::format_numbered;
 use crate::told::{GitwireTold, What};
 use crate::written::{Unwritten, hand_out};
@@ -38,15 +37,12 @@ pub extern "C" fn gitwire_put_reference(
 ) -> GitwireTold
     ensures { WritesIn (writer_in writer.old) (Writes (MeansReference format id.now name.now target.now peeled.now)) room.old result room.new (writer_in writer.new) }
 {
-    let Some(mut machine) = writer.take(alloc) else {
+    let Some(mut taken) = writer.take(alloc) else {
         return GitwireTold::of(What::NoHandle);
     };
-    let Machine::Writer(hold) = &mut *machine else {
-        unreachable!()
-    };
-    let made = make_reference(hold, format, id, name, target, peeled);
-    let told = hand_out(made, hold, room);
-    *writer = GitwireWriter::of(machine);
+    let made = make_reference(&mut taken.inner.hold, format, id, name, target, peeled);
+    let told = hand_out(made, &taken.inner.hold, room);
+    writer.put(taken);
     told
 }
 
@@ -62,15 +58,12 @@ pub extern "C" fn gitwire_put_ack(
 ) -> GitwireTold
     ensures { WritesIn (writer_in writer.old) (Writes (MeansAck format id.now)) room.old result room.new (writer_in writer.new) }
 {
-    let Some(mut machine) = writer.take(alloc) else {
+    let Some(mut taken) = writer.take(alloc) else {
         return GitwireTold::of(What::NoHandle);
     };
-    let Machine::Writer(hold) = &mut *machine else {
-        unreachable!()
-    };
-    let made = make_ack(hold, format, id);
-    let told = hand_out(made, hold, room);
-    *writer = GitwireWriter::of(machine);
+    let made = make_ack(&mut taken.inner.hold, format, id);
+    let told = hand_out(made, &taken.inner.hold, room);
+    writer.put(taken);
     told
 }
 
@@ -87,15 +80,12 @@ pub extern "C" fn gitwire_put_boundary(
 ) -> GitwireTold
     ensures { WritesIn (writer_in writer.old) (Writes (MeansBoundary format shallow id.now)) room.old result room.new (writer_in writer.new) }
 {
-    let Some(mut machine) = writer.take(alloc) else {
+    let Some(mut taken) = writer.take(alloc) else {
         return GitwireTold::of(What::NoHandle);
     };
-    let Machine::Writer(hold) = &mut *machine else {
-        unreachable!()
-    };
-    let made = make_boundary(hold, format, shallow, id);
-    let told = hand_out(made, hold, room);
-    *writer = GitwireWriter::of(machine);
+    let made = make_boundary(&mut taken.inner.hold, format, shallow, id);
+    let told = hand_out(made, &taken.inner.hold, room);
+    writer.put(taken);
     told
 }
 
@@ -113,15 +103,12 @@ pub extern "C" fn gitwire_put_wanted(
 ) -> GitwireTold
     ensures { WritesIn (writer_in writer.old) (Writes (MeansWanted format id.now name.now)) room.old result room.new (writer_in writer.new) }
 {
-    let Some(mut machine) = writer.take(alloc) else {
+    let Some(mut taken) = writer.take(alloc) else {
         return GitwireTold::of(What::NoHandle);
     };
-    let Machine::Writer(hold) = &mut *machine else {
-        unreachable!()
-    };
-    let made = make_wanted(hold, format, id, name);
-    let told = hand_out(made, hold, room);
-    *writer = GitwireWriter::of(machine);
+    let made = make_wanted(&mut taken.inner.hold, format, id, name);
+    let told = hand_out(made, &taken.inner.hold, room);
+    writer.put(taken);
     told
 }
 
@@ -140,15 +127,12 @@ pub extern "C" fn gitwire_put_info(
 ) -> GitwireTold
     ensures { WritesIn (writer_in writer.old) (Writes (MeansInfo format id.now has_size size)) room.old result room.new (writer_in writer.new) }
 {
-    let Some(mut machine) = writer.take(alloc) else {
+    let Some(mut taken) = writer.take(alloc) else {
         return GitwireTold::of(What::NoHandle);
     };
-    let Machine::Writer(hold) = &mut *machine else {
-        unreachable!()
-    };
-    let made = make_info(hold, format, id, has_size, size);
-    let told = hand_out(made, hold, room);
-    *writer = GitwireWriter::of(machine);
+    let made = make_info(&mut taken.inner.hold, format, id, has_size, size);
+    let told = hand_out(made, &taken.inner.hold, room);
+    writer.put(taken);
     told
 }
 

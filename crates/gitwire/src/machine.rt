@@ -7,14 +7,22 @@ use git_pkt::Hold;
 use git_server::{Server, SharedRepo};
 use std::alloc::Global;
 
-/// One of the library's values. A large one is behind a box of its own, so that no handle takes the room of the largest.
+/// One of the library's values, in a box of its own: so a call takes it out and puts it back by its pointer.
 #[derive(Drop)]
 pub(crate) enum Machine {
     PacketReader(Box<Gatherer, Global>),
     RequestReader(Box<RequestStream<Global>, Global>),
-    Request(Request<Global>),
-    Repository(SharedRepo),
+    Request(Box<Request<Global>, Global>),
+    Repository(Box<SharedRepo, Global>),
     Server(Box<Server<SharedRepo, Global>, Global>),
     Client(Box<Client<Global>, Global>),
-    Writer(Box<Hold, Global>),
+    Writer(Box<PacketBuffer, Global>),
+    /// None of them, while a call has it.
+    Empty,
+}
+
+/// What a writer has: room for one packet.
+#[derive(Drop)]
+pub(crate) struct PacketBuffer {
+    pub(crate) hold: Hold,
 }

@@ -5,8 +5,7 @@ ghost use Rattle.gitwire.specs.Handles.{packet_reader_in};
 ghost use Rattle.gitwire.specs.PacketsTold.{Begins, ClosesIn, ClosesTold, FeedsIn, FeedsInRoom};
 
 use crate::gatherer::Gatherer;
-use crate::handles::GitwirePacketReader;
-use crate::machine::Machine;
+use crate::handles::{GitwirePacketReader, Holds, fill};
 use crate::told::{GitwireTold, What};
 use git_names::Steps;
 use git_pkt::{Got, Packet, PacketReader};
@@ -29,11 +28,7 @@ pub extern "C" fn gitwire_packet_reader_new(alloc: Global, reader: &mut GitwireP
     let Ok(made) = Box::new(alloc, gatherer) else {
         return What::OutOfMemory.number();
     };
-    let Ok(made) = Box::new(alloc, Machine::PacketReader(made)) else {
-        return What::OutOfMemory.number();
-    };
-    *reader = GitwirePacketReader::of(made);
-    What::Done.number()
+    fill(reader, alloc, made).number()
 }
 
 /// Reads on, to the end of the next packet, and copies its payload to the front of the room. `More`, `Payload`, `Flush`, `Delim`,
@@ -47,15 +42,11 @@ pub extern "C" fn gitwire_packet_reader_feed(
 ) -> GitwireTold
     ensures { FeedsIn (packet_reader_in reader.old) piece.now room.old result room.new (packet_reader_in reader.new) }
 {
-    let taken = replace(reader, GitwirePacketReader::none(alloc));
-    let Some(mut machine) = taken.into_machine() else {
+    let Some(mut taken) = reader.take(alloc) else {
         return GitwireTold::of(What::NoHandle);
     };
-    let Machine::PacketReader(inner) = &mut *machine else {
-        unreachable!()
-    };
-    let told = feed(inner, piece, room);
-    *reader = GitwirePacketReader::of(machine);
+    let told = feed(&mut taken.inner, piece, room);
+    reader.put(taken);
     told
 }
 
@@ -89,15 +80,11 @@ pub extern "C" fn gitwire_packet_reader_close(
 ) -> GitwireTold
     ensures { ClosesIn (packet_reader_in reader.old) result (packet_reader_in reader.new) }
 {
-    let taken = replace(reader, GitwirePacketReader::none(alloc));
-    let Some(mut machine) = taken.into_machine() else {
+    let Some(mut taken) = reader.take(alloc) else {
         return GitwireTold::of(What::NoHandle);
     };
-    let Machine::PacketReader(inner) = &mut *machine else {
-        unreachable!()
-    };
-    let told = close(inner);
-    *reader = GitwirePacketReader::of(machine);
+    let told = close(&mut taken.inner);
+    reader.put(taken);
     told
 }
 

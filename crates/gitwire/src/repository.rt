@@ -7,8 +7,7 @@ ghost use Rattle.gitwire.specs.Handles.{repository_in};
 ghost use Rattle.gitwire.specs.RepositoryTold.{Begins, packs_given};
 ghost use Rattle.gitwire.specs.Told.{telling};
 
-use crate::handles::GitwireRepository;
-use crate::machine::Machine;
+use crate::handles::{GitwireRepository, Holds, fill};
 use crate::told::{GitwireTold, What};
 use git_repository::{Packs, TextFault, read_repo};
 use git_server::SharedRepo;
@@ -61,11 +60,10 @@ fn begin(
         Ok(made) => made,
         Err(told) => return told,
     };
-    let Ok(made) = Box::new(alloc, Machine::Repository(made)) else {
+    let Ok(made) = Box::new(alloc, made) else {
         return GitwireTold::of(What::OutOfMemory);
     };
-    *repository = GitwireRepository::of(made);
-    GitwireTold::of(What::Done)
+    GitwireTold::of(fill(repository, alloc, made))
 }
 
 /// The packs, in memory of their own; none where it runs out.

@@ -7,8 +7,7 @@ ghost use Rattle.gitwire.specs.RequestsTold.{AddsIn, AddsLine, AddsTold, Command
 ghost use Rattle.gitwire.specs.RequestsTold.{Makes, MeanNoRequest, MeanRequest};
 ghost use Rattle.gitwire.specs.RequestsTold.{is_set, telling_number, telling_result, telling_which};
 
-use crate::handles::GitwireRequest;
-use crate::machine::Machine;
+use crate::handles::{GitwireRequest, Holds, fill};
 use crate::numbers::{
     Flag, Given, command_numbered, format_numbered, number_of_command, number_of_format,
 };
@@ -40,11 +39,10 @@ pub extern "C" fn gitwire_request_new(
         return What::BadValue.number();
     };
     *request = GitwireRequest::none(alloc);
-    let Ok(made) = Box::new(alloc, Machine::Request(meant)) else {
+    let Ok(made) = Box::new(alloc, meant) else {
         return What::OutOfMemory.number();
     };
-    *request = GitwireRequest::of(made);
-    What::Done.number()
+    fill(request, alloc, made).number()
 }
 
 /// The empty request that is meant; none where a number stands for nothing or the limit is more than one may be.
@@ -73,15 +71,11 @@ pub extern "C" fn gitwire_request_add(
 ) -> GitwireTold
     ensures { AddsIn (request_in request.old) line.now result (request_in request.new) }
 {
-    let taken = replace(request, GitwireRequest::none(alloc));
-    let Some(mut machine) = taken.into_machine() else {
+    let Some(mut taken) = request.take(alloc) else {
         return GitwireTold::of(What::NoHandle);
     };
-    let Machine::Request(inner) = &mut *machine else {
-        unreachable!()
-    };
-    let told = add(inner, line);
-    *request = GitwireRequest::of(machine);
+    let told = add(&mut taken.inner, line);
+    request.put(taken);
     told
 }
 
@@ -116,15 +110,11 @@ fn tell(judged: Result<(), Kind>) -> GitwireTold
 pub extern "C" fn gitwire_request_end(alloc: Global, request: &mut GitwireRequest) -> GitwireTold
     ensures { EndsIn (request_in request.old) result (request_in request.new) }
 {
-    let taken = replace(request, GitwireRequest::none(alloc));
-    let Some(machine) = taken.into_machine() else {
+    let Some(taken) = request.take(alloc) else {
         return GitwireTold::of(What::NoHandle);
     };
-    let Machine::Request(inner) = &*machine else {
-        unreachable!()
-    };
-    let told = judge_end(inner);
-    *request = GitwireRequest::of(machine);
+    let told = judge_end(&taken.inner);
+    request.put(taken);
     told
 }
 
@@ -142,15 +132,11 @@ pub extern "C" fn gitwire_request_command(
 ) -> GitwireTold
     ensures { CommandIn (request_in request.old) result (request_in request.new) }
 {
-    let taken = replace(request, GitwireRequest::none(alloc));
-    let Some(machine) = taken.into_machine() else {
+    let Some(taken) = request.take(alloc) else {
         return GitwireTold::of(What::NoHandle);
     };
-    let Machine::Request(inner) = &*machine else {
-        unreachable!()
-    };
-    let told = tell_number(number_of_command(inner.command()));
-    *request = GitwireRequest::of(machine);
+    let told = tell_number(number_of_command(taken.inner.command()));
+    request.put(taken);
     told
 }
 
@@ -159,15 +145,11 @@ pub extern "C" fn gitwire_request_command(
 pub extern "C" fn gitwire_request_format(alloc: Global, request: &mut GitwireRequest) -> GitwireTold
     ensures { FormatIn (request_in request.old) result (request_in request.new) }
 {
-    let taken = replace(request, GitwireRequest::none(alloc));
-    let Some(machine) = taken.into_machine() else {
+    let Some(taken) = request.take(alloc) else {
         return GitwireTold::of(What::NoHandle);
     };
-    let Machine::Request(inner) = &*machine else {
-        unreachable!()
-    };
-    let told = tell_number(number_of_format(inner.format()));
-    *request = GitwireRequest::of(machine);
+    let told = tell_number(number_of_format(taken.inner.format()));
+    request.put(taken);
     told
 }
 
@@ -187,15 +169,11 @@ pub extern "C" fn gitwire_request_flag(
 ) -> bool
     ensures { FlagIn (request_in request.old) flag result (request_in request.new) }
 {
-    let taken = replace(request, GitwireRequest::none(alloc));
-    let Some(machine) = taken.into_machine() else {
+    let Some(taken) = request.take(alloc) else {
         return false;
     };
-    let Machine::Request(inner) = &*machine else {
-        unreachable!()
-    };
-    let told = has_flag(inner, flag);
-    *request = GitwireRequest::of(machine);
+    let told = has_flag(&taken.inner, flag);
+    request.put(taken);
     told
 }
 
@@ -230,15 +208,11 @@ pub extern "C" fn gitwire_request_number(
 ) -> GitwireTold
     ensures { NumberIn (request_in request.old) which result (request_in request.new) }
 {
-    let taken = replace(request, GitwireRequest::none(alloc));
-    let Some(machine) = taken.into_machine() else {
+    let Some(taken) = request.take(alloc) else {
         return GitwireTold::of(What::NoHandle);
     };
-    let Machine::Request(inner) = &*machine else {
-        unreachable!()
-    };
-    let told = given_number(inner, which);
-    *request = GitwireRequest::of(machine);
+    let told = given_number(&taken.inner, which);
+    request.put(taken);
     told
 }
 
@@ -270,15 +244,11 @@ pub extern "C" fn gitwire_request_item(
 ) -> GitwireTold
     ensures { ItemIn (request_in request.old) list index room.old result room.new (request_in request.new) }
 {
-    let taken = replace(request, GitwireRequest::none(alloc));
-    let Some(machine) = taken.into_machine() else {
+    let Some(taken) = request.take(alloc) else {
         return GitwireTold::of(What::NoHandle);
     };
-    let Machine::Request(inner) = &*machine else {
-        unreachable!()
-    };
-    let told = put_item(inner, list, index, room);
-    *request = GitwireRequest::of(machine);
+    let told = put_item(&taken.inner, list, index, room);
+    request.put(taken);
     told
 }
 

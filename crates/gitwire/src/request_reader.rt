@@ -1,12 +1,10 @@
 //! A reader of requests that C holds.
 
-ghost use Rattle.std.specs.Prelude.{◌≡◌, IsSomeAnd, MatchOption, None};
+ghost use Rattle.std.specs.Prelude.{◌≡◌, MatchOption, None};
 ghost use Rattle.gitwire.specs.Handles.{request_in, request_reader_in};
-ghost use Rattle.gitwire.specs.Machines.{request_of};
 ghost use Rattle.gitwire.specs.RequestReaderTold.{ClosesIn, ClosesTold, FeedsIn, FeedsTold, Holds, MakesReader, MeanNoReader, MeanReader};
 
-use crate::handles::{GitwireRequest, GitwireRequestReader};
-use crate::machine::Machine;
+use crate::handles::{GitwireRequest, GitwireRequestReader, Holds, Taken, fill};
 use crate::offer::GitwireOffer;
 use crate::request::MOST_LIMIT;
 use crate::told::{GitwireTold, What};
@@ -34,11 +32,7 @@ pub extern "C" fn gitwire_request_reader_new(
     let Ok(made) = Box::new(alloc, meant) else {
         return What::OutOfMemory.number();
     };
-    let Ok(made) = Box::new(alloc, Machine::RequestReader(made)) else {
-        return What::OutOfMemory.number();
-    };
-    *reader = GitwireRequestReader::of(made);
-    What::Done.number()
+    fill(reader, alloc, made).number()
 }
 
 /// The reader that is meant; none where the offer has no format or the limit is more than one may be.
@@ -67,41 +61,33 @@ pub extern "C" fn gitwire_request_reader_feed(
 ) -> GitwireTold
     ensures { FeedsIn (request_reader_in reader.old) piece.now (request_in request.old) result (request_reader_in reader.new) (request_in request.new) }
 {
-    let taken = replace(reader, GitwireRequestReader::none(alloc));
-    let Some(mut machine) = taken.into_machine() else {
+    let Some(mut taken) = reader.take(alloc) else {
         return GitwireTold::of(What::NoHandle);
     };
     let Some(mut held) = take_request(alloc, request) else {
-        *reader = GitwireRequestReader::of(machine);
+        reader.put(taken);
         return GitwireTold::of(What::OutOfMemory);
     };
-    let Machine::RequestReader(inner) = &mut *machine else {
-        unreachable!()
-    };
-    let Machine::Request(asked) = &mut *held else {
-        unreachable!()
-    };
-    let told = feed(inner, piece, asked);
-    *reader = GitwireRequestReader::of(machine);
-    *request = GitwireRequest::of(held);
+    let told = feed(&mut taken.inner, piece, &mut held.inner);
+    reader.put(taken);
+    request.put(held);
     told
 }
 
 /// The request of the handle, or an empty one; none where there is no memory for that.
-fn take_request(alloc: Global, request: &mut GitwireRequest) -> Option<Box<Machine, Global>>
-    ensures request { MatchOption result (request_in request.old ≡ None)
-        (λ machine. IsSomeAnd (request_of machine.value) (Holds (request_in request.old))) }
+fn take_request(alloc: Global, request: &mut GitwireRequest) -> Option<Taken<Request<Global>>>
+    ensures request { MatchOption result (request_in request.old ≡ None) (λ taken. Holds (request_in request.old) taken.inner.value) }
     ensures taken { request_in request.new ≡ None }
 {
-    let taken = replace(request, GitwireRequest::none(alloc));
-    if let Some(machine) = taken.into_machine() {
-        return Some(machine);
+    if let Some(taken) = request.take(alloc) {
+        return Some(taken);
     }
     let empty = Request::new(alloc, Command::LsRefs, Format::Sha1, Limits { args: 0 });
-    match Box::new(alloc, Machine::Request(empty)) {
-        Ok(machine) => Some(machine),
-        Err(_) => None,
-    }
+    let Ok(made) = Box::new(alloc, empty) else {
+        return None;
+    };
+    fill(request, alloc, made);
+    request.take(alloc)
 }
 
 fn feed(
@@ -133,15 +119,11 @@ pub extern "C" fn gitwire_request_reader_close(
 ) -> GitwireTold
     ensures { ClosesIn (request_reader_in reader.old) result (request_reader_in reader.new) }
 {
-    let taken = replace(reader, GitwireRequestReader::none(alloc));
-    let Some(mut machine) = taken.into_machine() else {
+    let Some(mut taken) = reader.take(alloc) else {
         return GitwireTold::of(What::NoHandle);
     };
-    let Machine::RequestReader(inner) = &mut *machine else {
-        unreachable!()
-    };
-    let told = close(inner);
-    *reader = GitwireRequestReader::of(machine);
+    let told = close(&mut taken.inner);
+    reader.put(taken);
     told
 }
 

@@ -1,12 +1,10 @@
 //! A server that C holds.
 
-ghost use Rattle.std.specs.Prelude.{◌≡◌, IfSome, IsSomeAnd, None};
+ghost use Rattle.std.specs.Prelude.{◌≡◌, IfSome, None};
 ghost use Rattle.gitwire.specs.Handles.{repository_in, server_in};
-ghost use Rattle.gitwire.specs.Machines.{server_of};
 ghost use Rattle.gitwire.specs.ServerTold.{BeginsOver, BeginsWithin, ClosesIn, ClosesTold, FeedsIn, FeedsTold, PullsIn, PullsInRoom, Starts};
 
-use crate::handles::{GitwireRepository, GitwireServer};
-use crate::machine::Machine;
+use crate::handles::{GitwireRepository, GitwireServer, Holds, fill};
 use crate::told::{GitwireTold, What};
 use git_msg::{Limits, Offer};
 use git_names::Steps;
@@ -33,15 +31,11 @@ pub extern "C" fn gitwire_server_new(
     ensures begins { BeginsOver (repository_in repository.old) limit advertise (server_in server.old) result (server_in server.new) }
     ensures stays { repository_in repository.new ≡ repository_in repository.old }
 {
-    let taken = replace(repository, GitwireRepository::none(alloc));
-    let Some(machine) = taken.into_machine() else {
+    let Some(taken) = repository.take(alloc) else {
         return What::NoHandle.number();
     };
-    let Machine::Repository(shared) = &*machine else {
-        unreachable!()
-    };
-    let told = begin(alloc, server, shared, limit, advertise);
-    *repository = GitwireRepository::of(machine);
+    let told = begin(alloc, server, &taken.inner, limit, advertise);
+    repository.put(taken);
     told
 }
 
@@ -61,8 +55,7 @@ fn begin(
     let Some(made) = make(alloc, repo, Limits { args: limit }, advertise) else {
         return What::OutOfMemory.number();
     };
-    *server = GitwireServer::of(made);
-    What::Done.number()
+    fill(server, alloc, made).number()
 }
 
 /// A server at the beginning of its session; none where memory runs out.
@@ -71,18 +64,15 @@ fn make(
     repo: &SharedRepo,
     limits: Limits,
     advertise: bool,
-) -> Option<Box<Machine, Global>>
-    ensures { IfSome result (λ made. IsSomeAnd (server_of made.value) (Starts repo.now limits.args advertise)) }
+) -> Option<Box<Server<SharedRepo, Global>, Global>>
+    ensures { IfSome result (λ made. Starts repo.now limits.args advertise made.value) }
 {
     let offer = Offer::everything(repo.format());
     let Ok(shared) = repo.share() else {
         return None;
     };
     let server = Server::new(alloc, shared, offer, limits, advertise);
-    let Ok(server) = Box::new(alloc, server) else {
-        return None;
-    };
-    match Box::new(alloc, Machine::Server(server)) {
+    match Box::new(alloc, server) {
         Ok(made) => Some(made),
         Err(_) => None,
     }
@@ -98,15 +88,11 @@ pub extern "C" fn gitwire_server_feed(
 ) -> GitwireTold
     ensures { FeedsIn (server_in server.old) piece.now result (server_in server.new) }
 {
-    let taken = replace(server, GitwireServer::none(alloc));
-    let Some(mut machine) = taken.into_machine() else {
+    let Some(mut taken) = server.take(alloc) else {
         return GitwireTold::of(What::NoHandle);
     };
-    let Machine::Server(inner) = &mut *machine else {
-        unreachable!()
-    };
-    let told = feed(inner, piece);
-    *server = GitwireServer::of(machine);
+    let told = feed(&mut taken.inner, piece);
+    server.put(taken);
     told
 }
 
@@ -123,15 +109,11 @@ fn feed(server: &mut Server<SharedRepo, Global>, piece: &[u8]) -> GitwireTold
 pub extern "C" fn gitwire_server_close(alloc: Global, server: &mut GitwireServer) -> u8
     ensures { ClosesIn (server_in server.old) result (server_in server.new) }
 {
-    let taken = replace(server, GitwireServer::none(alloc));
-    let Some(mut machine) = taken.into_machine() else {
+    let Some(mut taken) = server.take(alloc) else {
         return What::NoHandle.number();
     };
-    let Machine::Server(inner) = &mut *machine else {
-        unreachable!()
-    };
-    let told = close(inner);
-    *server = GitwireServer::of(machine);
+    let told = close(&mut taken.inner);
+    server.put(taken);
     told
 }
 
@@ -155,15 +137,11 @@ pub extern "C" fn gitwire_server_pull(
 ) -> GitwireTold
     ensures { PullsIn (server_in server.old) room.old result room.new (server_in server.new) }
 {
-    let taken = replace(server, GitwireServer::none(alloc));
-    let Some(mut machine) = taken.into_machine() else {
+    let Some(mut taken) = server.take(alloc) else {
         return GitwireTold::of(What::NoHandle);
     };
-    let Machine::Server(inner) = &mut *machine else {
-        unreachable!()
-    };
-    let told = pull(inner, room);
-    *server = GitwireServer::of(machine);
+    let told = pull(&mut taken.inner, room);
+    server.put(taken);
     told
 }
 

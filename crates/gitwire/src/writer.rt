@@ -4,8 +4,8 @@ ghost use Rattle.std.specs.Prelude.{◌≡◌, None};
 ghost use Rattle.gitwire.specs.Handles.{writer_in};
 ghost use Rattle.gitwire.specs.WrittenForC.{BeginsToWrite};
 
-use crate::handles::GitwireWriter;
-use crate::machine::Machine;
+use crate::handles::{GitwireWriter, Holds, fill};
+use crate::machine::PacketBuffer;
 use crate::told::What;
 use git_pkt::Hold;
 use std::alloc::Global;
@@ -17,14 +17,11 @@ pub extern "C" fn gitwire_writer_new(alloc: Global, writer: &mut GitwireWriter) 
     ensures { BeginsToWrite result (writer_in writer.new) }
 {
     *writer = GitwireWriter::none(alloc);
-    let Ok(made) = Box::new(alloc, Hold::new()) else {
+    let buffer = PacketBuffer { hold: Hold::new() };
+    let Ok(made) = Box::new(alloc, buffer) else {
         return What::OutOfMemory.number();
     };
-    let Ok(made) = Box::new(alloc, Machine::Writer(made)) else {
-        return What::OutOfMemory.number();
-    };
-    *writer = GitwireWriter::of(made);
-    What::Done.number()
+    fill(writer, alloc, made).number()
 }
 
 /// Frees the writer. The handle has none from then on.

@@ -7,8 +7,7 @@ ghost use Rattle.gitwire.specs.Handles.{writer_in};
 ghost use Rattle.gitwire.specs.Offers.{offer_meant};
 ghost use Rattle.gitwire.specs.WrittenForC.{Advertises, Makes, MeansBand, MeansError, MeansLine, MeansPacket, Writes, WritesIn};
 
-use crate::handles::GitwireWriter;
-use crate::machine::Machine;
+use crate::handles::{GitwireWriter, Holds};
 use crate::offer::GitwireOffer;
 use crate::packets::LONGEST_PAYLOAD;
 use crate::rooms::fill;
@@ -32,15 +31,12 @@ pub extern "C" fn gitwire_put_packet(
 ) -> GitwireTold
     ensures { WritesIn (writer_in writer.old) (Writes (MeansPacket kind payload.now)) room.old result room.new (writer_in writer.new) }
 {
-    let Some(mut machine) = writer.take(alloc) else {
+    let Some(mut taken) = writer.take(alloc) else {
         return GitwireTold::of(What::NoHandle);
     };
-    let Machine::Writer(hold) = &mut *machine else {
-        unreachable!()
-    };
-    let made = make_packet(hold, kind, payload);
-    let told = hand_out(made, hold, room);
-    *writer = GitwireWriter::of(machine);
+    let made = make_packet(&mut taken.inner.hold, kind, payload);
+    let told = hand_out(made, &taken.inner.hold, room);
+    writer.put(taken);
     told
 }
 
@@ -57,15 +53,12 @@ pub extern "C" fn gitwire_put_band(
 ) -> GitwireTold
     ensures { WritesIn (writer_in writer.old) (Writes (MeansBand band bytes.now)) room.old result room.new (writer_in writer.new) }
 {
-    let Some(mut machine) = writer.take(alloc) else {
+    let Some(mut taken) = writer.take(alloc) else {
         return GitwireTold::of(What::NoHandle);
     };
-    let Machine::Writer(hold) = &mut *machine else {
-        unreachable!()
-    };
-    let made = make_band(hold, band, bytes);
-    let told = hand_out(made, hold, room);
-    *writer = GitwireWriter::of(machine);
+    let made = make_band(&mut taken.inner.hold, band, bytes);
+    let told = hand_out(made, &taken.inner.hold, room);
+    writer.put(taken);
     told
 }
 
@@ -80,15 +73,12 @@ pub extern "C" fn gitwire_put_line(
 ) -> GitwireTold
     ensures { WritesIn (writer_in writer.old) (Writes (MeansLine text.now)) room.old result room.new (writer_in writer.new) }
 {
-    let Some(mut machine) = writer.take(alloc) else {
+    let Some(mut taken) = writer.take(alloc) else {
         return GitwireTold::of(What::NoHandle);
     };
-    let Machine::Writer(hold) = &mut *machine else {
-        unreachable!()
-    };
-    let made = make_line(hold, b"", text);
-    let told = hand_out(made, hold, room);
-    *writer = GitwireWriter::of(machine);
+    let made = make_line(&mut taken.inner.hold, b"", text);
+    let told = hand_out(made, &taken.inner.hold, room);
+    writer.put(taken);
     told
 }
 
@@ -104,15 +94,12 @@ pub extern "C" fn gitwire_put_error(
 ) -> GitwireTold
     ensures { WritesIn (writer_in writer.old) (Writes (MeansError text.now)) room.old result room.new (writer_in writer.new) }
 {
-    let Some(mut machine) = writer.take(alloc) else {
+    let Some(mut taken) = writer.take(alloc) else {
         return GitwireTold::of(What::NoHandle);
     };
-    let Machine::Writer(hold) = &mut *machine else {
-        unreachable!()
-    };
-    let made = make_line(hold, b"ERR ", text);
-    let told = hand_out(made, hold, room);
-    *writer = GitwireWriter::of(machine);
+    let made = make_line(&mut taken.inner.hold, b"ERR ", text);
+    let told = hand_out(made, &taken.inner.hold, room);
+    writer.put(taken);
     told
 }
 
@@ -127,14 +114,11 @@ pub extern "C" fn gitwire_put_advertisement(
 ) -> GitwireTold
     ensures { WritesIn (writer_in writer.old) (Advertises (offer_meant offer)) room.old result room.new (writer_in writer.new) }
 {
-    let Some(mut machine) = writer.take(alloc) else {
+    let Some(mut taken) = writer.take(alloc) else {
         return GitwireTold::of(What::NoHandle);
     };
-    let Machine::Writer(hold) = &mut *machine else {
-        unreachable!()
-    };
-    let told = advertise(hold, offer, room);
-    *writer = GitwireWriter::of(machine);
+    let told = advertise(&mut taken.inner.hold, offer, room);
+    writer.put(taken);
     told
 }
 

@@ -1,6 +1,0 @@
-use Rattle.gitwire.proofs.client.gitwire_client_pull.Goals as goal
-
-pub returns : goal.returns
-returns c =
-    rw (← c.replace-taken.ensures.value, c.in-Some.ensures.0, ← c.deref_mut.ensures.value, c.in-Client.is)
-    (c.pull-told.new.client, c.of-2.ensures, rw (← c.deref_mut-2.ensures.value) c.pull-told.ensures)

@@ -1,6 +1,0 @@
-use Rattle.gitwire.proofs.server.gitwire_server_feed.Goals as goal
-
-pub returns : goal.returns
-returns c =
-    rw (← c.replace-taken.ensures.value, c.in-Some.ensures.0, ← c.deref_mut.ensures.value, c.in-Server.is)
-    (c.feed-told.new.server, c.of-2.ensures, rw (← c.deref_mut-2.ensures.value) c.feed-told.ensures)
