@@ -2,6 +2,7 @@
 
 ghost use Rattle.std.specs.Prelude.{◌≡◌, Option, Some, None, MatchOption, true};
 ghost use Rattle.gitwire.specs.Calls.{IsMade};
+ghost use Rattle.gitwire.specs.declared.machine.Machine.TheVariants.{Empty};
 ghost use Rattle.gitwire.specs.Machines.{is_none_or, gatherer_of, request_reader_of, request_of, repository_of, server_of, client_of, buffer_of};
 
 use crate::gatherer::Gatherer;
@@ -37,6 +38,7 @@ pub(crate) trait Holds: Sized {
 pub(crate) struct Taken<T> {
     pub(crate) inner: Box<T, Global>,
     shell: Box<Machine, Global>,
+    ghost emptied: { shell.value ≡ Empty },
 }
 
 /// Makes what is in the box that of the handle, which had none. `Done`; or `OutOfMemory`, and it has none.

@@ -1,6 +1,6 @@
 //! A machine behind a pointer whose type C may see, or none.
 
-ghost use Rattle.std.specs.Prelude.{◌≡◌, Option, Some, None, IsSome, MatchOption, is_some};
+ghost use Rattle.std.specs.Prelude.{◌≡◌, Option, Some, None, IfSome, IsSome, MatchOption, is_some};
 ghost use Rattle.gitwire.specs.declared.machine.Machine.{Machine};
 ghost use Rattle.gitwire.specs.Held.{held_owns, machine_coded};
 
@@ -107,7 +107,8 @@ impl Handle {
 
     /// The machine, and the box in which it lay.
     pub(crate) fn open(self) -> Option<(Machine, Box<Machine, Global>)>
-        ensures { MatchOption result (self.held.machine ≡ None) (λ opened. self.held.machine ≡ Some opened.0) }
+        ensures machine { MatchOption result (self.held.machine ≡ None) (λ opened. self.held.machine ≡ Some opened.0) }
+        ensures empty { IfSome result (λ opened. opened.1.value ≡ Machine.Empty) }
     {
         let Some(mut shell) = self.into_machine() else {
             return None;
@@ -118,10 +119,14 @@ impl Handle {
 
     /// A handle of the machine, which lies in this box from now on.
     pub(crate) fn shut(mut shell: Box<Machine, Global>, machine: Machine) -> Handle
+        requires { shell.value ≡ Machine.Empty }
         ensures { result.held.machine ≡ Some machine }
     {
-        *shell = machine;
-        Handle::of(shell)
+        // There is nothing to be freed in it, which an assignment would look for.
+        match replace(&mut *shell, machine) {
+            Machine::Empty => Handle::of(shell),
+            _ => unreachable!(),
+        }
     }
 }
 
