@@ -1,10 +1,26 @@
 -- What a call does to the handle that it is made on, by what that has before and after.
-use Rattle.std.specs.Prelude.{◌≡◌, Option, Some, None}
+use Rattle.std.specs.Prelude.{◌≡◌, ℕ, List, Option, Some, None, IsSomeAnd}
+use Rattle.gitwire.specs.Told.{telling}
+use Rattle.gitwire.specs.declared.told.GitwireTold.{GitwireTold}
 use Rattle.gitwire.specs.declared.told.What.{What}
-use Rattle.gitwire.specs.declared.told.What.TheVariants.{Done, OutOfMemory}
+use Rattle.gitwire.specs.declared.told.What.TheVariants.{Done, NoHandle, OutOfMemory}
+
+-- the handle has nothing: that is told, and the room stays
+abbrev pub HasNone : List ℕ → GitwireTold → List ℕ → Type 0
+HasNone room told filled = (told ≡ telling NoHandle) × (filled ≡ room)
 
 module _ {X : Type 0} where
   -- the handle has the value; or memory ran out, and it has none
   abbrev pub IsMade : What → X → Option X → Type 0
   IsMade told value None = told ≡ OutOfMemory
   IsMade told value (Some made) = (told ≡ Done) × (made ≡ value)
+
+  -- the call does this to what the handle has; or that has nothing, and this holds
+  abbrev pub On : Option X → Option X → (X → X → Type 0) → Type 0 → Type 0
+  On None new does otherwise = otherwise × (new ≡ None)
+  On (Some old) new does otherwise = IsSomeAnd new (does old)
+
+  -- the call asks for this of what the handle has, which stays; or that has nothing, and this holds
+  abbrev pub Of : Option X → Option X → (X → Type 0) → Type 0 → Type 0
+  Of None new holds otherwise = otherwise × (new ≡ None)
+  Of (Some had) new holds otherwise = (new ≡ Some had) × holds had

@@ -84,10 +84,9 @@ pub record FeedsInRoom (filled_with : HeardGot → List ℕ → List ℕ) (old :
   pub small : length room < longest_payload → (told ≡ telling_none 0 What.RoomTooSmall) × (filled ≡ room) × (new ≡ old)
   pub large : longest_payload ≤ length room → FeedsTold filled_with old piece room told filled new
 
--- a handle that is fed
-abbrev pub FeedsIn : (HeardGot → List ℕ → List ℕ) → Option (Client Global) → List ℕ → List ℕ → GitwireEvent → List ℕ → Option (Client Global) → Type 0
-FeedsIn filled_with None piece room told filled new = (told ≡ telling_none 0 What.NoHandle) × (filled ≡ room) × (new ≡ None)
-FeedsIn filled_with (Some old) piece room told filled new = IsSomeAnd new (FeedsInRoom filled_with old piece room told filled)
+-- the handle has nothing: that is told, and the room stays
+abbrev pub HearsNone : List ℕ → GitwireEvent → List ℕ → Type 0
+HearsNone room told filled = (told ≡ telling_none 0 What.NoHandle) × (filled ≡ room)
 
 -- what C is told of what is to be done next
 abbrev pub told_of_sent : Sent → GitwireTold
@@ -114,11 +113,6 @@ pub record PullsTold (old : Client Global) (room : List ℕ) (told : GitwireTold
 pub record PullsInRoom (old : Client Global) (room : List ℕ) (told : GitwireTold) (filled : List ℕ) (new : Client Global) : Type 0 where
   pub small : length room < 65520 → (told ≡ telling What.RoomTooSmall) × (filled ≡ room) × (new ≡ old)
   pub large : 65520 ≤ length room → PullsTold old room told filled new
-
--- a handle that is pulled from
-abbrev pub PullsIn : Option (Client Global) → List ℕ → GitwireTold → List ℕ → Option (Client Global) → Type 0
-PullsIn None room told filled new = (told ≡ telling What.NoHandle) × (filled ≡ room) × (new ≡ None)
-PullsIn (Some old) room told filled new = IsSomeAnd new (PullsInRoom old room told filled)
 
 -- a request that the client takes
 pub record TakesRequest (old : Client Global) (request : Request Global) (new : Client Global) : Type 0 where
@@ -153,11 +147,6 @@ pub record LeavesTold (old : Client Global) (told : ℕ) (new : Client Global) :
   pub not_now : can_ask old ≡ false → (told ≡ what_number What.NotNow) × (new ≡ old)
   pub leaves : can_ask old ≡ true → (told ≡ what_number What.Done) × Leaves old new
 
--- a handle by which C leaves
-abbrev pub LeavesIn : Option (Client Global) → ℕ → Option (Client Global) → Type 0
-LeavesIn None told new = (told ≡ what_number What.NoHandle) × (new ≡ None)
-LeavesIn (Some old) told new = IsSomeAnd new (LeavesTold old told)
-
 -- the input ends where more was due: at the end of the last whole packet
 pub record CutsShort (old : Client Global) (told : GitwireTold) (new : Client Global) : Type 0 where
   pub fault : Fault
@@ -172,11 +161,6 @@ pub record CutsShort (old : Client Global) (told : GitwireTold) (new : Client Gl
 pub record ClosesTold (old : Client Global) (told : GitwireTold) (new : Client Global) : Type 0 where
   pub not_now : wants_input old ≡ false → (told ≡ telling What.NotNow) × (new ≡ old)
   pub cut : wants_input old ≡ true → CutsShort old told new
-
--- a handle whose input ends
-abbrev pub ClosesIn : Option (Client Global) → GitwireTold → Option (Client Global) → Type 0
-ClosesIn None told new = (told ≡ telling What.NoHandle) × (new ≡ None)
-ClosesIn (Some old) told new = IsSomeAnd new (ClosesTold old told)
 
 -- a message, if there is one, is put into the room, if that is large enough
 pub record PutsMessage (message room : List ℕ) (told : GitwireTold) (filled : List ℕ) : Type 0 where
@@ -194,11 +178,6 @@ pub record MessageTold (client : Client Global) (room : List ℕ) (told : Gitwir
       → MatchOption message (EndsWithoutMessage client) (λ said. EndsWithMessage t h.asked h.used said)
   pub puts : PutsMaybe message room told filled
 
--- a handle that is asked for the message: it stays as it is
-abbrev pub MessageIn : Option (Client Global) → List ℕ → GitwireTold → List ℕ → Option (Client Global) → Type 0
-MessageIn None room told filled new = (told ≡ telling What.NoHandle) × (filled ≡ room) × (new ≡ None)
-MessageIn (Some old) room told filled new = (new ≡ Some old) × MessageTold old room told filled
-
 -- what was noted, as C sees it
 abbrev pub caps_shown : Caps → GitwireCaps
 caps_shown caps = record {
@@ -215,8 +194,3 @@ caps_shown caps = record {
 pub record CapsTold (client : Client Global) (told : GitwireCaps) : Type 0 where
   pub told_is : told ≡ caps_shown (caps_of client)
   pub noted : (t : Terms) (h : History) → Converses t h client → HasNoted t h.asked h.used (caps_of client)
-
--- a handle that is asked for what was noted: it stays as it is
-abbrev pub CapsIn : Option (Client Global) → GitwireCaps → ℕ → GitwireCaps → Option (Client Global) → Type 0
-CapsIn None before told caps new = (told ≡ what_number What.NoHandle) × (caps ≡ before) × (new ≡ None)
-CapsIn (Some old) before told caps new = (told ≡ what_number What.Done) × CapsTold old caps × (new ≡ Some old)

@@ -1,5 +1,5 @@
 -- What C is told of a packet reader's calls.
-use Rattle.std.specs.Prelude.{◌≡◌, ℕ, ◌+◌, ◌≤◌, ◌<◌, true, false, List, [], length, Option, Some, None, IsSomeAnd}
+use Rattle.std.specs.Prelude.{◌≡◌, ℕ, ◌+◌, ◌≤◌, ◌<◌, true, false, List, [], length, Option, Some, None}
 use Rattle.git_pkt.specs.Packets.{longest_payload}
 use Rattle.git_pkt.specs.PacketReader.{Feeds, Reads, ReadsOn, fault_of, is_open, open_length, position_of}
 use Rattle.git_pkt.specs.declared.fault.Fault.{Fault}
@@ -50,11 +50,6 @@ pub record FeedsInRoom (old : PacketReader) (piece room : List ℕ) (told : Gitw
   pub small : length room < longest_payload → (told ≡ telling What.RoomTooSmall) × (filled ≡ room) × (new ≡ old)
   pub large : longest_payload ≤ length room → FeedsTold old piece room told filled new
 
--- a handle that is fed
-abbrev pub FeedsIn : Option PacketReader → List ℕ → List ℕ → GitwireTold → List ℕ → Option PacketReader → Type 0
-FeedsIn None piece room told filled new = (told ≡ telling What.NoHandle) × (filled ≡ room) × (new ≡ None)
-FeedsIn (Some old) piece room told filled new = IsSomeAnd new (FeedsInRoom old piece room told filled)
-
 -- a fault at the end: the one that the reader had, or that a packet is cut off
 pub record FailsAtEnd (old : PacketReader) (fault : Fault) (new : PacketReader) : Type 0 where
   pub stays : fault_of new ≡ Some fault
@@ -77,8 +72,3 @@ pub record ClosesTold (old : PacketReader) (told : GitwireTold) (new : PacketRea
   pub ends : Ends old fault new
   pub carries : ReadsOn old [] [] new
   pub told_is : told ≡ told_of_end fault
-
--- a handle that is closed
-abbrev pub ClosesIn : Option PacketReader → GitwireTold → Option PacketReader → Type 0
-ClosesIn None told new = (told ≡ telling What.NoHandle) × (new ≡ None)
-ClosesIn (Some old) told new = IsSomeAnd new (ClosesTold old told)

@@ -94,8 +94,3 @@ pub record TellsClose (old : RequestStream Global) (told : GitwireTold) (new : R
 pub record ClosesTold (old : RequestStream Global) (told : GitwireTold) (new : RequestStream Global) : Type 0 where
   pub now : wants_input old ≡ true → TellsClose old told new
   pub not_now : wants_input old ≡ false → (told ≡ telling What.NotNow) × (new ≡ old)
-
--- a handle that is closed
-abbrev pub ClosesIn : Option (RequestStream Global) → GitwireTold → Option (RequestStream Global) → Type 0
-ClosesIn None told new = (told ≡ telling What.NoHandle) × (new ≡ None)
-ClosesIn (Some old) told new = IsSomeAnd new (ClosesTold old told)

@@ -1,5 +1,5 @@
 -- What C is told of a request's calls.
-use Rattle.std.specs.Prelude.{◌≡◌, ◌⊎◌, ℕ, ◌<◌, ◌≤◌, Bool, false, List, length, Option, Some, None, IsSomeAnd, Result, Ok, Err, unwrap_or, slice_get}
+use Rattle.std.specs.Prelude.{◌≡◌, ◌⊎◌, ℕ, ◌<◌, ◌≤◌, Bool, false, List, length, Option, Some, None, Result, Ok, Err, unwrap_or, slice_get}
 use Rattle.std.specs.Option.{option_map}
 use Rattle.std.specs.Global.{Global}
 use Rattle.git_names.specs.ObjectName.{hex_of}
@@ -10,10 +10,10 @@ use Rattle.git_msg.specs.Asked.{Asked, symrefs_of, peel_of, done_of, thin_pack_o
 use Rattle.git_msg.specs.Asked.{unborn_of, wait_for_done_of, filters_of}
 use Rattle.git_msg.specs.Asked.{deepen_of, deepen_since_of, ref_prefixes_of, wants_of, haves_of, shallows_of, deepen_nots_of, want_refs_of, oids_of}
 use Rattle.git_msg.specs.Checks.{Passes, Refuses}
-use Rattle.git_msg.specs.HeldRequest.{IsEmpty, IsRefused, Keeps, add_checks, asked_of, command_of, format_of}
+use Rattle.git_msg.specs.HeldRequest.{IsEmpty, IsRefused, Keeps, add_checks, command_of, format_of}
 use Rattle.git_msg.specs.Lines.{end_checks}
 use Rattle.git_msg.specs.declared.requests.Request.{Request}
-use Rattle.gitwire.specs.Numbers.{command_number, commands, flags, format_number, formats, given_numbers, item_lists}
+use Rattle.gitwire.specs.Numbers.{commands, flags, formats, given_numbers}
 use Rattle.gitwire.specs.Rooms.{Fills}
 use Rattle.gitwire.specs.Told.{telling, telling_fault, telling_packet, what_number}
 use Rattle.gitwire.specs.declared.told.GitwireTold.{GitwireTold}
@@ -75,11 +75,6 @@ pub record AddsTold (old : Request Global) (line : List ℕ) (told : GitwireTold
   pub adds : AddsLine old line added new
   pub told_is : told ≡ telling_result added
 
--- a handle to whose request a line is added
-abbrev pub AddsIn : Option (Request Global) → List ℕ → GitwireTold → Option (Request Global) → Type 0
-AddsIn None line told new = (told ≡ telling What.NoHandle) × (new ≡ None)
-AddsIn (Some old) line told new = IsSomeAnd new (AddsTold old line told)
-
 -- what is asked for is whole, or it is not, by this name
 abbrev pub JudgesEnd : Asked → Result (Unit {0}) Kind → Type 0
 JudgesEnd asked (Ok done) = Passes (end_checks asked)
@@ -90,21 +85,6 @@ pub record EndsTold (asked : Asked) (told : GitwireTold) : Type 0 where
   pub judged : Result (Unit {0}) Kind
   pub judges : JudgesEnd asked judged
   pub told_is : told ≡ telling_result judged
-
--- a handle whose request is judged
-abbrev pub EndsIn : Option (Request Global) → GitwireTold → Option (Request Global) → Type 0
-EndsIn None told new = (told ≡ telling What.NoHandle) × (new ≡ None)
-EndsIn (Some request) told new = (new ≡ Some request) × EndsTold (asked_of request) told
-
--- a handle that is asked for its request's command
-abbrev pub CommandIn : Option (Request Global) → GitwireTold → Option (Request Global) → Type 0
-CommandIn None told new = (told ≡ telling What.NoHandle) × (new ≡ None)
-CommandIn (Some request) told new = (new ≡ Some request) × (told ≡ telling_number (command_number (command_of request)))
-
--- a handle that is asked for its request's format
-abbrev pub FormatIn : Option (Request Global) → GitwireTold → Option (Request Global) → Type 0
-FormatIn None told new = (told ≡ telling What.NoHandle) × (new ≡ None)
-FormatIn (Some request) told new = (new ≡ Some request) × (told ≡ telling_number (format_number (format_of request)))
 
 -- whether the flag is set
 abbrev pub flag_of : Flag → Asked → Bool
@@ -124,11 +104,6 @@ flag_of Flag.WaitForDone = wait_for_done_of
 abbrev pub is_set : ℕ → Asked → Bool
 is_set number asked = unwrap_or (option_map (λ flag. flag_of flag asked) (slice_get flags number)) false
 
--- a handle that is asked for a flag of its request
-abbrev pub FlagIn : Option (Request Global) → ℕ → Bool → Option (Request Global) → Type 0
-FlagIn None number told new = (told ≡ false) × (new ≡ None)
-FlagIn (Some request) number told new = (new ≡ Some request) × (told ≡ is_set number (asked_of request))
-
 -- the number, if it was given
 abbrev pub given_of : Given → Asked → Option ℕ
 given_of Given.Deepen = deepen_of
@@ -143,11 +118,6 @@ telling_given (Some number) = telling_number number
 abbrev pub telling_which : ℕ → Asked → GitwireTold
 telling_which number asked =
     unwrap_or (option_map (λ which. telling_given (given_of which asked)) (slice_get given_numbers number)) (telling What.BadValue)
-
--- a handle that is asked for a number of its request
-abbrev pub NumberIn : Option (Request Global) → ℕ → GitwireTold → Option (Request Global) → Type 0
-NumberIn None number told new = (told ≡ telling What.NoHandle) × (new ≡ None)
-NumberIn (Some request) number told new = (new ≡ Some request) × (told ≡ telling_which number (asked_of request))
 
 -- the text at a place of a list; an object name as its digits
 abbrev pub item_of : ItemList → Asked → ℕ → Option (List ℕ)
@@ -169,9 +139,3 @@ PutsItem (Some text) room told filled = Fills text room told filled
 abbrev pub PutsFrom : Option ItemList → Asked → ℕ → List ℕ → GitwireTold → List ℕ → Type 0
 PutsFrom None asked i room told filled = (told ≡ telling What.BadValue) × (filled ≡ room)
 PutsFrom (Some list) asked i room told filled = PutsItem (item_of list asked i) room told filled
-
--- a handle that is asked for an item of its request
-abbrev pub ItemIn : Option (Request Global) → ℕ → ℕ → List ℕ → GitwireTold → List ℕ → Option (Request Global) → Type 0
-ItemIn None list i room told filled new = (told ≡ telling What.NoHandle) × (filled ≡ room) × (new ≡ None)
-ItemIn (Some request) list i room told filled new =
-    (new ≡ Some request) × PutsFrom (slice_get item_lists list) (asked_of request) i room told filled

@@ -1,5 +1,5 @@
 -- What C is told of a server's calls.
-use Rattle.std.specs.Prelude.{◌≡◌, ◌⊎◌, ℕ, ◌≤◌, ◌<◌, Bool, true, false, List, [], length, take, Option, Some, None, IsSome, IsSomeAnd}
+use Rattle.std.specs.Prelude.{◌≡◌, ◌⊎◌, ℕ, ◌≤◌, ◌<◌, Bool, true, false, List, [], length, take, Option, Some, None, IsSome}
 use Rattle.std.specs.Global.{Global}
 use Rattle.git_msg.specs.Advertisement.{everything}
 use Rattle.git_msg.specs.Arguments.{most_limit}
@@ -56,20 +56,10 @@ pub record FeedsTold (old : Server SharedRepo Global) (piece : List ℕ) (told :
   pub stays : wants_input old ≡ false → (used ≡ 0) × (new ≡ old)
   pub nothing : length piece ≡ 0 → (used ≡ 0) × (new ≡ old)
 
--- a handle that is fed
-abbrev pub FeedsIn : Option (Server SharedRepo Global) → List ℕ → GitwireTold → Option (Server SharedRepo Global) → Type 0
-FeedsIn None piece told new = (told ≡ telling What.NoHandle) × (new ≡ None)
-FeedsIn (Some old) piece told new = IsSomeAnd new (FeedsTold old piece told)
-
 -- the input ends where the server waits for it
 pub record ClosesTold (old : Server SharedRepo Global) (told : ℕ) (new : Server SharedRepo Global) : Type 0 where
   pub due : wants_input old ≡ true → (told ≡ what_number What.Done) × Closes shared_state old new × IsSome (outcome_of new)
   pub not_now : wants_input old ≡ false → (told ≡ what_number What.NotNow) × (new ≡ old)
-
--- a handle that is closed
-abbrev pub ClosesIn : Option (Server SharedRepo Global) → ℕ → Option (Server SharedRepo Global) → Type 0
-ClosesIn None told new = (told ≡ what_number What.NoHandle) × (new ≡ None)
-ClosesIn (Some old) told new = IsSomeAnd new (ClosesTold old told)
 
 -- what C is told of what is pulled
 abbrev pub told_of : Pulled → GitwireTold
@@ -96,8 +86,3 @@ pub record PullsTold (old : Server SharedRepo Global) (room : List ℕ) (told : 
 pub record PullsInRoom (old : Server SharedRepo Global) (room : List ℕ) (told : GitwireTold) (filled : List ℕ) (new : Server SharedRepo Global) : Type 0 where
   pub small : length room < 65520 → (told ≡ telling What.RoomTooSmall) × (filled ≡ room) × (new ≡ old)
   pub large : 65520 ≤ length room → PullsTold old room told filled new
-
--- a handle from which is pulled
-abbrev pub PullsIn : Option (Server SharedRepo Global) → List ℕ → GitwireTold → List ℕ → Option (Server SharedRepo Global) → Type 0
-PullsIn None room told filled new = (told ≡ telling What.NoHandle) × (filled ≡ room) × (new ≡ None)
-PullsIn (Some old) room told filled new = IsSomeAnd new (PullsInRoom old room told filled)

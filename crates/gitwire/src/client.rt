@@ -2,11 +2,13 @@
 
 ghost use Rattle.std.specs.Prelude.{◌≡◌, ◌≤◌, None, MatchResult, length, slice_get};
 ghost use Rattle.git_client.specs.declared.events.HeardGot.TheVariants as Got;
-ghost use Rattle.gitwire.specs.ClientTold.{AsksIn, BeginsBy, CapsIn, CapsTold, ClosesIn, ClosesTold, FeedsIn, FeedsInRoom, filled_beside, filled_by};
-ghost use Rattle.gitwire.specs.ClientTold.{LeavesIn, LeavesRequest, LeavesTold, MessageIn, MessageTold, PullsIn, PullsInRoom, TakesRequest, endings};
+ghost use Rattle.gitwire.specs.Calls.{HasNone, Of, On};
+ghost use Rattle.gitwire.specs.ClientTold.{AsksIn, BeginsBy, CapsTold, ClosesTold, FeedsInRoom, HearsNone, filled_beside, filled_by};
+ghost use Rattle.gitwire.specs.ClientTold.{LeavesRequest, LeavesTold, MessageTold, PullsInRoom, TakesRequest, endings};
 ghost use Rattle.gitwire.specs.EventsTold.{bytes_shown, parts_of, telling_parts};
 ghost use Rattle.gitwire.specs.Handles.{client_in, request_in};
 ghost use Rattle.gitwire.specs.Numbers.{formats};
+ghost use Rattle.gitwire.specs.Told.{telling, what_number};
 
 use crate::event::{EventParts, GitwireEvent};
 use crate::handles::{GitwireClient, GitwireRequest, Holds, fill};
@@ -88,7 +90,8 @@ pub extern "C" fn gitwire_client_feed(
     piece: &[u8],
     room: &mut [u8],
 ) -> GitwireEvent
-    ensures { FeedsIn filled_by (client_in client.old) piece.now room.old result room.new (client_in client.new) }
+    ensures { On (client_in client.old) (client_in client.new) (λ old new. FeedsInRoom filled_by old piece.now room.old result room.new new)
+        (HearsNone room.old result room.new) }
 {
     let Some(mut taken) = client.take(alloc) else {
         return GitwireEvent::none(0, What::NoHandle);
@@ -107,7 +110,8 @@ pub extern "C" fn gitwire_client_feed_in_place(
     piece: &[u8],
     room: &mut [u8],
 ) -> GitwireEvent
-    ensures { FeedsIn filled_beside (client_in client.old) piece.now room.old result room.new (client_in client.new) }
+    ensures { On (client_in client.old) (client_in client.new) (λ old new. FeedsInRoom filled_beside old piece.now room.old result room.new new)
+        (HearsNone room.old result room.new) }
 {
     let Some(mut taken) = client.take(alloc) else {
         return GitwireEvent::none(0, What::NoHandle);
@@ -168,7 +172,7 @@ pub extern "C" fn gitwire_client_pull(
     client: &mut GitwireClient,
     room: &mut [u8],
 ) -> GitwireTold
-    ensures { PullsIn (client_in client.old) room.old result room.new (client_in client.new) }
+    ensures { On (client_in client.old) (client_in client.new) (λ old new. PullsInRoom old room.old result room.new new) (HasNone room.old result room.new) }
 {
     let Some(mut taken) = client.take(alloc) else {
         return GitwireTold::of(What::NoHandle);
@@ -250,7 +254,7 @@ fn ask(
 /// Leaves: the flush that ends the conversation is to be pulled. `Done`, `NotNow` where the client cannot ask, or `NoHandle`.
 #[unsafe(no_mangle)]
 pub extern "C" fn gitwire_client_leave(alloc: Global, client: &mut GitwireClient) -> u8
-    ensures { LeavesIn (client_in client.old) result (client_in client.new) }
+    ensures { On (client_in client.old) (client_in client.new) (λ old new. LeavesTold old result new) (result ≡ what_number What.NoHandle) }
 {
     let Some(mut taken) = client.take(alloc) else {
         return What::NoHandle.number();
@@ -274,7 +278,7 @@ fn leave(client: &mut Client<Global>) -> u8
 /// well, or the conversation has failed already; or `NoHandle`.
 #[unsafe(no_mangle)]
 pub extern "C" fn gitwire_client_close(alloc: Global, client: &mut GitwireClient) -> GitwireTold
-    ensures { ClosesIn (client_in client.old) result (client_in client.new) }
+    ensures { On (client_in client.old) (client_in client.new) (λ old new. ClosesTold old result new) (result ≡ telling What.NoHandle) }
 {
     let Some(mut taken) = client.take(alloc) else {
         return GitwireTold::of(What::NoHandle);
@@ -301,7 +305,7 @@ pub extern "C" fn gitwire_client_message(
     client: &mut GitwireClient,
     room: &mut [u8],
 ) -> GitwireTold
-    ensures { MessageIn (client_in client.old) room.old result room.new (client_in client.new) }
+    ensures { Of (client_in client.old) (client_in client.new) (λ had. MessageTold had room.old result room.new) (HasNone room.old result room.new) }
 {
     let Some(taken) = client.take(alloc) else {
         return GitwireTold::of(What::NoHandle);
@@ -331,7 +335,8 @@ pub extern "C" fn gitwire_client_caps(
     client: &mut GitwireClient,
     caps: &mut GitwireCaps,
 ) -> u8
-    ensures { CapsIn (client_in client.old) caps.old result caps.new (client_in client.new) }
+    ensures { Of (client_in client.old) (client_in client.new) (λ had. (result ≡ what_number What.Done) × CapsTold had caps.new)
+        ((result ≡ what_number What.NoHandle) × (caps.new ≡ caps.old)) }
 {
     let Some(taken) = client.take(alloc) else {
         return What::NoHandle.number();

@@ -2,11 +2,10 @@
 
 ghost use Rattle.std.specs.Prelude.{◌≡◌, Option, Some, None, MatchOption, true};
 ghost use Rattle.gitwire.specs.Calls.{IsMade};
-ghost use Rattle.gitwire.specs.declared.machine.Machine.TheVariants.{Empty};
 ghost use Rattle.gitwire.specs.Machines.{is_none_or, gatherer_of, request_reader_of, request_of, repository_of, server_of, client_of, buffer_of};
 
 use crate::gatherer::Gatherer;
-use crate::held::Handle;
+use crate::held::{Handle, Shell};
 use crate::machine::{Machine, PacketBuffer};
 use crate::told::What;
 use git_client::Client;
@@ -37,8 +36,7 @@ pub(crate) trait Holds: Sized {
 #[derive(Drop)]
 pub(crate) struct Taken<T> {
     pub(crate) inner: Box<T, Global>,
-    shell: Box<Machine, Global>,
-    ghost emptied: { shell.value ≡ Empty },
+    shell: Shell,
 }
 
 /// Makes what is in the box that of the handle, which had none. `Done`; or `OutOfMemory`, and it has none.
@@ -46,7 +44,7 @@ pub(crate) fn fill<H: Holds>(handle: &mut H, alloc: Global, inner: Box<H::Inner,
     requires { H.has handle.old ≡ None }
     ensures { IsMade result inner.value (H.has handle.new) }
 {
-    let Ok(shell) = Box::new(alloc, Machine::Empty) else {
+    let Some(shell) = Shell::new(alloc) else {
         return What::OutOfMemory;
     };
     handle.put(Taken { inner, shell });
@@ -76,16 +74,16 @@ impl Holds for GitwirePacketReader {
 
     fn take(&mut self, alloc: Global) -> Option<Taken<Self::Inner>> {
         let (machine, shell) = replace(self, Self::none(alloc)).handle.open()?;
-        let Machine::PacketReader(inner) = machine else {
-            unreachable!()
-        };
-        Some(Taken { inner, shell })
+        match machine {
+            Machine::PacketReader(inner) => Some(Taken { inner, shell }),
+            _ => unreachable!(),
+        }
     }
 
     fn put(&mut self, taken: Taken<Self::Inner>)
         ensures { gatherer_in self.new ≡ Some taken.inner.value }
     {
-        self.handle = Handle::shut(taken.shell, Machine::PacketReader(taken.inner));
+        self.handle = taken.shell.shut(Machine::PacketReader(taken.inner));
     }
 }
 
@@ -112,16 +110,16 @@ impl Holds for GitwireRequestReader {
 
     fn take(&mut self, alloc: Global) -> Option<Taken<Self::Inner>> {
         let (machine, shell) = replace(self, Self::none(alloc)).handle.open()?;
-        let Machine::RequestReader(inner) = machine else {
-            unreachable!()
-        };
-        Some(Taken { inner, shell })
+        match machine {
+            Machine::RequestReader(inner) => Some(Taken { inner, shell }),
+            _ => unreachable!(),
+        }
     }
 
     fn put(&mut self, taken: Taken<Self::Inner>)
         ensures { request_reader_in self.new ≡ Some taken.inner.value }
     {
-        self.handle = Handle::shut(taken.shell, Machine::RequestReader(taken.inner));
+        self.handle = taken.shell.shut(Machine::RequestReader(taken.inner));
     }
 }
 
@@ -148,16 +146,16 @@ impl Holds for GitwireRequest {
 
     fn take(&mut self, alloc: Global) -> Option<Taken<Self::Inner>> {
         let (machine, shell) = replace(self, Self::none(alloc)).handle.open()?;
-        let Machine::Request(inner) = machine else {
-            unreachable!()
-        };
-        Some(Taken { inner, shell })
+        match machine {
+            Machine::Request(inner) => Some(Taken { inner, shell }),
+            _ => unreachable!(),
+        }
     }
 
     fn put(&mut self, taken: Taken<Self::Inner>)
         ensures { request_in self.new ≡ Some taken.inner.value }
     {
-        self.handle = Handle::shut(taken.shell, Machine::Request(taken.inner));
+        self.handle = taken.shell.shut(Machine::Request(taken.inner));
     }
 }
 
@@ -184,16 +182,16 @@ impl Holds for GitwireRepository {
 
     fn take(&mut self, alloc: Global) -> Option<Taken<Self::Inner>> {
         let (machine, shell) = replace(self, Self::none(alloc)).handle.open()?;
-        let Machine::Repository(inner) = machine else {
-            unreachable!()
-        };
-        Some(Taken { inner, shell })
+        match machine {
+            Machine::Repository(inner) => Some(Taken { inner, shell }),
+            _ => unreachable!(),
+        }
     }
 
     fn put(&mut self, taken: Taken<Self::Inner>)
         ensures { repository_in self.new ≡ Some taken.inner.value }
     {
-        self.handle = Handle::shut(taken.shell, Machine::Repository(taken.inner));
+        self.handle = taken.shell.shut(Machine::Repository(taken.inner));
     }
 }
 
@@ -220,16 +218,16 @@ impl Holds for GitwireServer {
 
     fn take(&mut self, alloc: Global) -> Option<Taken<Self::Inner>> {
         let (machine, shell) = replace(self, Self::none(alloc)).handle.open()?;
-        let Machine::Server(inner) = machine else {
-            unreachable!()
-        };
-        Some(Taken { inner, shell })
+        match machine {
+            Machine::Server(inner) => Some(Taken { inner, shell }),
+            _ => unreachable!(),
+        }
     }
 
     fn put(&mut self, taken: Taken<Self::Inner>)
         ensures { server_in self.new ≡ Some taken.inner.value }
     {
-        self.handle = Handle::shut(taken.shell, Machine::Server(taken.inner));
+        self.handle = taken.shell.shut(Machine::Server(taken.inner));
     }
 }
 
@@ -256,16 +254,16 @@ impl Holds for GitwireClient {
 
     fn take(&mut self, alloc: Global) -> Option<Taken<Self::Inner>> {
         let (machine, shell) = replace(self, Self::none(alloc)).handle.open()?;
-        let Machine::Client(inner) = machine else {
-            unreachable!()
-        };
-        Some(Taken { inner, shell })
+        match machine {
+            Machine::Client(inner) => Some(Taken { inner, shell }),
+            _ => unreachable!(),
+        }
     }
 
     fn put(&mut self, taken: Taken<Self::Inner>)
         ensures { client_in self.new ≡ Some taken.inner.value }
     {
-        self.handle = Handle::shut(taken.shell, Machine::Client(taken.inner));
+        self.handle = taken.shell.shut(Machine::Client(taken.inner));
     }
 }
 
@@ -292,15 +290,15 @@ impl Holds for GitwireWriter {
 
     fn take(&mut self, alloc: Global) -> Option<Taken<Self::Inner>> {
         let (machine, shell) = replace(self, Self::none(alloc)).handle.open()?;
-        let Machine::Writer(inner) = machine else {
-            unreachable!()
-        };
-        Some(Taken { inner, shell })
+        match machine {
+            Machine::Writer(inner) => Some(Taken { inner, shell }),
+            _ => unreachable!(),
+        }
     }
 
     fn put(&mut self, taken: Taken<Self::Inner>)
         ensures { buffer_in self.new ≡ Some taken.inner.value }
     {
-        self.handle = Handle::shut(taken.shell, Machine::Writer(taken.inner));
+        self.handle = taken.shell.shut(Machine::Writer(taken.inner));
     }
 }

@@ -1,6 +1,6 @@
 //! A machine behind a pointer whose type C may see, or none.
 
-ghost use Rattle.std.specs.Prelude.{◌≡◌, Option, Some, None, IfSome, IsSome, MatchOption, is_some};
+ghost use Rattle.std.specs.Prelude.{◌≡◌, Option, Some, None, IsSome, MatchOption, is_some};
 ghost use Rattle.gitwire.specs.declared.machine.Machine.{Machine};
 ghost use Rattle.gitwire.specs.Held.{held_owns, machine_coded};
 
@@ -106,32 +106,44 @@ impl Handle {
     }
 
     /// The machine, and the box in which it lay.
-    pub(crate) fn open(self) -> Option<(Machine, Box<Machine, Global>)>
-        ensures machine { MatchOption result (self.held.machine ≡ None) (λ opened. self.held.machine ≡ Some opened.0) }
-        ensures empty { IfSome result (λ opened. opened.1.value ≡ Machine.Empty) }
+    pub(crate) fn open(self) -> Option<(Machine, Shell)>
+        ensures { MatchOption result (self.held.machine ≡ None) (λ opened. self.held.machine ≡ Some opened.0) }
     {
-        let Some(mut shell) = self.into_machine() else {
-            return None;
-        };
-        let machine = replace(&mut *shell, Machine::Empty);
-        Some((machine, shell))
-    }
-
-    /// A handle of the machine, which lies in this box from now on.
-    pub(crate) fn shut(mut shell: Box<Machine, Global>, machine: Machine) -> Handle
-        requires { shell.value ≡ Machine.Empty }
-        ensures { result.held.machine ≡ Some machine }
-    {
-        // There is nothing to be freed in it, which an assignment would look for.
-        match replace(&mut *shell, machine) {
-            Machine::Empty => Handle::of(shell),
-            _ => unreachable!(),
-        }
+        let mut machine = self.into_machine()?;
+        let taken = replace(&mut *machine, Machine::Empty);
+        Some((taken, Shell { machine }))
     }
 }
 
 impl Drop for Handle {
     fn drop(self) {
         drop(self.into_machine());
+    }
+}
+
+/// The box of a machine, with none in it.
+#[derive(Drop)]
+pub(crate) struct Shell {
+    machine: Box<Machine, Global>,
+    ghost empty: { machine.value ≡ Machine.Empty },
+}
+
+impl Shell {
+    pub(crate) fn new(alloc: Global) -> Option<Shell> {
+        match Box::new(alloc, Machine::Empty) {
+            Ok(machine) => Some(Shell { machine }),
+            Err(_) => None,
+        }
+    }
+
+    /// A handle of the machine, which lies in this box from now on.
+    pub(crate) fn shut(self, machine: Machine) -> Handle
+        ensures { result.held.machine ≡ Some machine }
+    {
+        let Shell { machine: mut shell } = self;
+        match replace(&mut *shell, machine) {
+            Machine::Empty => Handle::of(shell),
+            _ => unreachable!(),
+        }
     }
 }

@@ -1,8 +1,10 @@
 //! A packet reader that C holds.
 
 ghost use Rattle.std.specs.Prelude.{◌≡◌, None};
+ghost use Rattle.gitwire.specs.Calls.{HasNone, On};
 ghost use Rattle.gitwire.specs.Handles.{packet_reader_in};
-ghost use Rattle.gitwire.specs.PacketsTold.{Begins, ClosesIn, ClosesTold, FeedsIn, FeedsInRoom};
+ghost use Rattle.gitwire.specs.PacketsTold.{Begins, ClosesTold, FeedsInRoom};
+ghost use Rattle.gitwire.specs.Told.{telling};
 
 use crate::gatherer::Gatherer;
 use crate::handles::{GitwirePacketReader, Holds, fill};
@@ -40,7 +42,8 @@ pub extern "C" fn gitwire_packet_reader_feed(
     piece: &[u8],
     room: &mut [u8],
 ) -> GitwireTold
-    ensures { FeedsIn (packet_reader_in reader.old) piece.now room.old result room.new (packet_reader_in reader.new) }
+    ensures { On (packet_reader_in reader.old) (packet_reader_in reader.new) (λ old new. FeedsInRoom old piece.now room.old result room.new new)
+        (HasNone room.old result room.new) }
 {
     let Some(mut taken) = reader.take(alloc) else {
         return GitwireTold::of(What::NoHandle);
@@ -78,7 +81,7 @@ pub extern "C" fn gitwire_packet_reader_close(
     alloc: Global,
     reader: &mut GitwirePacketReader,
 ) -> GitwireTold
-    ensures { ClosesIn (packet_reader_in reader.old) result (packet_reader_in reader.new) }
+    ensures { On (packet_reader_in reader.old) (packet_reader_in reader.new) (λ old new. ClosesTold old result new) (result ≡ telling What.NoHandle) }
 {
     let Some(mut taken) = reader.take(alloc) else {
         return GitwireTold::of(What::NoHandle);

@@ -1,10 +1,12 @@
 //! A request that C holds.
 
-ghost use Rattle.std.specs.Prelude.{◌≡◌, MatchOption, None};
-ghost use Rattle.git_msg.specs.HeldRequest.{asked_of};
+ghost use Rattle.std.specs.Prelude.{◌≡◌, MatchOption, None, false, slice_get};
+ghost use Rattle.git_msg.specs.HeldRequest.{asked_of, command_of, format_of};
+ghost use Rattle.gitwire.specs.Calls.{HasNone, Of, On};
 ghost use Rattle.gitwire.specs.Handles.{request_in};
-ghost use Rattle.gitwire.specs.RequestsTold.{AddsIn, AddsLine, AddsTold, CommandIn, EndsIn, EndsTold, FlagIn, FormatIn, ItemIn, NumberIn};
-ghost use Rattle.gitwire.specs.RequestsTold.{Makes, MeanNoRequest, MeanRequest};
+ghost use Rattle.gitwire.specs.Numbers.{command_number, format_number, item_lists};
+ghost use Rattle.gitwire.specs.RequestsTold.{AddsLine, AddsTold, EndsTold, Makes, MeanNoRequest, MeanRequest, PutsFrom};
+ghost use Rattle.gitwire.specs.Told.{telling};
 ghost use Rattle.gitwire.specs.RequestsTold.{is_set, telling_number, telling_result, telling_which};
 
 use crate::handles::{GitwireRequest, Holds, fill};
@@ -69,7 +71,7 @@ pub extern "C" fn gitwire_request_add(
     request: &mut GitwireRequest,
     line: &[u8],
 ) -> GitwireTold
-    ensures { AddsIn (request_in request.old) line.now result (request_in request.new) }
+    ensures { On (request_in request.old) (request_in request.new) (λ old new. AddsTold old line.now result new) (result ≡ telling What.NoHandle) }
 {
     let Some(mut taken) = request.take(alloc) else {
         return GitwireTold::of(What::NoHandle);
@@ -108,7 +110,7 @@ fn tell(judged: Result<(), Kind>) -> GitwireTold
 /// Judges whether the request is whole. `Done`; `Failed`, by `DeepenConflict`, `NoWants` or `NoSize`; or `NoHandle`.
 #[unsafe(no_mangle)]
 pub extern "C" fn gitwire_request_end(alloc: Global, request: &mut GitwireRequest) -> GitwireTold
-    ensures { EndsIn (request_in request.old) result (request_in request.new) }
+    ensures { Of (request_in request.old) (request_in request.new) (λ had. EndsTold (asked_of had) result) (result ≡ telling What.NoHandle) }
 {
     let Some(taken) = request.take(alloc) else {
         return GitwireTold::of(What::NoHandle);
@@ -130,7 +132,8 @@ pub extern "C" fn gitwire_request_command(
     alloc: Global,
     request: &mut GitwireRequest,
 ) -> GitwireTold
-    ensures { CommandIn (request_in request.old) result (request_in request.new) }
+    ensures { Of (request_in request.old) (request_in request.new) (λ had. result ≡ telling_number (command_number (command_of had)))
+        (result ≡ telling What.NoHandle) }
 {
     let Some(taken) = request.take(alloc) else {
         return GitwireTold::of(What::NoHandle);
@@ -143,7 +146,8 @@ pub extern "C" fn gitwire_request_command(
 /// The format of the request's object names: `Done`, and `offset` is its number; or `NoHandle`.
 #[unsafe(no_mangle)]
 pub extern "C" fn gitwire_request_format(alloc: Global, request: &mut GitwireRequest) -> GitwireTold
-    ensures { FormatIn (request_in request.old) result (request_in request.new) }
+    ensures { Of (request_in request.old) (request_in request.new) (λ had. result ≡ telling_number (format_number (format_of had)))
+        (result ≡ telling What.NoHandle) }
 {
     let Some(taken) = request.take(alloc) else {
         return GitwireTold::of(What::NoHandle);
@@ -167,7 +171,7 @@ pub extern "C" fn gitwire_request_flag(
     request: &mut GitwireRequest,
     flag: u8,
 ) -> bool
-    ensures { FlagIn (request_in request.old) flag result (request_in request.new) }
+    ensures { Of (request_in request.old) (request_in request.new) (λ had. result ≡ is_set flag (asked_of had)) (result ≡ false) }
 {
     let Some(taken) = request.take(alloc) else {
         return false;
@@ -206,7 +210,7 @@ pub extern "C" fn gitwire_request_number(
     request: &mut GitwireRequest,
     which: u8,
 ) -> GitwireTold
-    ensures { NumberIn (request_in request.old) which result (request_in request.new) }
+    ensures { Of (request_in request.old) (request_in request.new) (λ had. result ≡ telling_which which (asked_of had)) (result ≡ telling What.NoHandle) }
 {
     let Some(taken) = request.take(alloc) else {
         return GitwireTold::of(What::NoHandle);
@@ -242,7 +246,8 @@ pub extern "C" fn gitwire_request_item(
     index: usize,
     room: &mut [u8],
 ) -> GitwireTold
-    ensures { ItemIn (request_in request.old) list index room.old result room.new (request_in request.new) }
+    ensures { Of (request_in request.old) (request_in request.new) (λ had. PutsFrom (slice_get item_lists list) (asked_of had) index room.old result room.new)
+        (HasNone room.old result room.new) }
 {
     let Some(taken) = request.take(alloc) else {
         return GitwireTold::of(What::NoHandle);

@@ -1,8 +1,10 @@
 //! A reader of requests that C holds.
 
 ghost use Rattle.std.specs.Prelude.{◌≡◌, MatchOption, None};
+ghost use Rattle.gitwire.specs.Calls.{On};
 ghost use Rattle.gitwire.specs.Handles.{request_in, request_reader_in};
-ghost use Rattle.gitwire.specs.RequestReaderTold.{ClosesIn, ClosesTold, FeedsIn, FeedsTold, Holds, MakesReader, MeanNoReader, MeanReader};
+ghost use Rattle.gitwire.specs.RequestReaderTold.{ClosesTold, FeedsIn, FeedsTold, Holds, MakesReader, MeanNoReader, MeanReader};
+ghost use Rattle.gitwire.specs.Told.{telling};
 
 use crate::handles::{GitwireRequest, GitwireRequestReader, Holds, Taken, fill};
 use crate::offer::GitwireOffer;
@@ -117,7 +119,7 @@ pub extern "C" fn gitwire_request_reader_close(
     alloc: Global,
     reader: &mut GitwireRequestReader,
 ) -> GitwireTold
-    ensures { ClosesIn (request_reader_in reader.old) result (request_reader_in reader.new) }
+    ensures { On (request_reader_in reader.old) (request_reader_in reader.new) (λ old new. ClosesTold old result new) (result ≡ telling What.NoHandle) }
 {
     let Some(mut taken) = reader.take(alloc) else {
         return GitwireTold::of(What::NoHandle);

@@ -1,8 +1,10 @@
 //! A server that C holds.
 
 ghost use Rattle.std.specs.Prelude.{◌≡◌, IfSome, None};
+ghost use Rattle.gitwire.specs.Calls.{HasNone, On};
 ghost use Rattle.gitwire.specs.Handles.{repository_in, server_in};
-ghost use Rattle.gitwire.specs.ServerTold.{BeginsOver, BeginsWithin, ClosesIn, ClosesTold, FeedsIn, FeedsTold, PullsIn, PullsInRoom, Starts};
+ghost use Rattle.gitwire.specs.Told.{telling, what_number};
+ghost use Rattle.gitwire.specs.ServerTold.{BeginsOver, BeginsWithin, ClosesTold, FeedsTold, PullsInRoom, Starts};
 
 use crate::handles::{GitwireRepository, GitwireServer, Holds, fill};
 use crate::told::{GitwireTold, What};
@@ -86,7 +88,7 @@ pub extern "C" fn gitwire_server_feed(
     server: &mut GitwireServer,
     piece: &[u8],
 ) -> GitwireTold
-    ensures { FeedsIn (server_in server.old) piece.now result (server_in server.new) }
+    ensures { On (server_in server.old) (server_in server.new) (λ old new. FeedsTold old piece.now result new) (result ≡ telling What.NoHandle) }
 {
     let Some(mut taken) = server.take(alloc) else {
         return GitwireTold::of(What::NoHandle);
@@ -107,7 +109,7 @@ fn feed(server: &mut Server<SharedRepo, Global>, piece: &[u8]) -> GitwireTold
 /// Tells that the input ends here. `Done`; `NotNow` where the server does not wait for bytes, and nothing changed; or `NoHandle`.
 #[unsafe(no_mangle)]
 pub extern "C" fn gitwire_server_close(alloc: Global, server: &mut GitwireServer) -> u8
-    ensures { ClosesIn (server_in server.old) result (server_in server.new) }
+    ensures { On (server_in server.old) (server_in server.new) (λ old new. ClosesTold old result new) (result ≡ what_number What.NoHandle) }
 {
     let Some(mut taken) = server.take(alloc) else {
         return What::NoHandle.number();
@@ -135,7 +137,7 @@ pub extern "C" fn gitwire_server_pull(
     server: &mut GitwireServer,
     room: &mut [u8],
 ) -> GitwireTold
-    ensures { PullsIn (server_in server.old) room.old result room.new (server_in server.new) }
+    ensures { On (server_in server.old) (server_in server.new) (λ old new. PullsInRoom old room.old result room.new new) (HasNone room.old result room.new) }
 {
     let Some(mut taken) = server.take(alloc) else {
         return GitwireTold::of(What::NoHandle);
