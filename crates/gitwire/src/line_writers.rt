@@ -6,7 +6,8 @@ ghost use Rattle.git_names.specs.ObjectName.{IsNoObjectName};
 ghost use Rattle.git_names.specs.RefName.{IsRefName};
 ghost use Rattle.git_msg.specs.References.{IsMaybeObjectName};
 ghost use Rattle.gitwire.specs.Handles.{writer_in};
-ghost use Rattle.gitwire.specs.WrittenForC.{Makes, MeansAck, MeansBoundary, MeansInfo, MeansReference, MeansWanted, Names, Writes, WritesIn, boundary_of, given};
+ghost use Rattle.gitwire.specs.WrittenForC.{Makes, MeansAck, MeansBoundary, MeansInfo, MeansReference, MeansWanted, Names, Writes, WritesIn};
+ghost use Rattle.gitwire.specs.WrittenForC.{boundary_of, given};
 
 use crate::handles::{GitwireWriter, Holds};
 use crate::numbers::format_numbered;
@@ -35,7 +36,8 @@ pub extern "C" fn gitwire_put_reference(
     peeled: &[u8],
     room: &mut [u8],
 ) -> GitwireTold
-    ensures { WritesIn (writer_in writer.old) (Writes (MeansReference format id.now name.now target.now peeled.now)) room.old result room.new (writer_in writer.new) }
+    ensures { WritesIn (writer_in writer.old) (Writes (MeansReference format id.now name.now target.now peeled.now)) room.old result room.new
+        (writer_in writer.new) }
 {
     let Some(mut taken) = writer.take(alloc) else {
         return GitwireTold::of(What::NoHandle);
