@@ -147,18 +147,21 @@ case_our_client_shows_the_progress_on_a_terminal() {
     is_whole sha1 history-sha1 "$id"
 }
 
-# shown PROGRESS WANTED: that where a server reports this, and nothing else beside a pack, this is shown.
+# shown PROGRESS.. WANTED: that where a server reports this, a packet each, and nothing else beside a pack, this is shown.
 shown() {
+    local wanted=${*: -1} part
     {
         advertisement sha1
         packet packfile
-        printf '%04x\002%b' $(($(printf '%b' "$1" | wc -c) + 5)) "$1"
+        for part in "${@:1:$#-1}"; do
+            printf '%04x\002%b' $(($(printf '%b' "$part" | wc -c) + 5)) "$part"
+        done
         printf '000a\001PACK!0000'
     } > said
     printf '%s\n' fetch "want $one" 'done' > script
     run git2show fetch --script script --pack pack --transcript written --progress < said
     expect_status 0
-    expect_same "what is shown of $1" <(printf '%b' "$2") err
+    expect_same "what is shown of $1" <(printf '%b' "$wanted") err
 }
 
 # Of the progress no byte goes to a terminal that could be more than a letter or the end of a line.
@@ -168,6 +171,8 @@ case_our_client_shows_no_control_byte_of_the_progress() {
     shown '\xc3\xa9t\xc3\xa9 \xc2\x9b31m \xe2\x80\x9c\n' 'remote: \xc3\xa9t\xc3\xa9 \xc2?31m \xe2\x80\x9c\n'
     shown '\n\n' 'remote: \nremote: \n'
     shown 'open' 'remote: open\n'
+    shown 'ha' 'lf\r' 'done\n' 'remote: half\rremote: done\n'
+    shown '\xc2' '\x9b31m\n' 'remote: \xc2?31m\n'
 }
 
 case_our_client_fetches_over_a_connection_for_each_request() {
