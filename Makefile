@@ -10,7 +10,7 @@ VERSION = 0.2.0
 
 .PHONY: run program library install test test-program audit cases bench
 
-# The crates of this repository that a crate stands on, lowest first, and it: its line of crates.txt names them in that order.
+# The crates of this repository that a crate depends on, lowest first, and it: its line of crates.txt names them in that order.
 with_those_below = $(foreach it,$(shell sed -n 's/^$(1)\( staticlib\)\{0,1\}: //p' crates.txt) $(1),$(if $(wildcard crates/$(it)),$(it)))
 
 # Proves these crates one after another, and prints before each which of how many it is; the last one by `rt` and the words given. What
@@ -40,10 +40,10 @@ library:
 	$(call prove,gitwire,lib)
 
 # Installs the program with its manual page, and the library with its own, its header, what that names (the page on the protocol, the
-# script that writes a repository text, the examples), and what pkg-config tells of it: a C program is then built with
+# script that writes a repository text, the examples), and what pkg-config prints for it: a C program is then built with
 # `pkg-config --cflags --libs gitwire` and nothing of this folder. It has the library twice: as an archive, and as a shared library of
 # the same objects, which shows the calls of the header alone. What was built is taken as it is; what was not is proved first, and each
-# is told.
+# is reported.
 install: prefix = $(abspath $(PREFIX))
 install: to = $(DESTDIR)$(prefix)
 install: $(PROGRAM) $(LIBRARY)
@@ -87,7 +87,7 @@ test:
 test-program:
 	@RT="$(RT)" tests/run.sh
 
-# The worked cases: prints those that do not go as they say, and what differs from the gate's list of them.
+# The worked cases: prints those that do not go as they state, and what differs from the gate's list of them.
 cases:
 	@cd crates/worked_conversations && $(RT) run -- data/packets.txt > /dev/null
 	@cd crates/worked_conversations/data && ../out/worked_conversations $$(cat ../args) | diff ../stdout - \

@@ -20,18 +20,18 @@ static uint8_t piece[PIECE_BYTES], room[GITWIRE_PAYLOAD_ROOM];
 static uint64_t packets, bytes, checksum;
 
 /* What one packet adds to the checksum: for data the first byte (0 where there is none) and the length. */
-static uint64_t mark(gitwire_told told)
+static uint64_t mark(gitwire_answer answer)
 {
-	if (told.kind != GITWIRE_PAYLOAD)
-		return UINT64_C(0x1000000) + (uint64_t)(told.kind - GITWIRE_FLUSH);
-	uint64_t first = told.length ? room[0] : 0;
-	return first * 65536 + told.length;
+	if (answer.kind != GITWIRE_PAYLOAD)
+		return UINT64_C(0x1000000) + (uint64_t)(answer.kind - GITWIRE_FLUSH);
+	uint64_t first = answer.length ? room[0] : 0;
+	return first * 65536 + answer.length;
 }
 
-static int tell_fault(gitwire_told told)
+static int tell_fault(gitwire_answer answer)
 {
 	uint8_t text[GITWIRE_FAULT_TEXT_ROOM];
-	size_t length = gitwire_fault_text(told.fault, told.offset, text, sizeof text);
+	size_t length = gitwire_fault_text(answer.fault, answer.offset, text, sizeof text);
 
 	fprintf(stderr, "bench_packets: %.*s\n", (int)length, (const char *)text);
 	return 1;
@@ -40,7 +40,7 @@ static int tell_fault(gitwire_told told)
 int main(void)
 {
 	gitwire_packet_reader reader = GITWIRE_NONE;
-	gitwire_told told;
+	gitwire_answer answer;
 	ssize_t count;
 
 	if (gitwire_packet_reader_new(&reader) != GITWIRE_DONE)
@@ -50,20 +50,20 @@ int main(void)
 			continue;
 		if (count < 0)
 			return 1;
-		for (size_t used = 0; used < (size_t)count; used += told.used) {
-			told = gitwire_packet_reader_feed(&reader, piece + used, (size_t)count - used, room, sizeof room);
-			if (told.kind == GITWIRE_MORE)
+		for (size_t used = 0; used < (size_t)count; used += answer.used) {
+			answer = gitwire_packet_reader_feed(&reader, piece + used, (size_t)count - used, room, sizeof room);
+			if (answer.kind == GITWIRE_MORE)
 				continue;
-			if (told.kind == GITWIRE_FAILED)
-				return tell_fault(told);
+			if (answer.kind == GITWIRE_FAILED)
+				return tell_fault(answer);
 			packets++;
-			bytes += told.length;
-			checksum = checksum * 31 + mark(told);
+			bytes += answer.length;
+			checksum = checksum * 31 + mark(answer);
 		}
 	}
-	told = gitwire_packet_reader_close(&reader);
-	if (told.kind == GITWIRE_FAILED)
-		return tell_fault(told);
+	answer = gitwire_packet_reader_close(&reader);
+	if (answer.kind == GITWIRE_FAILED)
+		return tell_fault(answer);
 	printf("%" PRIu64 " %" PRIu64 " %" PRIu64 "\n", packets, bytes, checksum);
 	gitwire_packet_reader_free(&reader);
 	return 0;

@@ -15,7 +15,7 @@
 
 #define MOST_REQUESTS 1000
 #define LINES_BYTES 65536
-#define LONGEST_LINE 64200       /* two names and two object names, and what stands between */
+#define LONGEST_LINE 64200       /* two names and two object names, and what is between */
 
 static struct reader reader;
 static bool is_fetch[MOST_REQUESTS];

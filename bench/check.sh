@@ -29,7 +29,7 @@ measure_check() {
     check_row 'check, 1,000,000 references' listing listing
 }
 
-# Tells what the rows do not.
+# Prints what the rows do not.
 tell_check() {
     local asked heard
     for asked in pack listing; do

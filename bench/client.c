@@ -1,5 +1,5 @@
 /*
- * Reads what a server says to a client that asked for a pack, and prints one line: `bytes checksum` of the pack. The checksum
+ * Reads what a server sends to a client that asked for a pack, and prints one line: `bytes checksum` of the pack. The checksum
  * takes the bytes at the multiples of 65,536 of the pack: so neither number depends on how a reader cuts the pack, which this
  * one does by packets. This is what `git_client::Client` is measured against; crates/bench_client prints the same line.
  */
@@ -47,7 +47,7 @@ static bool read_advertisement(void)
 	return packet == FLUSH || refuse("UnexpectedPacket");
 }
 
-/* A packet of the packfile section, by its band. Where it has nothing after the band's byte, nothing is said. */
+/* A packet of the packfile section, by its band. Where it has nothing after the band's byte, nothing is sent. */
 static bool split(void)
 {
 	const unsigned char *payload = payload_of(&reader);

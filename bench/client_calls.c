@@ -1,5 +1,5 @@
 /*
- * Asks for a pack and hears the answer on standard input, as crates/bench_client does, and prints the same line: by calls of the
+ * Asks for a pack and receives the answer on standard input, as crates/bench_client does, and prints the same line: by calls of the
  * library for C, by which the bytes of the pack lie where they came, in the piece. It is measured beside client.c, which reads the
  * same answer with no library and gathers each packet.
  */
@@ -55,15 +55,15 @@ static bool read_piece(void)
 	if (count < 0)
 		return false;
 	if (count == 0) {
-		gitwire_told told = gitwire_client_close(&client);
-		return tell_fault(told.fault, told.offset);
+		gitwire_answer answer = gitwire_client_close(&client);
+		return tell_fault(answer.fault, answer.offset);
 	}
 	at = 0;
 	end = (size_t)count;
 	return true;
 }
 
-/* Hears what the piece says, up to the end of the advertisement or of the response. */
+/* Receives what the piece contains, up to the end of the advertisement or of the response. */
 static bool hear(void)
 {
 	while (at < end) {
@@ -88,27 +88,27 @@ static bool hear(void)
 /* Asks what is to be asked, and leaves after it. */
 static bool go_on(void)
 {
-	gitwire_told told;
+	gitwire_answer answer;
 
 	if (has_asked)
 		return gitwire_client_leave(&client) == GITWIRE_DONE;
 	has_asked = true;
-	told = gitwire_client_ask(&client, &request);
-	return told.kind == GITWIRE_DONE || tell_fault(told.fault, told.offset);
+	answer = gitwire_client_ask(&client, &request);
+	return answer.kind == GITWIRE_DONE || tell_fault(answer.fault, answer.offset);
 }
 
 int main(void)
 {
-	gitwire_told told;
+	gitwire_answer answer;
 
 	if (!begin())
 		return 1;
-	while ((told = gitwire_client_pull(&client, room, sizeof room)).kind != GITWIRE_FINISHED) {
-		if (told.kind == GITWIRE_FAILED)
-			return !tell_fault(told.fault, told.offset);
-		if (told.kind == GITWIRE_CAN_ASK && !go_on())
+	while ((answer = gitwire_client_pull(&client, room, sizeof room)).kind != GITWIRE_FINISHED) {
+		if (answer.kind == GITWIRE_FAILED)
+			return !tell_fault(answer.fault, answer.offset);
+		if (answer.kind == GITWIRE_CAN_ASK && !go_on())
 			return 1;
-		if (told.kind == GITWIRE_NEED_INPUT && !(read_piece() && hear()))
+		if (answer.kind == GITWIRE_NEED_INPUT && !(read_piece() && hear()))
 			return 1;
 	}
 	print_counts();

@@ -32,7 +32,7 @@ make_pack() {
     our_fetch=("$our_show" serve --repo "$streams/fetched.repo" --pack "$pack")
 }
 
-# Asks a server for the pack, and sets `start`, `answer`, `packets` and `peak` to what ask.c tells.
+# Asks a server for the pack, and sets `start`, `answer`, `packets` and `peak` to what ask.c prints.
 fetch() {
     read -r start answer packets peak <<< "$("$out/ask" "$@" < "$streams/fetch")"
     [ "$packets" -gt 1 ] || stop "$1 sends no pack"
@@ -59,7 +59,7 @@ measure_fetch() {
     row 'fetch, a pack of 1 GB' "$(wc -c < "$pack")" "$c_fetch_time" "$our_fetch_time"
 }
 
-# Tells what the row does not.
+# Prints what the row does not.
 tell_fetch() {
     awk -v c="$c_fetch_whole" -v ours="$our_fetch_whole" -v theirs="$their_fetch_whole" -v cat="$cat_time" 'BEGIN {
         printf "From the start to the last byte of the pack: git2show serve %.3f s, bands.c %.3f s, ", ours / 1e6, c / 1e6

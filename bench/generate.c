@@ -58,7 +58,7 @@ static void put(const void *bytes, size_t length)
 	filled += length;
 }
 
-/* What stands before the packets of the pack's band. */
+/* What comes before the packets of the pack's band. */
 static void put_front(void)
 {
 	static const char front[] =

@@ -2,7 +2,7 @@
  * Reads the packets of standard input: pkt-lines, as gitprotocol-common(5) has them. The input is read 64 KiB at a
  * time, and each packet is gathered, by runs, in one buffer that is as long as the longest packet.
  *
- * A fault ends the reading with its name and its offset in the stream, as `git2show show` tells it.
+ * A fault ends the reading with its name and its offset in the stream, as `git2show show` reports it.
  */
 #ifndef PKT_LINE_H
 #define PKT_LINE_H
@@ -106,7 +106,7 @@ static enum packet next_packet(struct reader *r)
 	return DATA;
 }
 
-/* Tells the fault, if there is one, on standard error. The answer is the program's status. */
+/* Reports the fault, if there is one, on standard error. The answer is the program's status. */
 static inline int tell_fault(const struct reader *r, const char *program)
 {
 	if (!r->fault)

@@ -1,7 +1,7 @@
 # shellcheck shell=bash disable=SC2154
 # The rows `prefixes`, for bench/run.sh, which reads this file: a request for references with many prefixes, to `git2show serve`
-# and to the real `git upload-pack`, over the same 100,000 references. ask.c sends it, and hears the answer: the time is from the
-# request's first byte on. One prefix shows 999 references, and so does each request: the other prefixes stand between the
+# and to the real `git upload-pack`, over the same 100,000 references. ask.c sends it, and receives the answer: the time is from the
+# request's first byte on. One prefix shows 999 references, and so does each request: the other prefixes lie between the
 # references, in no order. Above 65,536 prefixes Git answers with all references, so there ours is measured alone.
 
 listed=100000
@@ -33,7 +33,7 @@ prefix_request() {
     printf 00000000
 }
 
-# Asks a server, and sets `answer` to the time that ask.c tells.
+# Asks a server, and sets `answer` to the time that ask.c prints.
 ask_prefixes() {
     local packets
     read -r _ answer packets _ <<< "$("$out/ask" "$@" < "$streams/prefixes")"
@@ -60,7 +60,7 @@ measure_prefixes() {
     done
 }
 
-# Tells what the rows do not.
+# Prints what the rows do not.
 tell_prefixes() {
     prefix_request 20000 > "$streams/request"
     answer_of "${their_listing[@]}" > "$streams/answer"

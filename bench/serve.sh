@@ -12,7 +12,7 @@ our_serve=("$our_show" serve --repo "$streams/text" --pack /dev/null)
 serve_start=0 # the best time of ours until its advertisement has come
 serve_peak=0  # its greatest resident set in KiB
 
-# Asks git upload-pack for version 2. Nobody's own configuration takes part, nor a repository that the caller stands in.
+# Asks git upload-pack for version 2. Nobody's own configuration takes part, nor a repository that the caller is in.
 unset "${!GIT_@}"
 export GIT_PROTOCOL=version=2 GIT_CONFIG_NOSYSTEM=1 GIT_CONFIG_GLOBAL=/dev/null
 
@@ -33,7 +33,7 @@ make_references() {
     printf '0000' > "$streams/flush"
 }
 
-# Asks a server, and sets `start`, `answer` and `peak` to what ask.c tells.
+# Asks a server, and sets `start`, `answer` and `peak` to what ask.c prints.
 ask() {
     local told packets
     told=$("$out/ask" "$@" < "$streams/request")
@@ -63,7 +63,7 @@ answer_of() {
     "$@" < "$streams/request" | tail -c "+$((advertised + 1))"
 }
 
-# Tells what the row does not.
+# Prints what the row does not.
 tell_serve() {
     local text_bytes most
     answer_of "${their_serve[@]}" > "$streams/answer"

@@ -4,7 +4,7 @@
 
 sessions=100
 
-# Prints a number of kB that the system tells of a process: resident KIND.
+# Prints a number of kB that the system reports of a process: resident KIND.
 resident() {
     sed -n "s/^$2:[^0-9]*\([0-9]*\) kB/\1/p" "/proc/$1/status"
 }

@@ -15,7 +15,7 @@ static struct reader reader;
 static char out[OUT_BYTES];
 static size_t filled;
 
-static char escape[256][4];      /* what stands for a byte */
+static char escape[256][4];      /* what is written for a byte */
 static unsigned char escape_length[256];
 
 static bool is_plain(unsigned char byte)

@@ -1,5 +1,5 @@
 /*
- * A client of daemon.c: what is kept of it, and its turn, in which it hears and is answered.
+ * A client of daemon.c: what is kept of it, and its turn, in which it sends requests and is answered.
  *
  * Whatever it does, it takes a `struct client`, a buffer of one packet in the library, what MOST_KEPT bytes of a request's arguments take
  * there, and nothing else.
@@ -50,15 +50,15 @@ static time_t seconds(void)
 }
 
 /* A fault by its name and offset, until the next one is asked for. */
-static const char *text_of(gitwire_told told)
+static const char *text_of(gitwire_answer answer)
 {
 	static char text[GITWIRE_FAULT_TEXT_ROOM + 1];
 
-	text[gitwire_fault_text(told.fault, told.offset, (uint8_t *)text, GITWIRE_FAULT_TEXT_ROOM)] = 0;
+	text[gitwire_fault_text(answer.fault, answer.offset, (uint8_t *)text, GITWIRE_FAULT_TEXT_ROOM)] = 0;
 	return text;
 }
 
-/* Tells on standard error what became of a client, unless that would wait for somebody who does not read it. */
+/* Reports on standard error what became of a client, unless that would wait for somebody who does not read it. */
 static void tell(const char *what, const char *why)
 {
 	struct pollfd errors = { .fd = STDERR_FILENO, .events = POLLOUT };
@@ -83,23 +83,23 @@ static void refuse(struct client *c, const char *why)
 	c->phase = ENDING;
 }
 
-/* Reads on to the end of the first packet, whose payload comes to where the answer will stand. */
+/* Reads on to the end of the first packet, whose payload comes to where the answer will be. */
 static void greet(struct client *c)
 {
-	gitwire_told told = gitwire_packet_reader_feed(&c->packets, c->in + c->in_at, c->in_end - c->in_at, c->out, sizeof c->out);
+	gitwire_answer answer = gitwire_packet_reader_feed(&c->packets, c->in + c->in_at, c->in_end - c->in_at, c->out, sizeof c->out);
 	const char *why;
 
-	c->in_at += told.used;
-	if (told.kind == GITWIRE_MORE && !c->input_ended)
+	c->in_at += answer.used;
+	if (answer.kind == GITWIRE_MORE && !c->input_ended)
 		return;
-	if (told.kind == GITWIRE_MORE)
-		told = gitwire_packet_reader_close(&c->packets);
+	if (answer.kind == GITWIRE_MORE)
+		answer = gitwire_packet_reader_close(&c->packets);
 	gitwire_packet_reader_free(&c->packets);
-	if (told.kind == GITWIRE_DONE) { /* nothing was asked */
+	if (answer.kind == GITWIRE_DONE) { /* nothing was asked */
 		c->phase = ENDING;
-	} else if (told.kind == GITWIRE_FAILED) {
-		refuse(c, text_of(told));
-	} else if ((why = why_not((const char *)c->out, told.length)) != NULL) {
+	} else if (answer.kind == GITWIRE_FAILED) {
+		refuse(c, text_of(answer));
+	} else if ((why = why_not((const char *)c->out, answer.length)) != NULL) {
 		refuse(c, why);
 	} else if (gitwire_server_new(&c->server, &repository, MOST_KEPT, true) != GITWIRE_DONE) {
 		refuse(c, "no memory");
@@ -113,14 +113,14 @@ static void serve(struct client *c)
 {
 	c->wants_input = false;
 	for (int i = 0; i < MOST_PULLS && sizeof c->out - c->out_end >= GITWIRE_PACKET_ROOM && !c->wants_input; i++) {
-		gitwire_told told = gitwire_server_pull(&c->server, c->out + c->out_end, sizeof c->out - c->out_end);
+		gitwire_answer answer = gitwire_server_pull(&c->server, c->out + c->out_end, sizeof c->out - c->out_end);
 
-		if (told.kind == GITWIRE_PACKET) {
-			c->out_end += told.length;
-		} else if (told.kind != GITWIRE_NEED_INPUT) {
+		if (answer.kind == GITWIRE_PACKET) {
+			c->out_end += answer.length;
+		} else if (answer.kind != GITWIRE_NEED_INPUT) {
 			c->phase = ENDING;
-			if (told.kind == GITWIRE_FAILED)
-				tell("a session ended with ", text_of(told));
+			if (answer.kind == GITWIRE_FAILED)
+				tell("a session ended with ", text_of(answer));
 			return;
 		} else if (c->in_at < c->in_end) {
 			c->in_at += gitwire_server_feed(&c->server, c->in + c->in_at, c->in_end - c->in_at).used;
@@ -132,7 +132,7 @@ static void serve(struct client *c)
 	}
 }
 
-/* What a client is waited for: that it takes what is owed, and only then that it says more. */
+/* What a client is waited for: that it takes what is owed, and only then that it sends more. */
 static short awaited(const struct client *c)
 {
 	return c->wants_input && c->out_end == 0 ? POLLIN : POLLOUT;
@@ -175,7 +175,7 @@ static void turn(struct client *c)
 		c->out_at = c->out_end = 0;
 		c->since = seconds();
 	}
-	if (c->phase == ENDING) { /* all is sent: what the client still says is read and dropped, so that it can read to the end */
+	if (c->phase == ENDING) { /* all is sent: what the client still sends is read and dropped, so that it can read to the end */
 		c->phase = LEAVING;
 		c->wants_input = true;
 		shutdown(c->connection, SHUT_WR);

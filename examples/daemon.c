@@ -3,13 +3,13 @@
  *
  *     daemon ADDRESS PORT SECONDS NAME TEXT PACK [FILTERED]
  *
- * ADDRESS is one of the loopback network. PORT 0 is any that is free; the line on standard output says which. TEXT is a
- * repository text, and PACK the pack that whoever fetches gets, but for who says a filter, where FILTERED is that one's. A client that
- * has not said within so many SECONDS what it wants is closed, and so is one that then neither reads nor writes for as long. SIGINT
+ * ADDRESS is one of the loopback network. PORT 0 is any that is free; the line on standard output has its number. TEXT is a
+ * repository text, and PACK the pack of every fetch; a fetch with a filter gets FILTERED instead, where that is given. A client that
+ * has not sent within so many SECONDS what it wants is closed, and so is one that then neither reads nor writes for as long. SIGINT
  * ends it.
  *
  * There is a place for MOST_CLIENTS. Where another comes, the one goes of whom a whole request has been waited for longest: so those who
- * say little keep nobody out. Who takes an answer, however slowly, keeps its place: a host that strangers reach gives each address few
+ * send little keep nobody out. Who takes an answer, however slowly, keeps its place: a host that strangers reach gives each address few
  * places, and each session a time for all of it.
  */
 #define _GNU_SOURCE
@@ -113,21 +113,21 @@ static void open_repository(const char *text_name, const char *pack_name, const 
 {
 	size_t text_length, pack_length, filtered_length;
 	uint8_t *text = read_file(text_name, &text_length), *pack = read_file(pack_name, &pack_length), *filtered = NULL;
-	gitwire_told told;
+	gitwire_answer answer;
 	char why[64] = "no memory";
 
 	if (filtered_name != NULL) {
 		filtered = read_file(filtered_name, &filtered_length);
-		told = gitwire_repository_new_filtered(&repository, text, text_length, pack, pack_length, filtered, filtered_length);
+		answer = gitwire_repository_new_filtered(&repository, text, text_length, pack, pack_length, filtered, filtered_length);
 	} else {
-		told = gitwire_repository_new(&repository, text, text_length, pack, pack_length);
+		answer = gitwire_repository_new(&repository, text, text_length, pack, pack_length);
 	}
 	free(text);
 	free(pack);
 	free(filtered);
-	if (told.kind == GITWIRE_FAILED)
-		snprintf(why, sizeof why, "BadRepo at %llu", (unsigned long long)told.offset);
-	if (told.kind != GITWIRE_DONE)
+	if (answer.kind == GITWIRE_FAILED)
+		snprintf(why, sizeof why, "BadRepo at %llu", (unsigned long long)answer.offset);
+	if (answer.kind != GITWIRE_DONE)
 		stop(why);
 }
 
@@ -173,8 +173,8 @@ int main(int count, char **words)
 	if (snprintf(asked_for, sizeof asked_for, "git-upload-pack /%s", words[4]) >= (int)sizeof asked_for)
 		stop("the name is too long");
 	signal(SIGINT, end);
-	signal(SIGPIPE, SIG_IGN); /* who is gone is told by a write that fails; whoever read what is told here may be gone too */
-	open_repository(words[5], words[6], words[7]); /* after the last word stands a NULL */
+	signal(SIGPIPE, SIG_IGN); /* who is gone is seen by a write that fails; whoever read what is reported here may be gone too */
+	open_repository(words[5], words[6], words[7]); /* after the last word comes a NULL */
 	if (gitwire_writer_new(&writer) != GITWIRE_DONE)
 		stop("no memory");
 	int listener = listen_at(words[1], (uint16_t)number_of(words[2], 0, 65535), words[4]);

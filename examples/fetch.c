@@ -3,7 +3,7 @@
  *
  *     fetch [--sha256] FOLDER REFERENCE PACK
  *
- * REFERENCE is a whole name, as `HEAD` or `refs/heads/main`; its object is printed. What the server tells of its progress is shown where
+ * REFERENCE is a whole name, as `HEAD` or `refs/heads/main`; its object is printed. What the server sends of its progress is shown where
  * standard error is a terminal. `git index-pack` takes the pack.
  */
 #include <gitwire.h>
@@ -15,12 +15,12 @@
 
 #include "upload_pack.h"
 
-/* A fetch, from the question after the reference to the last byte of the pack. */
+/* A fetch, from the request for the reference to the last byte of the pack. */
 struct fetch {
 	gitwire_client client;
 	uint8_t format;
 	const char *reference;
-	char id[65];          /* the reference's object, once the server has told it */
+	char id[65];          /* the reference's object, once the server has sent it */
 	bool has_listed;
 	bool has_asked;
 	FILE *pack;
@@ -35,12 +35,12 @@ static int tell(const char *what)
 	return 1;
 }
 
-/* Tells why the conversation was refused, and what the server said of it. */
-static int refuse(struct fetch *fetch, gitwire_told told)
+/* Reports why the conversation was refused, and the server's message for it. */
+static int refuse(struct fetch *fetch, gitwire_answer answer)
 {
 	uint8_t text[GITWIRE_FAULT_TEXT_ROOM];
-	size_t length = gitwire_fault_text(told.fault, told.offset, text, sizeof text);
-	gitwire_told message = gitwire_client_message(&fetch->client, room, sizeof room);
+	size_t length = gitwire_fault_text(answer.fault, answer.offset, text, sizeof text);
+	gitwire_answer message = gitwire_client_message(&fetch->client, room, sizeof room);
 
 	fprintf(stderr, "fetch: %.*s", (int)length, (const char *)text);
 	if (message.kind == GITWIRE_DONE)
@@ -75,7 +75,7 @@ static bool make_request(struct fetch *fetch, gitwire_request *request)
 static int ask_next(struct fetch *fetch)
 {
 	gitwire_request request = GITWIRE_NONE;
-	gitwire_told told;
+	gitwire_answer answer;
 	bool is_made;
 
 	if (fetch->has_asked) {
@@ -86,16 +86,16 @@ static int ask_next(struct fetch *fetch)
 		return tell("no such reference");
 	is_made = make_request(fetch, &request);
 	if (is_made)
-		told = gitwire_client_ask(&fetch->client, &request);
+		answer = gitwire_client_ask(&fetch->client, &request);
 	gitwire_request_free(&request); /* nothing, where the client has it */
 	if (!is_made)
 		return tell("a reference that cannot be asked for");
 	fetch->has_asked = fetch->has_listed;
 	fetch->has_listed = true;
-	return told.kind == GITWIRE_DONE ? -1 : refuse(fetch, told);
+	return answer.kind == GITWIRE_DONE ? -1 : refuse(fetch, answer);
 }
 
-/* Takes what the server told. The bytes of the pack and of its progress end at `end` of what was read; other texts lie in the room. */
+/* Takes an event of the server. The bytes of the pack and of its progress end at `end` of what was read; other texts lie in the room. */
 static bool take(struct fetch *fetch, gitwire_event event, const uint8_t *end)
 {
 	const uint8_t *text = end - event.text_length;
@@ -118,7 +118,7 @@ static bool take(struct fetch *fetch, gitwire_event event, const uint8_t *end)
 	}
 }
 
-/* Hears a piece of what the server says. Answers the program's status, or -1 where it goes on. */
+/* Takes a piece of what the server sends. Answers the program's status, or -1 where it goes on. */
 static int hear(struct fetch *fetch)
 {
 	static uint8_t piece[65536];
@@ -139,16 +139,16 @@ static int hear(struct fetch *fetch)
 	return take(fetch, event, piece + used) ? -1 : tell("the pack cannot be written");
 }
 
-/* Does what is to be done next, until all was said and heard. Answers the program's status. */
+/* Does what is to be done next, until all was sent and received. Answers the program's status. */
 static int converse(struct fetch *fetch)
 {
 	int status = -1;
 
 	while (status < 0) {
-		gitwire_told told = gitwire_client_pull(&fetch->client, room, sizeof room);
-		switch (told.kind) {
+		gitwire_answer answer = gitwire_client_pull(&fetch->client, room, sizeof room);
+		switch (answer.kind) {
 		case GITWIRE_PACKET:
-			if (!write_all(fetch->to, room, told.length))
+			if (!write_all(fetch->to, room, answer.length))
 				status = tell("the server cannot be written to");
 			break;
 		case GITWIRE_CAN_ASK:
@@ -161,7 +161,7 @@ static int converse(struct fetch *fetch)
 			status = 0;
 			break;
 		default:
-			status = refuse(fetch, told);
+			status = refuse(fetch, answer);
 		}
 	}
 	return status;

@@ -3,9 +3,9 @@
  *
  *     host REFERENCES PACK
  *
- * REFERENCES is a text of lines `ID NAME`, and PACK the pack that whoever fetches gets, whatever is wanted. The library hears
+ * REFERENCES is a text of lines `ID NAME`, and PACK the pack of every fetch, whatever is wanted. The library receives
  * whole requests, and checks and writes each line of what is answered; what is answered is this program's own. A line of
- * REFERENCES that no answer may have is told where it would be due, and left out.
+ * REFERENCES that no answer may have is reported where it would be due, and left out.
  *
  *     git -c protocol.ext.allow=always clone "ext::host REFERENCES PACK" CLONE
  */
@@ -29,21 +29,21 @@ struct text {
 
 static struct text references, pack;
 
-/* Tells a fault by its name and offset. */
-static void tell(const char *what, gitwire_told told)
+/* Reports a fault by its name and offset. */
+static void tell(const char *what, gitwire_answer answer)
 {
 	uint8_t text[GITWIRE_FAULT_TEXT_ROOM];
-	size_t length = gitwire_fault_text(told.fault, told.offset, text, sizeof text);
+	size_t length = gitwire_fault_text(answer.fault, answer.offset, text, sizeof text);
 
 	fprintf(stderr, "host: %s: %.*s\n", what, (int)length, (const char *)text);
 }
 
-/* Sends the packet in the room, and says whether there is one. */
-static bool give(gitwire_told told)
+/* Sends the packet in the room, and returns whether there is one. */
+static bool give(gitwire_answer answer)
 {
-	if (told.kind != GITWIRE_DONE)
+	if (answer.kind != GITWIRE_DONE)
 		return false;
-	if (fwrite(room, 1, told.length, stdout) != told.length)
+	if (fwrite(room, 1, answer.length, stdout) != answer.length)
 		stop("the answer cannot be written");
 	return true;
 }
@@ -75,7 +75,7 @@ static bool next_line(struct text *rest, struct text *line)
 /* Whether a request asks for a reference of this name: no prefix is every reference. */
 static bool is_asked(gitwire_request *request, struct text name)
 {
-	gitwire_told prefix;
+	gitwire_answer prefix;
 	size_t i = 0;
 
 	for (;; i++) {
@@ -102,10 +102,10 @@ static void answer_references(gitwire_request *request)
 		name.length = line.length - (size_t)(name.at - line.at);
 		if (!is_asked(request, name))
 			continue;
-		gitwire_told told = gitwire_put_reference(&writer, offer.format, line.at, (size_t)(space - line.at), name.at,
+		gitwire_answer answer = gitwire_put_reference(&writer, offer.format, line.at, (size_t)(space - line.at), name.at,
 			name.length, NULL, 0, NULL, 0, room, sizeof room);
-		if (!give(told))
-			tell("a reference is left out", told);
+		if (!give(answer))
+			tell("a reference is left out", answer);
 	}
 	give_flush();
 }
@@ -113,8 +113,8 @@ static void answer_references(gitwire_request *request)
 /* The whole pack, or, as long as the client looks for what is common, that nothing is. */
 static void answer_fetch(gitwire_request *request)
 {
-	const size_t most = GITWIRE_PAYLOAD_ROOM - 1; /* a byte says which band it is */
-	gitwire_told have = gitwire_request_item(request, GITWIRE_LIST_HAVES, 0, room, sizeof room);
+	const size_t most = GITWIRE_PAYLOAD_ROOM - 1; /* a byte is the number of the band */
+	gitwire_answer have = gitwire_request_item(request, GITWIRE_LIST_HAVES, 0, room, sizeof room);
 
 	if (have.kind == GITWIRE_DONE && !gitwire_request_flag(request, GITWIRE_FLAG_DONE)) {
 		give_line("acknowledgments");
@@ -132,19 +132,19 @@ static void answer_fetch(gitwire_request *request)
 }
 
 /* What is wrong, to the other end and to this one. An error packet is not answered by another. */
-static int refuse(gitwire_told told)
+static int refuse(gitwire_answer answer)
 {
 	uint8_t text[GITWIRE_FAULT_TEXT_ROOM];
-	size_t length = gitwire_fault_text(told.fault, told.offset, text, sizeof text);
+	size_t length = gitwire_fault_text(answer.fault, answer.offset, text, sizeof text);
 
-	if (told.fault != GITWIRE_FAULT_REMOTE_ERROR)
+	if (answer.fault != GITWIRE_FAULT_REMOTE_ERROR)
 		give(gitwire_put_error(&writer, text, length, room, sizeof room));
 	fflush(stdout);
-	tell("refused", told);
+	tell("refused", answer);
 	return 1;
 }
 
-static void answer(gitwire_request *request)
+static void answer_request(gitwire_request *request)
 {
 	if (gitwire_request_command(request).offset == GITWIRE_LS_REFS)
 		answer_references(request);
@@ -154,11 +154,11 @@ static void answer(gitwire_request *request)
 		stop("the answer cannot be written");
 }
 
-/* Hears requests until the other end leaves, and answers the program's status. */
+/* Receives requests until the other end leaves, and answers the program's status. */
 static int serve(gitwire_request_reader *reader, gitwire_request *request)
 {
 	static uint8_t piece[4096];
-	gitwire_told told;
+	gitwire_answer answer;
 	ssize_t length;
 
 	while ((length = read(STDIN_FILENO, piece, sizeof piece)) != 0) {
@@ -166,20 +166,20 @@ static int serve(gitwire_request_reader *reader, gitwire_request *request)
 			continue;
 		if (length < 0)
 			stop("the input cannot be read");
-		for (size_t used = 0; used < (size_t)length; used += told.used) {
-			told = gitwire_request_reader_feed(reader, request, piece + used, (size_t)length - used);
-			if (told.kind == GITWIRE_REQUEST)
-				answer(request);
-			else if (told.kind == GITWIRE_STOP)
+		for (size_t used = 0; used < (size_t)length; used += answer.used) {
+			answer = gitwire_request_reader_feed(reader, request, piece + used, (size_t)length - used);
+			if (answer.kind == GITWIRE_REQUEST)
+				answer_request(request);
+			else if (answer.kind == GITWIRE_STOP)
 				return 0;
-			else if (told.kind == GITWIRE_FAILED)
-				return refuse(told);
-			else if (told.kind != GITWIRE_MORE)
+			else if (answer.kind == GITWIRE_FAILED)
+				return refuse(answer);
+			else if (answer.kind != GITWIRE_MORE)
 				stop("no memory");
 		}
 	}
-	told = gitwire_request_reader_close(reader);
-	return told.kind == GITWIRE_FAILED ? refuse(told) : 0;
+	answer = gitwire_request_reader_close(reader);
+	return answer.kind == GITWIRE_FAILED ? refuse(answer) : 0;
 }
 
 int main(int count, char **words)

@@ -16,7 +16,7 @@ answer() {
     printf 'Status: 200 OK\r\nContent-Type: application/x-git-upload-pack-%s\r\nCache-Control: no-cache\r\n\r\n' "$1"
 }
 
-# body: the request's body, as many bytes as the web server says, where it says so.
+# body: the request's body, as many bytes as the web server states, where it does.
 body() {
     if [ -n "${CONTENT_LENGTH:-}" ]; then head -c "$CONTENT_LENGTH"; else cat; fi
 }

@@ -1,7 +1,7 @@
 /*
- * What watch.c makes of a conversation. Each whole packet of either end is judged before it goes on: what the client says by a reader of
- * requests, against what the server offers, and what the server says by a client that asks these very requests. The transcript has the
- * lines of `git2show check`, each after an arrow, `>` for what the client says and `<` for the server, and the offset of the packet that
+ * What watch.c makes of a conversation. Each whole packet of either end is judged before it goes on: what the client sends by a reader of
+ * requests, against what the server offers, and what the server sends by a client that asks these very requests. The transcript has the
+ * lines of `git2show check`, each after an arrow, `>` for what the client sends and `<` for the server, and the offset of the packet that
  * shows it, which for a request is its first:
  *
  *     < 14 capability agent=git/2.39.5
@@ -55,59 +55,59 @@ static void end_judge(struct judge *judge)
  */
 static uint8_t due(struct judge *judge)
 {
-	gitwire_told told;
+	gitwire_answer answer;
 
 	do {
-		told = gitwire_client_pull(&judge->client, room, sizeof room);
-	} while (told.kind == GITWIRE_PACKET);
-	return told.kind;
+		answer = gitwire_client_pull(&judge->client, room, sizeof room);
+	} while (answer.kind == GITWIRE_PACKET);
+	return answer.kind;
 }
 
-static gitwire_told refusal(uint8_t fault, uint64_t offset)
+static gitwire_answer refusal(uint8_t fault, uint64_t offset)
 {
-	return (gitwire_told){ .kind = GITWIRE_FAILED, .fault = fault, .offset = offset };
+	return (gitwire_answer){ .kind = GITWIRE_FAILED, .fault = fault, .offset = offset };
 }
 
-/* Asks what the client has asked, before the server has the last packet of it. What may not be asked is told at the request's offset. */
-static gitwire_told ask(struct judge *judge)
+/* Asks what the client has asked, before the server has the last packet of it. What may not be asked is reported at the request's offset. */
+static gitwire_answer ask(struct judge *judge)
 {
 	static const char *const commands[] = { "ls-refs", "fetch", "object-info" };
 	const char *command = commands[gitwire_request_command(&judge->request).offset];
-	gitwire_told told = gitwire_client_ask(&judge->client, &judge->request);
+	gitwire_answer answer = gitwire_client_ask(&judge->client, &judge->request);
 
-	if (told.kind == GITWIRE_FAILED)
-		return refusal(told.fault, judge->begins_at);
+	if (answer.kind == GITWIRE_FAILED)
+		return refusal(answer.fault, judge->begins_at);
 	fprintf(judge->transcript, "> %" PRIu64 " request %s\n", judge->begins_at, command);
-	return told;
+	return answer;
 }
 
 /* Judges a packet of the client, where it is the client's turn: FAILED, with the fault and its offset, or anything else. */
-static gitwire_told judge_request(struct judge *judge, struct packet packet)
+static gitwire_answer judge_request(struct judge *judge, struct packet packet)
 {
-	gitwire_told told;
+	gitwire_answer answer;
 
 	if (!judge->is_inside)
 		judge->begins_at = packet.offset;
 	judge->is_inside = true;
-	told = gitwire_request_reader_feed(&judge->requests, &judge->request, packet.bytes, packet.length);
-	if (told.kind == GITWIRE_OUT_OF_MEMORY)
+	answer = gitwire_request_reader_feed(&judge->requests, &judge->request, packet.bytes, packet.length);
+	if (answer.kind == GITWIRE_OUT_OF_MEMORY)
 		return refusal(GITWIRE_FAULT_OUT_OF_MEMORY, packet.offset);
-	if (told.kind == GITWIRE_STOP)
+	if (answer.kind == GITWIRE_STOP)
 		gitwire_client_leave(&judge->client);
-	if (told.kind != GITWIRE_REQUEST)
-		return told;
+	if (answer.kind != GITWIRE_REQUEST)
+		return answer;
 	judge->is_inside = false;
 	return ask(judge);
 }
 
-/* Judges the end of what the client says, where it is the client's turn. */
-static gitwire_told judge_last_request(struct judge *judge)
+/* Judges the end of what the client sends, where it is the client's turn. */
+static gitwire_answer judge_last_request(struct judge *judge)
 {
-	gitwire_told told = gitwire_request_reader_close(&judge->requests);
+	gitwire_answer answer = gitwire_request_reader_close(&judge->requests);
 
-	if (told.kind == GITWIRE_DONE)
+	if (answer.kind == GITWIRE_DONE)
 		gitwire_client_leave(&judge->client);
-	return told;
+	return answer;
 }
 
 /* Reads requests from now on against what the server has offered. */
@@ -159,7 +159,7 @@ static void show_event(struct judge *judge, gitwire_event event, uint64_t offset
 	putc('\n', to);
 }
 
-/* Takes what the server told. Bytes of the pack and of the progress are counted. False where there is no memory. */
+/* Takes an event of the server. Bytes of the pack and of the progress are counted. False where there is no memory. */
 static bool take_event(struct judge *judge, gitwire_event event, uint64_t offset)
 {
 	if (event.kind == GITWIRE_PACK)
@@ -177,7 +177,7 @@ static bool take_event(struct judge *judge, gitwire_event event, uint64_t offset
  * Judges a packet of the server: FAILED, with the fault and its offset, or MORE. Out of its turn an error packet alone may be judged, as
  * where the server refuses a request before it is whole.
  */
-static gitwire_told judge_response(struct judge *judge, struct packet packet)
+static gitwire_answer judge_response(struct judge *judge, struct packet packet)
 {
 	size_t used = 0;
 
@@ -192,17 +192,17 @@ static gitwire_told judge_response(struct judge *judge, struct packet packet)
 			return refusal(GITWIRE_FAULT_OUT_OF_MEMORY, packet.offset);
 		used += event.used;
 	}
-	return (gitwire_told){ .kind = GITWIRE_MORE };
+	return (gitwire_answer){ .kind = GITWIRE_MORE };
 }
 
-/* Judges the end of what the server says, where it is the server's turn. */
-static gitwire_told judge_last_response(struct judge *judge)
+/* Judges the end of what the server sends, where it is the server's turn. */
+static gitwire_answer judge_last_response(struct judge *judge)
 {
 	return gitwire_client_close(&judge->client);
 }
 
-/* Whether a packet tells the other end what is wrong, and so has to reach it. */
-static bool tells_an_error(gitwire_told told)
+/* Whether a packet reports to the other end what is wrong, and so has to reach it. */
+static bool tells_an_error(gitwire_answer answer)
 {
-	return told.fault == GITWIRE_FAULT_REMOTE_ERROR || told.fault == GITWIRE_FAULT_REMOTE_FATAL;
+	return answer.fault == GITWIRE_FAULT_REMOTE_ERROR || answer.fault == GITWIRE_FAULT_REMOTE_FATAL;
 }

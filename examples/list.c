@@ -27,18 +27,18 @@ static const char *add(gitwire_request *request, const char *word, const char *v
 {
 	char line[32100];
 	int length = snprintf(line, sizeof line, "%s%s", word, value);
-	gitwire_told told;
+	gitwire_answer answer;
 
 	if (length < 0 || (size_t)length >= sizeof line)
 		return "a prefix is too long";
-	told = gitwire_request_add(request, (const uint8_t *)line, (size_t)length);
-	if (told.kind == GITWIRE_DONE)
+	answer = gitwire_request_add(request, (const uint8_t *)line, (size_t)length);
+	if (answer.kind == GITWIRE_DONE)
 		return NULL;
-	return told.fault == GITWIRE_FAULT_OUT_OF_MEMORY ? "no memory" : "a prefix is too long";
+	return answer.fault == GITWIRE_FAULT_OUT_OF_MEMORY ? "no memory" : "a prefix is too long";
 }
 
 /*
- * Makes the request: the references of these prefixes, with what symbolic ones point to and what tags stand for. Why it cannot be
+ * Makes the request: the references of these prefixes, with what symbolic ones point to and what tags peel to. Why it cannot be
  * made, or NULL.
  */
 static const char *make_request(gitwire_request *request, uint8_t format, char **prefixes)
@@ -69,12 +69,12 @@ static void show(gitwire_event event)
 		printf("%.*s\t%.*s^{}\n", (int)event.peeled_length, peeled, name_length, name);
 }
 
-/* Tells why the conversation was refused, and what the server said of it. */
-static int refuse(gitwire_client *client, gitwire_told told)
+/* Reports why the conversation was refused, and the server's message for it. */
+static int refuse(gitwire_client *client, gitwire_answer answer)
 {
 	uint8_t text[GITWIRE_FAULT_TEXT_ROOM];
-	size_t length = gitwire_fault_text(told.fault, told.offset, text, sizeof text);
-	gitwire_told message = gitwire_client_message(client, room, sizeof room);
+	size_t length = gitwire_fault_text(answer.fault, answer.offset, text, sizeof text);
+	gitwire_answer message = gitwire_client_message(client, room, sizeof room);
 
 	fflush(stdout);
 	fprintf(stderr, "list: %.*s", (int)length, (const char *)text);
@@ -84,29 +84,29 @@ static int refuse(gitwire_client *client, gitwire_told told)
 	return 1;
 }
 
-/* Does what is to be done next, until all was said and heard. Answers the program's status. */
+/* Does what is to be done next, until all was sent and received. Answers the program's status. */
 static int converse(gitwire_client *client, gitwire_request *request, int to, int from)
 {
 	static uint8_t piece[65536];
 	size_t used = 0, length = 0;
 	ssize_t count;
-	gitwire_told told;
+	gitwire_answer answer;
 	gitwire_event event;
 
 	for (;;) {
-		told = gitwire_client_pull(client, room, sizeof room);
-		switch (told.kind) {
+		answer = gitwire_client_pull(client, room, sizeof room);
+		switch (answer.kind) {
 		case GITWIRE_PACKET:
-			if (!write_all(to, room, told.length))
+			if (!write_all(to, room, answer.length))
 				return tell("the server cannot be written to");
 			break;
 		case GITWIRE_CAN_ASK:
 			/* A client keeps the request that it is asking, and then its handle has nothing. */
-			told = gitwire_client_ask(client, request);
-			if (told.kind == GITWIRE_NO_HANDLE)
+			answer = gitwire_client_ask(client, request);
+			if (answer.kind == GITWIRE_NO_HANDLE)
 				gitwire_client_leave(client);
-			else if (told.kind != GITWIRE_DONE)
-				return refuse(client, told);
+			else if (answer.kind != GITWIRE_DONE)
+				return refuse(client, answer);
 			break;
 		case GITWIRE_NEED_INPUT:
 			if (used == length) {
@@ -126,7 +126,7 @@ static int converse(gitwire_client *client, gitwire_request *request, int to, in
 		case GITWIRE_FINISHED:
 			return 0;
 		default:
-			return refuse(client, told);
+			return refuse(client, answer);
 		}
 	}
 }

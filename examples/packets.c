@@ -1,6 +1,6 @@
 /*
  * Lists the packets of standard input, a line for each, as `git2show show` does: its offset, its kind, and the length and
- * bytes of its payload. The first malformed packet is told by name and offset, and ends it.
+ * bytes of its payload. The first malformed packet is reported by name and offset, and ends it.
  *
  *     packets [PIECE]
  *
@@ -16,7 +16,7 @@
 
 #define MOST_PIECE 65536
 
-static void show(gitwire_told packet, const uint8_t *payload)
+static void show(gitwire_answer packet, const uint8_t *payload)
 {
 	printf("%" PRIu64 " ", packet.offset);
 	switch (packet.kind) {
@@ -41,11 +41,11 @@ static int tell(const char *what)
 	return 1;
 }
 
-/* Tells a fault by its name and offset. */
-static int refuse(gitwire_told told)
+/* Reports a fault by its name and offset. */
+static int refuse(gitwire_answer answer)
 {
 	uint8_t text[GITWIRE_FAULT_TEXT_ROOM];
-	size_t length = gitwire_fault_text(told.fault, told.offset, text, sizeof text);
+	size_t length = gitwire_fault_text(answer.fault, answer.offset, text, sizeof text);
 
 	fflush(stdout);
 	fprintf(stderr, "packets: %.*s\n", (int)length, (const char *)text);
@@ -56,22 +56,22 @@ static int refuse(gitwire_told told)
 static int list(gitwire_packet_reader *reader, size_t most)
 {
 	static uint8_t piece[MOST_PIECE], room[GITWIRE_PAYLOAD_ROOM];
-	gitwire_told told;
+	gitwire_answer answer;
 	size_t length;
 
 	while ((length = fread(piece, 1, most, stdin)) > 0) {
-		for (size_t used = 0; used < length; used += told.used) {
-			told = gitwire_packet_reader_feed(reader, piece + used, length - used, room, sizeof room);
-			if (told.kind == GITWIRE_FAILED)
-				return refuse(told);
-			if (told.kind != GITWIRE_MORE)
-				show(told, room);
+		for (size_t used = 0; used < length; used += answer.used) {
+			answer = gitwire_packet_reader_feed(reader, piece + used, length - used, room, sizeof room);
+			if (answer.kind == GITWIRE_FAILED)
+				return refuse(answer);
+			if (answer.kind != GITWIRE_MORE)
+				show(answer, room);
 		}
 	}
 	if (ferror(stdin))
 		return tell("the input cannot be read");
-	told = gitwire_packet_reader_close(reader);
-	return told.kind == GITWIRE_DONE ? 0 : refuse(told);
+	answer = gitwire_packet_reader_close(reader);
+	return answer.kind == GITWIRE_DONE ? 0 : refuse(answer);
 }
 
 /* The number that a word is, or 0. */

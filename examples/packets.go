@@ -50,21 +50,21 @@ func bytesOf(piece []byte) *C.uint8_t {
 	return (*C.uint8_t)(unsafe.Pointer(&piece[0]))
 }
 
-func (reader *packetReader) feed(piece []byte) C.gitwire_told {
+func (reader *packetReader) feed(piece []byte) C.gitwire_answer {
 	return C.gitwire_packet_reader_feed(reader.handle, bytesOf(piece), C.size_t(len(piece)),
 		bytesOf(reader.room[:]), C.size_t(len(reader.room)))
 }
 
-// faultOf says what is wrong by name and offset, as "Truncated at 6".
-func faultOf(told C.gitwire_told) error {
+// faultOf returns what is wrong by name and offset, as "Truncated at 6".
+func faultOf(answer C.gitwire_answer) error {
 	var room [C.GITWIRE_FAULT_TEXT_ROOM]byte
-	length := C.gitwire_fault_text(told.fault, told.offset, bytesOf(room[:]), C.size_t(len(room)))
+	length := C.gitwire_fault_text(answer.fault, answer.offset, bytesOf(room[:]), C.size_t(len(room)))
 	return fmt.Errorf("%s", room[:length])
 }
 
-func show(out *bufio.Writer, told C.gitwire_told, room []byte) {
-	offset := uint64(told.offset)
-	switch told.kind {
+func show(out *bufio.Writer, answer C.gitwire_answer, room []byte) {
+	offset := uint64(answer.offset)
+	switch answer.kind {
 	case C.GITWIRE_FLUSH:
 		fmt.Fprintln(out, offset, "flush")
 	case C.GITWIRE_DELIM:
@@ -72,7 +72,7 @@ func show(out *bufio.Writer, told C.gitwire_told, room []byte) {
 	case C.GITWIRE_RESPONSE_END:
 		fmt.Fprintln(out, offset, "end")
 	default:
-		showPayload(out, offset, room[:told.length])
+		showPayload(out, offset, room[:answer.length])
 	}
 }
 
@@ -101,13 +101,13 @@ func list(reader *packetReader, most int, in io.Reader, out *bufio.Writer) error
 	for {
 		length, err := in.Read(piece)
 		for rest := piece[:length]; len(rest) > 0; {
-			told := reader.feed(rest)
-			rest = rest[told.used:]
-			if told.kind == C.GITWIRE_FAILED {
-				return faultOf(told)
+			answer := reader.feed(rest)
+			rest = rest[answer.used:]
+			if answer.kind == C.GITWIRE_FAILED {
+				return faultOf(answer)
 			}
-			if told.kind != C.GITWIRE_MORE {
-				show(out, told, reader.room[:])
+			if answer.kind != C.GITWIRE_MORE {
+				show(out, answer, reader.room[:])
 			}
 		}
 		if err == io.EOF {
@@ -117,8 +117,8 @@ func list(reader *packetReader, most int, in io.Reader, out *bufio.Writer) error
 			return err
 		}
 	}
-	if told := C.gitwire_packet_reader_close(reader.handle); told.kind != C.GITWIRE_DONE {
-		return faultOf(told)
+	if answer := C.gitwire_packet_reader_close(reader.handle); answer.kind != C.GITWIRE_DONE {
+		return faultOf(answer)
 	}
 	return nil
 }

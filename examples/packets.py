@@ -52,7 +52,7 @@ class Refused(Exception):
 
 
 class PacketReader:
-    """A reader of packets, which lends its room: `room[: told.length]` is a packet's payload until the next feed."""
+    """A reader of packets, which lends its room: `room[: answer.length]` is a packet's payload until the next feed."""
 
     def __init__(self, library):
         self.library = library
@@ -67,13 +67,13 @@ class PacketReader:
     def __exit__(self, *_):
         self.library.gitwire_packet_reader_clear(byref(self.handle))
 
-    def judged(self, told):
-        """What was told, unless it is a fault."""
-        if told.kind == FAILED:
+    def judged(self, answer):
+        """What was returned, unless it is a fault."""
+        if answer.kind == FAILED:
             text = create_string_buffer(FAULT_TEXT_ROOM)
-            length = self.library.gitwire_fault_text(told.fault, told.offset, text, len(text))
+            length = self.library.gitwire_fault_text(answer.fault, answer.offset, text, len(text))
             raise Refused(text[:length].decode())
-        return told
+        return answer
 
     def feed(self, piece, start, end):
         """Reads on to the end of a packet, or of this part of the piece."""
@@ -81,7 +81,7 @@ class PacketReader:
         return self.judged(self.library.gitwire_packet_reader_feed(byref(self.handle), *part, self.room, len(self.room)))
 
     def close(self):
-        """Tells that the input ends here."""
+        """The input ends here."""
         return self.judged(self.library.gitwire_packet_reader_close(byref(self.handle)))
 
 
@@ -90,13 +90,13 @@ SHOWN[ord("\n")] = "\\n"
 SHOWN[ord("\\")] = "\\\\"
 
 
-def line(told, room):
+def line(answer, room):
     """A packet's line: its offset, its kind, and the length and bytes of its payload."""
     kinds = {FLUSH: "flush", DELIM: "delim", RESPONSE_END: "end"}
-    if told.kind in kinds:
-        return f"{told.offset} {kinds[told.kind]}\n"
-    payload = "".join(SHOWN[byte] for byte in room[: told.length])
-    return f"{told.offset} data {told.length}{' ' if payload else ''}{payload}\n"
+    if answer.kind in kinds:
+        return f"{answer.offset} {kinds[answer.kind]}\n"
+    payload = "".join(SHOWN[byte] for byte in room[: answer.length])
+    return f"{answer.offset} data {answer.length}{' ' if payload else ''}{payload}\n"
 
 
 def read_into(piece):
@@ -113,10 +113,10 @@ def list_packets(reader, most):
     while length := read_into(piece):
         used = 0
         while used < length:
-            told = reader.feed(piece, used, length)
-            used += told.used
-            if told.kind != MORE:
-                sys.stdout.write(line(told, reader.room))
+            answer = reader.feed(piece, used, length)
+            used += answer.used
+            if answer.kind != MORE:
+                sys.stdout.write(line(answer, reader.room))
     reader.close()
 
 

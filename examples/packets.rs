@@ -26,7 +26,7 @@ struct Handle {
 
 #[repr(C)]
 #[derive(Clone, Copy)]
-struct Told {
+struct Answer {
     used: usize,
     offset: u64,
     length: usize,
@@ -42,8 +42,8 @@ extern "C" {
         piece_length: usize,
         room: *mut u8,
         room_length: usize,
-    ) -> Told;
-    fn gitwire_packet_reader_close(reader: *mut Handle) -> Told;
+    ) -> Answer;
+    fn gitwire_packet_reader_close(reader: *mut Handle) -> Answer;
     fn gitwire_packet_reader_clear(reader: *mut Handle);
     fn gitwire_fault_text(fault: u8, offset: u64, room: *mut u8, room_length: usize) -> usize;
 }
@@ -61,7 +61,7 @@ impl PacketReader {
     }
 
     /// Reads on, and leaves a payload at the front of the room. A slice is never null, nor do two that are lent at once overlap.
-    fn feed(&mut self, piece: &[u8], room: &mut [u8; PAYLOAD_ROOM]) -> Told {
+    fn feed(&mut self, piece: &[u8], room: &mut [u8; PAYLOAD_ROOM]) -> Answer {
         unsafe {
             gitwire_packet_reader_feed(
                 &mut self.0,
@@ -73,7 +73,7 @@ impl PacketReader {
         }
     }
 
-    fn close(&mut self) -> Told {
+    fn close(&mut self) -> Answer {
         unsafe { gitwire_packet_reader_close(&mut self.0) }
     }
 }
@@ -84,14 +84,14 @@ impl Drop for PacketReader {
     }
 }
 
-fn fault_text(told: Told) -> String {
+fn fault_text(answer: Answer) -> String {
     let mut room = [0; 64];
     let length =
-        unsafe { gitwire_fault_text(told.fault, told.offset, room.as_mut_ptr(), room.len()) };
+        unsafe { gitwire_fault_text(answer.fault, answer.offset, room.as_mut_ptr(), room.len()) };
     String::from_utf8_lossy(&room[..length]).into_owned()
 }
 
-fn show(out: &mut impl Write, packet: Told, room: &[u8]) -> io::Result<()> {
+fn show(out: &mut impl Write, packet: Answer, room: &[u8]) -> io::Result<()> {
     let offset = packet.offset;
     match packet.kind {
         FLUSH => return writeln!(out, "{offset} flush"),
@@ -118,7 +118,7 @@ fn show(out: &mut impl Write, packet: Told, room: &[u8]) -> io::Result<()> {
 }
 
 /// Lists all packets, and gives the fault that ended them, if one did.
-fn list(reader: &mut PacketReader, most: usize, out: &mut impl Write) -> io::Result<Option<Told>> {
+fn list(reader: &mut PacketReader, most: usize, out: &mut impl Write) -> io::Result<Option<Answer>> {
     let mut input = io::stdin().lock();
     let mut piece = vec![0; most];
     let mut room = Box::new([0; PAYLOAD_ROOM]);
@@ -126,16 +126,16 @@ fn list(reader: &mut PacketReader, most: usize, out: &mut impl Write) -> io::Res
         let length = input.read(&mut piece)?;
         let mut rest = &piece[..length];
         if rest.is_empty() {
-            let told = reader.close();
-            return Ok((told.kind != DONE).then_some(told));
+            let answer = reader.close();
+            return Ok((answer.kind != DONE).then_some(answer));
         }
         while !rest.is_empty() {
-            let told = reader.feed(rest, &mut room);
-            rest = &rest[told.used..];
-            match told.kind {
-                FAILED => return Ok(Some(told)),
+            let answer = reader.feed(rest, &mut room);
+            rest = &rest[answer.used..];
+            match answer.kind {
+                FAILED => return Ok(Some(answer)),
                 MORE => {}
-                _ => show(out, told, &room[..])?,
+                _ => show(out, answer, &room[..])?,
             }
         }
     }
@@ -157,8 +157,8 @@ fn main() -> io::Result<ExitCode> {
     out.flush()?;
     match fault {
         None => Ok(ExitCode::SUCCESS),
-        Some(told) => {
-            eprintln!("packets: {}", fault_text(told));
+        Some(answer) => {
+            eprintln!("packets: {}", fault_text(answer));
             Ok(ExitCode::FAILURE)
         }
     }

@@ -2,7 +2,7 @@
 #include <stdint.h>
 #include <stdio.h>
 
-/* LF is `\n`, a backslash `\\`, printable ASCII stands for itself, and each other byte is `\x` and two digits. */
+/* LF is `\n`, a backslash `\\`, printable ASCII is itself, and each other byte is `\x` and two digits. */
 static void show_bytes(FILE *to, const uint8_t *bytes, size_t length)
 {
 	for (size_t i = 0; i < length; i++) {

@@ -1,9 +1,9 @@
-/* A program behind two pipes, as the programs of this folder have a server there. */
+/* A program over two pipes, as the programs of this folder have a server there. */
 #include <signal.h>
 #include <sys/types.h>
 #include <unistd.h>
 
-/* Starts the program of these words, of which the last is NULL. It hears on `*to`, and speaks on `*from`. -1 where it cannot be started. */
+/* Starts the program of these words, of which the last is NULL. It reads from `*to`, and writes to `*from`. -1 where it cannot be started. */
 static pid_t start_program(char *const *words, int *to, int *from)
 {
 	int asked[2], answered[2];
@@ -22,7 +22,7 @@ static pid_t start_program(char *const *words, int *to, int *from)
 		execvp(words[0], words);
 		_exit(127);
 	}
-	signal(SIGPIPE, SIG_IGN); /* a program that is gone is told by a write that fails */
+	signal(SIGPIPE, SIG_IGN); /* a program that is gone is seen by a write that fails */
 	close(asked[0]);
 	close(answered[1]);
 	*to = asked[1];

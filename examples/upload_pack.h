@@ -1,11 +1,11 @@
-/* What the clients of this folder share: `git upload-pack` of a folder, behind two pipes. */
+/* What the clients of this folder share: `git upload-pack` of a folder, over two pipes. */
 #include <stdbool.h>
 #include <stdint.h>
 #include <stdlib.h>
 
 #include "start_program.h"
 
-/* The server as a process of its own, which hears on `*to`, and speaks on `*from`. */
+/* The server as a process of its own, which reads from `*to`, and writes to `*from`. */
 static pid_t start_server(char *folder, int *to, int *from)
 {
 	char *words[] = { "git", "upload-pack", "--", folder, NULL };

@@ -1,15 +1,15 @@
 /*
- * Stands between a client and its server, passes on what either says, and prints the transcript of both:
+ * Runs between a client and its server, passes on what either sends, and prints the transcript of both:
  *
  *     watch [--sha256] [--transcript FILE] COMMAND [WORD..]
  *
  * The client is on standard input and output, and COMMAND starts the server. The transcript (judge.h) goes to standard error, or to the
- * file that is named. A packet goes on once it is whole and judged. The first that is malformed, or may not stand where it does, is told
+ * file that is named. A packet goes on once it is whole and judged. The first that is malformed, or is not allowed where it comes, is reported
  * by name and offset, to the client too; it does not go on, nor does what comes after it, and the conversation ends.
  *
  *     git clone --upload-pack "watch git upload-pack" FOLDER CLONE
  *
- * The client has its turn until a request is whole, and the server until it has answered: what one says before its turn waits. For each
+ * The client has its turn until a request is whole, and the server until it has answered: what one sends before its turn waits. For each
  * end there is a buffer of one packet, and one in the library; beside them the library keeps what the arguments of one request take.
  * Nobody is hurried: a host that strangers reach gives each turn a time.
  */
@@ -23,7 +23,7 @@
 #include <stdlib.h>
 #include <sys/wait.h>
 
-/* What one end says to the other. */
+/* What one end sends to the other. */
 struct stream {
 	const char *name;
 	int from, to;                       /* -1 once it has ended; once nobody takes it any more */
@@ -43,7 +43,7 @@ static int tell(const char *what)
 	return 1;
 }
 
-/* Gives up the bytes that went on, once these are all that may. */
+/* Drops the bytes that went on, once these are all that may. */
 static void make_room(struct stream *stream)
 {
 	if (stream->sent < stream->judged)
@@ -92,88 +92,88 @@ static bool has_turn(const struct stream *stream)
 }
 
 /* Judges the packet that ends where packets were read of. */
-static gitwire_told judge_packet(struct stream *stream)
+static gitwire_answer judge_packet(struct stream *stream)
 {
 	struct packet packet = { stream->bytes + stream->judged, stream->read - stream->judged, stream->offset };
-	gitwire_told told = stream == &requests ? judge_request(&judge, packet) : judge_response(&judge, packet);
+	gitwire_answer answer = stream == &requests ? judge_request(&judge, packet) : judge_response(&judge, packet);
 
-	if (told.kind != GITWIRE_FAILED || tells_an_error(told)) {
+	if (answer.kind != GITWIRE_FAILED || tells_an_error(answer)) {
 		stream->judged = stream->read;
 		stream->offset += packet.length;
 	}
-	return told;
+	return answer;
 }
 
 /* Judges the packets that have come whole, and that none is left over. FAILED, with the fault and its offset, or anything else. */
-static gitwire_told judge_packets(struct stream *stream)
+static gitwire_answer judge_packets(struct stream *stream)
 {
 	static uint8_t payload[GITWIRE_PAYLOAD_ROOM];
-	gitwire_told told = { .kind = GITWIRE_MORE };
+	gitwire_answer answer = { .kind = GITWIRE_MORE };
 
 	while (stream->read < stream->end && (stream->read > stream->judged || has_turn(stream))) {
-		told = gitwire_packet_reader_feed(&stream->packets, stream->bytes + stream->read, stream->end - stream->read, payload,
+		answer = gitwire_packet_reader_feed(&stream->packets, stream->bytes + stream->read, stream->end - stream->read, payload,
 			sizeof payload);
-		stream->read += told.used;
-		if (told.kind != GITWIRE_FAILED && told.kind != GITWIRE_MORE)
-			told = judge_packet(stream);
-		if (told.kind == GITWIRE_FAILED)
-			return told;
+		stream->read += answer.used;
+		if (answer.kind != GITWIRE_FAILED && answer.kind != GITWIRE_MORE)
+			answer = judge_packet(stream);
+		if (answer.kind == GITWIRE_FAILED)
+			return answer;
 	}
 	if (stream == &responses && stream->read < stream->end && due(&judge) == GITWIRE_FINISHED)
 		return refusal(GITWIRE_FAULT_UNEXPECTED_PACKET, stream->offset);
-	return told;
+	return answer;
 }
 
 /* Judges the end of a stream of which all packets are judged, where it is its turn. */
-static gitwire_told judge_end(struct stream *stream)
+static gitwire_answer judge_end(struct stream *stream)
 {
-	gitwire_told told = gitwire_packet_reader_close(&stream->packets);
+	gitwire_answer answer = gitwire_packet_reader_close(&stream->packets);
 
-	if (told.kind == GITWIRE_FAILED || !has_turn(stream))
-		return told;
+	if (answer.kind == GITWIRE_FAILED || !has_turn(stream))
+		return answer;
 	return stream == &requests ? judge_last_request(&judge) : judge_last_response(&judge);
 }
 
 /* Judges what has come of a stream, and its end. */
-static gitwire_told judge_stream(struct stream *stream)
+static gitwire_answer judge_stream(struct stream *stream)
 {
-	gitwire_told told = judge_packets(stream);
+	gitwire_answer answer = judge_packets(stream);
 
-	if (told.kind == GITWIRE_FAILED || stream->from >= 0 || stream->read < stream->end)
-		return told;
+	if (answer.kind == GITWIRE_FAILED || stream->from >= 0 || stream->read < stream->end)
+		return answer;
 	return judge_end(stream);
 }
 
-/* Tells the client by what its user is told why the conversation ends: within a pack that is a side band, and else an error packet. */
+/* Reports to the client, where its user sees it, why the conversation ends: within a pack that is a side band, and else an error packet. */
 static void tell_client(const uint8_t *text, size_t length)
 {
 	gitwire_writer writer = GITWIRE_NONE;
-	gitwire_told told;
+	gitwire_answer answer;
 
 	if (gitwire_writer_new(&writer) != GITWIRE_DONE)
 		return;
 	if (judge.pack + judge.progress > 0)
-		told = gitwire_put_band(&writer, GITWIRE_BAND_FATAL, text, length, room, sizeof room);
+		answer = gitwire_put_band(&writer, GITWIRE_BAND_FATAL, text, length, room, sizeof room);
 	else
-		told = gitwire_put_error(&writer, text, length, room, sizeof room);
-	if (told.kind == GITWIRE_DONE && write(responses.to, room, told.length) < 0)
+		answer = gitwire_put_error(&writer, text, length, room, sizeof room);
+	if (answer.kind == GITWIRE_DONE && write(responses.to, room, answer.length) < 0)
 		tell("the client is gone");
 	gitwire_writer_free(&writer);
 }
 
-/* Ends the conversation: what was judged goes on, and an error that one end told the other. */
-static int refuse(struct stream *stream, gitwire_told told)
+/* Ends the conversation: what was judged goes on, and an error that one end sent the other. */
+static int refuse(struct stream *stream, gitwire_answer answer)
 {
 	uint8_t text[GITWIRE_FAULT_TEXT_ROOM];
-	size_t length = gitwire_fault_text(told.fault, told.offset, text, sizeof text);
+	size_t length = gitwire_fault_text(answer.fault, answer.offset, text, sizeof text);
 
 	fflush(judge.transcript);
 	fprintf(stderr, "watch: %s: %.*s\n", stream->name, (int)length, (const char *)text);
 	while (responses.sent < responses.judged && pass_on(&responses))
 		continue;
-	if (!tells_an_error(told))
+	if (!tells_an_error(answer))
 		tell_client(text, length);
-	while (tells_an_error(told) && requests.sent < requests.judged && pass_on(&requests))
+	while (tells_an_error(answer) && requests.sent < requests.judged && pass_on(&requests))
 		continue;
 	return 1;
 }
@@ -185,7 +185,7 @@ static void await(struct stream *stream, struct pollfd *polled)
 	polled[1] = (struct pollfd){ .fd = stream->sent < stream->judged ? stream->to : -1, .events = POLLOUT };
 }
 
-/* The server hears no more: what the client says now goes nowhere. */
+/* The server receives no more: what the client sends now goes nowhere. */
 static void close_server(void)
 {
 	if (requests.to >= 0)
@@ -195,25 +195,25 @@ static void close_server(void)
 	make_room(&requests);
 }
 
-/* Whether the server has ended, where nothing more was due of it, and all that it said has gone on. */
+/* Whether the server has ended, where nothing more was due of it, and all that it sent has gone on. */
 static bool is_over(void)
 {
 	return responses.from < 0 && responses.end == 0 && due(&judge) != GITWIRE_NEED_INPUT;
 }
 
-/* Passes on what both say until the server ends. Answers the program's status. */
+/* Passes on what both send until the server ends. Answers the program's status. */
 static int watch(void)
 {
 	for (;;) {
 		struct pollfd polled[4];
-		gitwire_told told;
+		gitwire_answer answer;
 
-		told = judge_stream(&requests);
-		if (told.kind == GITWIRE_FAILED)
-			return refuse(&requests, told);
-		told = judge_stream(&responses);
-		if (told.kind == GITWIRE_FAILED)
-			return refuse(&responses, told);
+		answer = judge_stream(&requests);
+		if (answer.kind == GITWIRE_FAILED)
+			return refuse(&requests, answer);
+		answer = judge_stream(&responses);
+		if (answer.kind == GITWIRE_FAILED)
+			return refuse(&responses, answer);
 		if (is_over())
 			return 0;
 		if (requests.to < 0 || (requests.sent == requests.judged && due(&judge) == GITWIRE_FINISHED))

@@ -4,7 +4,7 @@
  * has the promises whole, docs/PROTOCOL.md the rules and the faults. Files are named as in the project's repository;
  * docs/PROTOCOL.md, examples/ and sample/repository-text.sh are installed too, in share/doc/gitwire. The library reads and
  * writes no stream, starts no thread and keeps nothing but what its handles have: a program feeds it what it has read, in
- * pieces of any size, and writes what it gives. Each end is a loop over what its pull tells, as in examples/daemon.c and
+ * pieces of any size, and writes what it gives. Each end is a loop over what its pull returns, as in examples/daemon.c and
  * examples/list.c:
  *
  *     a server   PACKET       write it to the client
@@ -12,45 +12,46 @@
  *                ENDED_BY_FLUSH, ENDED_BY_CLOSE, FAILED: the session is over
  *     a client   PACKET       write it to the server
  *                CAN_ASK      ask a request, or leave
- *                NEED_INPUT   read from the server and feed what came, which tells an event; at the input's end close
+ *                NEED_INPUT   read from the server and feed what came, which returns an event; at the input's end close
  *                FINISHED, FAILED: the conversation is over
  *
  * Of every call:
  *
- *   - It returns, whatever the bytes are. What is not allowed at a moment, a room that is too small, a number that stands
- *     for nothing and a handle with nothing in it are told by a code, and then nothing was used or changed: by false of
+ *   - It returns, whatever the bytes are. What is not allowed at a moment, a room that is too small, a number that means
+ *     nothing and a handle with nothing in it are reported by a code, and then nothing was used or changed: by false of
  *     gitwire_request_flag, and by 0 of gitwire_fault_name, gitwire_fault_text and gitwire_kind_name. A feed that is not due
- *     uses nothing, and tells NOT_NOW, or the fault that there was: so no loop goes on until all is used.
+ *     uses nothing, and returns NOT_NOW, or the fault that there was: a loop that feeds until all is used might not end.
  *   - A text is a pointer and a length, and has no NUL at its end. A room is where a call writes: a pointer and how many
- *     bytes are there. What it writes stands at the front of the room, and it says how many bytes that are; those after
+ *     bytes are there. What it writes is at the front of the room, and it reports how many bytes that are; those after
  *     them stay as they were.
  *
  * What a program has to see to, since no call can:
  *
  *   - A handle begins as GITWIRE_NONE, or as memory of zeros, which is the same. Its fields are touched by nobody else. It may
  *     be moved, as by realloc; of two copies only one is used from then on, and freed. It is freed once it is no more needed;
- *     to free it twice does no harm, and a call on what was freed tells NO_HANDLE.
+ *     to free it twice does no harm, and a call on what was freed returns NO_HANDLE.
  *   - No pointer to a handle or to a gitwire_caps is NULL, but for those of calls `_free`.
  *   - A handle is used by one thread at a time. Each call writes to each handle that it is given, also one that only asks: so
  *     two threads that make servers of one repository's handle need a lock. A handle may go from one thread to another, by a
  *     lock, a thread's start or end, or an atomic of sequentially consistent order. Servers of one repository may be used at
  *     the same time, and while its handle is used or freed.
- *   - Each text and each room lies where it says, whole, and no pointer is NULL where the length is above 0. No room
+ *   - Each text and each room has its whole length at its pointer, and no pointer is NULL where the length is above 0. No room
  *     overlaps a text, another room or a handle, and no two handles of a call are one. Nobody else writes to a text or
  *     touches a room while the call runs.
  *   - Each field of a gitwire_offer is set.
  *   - Numbers of several kinds begin at 0: a format where a command or an ending is due is taken for one.
  *   - The stack has room for a call. A thread with the 16 KiB of PTHREAD_STACK_MIN makes each of them, as tested.
- *   - malloc, realloc and free are those of one allocator, which aligns as the C standard says. No call is made from a
+ *   - malloc, realloc and free are those of one allocator, which aligns as the C standard requires. No call is made from a
  *     signal handler, nor in the child of a fork of a process with more than one thread.
  *
  * This header is for C11, C++11 and later.
  *
- * Since 0.1.0: what a server offers, and what a client noted of that, is a set of bits (GITWIRE_FEATURE_*) in place of a field
+ * Since 0.1.0: what a server offers, and what a client noted of that, is a set of bits (GITWIRE_FEATURE_*) instead of a field
  * each, so that a further feature breaks no program; `unborn`, `wait-for-done` and `filter` are known (GITWIRE_LIST_FILTERS,
  * gitwire_repository_new_filtered), and a reference may have no object (`id_length` 0, in gitwire_put_reference too); a feed that is
- * not due tells NOT_NOW, where it told MORE; gitwire_kind_name; calls `_free` take NULL; calls that no program should make with NULL,
- * or whose answer none should pass over, are marked for the compilers that can tell.
+ * not due returns NOT_NOW, where it returned MORE; gitwire_kind_name; calls `_free` take NULL; calls that no program should make with NULL,
+ * or whose answer none should pass over, are marked for the compilers that can check it; what a call returns is `gitwire_answer`,
+ * which was `gitwire_told`.
  */
 #ifndef GITWIRE_H
 #define GITWIRE_H
@@ -66,7 +67,7 @@ extern "C" {
 #define GITWIRE_STATIC_ASSERT _Static_assert
 #endif
 
-/* What compilers can tell of a call: its handle is given, and its answer is looked at. */
+/* What compilers can check of a call: its handle is given, and its answer is looked at. */
 #if defined(__GNUC__)
 #define GITWIRE_GIVEN __attribute__((nonnull(1)))
 #define GITWIRE_LOOKED_AT __attribute__((nonnull(1), warn_unused_result))
@@ -97,16 +98,16 @@ extern "C" {
 #define GITWIRE_USUAL_LIMIT 16777216
 #define GITWIRE_MOST_LIMIT 1073741824
 
-/* What came of a call: `kind` of what it told, or its answer. */
+/* What came of a call: `kind` of what it returned, or its answer. */
 enum {
 	GITWIRE_DONE = 0,
-	GITWIRE_MORE = 1,             /* go on: `used` bytes of the piece were used, and nothing else is to be told */
-	GITWIRE_FAILED = 2,           /* refused: `fault` says why, `offset` where (of a repository's text: `offset` alone) */
+	GITWIRE_MORE = 1,             /* go on: `used` bytes of the piece were used, and there is nothing else to report */
+	GITWIRE_FAILED = 2,           /* refused: `fault` is why, `offset` where (of a repository's text: `offset` alone) */
 	GITWIRE_NO_HANDLE = 3,        /* the handle has nothing: it was never made, or was freed */
 	GITWIRE_ROOM_TOO_SMALL = 4,   /* nothing was used or changed */
 	GITWIRE_NOT_NOW = 5,          /* the call may not be made at this moment; nothing changed */
 	GITWIRE_OUT_OF_MEMORY = 6,
-	GITWIRE_BAD_VALUE = 7,        /* a number that stands for nothing, or a limit above GITWIRE_MOST_LIMIT */
+	GITWIRE_BAD_VALUE = 7,        /* a number that means nothing, or a limit above GITWIRE_MOST_LIMIT */
 	GITWIRE_NOTHING = 8,          /* there is no such item */
 	/* packets */
 	GITWIRE_PAYLOAD = 9,
@@ -122,13 +123,13 @@ enum {
 	GITWIRE_ENDED_BY_FLUSH = 17,  /* the session ended with a flush alone, and all was given */
 	GITWIRE_ENDED_BY_CLOSE = 18,  /* it ended where the input did, between two requests, and all was given */
 	GITWIRE_CAN_ASK = 19,         /* a request can be asked, or the conversation be left */
-	GITWIRE_FINISHED = 20,        /* all was said, and the last packet was given */
-	/* what a client hears */
+	GITWIRE_FINISHED = 20,        /* nothing more is to be sent, and the last packet was given */
+	/* what a client receives */
 	GITWIRE_CAPABILITY = 21,      /* a line of the advertisement */
 	GITWIRE_OFFERED = 22,         /* the advertisement is whole */
 	GITWIRE_REFERENCE = 23,
 	GITWIRE_ACK = 24,             /* both ends have this object */
-	GITWIRE_NAK = 25,             /* none of the objects that the request says the client has is common */
+	GITWIRE_NAK = 25,             /* none of the objects that the request lists as the client's is common */
 	GITWIRE_READY = 26,           /* enough is common: a pack follows */
 	GITWIRE_SHALLOW = 27,         /* the parents of this commit are not sent */
 	GITWIRE_UNSHALLOW = 28,       /* the parents of this commit, which had none, are sent now */
@@ -139,7 +140,7 @@ enum {
 	GITWIRE_ENDED = 33            /* the response is whole */
 };
 
-/* Why something was refused: `fault` of what is told. docs/PROTOCOL.md says of each where its offset is. */
+/* Why something was refused: `fault` of what is returned. docs/PROTOCOL.md lists where the offset of each is. */
 enum {
 	GITWIRE_FAULT_BAD_DIGIT = 1,
 	GITWIRE_FAULT_BAD_LENGTH = 2,
@@ -166,13 +167,13 @@ enum {
 	GITWIRE_FAULT_REMOTE_ERROR = 23,
 	GITWIRE_FAULT_UNKNOWN_REF = 24,
 	GITWIRE_FAULT_NOT_OURS = 25,
-	GITWIRE_FAULT_PACK_SOURCE = 26,   /* no call tells it: here a pack is in memory */
+	GITWIRE_FAULT_PACK_SOURCE = 26,   /* no call reports it: here a pack is in memory */
 	GITWIRE_FAULT_NOT_VERSION_2 = 27,
 	GITWIRE_FAULT_UNEXPECTED_SECTION = 28,
 	GITWIRE_FAULT_BAD_LINE = 29,
 	GITWIRE_FAULT_OUT_OF_MEMORY = 30,
 	GITWIRE_FAULT_REMOTE_FATAL = 31,
-	/* of runs over streams, as git2show's: they have names and texts, and no call tells them */
+	/* of runs over streams, as git2show's: they have names and texts, and no call reports them */
 	GITWIRE_FAULT_READ_FAULT = 32,
 	GITWIRE_FAULT_WRITE_FAULT = 33,
 	GITWIRE_FAULT_READ_LIMIT = 34
@@ -188,14 +189,14 @@ enum { GITWIRE_SHA1 = 0, GITWIRE_SHA256 = 1 };
 enum { GITWIRE_LS_REFS = 0, GITWIRE_FETCH = 1, GITWIRE_OBJECT_INFO = 2 };
 enum { GITWIRE_ENDS_BY_FLUSH = 0, GITWIRE_ENDS_BY_RESPONSE_END = 1 };
 
-/* What one call did. Fields that say nothing are 0. */
+/* What one call did. Fields without a meaning are 0. */
 typedef struct {
 	size_t used;       /* how many bytes of the piece were used */
 	uint64_t offset;   /* a place in the stream, counted in bytes from 0; or the number that was asked for */
 	size_t length;     /* how many bytes are at the front of the room */
 	uint8_t kind;
 	uint8_t fault;
-} gitwire_told;
+} gitwire_answer;
 
 /* What a server may offer beside `agent` and the commands `ls-refs` and `fetch`, which are in every offer: a bit for each. */
 enum {
@@ -209,7 +210,7 @@ enum {
 	GITWIRE_FEATURES_ALL = 127
 };
 
-/* What a server offers. A bit that stands for no feature is a BAD_VALUE. */
+/* What a server offers. A bit that means no feature is a BAD_VALUE. */
 typedef struct {
 	uint32_t features;
 	uint8_t format;    /* the object format that is spoken */
@@ -244,7 +245,7 @@ typedef struct { void *at_; bool is_made_; } gitwire_writer;
 /*
  * Packets: the packets and offsets given are those of the one split of the bytes fed, however these were cut. The first
  * malformed packet is refused at its offset, as soon as its bytes show it, and a reader that has refused stays refused:
- * each later feed and close uses nothing and tells that fault again.
+ * each later feed and close uses nothing and reports that fault again.
  */
 
 /* A reader of a stream of which nothing has come. */
@@ -252,7 +253,7 @@ GITWIRE_LOOKED_AT
 uint8_t gitwire_packet_reader_new(gitwire_packet_reader *reader);
 
 /*
- * Reads on to the end of a packet, the end of the piece or the first fault, whichever comes first: `used` says how many
+ * Reads on to the end of a packet, the end of the piece or the first fault, whichever comes first: `used` is how many
  * bytes. It is to be called again with those that were not used. The room has GITWIRE_PAYLOAD_ROOM bytes at least.
  *
  * MORE: the piece is used up. PAYLOAD: `length` bytes in the room, none for the packet `0004`. FLUSH, DELIM,
@@ -260,21 +261,21 @@ uint8_t gitwire_packet_reader_new(gitwire_packet_reader *reader);
  * after a close Truncated; StreamTooLong at the byte after 2^63 - 1 others. NO_HANDLE, ROOM_TOO_SMALL.
  */
 GITWIRE_LOOKED_AT
-gitwire_told gitwire_packet_reader_feed(gitwire_packet_reader *reader, const uint8_t *piece, size_t piece_length,
+gitwire_answer gitwire_packet_reader_feed(gitwire_packet_reader *reader, const uint8_t *piece, size_t piece_length,
 	uint8_t *room, size_t room_length);
 
 /*
- * Tells that the input ends here. DONE between two packets, and nothing changes. FAILED inside one, with Truncated where
+ * The input ends here. DONE between two packets, and nothing changes. FAILED inside one, with Truncated where
  * the last whole packet ended, and of a reader that has refused, with its fault. NO_HANDLE.
  */
 GITWIRE_GIVEN
-gitwire_told gitwire_packet_reader_close(gitwire_packet_reader *reader);
+gitwire_answer gitwire_packet_reader_close(gitwire_packet_reader *reader);
 
 GITWIRE_FREES(gitwire_packet_reader)
 
 /*
  * Requests out of bytes: those handed out are the whole requests of the bytes fed, in order, however these were cut. The
- * first fault is told by name and offset, and stays. The texts of a request's argument lines are within the limit.
+ * first fault is reported by name and offset, and stays. The texts of a request's argument lines are within the limit.
  */
 
 /*
@@ -286,7 +287,7 @@ uint8_t gitwire_request_reader_new(gitwire_request_reader *reader, gitwire_offer
 
 /*
  * Reads on to the end of a request, a flush in the place of one, the end of the piece or the first fault, whichever comes
- * first: `used` says how many bytes. It is to be called again with those that were not used.
+ * first: `used` is how many bytes. It is to be called again with those that were not used.
  *
  * MORE: the piece is used up. REQUEST: a whole request, which is what the request handle has now; what it had is freed. STOP: the
  * other end leaves, and nothing is read after it: NOT_NOW from then on. FAILED: what refuses a request, by its first bad packet,
@@ -297,15 +298,15 @@ uint8_t gitwire_request_reader_new(gitwire_request_reader *reader, gitwire_offer
  * nothing has an empty request, which nobody asked.
  */
 GITWIRE_LOOKED_AT
-gitwire_told gitwire_request_reader_feed(gitwire_request_reader *reader, gitwire_request *request,
+gitwire_answer gitwire_request_reader_feed(gitwire_request_reader *reader, gitwire_request *request,
 	const uint8_t *piece, size_t piece_length);
 
 /*
- * Tells that the input ends here. DONE between two requests, and nothing changes. FAILED inside one, with Truncated where
+ * The input ends here. DONE between two requests, and nothing changes. FAILED inside one, with Truncated where
  * the last whole packet ended. NOT_NOW after a fault, and once the other end has left. NO_HANDLE.
  */
 GITWIRE_GIVEN
-gitwire_told gitwire_request_reader_close(gitwire_request_reader *reader);
+gitwire_answer gitwire_request_reader_close(gitwire_request_reader *reader);
 
 GITWIRE_FREES(gitwire_request_reader)
 
@@ -327,20 +328,20 @@ uint8_t gitwire_request_new(gitwire_request *request, uint8_t command, uint8_t f
  * NO_HANDLE.
  */
 GITWIRE_LOOKED_AT
-gitwire_told gitwire_request_add(gitwire_request *request, const uint8_t *line, size_t line_length);
+gitwire_answer gitwire_request_add(gitwire_request *request, const uint8_t *line, size_t line_length);
 
 /*
  * Checks what a reader checks where a request ends, and changes nothing. DONE, or FAILED, at offset 0, with DeepenConflict, NoWants
  * or NoSize. NO_HANDLE.
  */
 GITWIRE_LOOKED_AT
-gitwire_told gitwire_request_end(gitwire_request *request);
+gitwire_answer gitwire_request_end(gitwire_request *request);
 
 /* DONE with `offset` the number of its command; of its object format. NO_HANDLE. */
 GITWIRE_LOOKED_AT
-gitwire_told gitwire_request_command(gitwire_request *request);
+gitwire_answer gitwire_request_command(gitwire_request *request);
 GITWIRE_LOOKED_AT
-gitwire_told gitwire_request_format(gitwire_request *request);
+gitwire_answer gitwire_request_format(gitwire_request *request);
 
 /* Whether a flag is set. false for a flag that its command does not have, a number that is none, and where there is no request. */
 enum {
@@ -365,7 +366,7 @@ bool gitwire_request_flag(gitwire_request *request, uint8_t flag);
  */
 enum { GITWIRE_NUMBER_DEEPEN = 0, GITWIRE_NUMBER_DEEPEN_SINCE = 1 };
 GITWIRE_LOOKED_AT
-gitwire_told gitwire_request_number(gitwire_request *request, uint8_t which);
+gitwire_answer gitwire_request_number(gitwire_request *request, uint8_t which);
 
 /*
  * An item of a list, counted from 0. DONE with `length` bytes in the room, of an object name its digits; or NOTHING past the
@@ -383,7 +384,7 @@ enum {
 	GITWIRE_LIST_FILTERS = 7      /* filter specifications as they came, which no call looks into */
 };
 GITWIRE_LOOKED_AT
-gitwire_told gitwire_request_item(gitwire_request *request, uint8_t list, size_t index, uint8_t *room, size_t room_length);
+gitwire_answer gitwire_request_item(gitwire_request *request, uint8_t list, size_t index, uint8_t *room, size_t room_length);
 
 GITWIRE_FREES(gitwire_request)
 
@@ -399,15 +400,15 @@ GITWIRE_FREES(gitwire_request)
  * number of its first bad line, from 1, and `fault` 0. OUT_OF_MEMORY. After these two the handle has nothing.
  */
 GITWIRE_LOOKED_AT
-gitwire_told gitwire_repository_new(gitwire_repository *repository, const uint8_t *text, size_t text_length,
+gitwire_answer gitwire_repository_new(gitwire_repository *repository, const uint8_t *text, size_t text_length,
 	const uint8_t *pack, size_t pack_length);
 
 /*
- * The same, but with two packs: `pack` for fetches without `filter`, and `filtered` for those with one or more, whatever these say
+ * The same, but with two packs: `pack` for fetches without `filter`, and `filtered` for those with one or more, whatever these contain
  * and whatever is wanted. So a client that then fetches what was left out, with a `filter` and by its name, gets `filtered` once more.
  */
 GITWIRE_LOOKED_AT
-gitwire_told gitwire_repository_new_filtered(gitwire_repository *repository, const uint8_t *text, size_t text_length,
+gitwire_answer gitwire_repository_new_filtered(gitwire_repository *repository, const uint8_t *text, size_t text_length,
 	const uint8_t *pack, size_t pack_length, const uint8_t *filtered, size_t filtered_length);
 
 GITWIRE_FREES(gitwire_repository)
@@ -433,16 +434,16 @@ GITWIRE_LOOKED_AT
 uint8_t gitwire_server_new(gitwire_server *server, gitwire_repository *repository, uint32_t limit, bool advertise);
 
 /*
- * Takes bytes of the input: MORE, and `used` says how many, those up to the end of a request, a flush in the place of
+ * Takes bytes of the input: MORE, and `used` is how many, those up to the end of a request, a flush in the place of
  * one, or a fault, or all. NOT_NOW, and none is used, while a packet waits to be pulled and after the end: so pull until NEED_INPUT
  * before you feed the others. NO_HANDLE.
  */
 GITWIRE_LOOKED_AT
-gitwire_told gitwire_server_feed(gitwire_server *server, const uint8_t *piece, size_t piece_length);
+gitwire_answer gitwire_server_feed(gitwire_server *server, const uint8_t *piece, size_t piece_length);
 
 /*
- * Tells that the input ends here, where the server needs input: DONE. Between two requests the session ends well, and no packet
- * is owed; inside one it is refused as Truncated, and the error packet that tells so is to be pulled. NOT_NOW where a packet
+ * The input ends here, where the server needs input: DONE. Between two requests the session ends well, and no packet
+ * is owed; inside one it is refused as Truncated, and the error packet that reports it is to be pulled. NOT_NOW where a packet
  * waits to be pulled and after the end, NO_HANDLE.
  */
 GITWIRE_GIVEN
@@ -454,17 +455,17 @@ uint8_t gitwire_server_close(gitwire_server *server);
  *
  * PACKET: `length` bytes in the room. NEED_INPUT: nothing is owed until more is fed, or the input is closed.
  * ENDED_BY_FLUSH, ENDED_BY_CLOSE: the session ended well, and all was given. FAILED: it was refused; the last packet given was
- * an error packet that tells the fault, or, where the client itself had sent an error packet (RemoteError), there was none.
+ * an error packet that reports the fault, or, where the client itself had sent an error packet (RemoteError), there was none.
  * NO_HANDLE, ROOM_TOO_SMALL.
  */
 GITWIRE_LOOKED_AT
-gitwire_told gitwire_server_pull(gitwire_server *server, uint8_t *room, size_t room_length);
+gitwire_answer gitwire_server_pull(gitwire_server *server, uint8_t *room, size_t room_length);
 
 GITWIRE_FREES(gitwire_server)
 
 /*
  * The client's end of a conversation: for every cutting of the advertisement and the responses, the events handed out are
- * those of the bytes fed, under what was asked; the first fault is told by name and offset, and stays; the pack is the
+ * those of the bytes fed, under what was asked; the first fault is reported by name and offset, and stays; the pack is the
  * bytes of PACK, in order. Beside one request that it is asking it has one buffer of GITWIRE_PACKET_ROOM bytes.
  */
 
@@ -476,7 +477,7 @@ uint8_t gitwire_client_new(gitwire_client *client, uint8_t format, uint8_t endin
  * One event. Its parts lie in the room one after another: id, name, text, peeled, of these lengths, 0 for a part that it has not.
  *
  *   CAPABILITY   the name is its key, the text its value, where it has one
- *   REFERENCE    id, name, the target of a symbolic reference (text), what an annotated tag stands for (peeled); no id where it is
+ *   REFERENCE    id, name, the target of a symbolic reference (text), what an annotated tag peels to (peeled); no id where it is
  *                unborn, as HEAD is while its branch has no commit
  *   ACK, SHALLOW, UNSHALLOW   id
  *   WANTED_REF   id, name
@@ -484,7 +485,7 @@ uint8_t gitwire_client_new(gitwire_client *client, uint8_t format, uint8_t endin
  *   PACK, PROGRESS   text: one byte at least, and all that the piece has of one packet's; the rest comes as further events
  *   OFFERED, NAK, READY, ENDED   nothing
  *
- * An object name is its digits. `has_text` says whether there is a text, which may be empty. Fields that say nothing are 0.
+ * An object name is its digits. `has_text` is whether there is a text, which may be empty. Fields without a meaning are 0.
  */
 typedef struct {
 	size_t used;
@@ -501,9 +502,9 @@ typedef struct {
 } gitwire_event;
 
 /*
- * Reads on to an event, the end of the piece or the first fault, whichever comes first: `used` says how many bytes. It is to be
- * called again with those that were not used. A client that waits for no input uses nothing, and tells NOT_NOW, or its fault
- * again; gitwire_client_pull says what it waits for. The room has GITWIRE_PAYLOAD_ROOM bytes at least.
+ * Reads on to an event, the end of the piece or the first fault, whichever comes first: `used` is how many bytes. It is to be
+ * called again with those that were not used. A client that waits for no input uses nothing, and returns NOT_NOW, or its fault
+ * again; gitwire_client_pull returns what it waits for. The room has GITWIRE_PAYLOAD_ROOM bytes at least.
  *
  * MORE, an event, or FAILED. NOT_NOW, NO_HANDLE, ROOM_TOO_SMALL.
  */
@@ -521,11 +522,11 @@ gitwire_event gitwire_client_feed_in_place(gitwire_client *client, const uint8_t
 
 /*
  * What is to be done next. PACKET: `length` bytes in the room are to be sent; each packet is given once. NEED_INPUT: bytes
- * of the server are due. CAN_ASK: a request can be asked, or the conversation be left. FINISHED: all was said. FAILED: the
+ * of the server are due. CAN_ASK: a request can be asked, or the conversation be left. FINISHED: nothing more is to be sent. FAILED: the
  * conversation was refused. The room has GITWIRE_PACKET_ROOM bytes at least. NO_HANDLE, ROOM_TOO_SMALL.
  */
 GITWIRE_LOOKED_AT
-gitwire_told gitwire_client_pull(gitwire_client *client, uint8_t *room, size_t room_length);
+gitwire_answer gitwire_client_pull(gitwire_client *client, uint8_t *room, size_t room_length);
 
 /*
  * Asks a request, whose packets are to be pulled then, and whose response is due after them. It is the client's from then
@@ -534,25 +535,25 @@ gitwire_told gitwire_client_pull(gitwire_client *client, uint8_t *room, size_t r
  * can be asked. NO_HANDLE where either handle has nothing.
  */
 GITWIRE_LOOKED_AT
-gitwire_told gitwire_client_ask(gitwire_client *client, gitwire_request *request);
+gitwire_answer gitwire_client_ask(gitwire_client *client, gitwire_request *request);
 
 /* Leaves: the flush that ends the conversation is to be pulled, and nothing is asked any more. DONE, NOT_NOW, NO_HANDLE. */
 GITWIRE_GIVEN
 uint8_t gitwire_client_leave(gitwire_client *client);
 
 /*
- * Tells that the input ends here, where more was due: FAILED with Truncated, where the last whole packet ended. NOT_NOW where
+ * The input ends here, where more was due: FAILED with Truncated, where the last whole packet ended. NOT_NOW where
  * no bytes are due, NO_HANDLE.
  */
 GITWIRE_GIVEN
-gitwire_told gitwire_client_close(gitwire_client *client);
+gitwire_answer gitwire_client_close(gitwire_client *client);
 
 /*
- * What the server said of the fault that ended the conversation, RemoteError or RemoteFatal: DONE with `length` bytes in the room,
+ * The server's message for the fault that ended the conversation, RemoteError or RemoteFatal: DONE with `length` bytes in the room,
  * of which GITWIRE_PAYLOAD_ROOM always suffice. NOTHING after another fault and before any. ROOM_TOO_SMALL, NO_HANDLE.
  */
 GITWIRE_LOOKED_AT
-gitwire_told gitwire_client_message(gitwire_client *client, uint8_t *room, size_t room_length);
+gitwire_answer gitwire_client_message(gitwire_client *client, uint8_t *room, size_t room_length);
 
 /* What the advertisement had, of all that is known here: what some line of it names. */
 typedef struct {
@@ -573,9 +574,9 @@ GITWIRE_FREES(gitwire_client)
 
 /*
  * Packets for a host that keeps its references and packs in its own way: each call puts one whole packet at the front of the
- * room, or the packets of an advertisement. DONE with `length`; what is written says its value, and no other. BAD_VALUE where a
- * number stands for nothing. FAILED, at offset 0, where a name or a text may not stand there, the first from left to right:
- * BadObjectName, BadRefName, and what is said below. ROOM_TOO_SMALL; GITWIRE_PACKET_ROOM bytes always suffice. NO_HANDLE. An
+ * room, or the packets of an advertisement. DONE with `length`; what is written contains its value, and no other. BAD_VALUE where a
+ * number means nothing. FAILED, at offset 0, where a name or a text is not allowed there, the first from left to right:
+ * BadObjectName, BadRefName, and what is stated below. ROOM_TOO_SMALL; GITWIRE_PACKET_ROOM bytes always suffice. NO_HANDLE. An
  * object name is given as its digits, of either case, and written in lower case.
  */
 
@@ -586,56 +587,56 @@ uint8_t gitwire_writer_new(gitwire_writer *writer);
 GITWIRE_FREES(gitwire_writer)
 
 /* The packet of a kind PAYLOAD, FLUSH, DELIM or RESPONSE_END: a payload of more than 65,516 bytes is TooLong, and bytes of
- * another kind BAD_VALUE. A payload without bytes is written as `0004`, which Git's documents say should not be sent. */
+ * another kind BAD_VALUE. A payload without bytes is written as `0004`, which by Git's documents should not be sent. */
 GITWIRE_LOOKED_AT
-gitwire_told gitwire_put_packet(gitwire_writer *writer, uint8_t kind, const uint8_t *payload, size_t payload_length,
+gitwire_answer gitwire_put_packet(gitwire_writer *writer, uint8_t kind, const uint8_t *payload, size_t payload_length,
 	uint8_t *room, size_t room_length);
 
 /* All packets of an advertisement, below GITWIRE_ADVERTISEMENT_ROOM bytes. */
 GITWIRE_LOOKED_AT
-gitwire_told gitwire_put_advertisement(gitwire_writer *writer, gitwire_offer offer, uint8_t *room, size_t room_length);
+gitwire_answer gitwire_put_advertisement(gitwire_writer *writer, gitwire_offer offer, uint8_t *room, size_t room_length);
 
-/* A reference, with its object, the target of a symbolic one and what an annotated tag stands for; a length of 0 is none: a
+/* A reference, with its object, the target of a symbolic one and what an annotated tag peels to; a length of 0 is none: a
  * reference without an object is unborn. */
 GITWIRE_LOOKED_AT
-gitwire_told gitwire_put_reference(gitwire_writer *writer, uint8_t format, const uint8_t *id, size_t id_length,
+gitwire_answer gitwire_put_reference(gitwire_writer *writer, uint8_t format, const uint8_t *id, size_t id_length,
 	const uint8_t *name, size_t name_length, const uint8_t *target, size_t target_length, const uint8_t *peeled,
 	size_t peeled_length, uint8_t *room, size_t room_length);
 
 /* `ACK` and an object that both ends have. */
 GITWIRE_LOOKED_AT
-gitwire_told gitwire_put_ack(gitwire_writer *writer, uint8_t format, const uint8_t *id, size_t id_length, uint8_t *room,
+gitwire_answer gitwire_put_ack(gitwire_writer *writer, uint8_t format, const uint8_t *id, size_t id_length, uint8_t *room,
 	size_t room_length);
 
 /* A commit at the boundary: `shallow`, or else `unshallow`. */
 GITWIRE_LOOKED_AT
-gitwire_told gitwire_put_boundary(gitwire_writer *writer, uint8_t format, bool shallow, const uint8_t *id, size_t id_length,
+gitwire_answer gitwire_put_boundary(gitwire_writer *writer, uint8_t format, bool shallow, const uint8_t *id, size_t id_length,
 	uint8_t *room, size_t room_length);
 
 /* A reference that was wanted by its name. */
 GITWIRE_LOOKED_AT
-gitwire_told gitwire_put_wanted(gitwire_writer *writer, uint8_t format, const uint8_t *id, size_t id_length,
+gitwire_answer gitwire_put_wanted(gitwire_writer *writer, uint8_t format, const uint8_t *id, size_t id_length,
 	const uint8_t *name, size_t name_length, uint8_t *room, size_t room_length);
 
 /* An object, and its size where the host has it (`has_size`). */
 GITWIRE_LOOKED_AT
-gitwire_told gitwire_put_info(gitwire_writer *writer, uint8_t format, const uint8_t *id, size_t id_length, bool has_size,
+gitwire_answer gitwire_put_info(gitwire_writer *writer, uint8_t format, const uint8_t *id, size_t id_length, bool has_size,
 	uint64_t size, uint8_t *room, size_t room_length);
 
 /* Bytes on a side band: of the pack, of progress, or of a fatal error, after which nothing comes. More than 65,515 are TooLong. */
 enum { GITWIRE_BAND_PACK = 1, GITWIRE_BAND_PROGRESS = 2, GITWIRE_BAND_FATAL = 3 };
 GITWIRE_LOOKED_AT
-gitwire_told gitwire_put_band(gitwire_writer *writer, uint8_t band, const uint8_t *bytes, size_t bytes_length,
+gitwire_answer gitwire_put_band(gitwire_writer *writer, uint8_t band, const uint8_t *bytes, size_t bytes_length,
 	uint8_t *room, size_t room_length);
 
 /* The error packet: `ERR `, the text and LF. A text of more than 65,511 bytes is BadLine. */
 GITWIRE_LOOKED_AT
-gitwire_told gitwire_put_error(gitwire_writer *writer, const uint8_t *text, size_t text_length, uint8_t *room,
+gitwire_answer gitwire_put_error(gitwire_writer *writer, const uint8_t *text, size_t text_length, uint8_t *room,
 	size_t room_length);
 
 /* A text and LF, as `NAK`, `ready` and `packfile` are written. A text of more than 65,515 bytes is BadLine. */
 GITWIRE_LOOKED_AT
-gitwire_told gitwire_put_line(gitwire_writer *writer, const uint8_t *text, size_t text_length, uint8_t *room,
+gitwire_answer gitwire_put_line(gitwire_writer *writer, const uint8_t *text, size_t text_length, uint8_t *room,
 	size_t room_length);
 
 /*
@@ -646,7 +647,7 @@ size_t gitwire_fault_name(uint8_t fault, uint8_t *room, size_t room_length);
 size_t gitwire_fault_text(uint8_t fault, uint64_t offset, uint8_t *room, size_t room_length);
 
 /*
- * The name of a `kind` of what is told, as `NeedInput`, for messages: how many bytes are in the room; 0 where there is no such kind,
+ * The name of a `kind` of what is returned, as `NeedInput`, for messages: how many bytes are in the room; 0 where there is no such kind,
  * or the room is too small. GITWIRE_KIND_NAME_ROOM bytes suffice.
  */
 size_t gitwire_kind_name(uint8_t kind, uint8_t *room, size_t room_length);
@@ -665,7 +666,7 @@ GITWIRE_IS_HANDLE(gitwire_writer);
 #undef GITWIRE_FREES
 GITWIRE_STATIC_ASSERT(sizeof(size_t) == 8 && sizeof(void *) == 8 && sizeof(bool) == 1, "the library is of 64 bits");
 GITWIRE_STATIC_ASSERT(sizeof(gitwire_offer) == 8 && offsetof(gitwire_offer, format) == 4, "gitwire_offer");
-GITWIRE_STATIC_ASSERT(sizeof(gitwire_told) == 32 && offsetof(gitwire_told, fault) == 25, "gitwire_told");
+GITWIRE_STATIC_ASSERT(sizeof(gitwire_answer) == 32 && offsetof(gitwire_answer, fault) == 25, "gitwire_answer");
 GITWIRE_STATIC_ASSERT(sizeof(gitwire_event) == 64 && offsetof(gitwire_event, kind) == 56
 	&& offsetof(gitwire_event, has_size) == 59, "gitwire_event");
 GITWIRE_STATIC_ASSERT(sizeof(gitwire_caps) == 12 && offsetof(gitwire_caps, sha256) == 9, "gitwire_caps");

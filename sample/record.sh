@@ -1,9 +1,9 @@
 #!/usr/bin/env bash
-# Records the files of this folder from the Git of this machine, and the sessions that the worked cases hear:
+# Records the files of this folder from the Git of this machine, and the sessions that the worked cases receive:
 #
 #     sample/record.sh [FOLDER]
 #
-# FOLDER gets the files, the sessions in a folder `sessions` of it; without an argument they go where they stand. The
+# FOLDER gets the files, the sessions in a folder `sessions` of it; without an argument they go where they are. The
 # repositories lie in a new folder of /tmp, which is removed at the end. Dates, authors and contents are fixed, so every object
 # name is the same on each run.
 set -eu -o pipefail
@@ -198,7 +198,7 @@ git -C talks config uploadpack.allowRefInWant true
 } | session wanted-references talks
 git -C talks config --unset uploadpack.allowRefInWant
 
-# An object that the server does not have: the server says so in an error packet, and is gone.
+# An object that the server does not have: the server reports it in an error packet, and is gone.
 ask sha1 fetch "want $absent" 'done' | session refused talks 2> /dev/null || true
 
 : > "$sessions/stateless-requests.pkt"

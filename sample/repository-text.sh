@@ -4,7 +4,7 @@
 # objects are also what `git pack-objects --all --stdout < /dev/null` packs, for `--pack`.
 set -eu -o pipefail
 export LC_ALL=C
-# What stands in an object's place is not looked at: each object is served as it is.
+# What replaces an object is not looked at: each object is served as it is.
 export GIT_NO_REPLACE_OBJECTS=1
 
 if [ "$(git rev-parse --is-shallow-repository)" = true ]; then
@@ -29,6 +29,6 @@ paste -d ' ' \
         [ "$peeled" = "$object" ] || line+=" peeled:$peeled"
         echo "$line"
     done
-# What an object name stands for is asked for in one go, in the order of the names.
+# All objects are asked for in one go, in the order of their names.
 git rev-list --objects --no-object-names --all | sort -u |
     git cat-file --batch-check='object %(objectname) %(objectsize)'

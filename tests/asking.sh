@@ -1,13 +1,13 @@
 # Cases in which our client asks the real Git's server: `git2show fetch`, over two pipes.
 
-# ask FOLDER [OPTION..]: asks `git upload-pack` of a repository what the file `script` says.
+# ask FOLDER [OPTION..]: sends `git upload-pack` of a repository the requests of the file `script`.
 ask() {
     local folder=$1
     shift
     ask_of over_one_connection "$folder" "$@"
 }
 
-# ask_of SERVER FOLDER [OPTION..]: the same of this server of it. Leaves the `transcript` and what else is told, the `pack`, the `status`,
+# ask_of SERVER FOLDER [OPTION..]: the same of this server of it. Leaves the `transcript` and what else is reported, the `pack`, the `status`,
 # and that of the server, `served`.
 ask_of() {
     local server=$1 folder=$2
@@ -129,7 +129,7 @@ case_our_client_shows_the_progress() {
     is_whole sha1 history-sha1 "$id"
 }
 
-# Standard error alone is a terminal, and nothing else is said.
+# Standard error alone is a terminal, and nothing else is printed.
 case_our_client_shows_the_progress_on_a_terminal() {
     local id
     command -v script > /dev/null || return 0
@@ -210,31 +210,31 @@ case_our_client_fetches_what_is_new() {
     [ "$(wc -c < pack)" -gt 21000000 ] || differs 'a pack that is too short'
 }
 
-# What Git says of an object that it has not, and after it the fault and its place.
+# What Git reports of an object that it has not, and after it the fault and its place.
 case_our_client_is_told_an_error() {
     local other
     other=$(printf 'f%.0s' {1..40})
     printf '%s\n' fetch "want $other" 'done' > script
     ask history-sha1
     expect_status 1
-    expect_line 'what is told' "remote error: upload-pack: not our ref $other" transcript
+    expect_line 'what is reported' "remote error: upload-pack: not our ref $other" transcript
     grep -a -q '^git2show: RemoteError at [0-9]*$' transcript || differs 'no RemoteError' transcript
     [ ! -s pack ] || differs 'a pack that was refused'
 }
 
-# answered TEXT..: what our client tells where a server says this, whatever it is asked.
+# answered TEXT..: what our client reports where a server sends this, whatever it is asked.
 answered() {
     echo ls-refs > script
     run git2show fetch --script script --pack pack --transcript written < <(printf "$@")
 }
 
-# Of what a server says no byte goes to a terminal that could be more than a letter.
+# Of what a server sends no byte goes to a terminal that could be more than a letter.
 case_our_client_shows_an_error_on_one_line() {
     answered '0017ERR no \033[31m\n\xff way\n'
     expect_status 1
-    expect_same 'what is told' <(printf '%s\n' 'remote error: no \x1b[31m\n\xff way' 'git2show: RemoteError at 0') err
+    expect_same 'what is reported' <(printf '%s\n' 'remote error: no \x1b[31m\n\xff way' 'git2show: RemoteError at 0') err
     answered '0008ERR '
-    expect_same 'what is told' <(printf '%s\n' 'remote error: ' 'git2show: RemoteError at 0') err
+    expect_same 'what is reported' <(printf '%s\n' 'remote error: ' 'git2show: RemoteError at 0') err
 }
 
 case_our_client_tells_what_is_wrong() {

@@ -1,5 +1,5 @@
 #!/usr/bin/env python3
-"""Lets `rt lib` take the libraries that the gate has left, in place of proving each of them once more.
+"""Lets `rt lib` take the libraries that the gate has left, instead of proving each of them once more.
 
 The gate (`rt ci`) leaves what it built of each library in out/rlib, all of one run, without the stamp by which rt's other
 commands know what it was made of. This writes that stamp where nothing has changed since: where no file that the library is

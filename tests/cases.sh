@@ -23,7 +23,7 @@ expect() {
 }
 
 expect_status() {
-    [ "$status" = "$1" ] || differs "status $status in place of $1"
+    [ "$status" = "$1" ] || differs "status $status instead of $1"
 }
 
 # expect_same WHAT WANTED WRITTEN: that two files have the same bytes.
@@ -36,14 +36,14 @@ expect_line() {
     grep -a -q -x -F -e "$2" "$3" || differs "$1 without the line '$2'" "$3"
 }
 
-# differs WHAT [FILE]: tells what is not as expected, and shows the beginning of a file. The case goes on, to tell all.
+# differs WHAT [FILE]: reports what is not as expected, and shows the beginning of a file. The case goes on, to report all.
 differs() {
     well=no
     echo "$1"
     [ $# = 1 ] || head -n 20 "$2" | cut -c 1-160 | sed 's/^/    /'
 }
 
-# The case runs in a shell of its own, so that nothing of it lasts. That shell stands behind no `if` or `||`, where bash would
+# The case runs in a shell of its own, so that nothing of it lasts. That shell runs under no `if` or `||`, where bash would
 # not stop it at a command that fails.
 run_case() {
     local status

@@ -31,7 +31,7 @@ class Handler(BaseHTTPRequestHandler):
         return body
 
     def environment(self):
-        """What the script is told of the request."""
+        """What the script receives of the request."""
         path, _, query = self.path.partition("?")
         told = {
             "GATEWAY_INTERFACE": "CGI/1.1",
@@ -64,7 +64,7 @@ class Handler(BaseHTTPRequestHandler):
     do_PUT = do_GET
 
     def log_message(self, format, *args):
-        """Tells nobody: standard error is the script's."""
+        """Reports nothing: standard error is the script's."""
 
 
 class Server(ThreadingHTTPServer):

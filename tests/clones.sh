@@ -119,7 +119,7 @@ clones() {
 has_references() {
     local count
     count=$(git -C ours for-each-ref | wc -l)
-    [ "$count" = "$1" ] || differs "$count references in place of $1"
+    [ "$count" = "$1" ] || differs "$count references instead of $1"
 }
 
 # has_all NAME: that the clone has each reference and each object of the repository.
@@ -200,7 +200,7 @@ case_git_clones_a_tag() {
 # ends_on_its_branch: that the clone of an empty repository ends on that repository's own branch.
 ends_on_its_branch() {
     has_references 0
-    expect_line 'what Git told' 'warning: You appear to have cloned an empty repository.' err
+    expect_line 'what Git reported' 'warning: You appear to have cloned an empty repository.' err
     expect_same 'the branch' <(echo "refs/heads/$unborn") <(git -C ours symbolic-ref HEAD)
 }
 
@@ -222,7 +222,7 @@ case_git_lists_an_empty_repository_with_its_branch() {
     expect 0 /dev/null /dev/null
     sent unborn symrefs
     # Git's trace has the other bytes of the name in a form of its own.
-    grep -q 'unborn HEAD symref-target:refs/heads/k' "$trace" || differs 'what our program told of HEAD' "$trace"
+    grep -q 'unborn HEAD symref-target:refs/heads/k' "$trace" || differs 'what our program sent of HEAD' "$trace"
 }
 
 # negotiate ADDRESS: asks a server which commits it has too, of those that the main branch of `ours` reaches.
@@ -232,7 +232,7 @@ negotiate() {
         --negotiation-tip=origin/main "$1"
 }
 
-# Our program says what Git's own server says.
+# Our program sends what Git's own server sends.
 case_git_negotiates_alone() {
     clones history-sha1
     negotiate "file://$room/history-sha1"
@@ -250,7 +250,7 @@ case_git_negotiates_alone_with_nothing_in_common() {
     negotiate "$(offered empty-sha1)"
     expect 0 /dev/null /dev/null
     sent wait-for-done
-    expect_line 'what our program told' NAK <(sed -n 's/^[^<]*< //p' "$trace")
+    expect_line 'what our program sent' NAK <(sed -n 's/^[^<]*< //p' "$trace")
 }
 
 case_git_clones_where_no_branch_is_checked_out() {
@@ -281,13 +281,13 @@ case_git_fetches_into_an_empty_repository() {
     git -C taking fsck --full --strict --no-dangling
 }
 
-# refused: that Git was told what our program told, and that its clone failed.
+# refused: that Git received what our program reported, and that its clone failed.
 refused() {
     local refusal
     expect_status 128
     refusal=$(sed -n 's/^fatal: remote error: //p' err)
-    [[ $refusal =~ ^$1\ at\ [0-9]+$ ]] || differs 'what Git was told' err
-    expect_same 'what our program told' <(echo "git2show: $refusal") <(grep -a '^git2show: ' err)
+    [[ $refusal =~ ^$1\ at\ [0-9]+$ ]] || differs 'what Git received' err
+    expect_same 'what our program reported' <(echo "git2show: $refusal") <(grep -a '^git2show: ' err)
     [ ! -e ours ] || differs 'a clone that was refused'
 }
 

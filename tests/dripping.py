@@ -1,5 +1,5 @@
 #!/usr/bin/env python3
-"""Clients of a daemon on the loopback that hear its advertisement and then begin a request, each by a byte a second.
+"""Clients of a daemon on the loopback that receive its advertisement and then begin a request, each by a byte a second.
 
     dripping.py PORT CLIENTS GREETING FILE
 
@@ -14,7 +14,7 @@ import time
 
 
 def greeted(port, greeting):
-    """A client that has heard the advertisement, which ends with a flush."""
+    """A client that has received the advertisement, which ends with a flush."""
     client = socket.create_connection(("127.0.0.1", port))
     client.sendall(greeting)
     heard = b""
@@ -24,7 +24,7 @@ def greeted(port, greeting):
 
 
 def goes_on(client):
-    """Says a byte more of a long packet. Whether the daemon takes it."""
+    """Sends a byte more of a long packet. Whether the daemon takes it."""
     try:
         client.sendall(b"0")
         return True

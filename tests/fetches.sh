@@ -120,7 +120,7 @@ cut_off() {
 }
 
 # cut_off_as NAME OTHER CLONE [OLD]: the same of a clone that is there. Of the boundary that it had before, what is no longer in it
-# is told too.
+# is listed too.
 cut_off_as() {
     local folder
     folder=$(cd "$3" && realpath "$(git rev-parse --git-dir)")
@@ -217,7 +217,7 @@ case_git_fetches_the_rest_of_a_history() {
 }
 
 # stateless: a helper of Git that gives each request to a server of its own, as a web server does. Git calls it for addresses
-# `stateless::NAME`. What `advertise` and `answer` are stands in the file `stateless-server`.
+# `stateless::NAME`. What `advertise` and `answer` are is in the file `stateless-server`.
 write_stateless() {
     cat > bin/stateless-server << 'EOF'
 serve() {
@@ -228,7 +228,7 @@ advertise() {
     serve < /dev/null
 }
 
-# Our server says its advertisement first, whatever it is asked.
+# Our server sends its advertisement first, whatever it is asked.
 answer() {
     serve | tail -c +$((skip + 1))
 }
@@ -307,7 +307,7 @@ case_git_fetches_the_rest_of_a_history_without_a_state() {
     same_after_fetch
 }
 
-# What Git asks for by name is told by its object.
+# What Git asks for by name is answered by its object.
 case_git_fetches_a_reference_by_its_name() {
     both history-sha1 --single-branch --branch topic --no-tags
     git -C theirs -c protocol.version=2 fetch -q --no-tags "file://$room/history-sha1" alone:refs/heads/alone

@@ -20,13 +20,13 @@ END
     web=http://127.0.0.1:$(cat web.port)
 }
 
-# asked LINE..: that the web server had these requests, and that our program told of no fault.
+# asked LINE..: that the web server had these requests, and that our program reported no fault.
 asked() {
     local line
     for line; do
         expect_line 'what the web server was asked' "$line" web.log
     done
-    expect_same 'what our program told' /dev/null web.err
+    expect_same 'what our program reported' /dev/null web.err
 }
 
 # clones_over_http NAME [OPTION..]: that Git clones the repository, and gets what it gets from Git itself.
@@ -51,7 +51,7 @@ case_git_clones_over_http_sha256() {
 
 case_git_clones_over_http_an_empty_repository() {
     clones_over_http empty-sha1
-    expect_line 'what Git told' 'warning: You appear to have cloned an empty repository.' err
+    expect_line 'what Git reported' 'warning: You appear to have cloned an empty repository.' err
 }
 
 case_git_clones_over_http_20_megabytes() {
@@ -71,7 +71,7 @@ case_git_clones_over_http_one_commit() {
     asked 'POST /shallow-web.git/git-upload-pack plain'
 }
 
-# What was common is said again in each request of a negotiation, each of which has a server of its own.
+# What was common is sent again in each request of a negotiation, each of which has a server of its own.
 case_git_fetches_over_http() {
     grow grown-web history-sha1
     start_web
@@ -109,7 +109,7 @@ case_git_sends_a_packed_request_over_http() {
     asked 'POST /history-sha1/git-upload-pack gzip'
 }
 
-# What our program refuses Git tells its user. Git asks for an object by its name where that is what a fetch names.
+# What our program refuses Git reports to its user. Git asks for an object by its name where that is what a fetch names.
 case_git_is_told_over_http_why_it_is_refused() {
     local id
     id=$(git -C history-sha1 rev-parse main)
@@ -119,8 +119,8 @@ case_git_is_told_over_http_why_it_is_refused() {
     start_web
     run git -C lacking-web -c protocol.version=2 fetch -q "$web/objectless-web" "$id:refs/heads/main"
     expect_status 128
-    grep -a -q '^fatal: remote error: NotOurs at [0-9]*$' err || differs 'what Git was told' err
-    grep -a -q '^git2show: NotOurs at [0-9]*$' web.err || differs 'what our program told' web.err
+    grep -a -q '^fatal: remote error: NotOurs at [0-9]*$' err || differs 'what Git received' err
+    grep -a -q '^git2show: NotOurs at [0-9]*$' web.err || differs 'what our program reported' web.err
     [ -z "$(git -C lacking-web for-each-ref)" ] || differs 'a reference that was refused'
 }
 
@@ -130,7 +130,7 @@ case_git_is_told_over_http_that_a_repository_is_not_there() {
     for name in nowhere ..%2fnowhere .hidden folder/nowhere; do
         ls_remote "$web/$name"
         expect_status 128
-        expect_line 'what Git told' 'remote: no such repository' err
+        expect_line 'what Git reported' 'remote: no such repository' err
     done
 }
 
@@ -140,7 +140,7 @@ case_git_of_another_version_is_told_over_http() {
     for version in 0 1; do
         run git -c protocol.version=$version ls-remote "$web/history-sha1"
         expect_status 128
-        expect_line 'what Git told' "remote: version 2 of Git's protocol alone is served here: git -c protocol.version=2" err
+        expect_line 'what Git reported' "remote: version 2 of Git's protocol alone is served here: git -c protocol.version=2" err
     done
 }
 
@@ -148,7 +148,7 @@ case_git_cannot_push_over_http() {
     start_web
     run git -C history-sha1 push -q "$web/history-sha1" main
     expect_status 128
-    expect_line 'what Git told' 'remote: fetches alone are served here, by smart HTTP' err
+    expect_line 'what Git reported' 'remote: fetches alone are served here, by smart HTTP' err
 }
 
 # visit_web NUMBER: by its number one lists what is served, fetches it into a repository that is there, or clones it.

@@ -1,13 +1,13 @@
 # Cases in which programs use the library that `make install` installs: those of examples/ in C, Rust and Go, as the real Git and
 # streams of packets meet them, and the C programs of this folder, which call each function. `NAME-watched` is a program that was
-# built with sanitizers, whose status tells what was touched that may not be, and what was not freed.
+# built with sanitizers, whose status shows what was touched that may not be, and what was not freed.
 
 # What `make install` installs goes here, and how long the daemon of the examples waits for a client, in seconds: longer than one that
 # goes on takes for a step, also under load.
 installed=$room/installed
 patience=30
 
-# write_examples: installs the program and the library, and builds what uses it. What a compiler says is a case's to judge.
+# write_examples: installs the program and the library, and builds what uses it. What a compiler prints is judged by a case.
 write_examples() {
     local name
     make -s -C "$top" install PREFIX="$installed" PROGRAM="$program" LIBRARY="$library" RT="${RT:-rt}" >&2 ||
@@ -19,7 +19,7 @@ write_examples() {
     compile refused_memory "$top/tests/refused_memory.c" -Wl,--wrap=malloc,--wrap=realloc,--wrap=free
 }
 
-# of_library OPTION..: what pkg-config tells of the installed library; where there is no pkg-config, what it would.
+# of_library OPTION..: what pkg-config prints for the installed library; where there is no pkg-config, what it would.
 of_library() {
     if command -v pkg-config > /dev/null; then
         PKG_CONFIG_PATH=$installed/lib/pkgconfig pkg-config "$@" gitwire
@@ -77,12 +77,12 @@ case_library_is_installed_whole() {
     expect_same 'the version of the header' <(echo '"0.2.0" 0 2 0') <(tail -n 1 preprocessed)
 }
 
-# DESTDIR stands before each path, and in no file.
+# DESTDIR comes before each path, and in no file.
 case_library_is_installed_below_another_folder() {
     run make -s -C "$top" install DESTDIR="$room/staged" PREFIX=/usr PROGRAM="$program" LIBRARY="$library" RT="${RT:-rt}"
     expect_status 0
     expect_same 'standard error' /dev/null err
-    expect_same 'what is told' <(printf 'make install: takes %s as it was built\n' "$program" "$library") \
+    expect_same 'what is reported' <(printf 'make install: takes %s as it was built\n' "$program" "$library") \
         <(sed 's/, though .* is newer$//' out)
     expect_line 'what pkg-config tells' prefix=/usr staged/usr/lib/pkgconfig/gitwire.pc
     expect_same 'what is installed' <(cd "$installed" && find . ! -type d | sort) <(cd staged/usr && find . ! -type d | sort)
@@ -99,7 +99,7 @@ case_library_that_is_not_built_is_told() {
     chmod +x bin/no-rt
     run make -s -C unbuilt install PREFIX="$room/built" RT="$room/bin/no-rt"
     expect_status 0
-    expect_same 'what is told' <(
+    expect_same 'what is reported' <(
         printf "make install: %s $told\n" crates/git2show/out/git2show
         echo 'make program: proves and builds the program, which takes half an hour and more the first time'
         printf 'crate %s\n' '1 of 3: git_names' '2 of 3: git_pkt' '3 of 3: git2show'
@@ -125,7 +125,7 @@ case_library_has_the_calls_of_its_header() {
     expect_same 'the calls of the library' wanted written
 }
 
-# The shared library has a name by which programs find it, shows the calls of the header and nothing else, and stands on the C library
+# The shared library has a name by which programs find it, shows the calls of the header and nothing else, and depends on the C library
 # alone. No code of it is written to where it is loaded.
 case_shared_library_shows_the_calls_of_its_header_alone() {
     local it=$installed/lib/libgitwire.so
@@ -172,11 +172,11 @@ case_library_header_stands_alone() {
 case_library_programs_compile_without_a_word() {
     local name
     for name in daemon fetch host list packets watch library_calls refused_memory; do
-        expect_same "what the compiler says of $name" /dev/null "$name.said"
+        expect_same "what the compiler prints for $name" /dev/null "$name.said"
     done
 }
 
-# The options that a command's help has stand in the manual page, in the part on that command.
+# The options that a command's help has are in the manual page, in the part on that command.
 case_manual_page_has_each_option() {
     local command option
     for command in show check serve fetch play; do
@@ -190,12 +190,12 @@ case_manual_page_has_each_option() {
     is_well_written man1/git2show.1
 }
 
-# is_well_written PAGE: that `man` has nothing to say of a manual page.
+# is_well_written PAGE: that `man` reports nothing on a manual page.
 is_well_written() {
     command -v man > /dev/null || return 0
     run env MANWIDTH=80 man --warnings -l "$installed/share/man/$1"
     expect_status 0
-    expect_same "what man says of $1" /dev/null err
+    expect_same "what man reports on $1" /dev/null err
 }
 
 case_manual_page_has_each_call() {
@@ -229,7 +229,7 @@ every_packet() {
     printf '0006%s\n0000' 'a'
 }
 
-# lists_as_show COMMAND..: that a program lists the packets of streams, good ones and bad ones, as `git2show show` does, and tells the
+# lists_as_show COMMAND..: that a program lists the packets of streams, good ones and bad ones, as `git2show show` does, and reports the
 # same fault; and that it takes no other word than a number of bytes.
 lists_as_show() {
     local stream piece wanted_status faults=0
@@ -254,7 +254,7 @@ lists_as_show() {
     done
 }
 
-# tells_a_full_device NAME WORD..: that a program tells of an output that takes nothing.
+# tells_a_full_device NAME WORD..: that a program reports an output that takes nothing.
 tells_a_full_device() {
     status=0
     limited "$1-watched" "${@:2}" > /dev/full 2> err || status=$?
@@ -339,7 +339,7 @@ case_a_client_in_c_tells_what_is_wrong() {
     expect_status 2
 }
 
-# fetches_from_git FORMAT FOLDER [OPTION..]: that the client in C fetches what a branch of a repository reaches, and tells its object.
+# fetches_from_git FORMAT FOLDER [OPTION..]: that the client in C fetches what a branch of a repository reaches, and prints its object.
 fetches_from_git() {
     local id
     id=$(git -C "$2" rev-parse refs/heads/main)
@@ -398,7 +398,7 @@ case_a_host_in_c_answers_git() {
     git -C ours fsck --full --strict --no-dangling
 }
 
-# Git says what it has, and hears that nothing of it is common.
+# Git sends what it has, and receives that nothing of it is common.
 case_a_host_in_c_answers_a_fetch_in_rounds() {
     both history-sha1 --no-tags
     grow widened history-sha1
@@ -417,7 +417,7 @@ case_a_host_in_c_leaves_out_what_no_answer_may_have() {
     ls_remote --heads "$(hosted marred)"
     expect_status 0
     expect_same 'the list' <(git ls-remote --heads ./history-sha1) out
-    expect_same 'what the host told' <(
+    expect_same 'what the host reported' <(
         printf 'host: a reference is left out: %s at 0\n' BadRefName BadObjectName
         echo 'host: a line without a name is left out'
     ) err
@@ -437,7 +437,7 @@ case_a_host_in_c_tells_what_is_wrong() {
     ! grep -a -q ERR out || differs 'an answer to an error' out
     run host-watched hosted.refs hosted.pack < .
     expect_status 1
-    expect_same 'what is told of an input that cannot be read' <(echo 'host: the input cannot be read') err
+    expect_same 'what is reported of an input that cannot be read' <(echo 'host: the input cannot be read') err
     under_valgrind bin/host hosted.refs hosted.pack < <(packet command=fetch; printf 0001; packet "want $one"; packet 'done'; printf 00000000)
     expect_status 0
     expect_same 'standard error' /dev/null err
@@ -472,14 +472,14 @@ end_daemon() {
     [ $ended = 0 ] || differs "status $ended of the daemon" daemon.err
 }
 
-# daemon_told LINE [COUNT]: that the daemon tells this, once or so many times at the least, within half a minute.
+# daemon_told LINE [COUNT]: that the daemon reports this, once or so many times at the least, within half a minute.
 daemon_told() {
     local i
     for ((i = 0; i < 300; i++)); do
         [ "$(grep -c -x -F -e "$1" daemon.err)" -lt "${2:-1}" ] || return 0
         sleep 0.1
     done
-    differs "a daemon that did not tell '$1'${2:+ $2 times}" daemon.err
+    differs "a daemon that did not report '$1'${2:+ $2 times}" daemon.err
 }
 
 # says BYTES..: a connection to the daemon, descriptor 5, over which this is sent, each as printf's format.
@@ -491,7 +491,7 @@ says() {
     done
 }
 
-# hears_to_the_end FILE: what the daemon says over that connection, until it closes it.
+# hears_to_the_end FILE: what the daemon sends over that connection, until it closes it.
 hears_to_the_end() {
     limited cat <&5 > "$1" || [ $? = 1 ] || differs 'a connection that did not end' # 1 is of one that is broken off
     exec 5>&-
@@ -518,7 +518,7 @@ case_a_daemon_in_c_serves_git() {
     clone "$address" ours --mirror
     has_all history-sha1
     end_daemon
-    expect_same 'what the daemon told' /dev/null daemon.err
+    expect_same 'what the daemon reported' /dev/null daemon.err
 }
 
 # A clone with a filter gets the pack for these, and has what it has of Git's own server; one without gets all.
@@ -533,7 +533,7 @@ case_a_daemon_in_c_serves_a_filtered_pack() {
     clone "$address" ours --mirror
     has_all history-sha1
     end_daemon
-    expect_same 'what the daemon told' /dev/null daemon.err
+    expect_same 'what the daemon reported' /dev/null daemon.err
 }
 
 case_a_daemon_in_c_serves_git_sha256() {
@@ -551,7 +551,7 @@ serves_an_empty_repository() {
     clone "$address" ours
     ends_on_its_branch
     end_daemon
-    expect_same 'what the daemon told' /dev/null daemon.err
+    expect_same 'what the daemon reported' /dev/null daemon.err
 }
 
 case_a_daemon_in_c_serves_an_empty_repository() {
@@ -621,7 +621,7 @@ visit() {
     esac
 }
 
-# Twenty at once, and beside them one that stops in the middle of its clone, one that sends what is no packet, and one that says nothing.
+# Twenty at once, and beside them one that stops in the middle of its clone, one that sends what is no packet, and one that sends nothing.
 case_a_daemon_in_c_serves_twenty_at_once() {
     local i clients=() halting status
     patience=10
@@ -635,14 +635,14 @@ case_a_daemon_in_c_serves_twenty_at_once() {
     git -c protocol.version=2 -c core.gitProxy="$room/bin/halting-way" clone -q "$address" many/halting > /dev/null 2>&1 &
     halting=$!
     wait_for halted
-    [ "$(head -n 1 halted)" = '100000+0 records in' ] || differs 'a clone that did not come to its middle' halted
+    [ "$(head -n 1 halted)" = '100000+0 records in' ] || differs 'a clone that did not reach its middle' halted
     for i in {1..20}; do
         visit $i > "many/$i.main" 2> "many/$i.err" &
         clients+=($!)
     done
     says zzzz
     hears_to_the_end garbage
-    expect_same 'what is told of garbage' <(packet 'ERR BadDigit at 0') garbage
+    expect_same 'what is reported of garbage' <(packet 'ERR BadDigit at 0') garbage
     for i in {1..20}; do
         wait "${clients[i - 1]}" || differs "visit $i, which failed" "many/$i.err"
         expect_same "what visit $i got" many/wanted "many/$i.main"
@@ -719,7 +719,7 @@ case_a_daemon_in_c_refuses_what_it_does_not_serve() {
     expect 128 /dev/null <(echo 'fatal: remote error: nothing but version 2 of the protocol is served here')
     run git ls-remote "${address}s"
     expect_status 128
-    expect_line 'what Git told' 'fatal: remote error: nothing but the fetch side of one repository is served here' err
+    expect_line 'what Git reported' 'fatal: remote error: nothing but the fetch side of one repository is served here' err
     ls_remote "$address"
     expect_status 0
     end_daemon
@@ -749,7 +749,7 @@ case_a_daemon_in_c_ends_a_session_at_its_fault() {
     end_daemon
 }
 
-# One says nothing, one not all, and one does not read what it asked for.
+# One sends nothing, one not all, and one does not read what it asked for.
 case_a_daemon_in_c_closes_who_is_too_slow() {
     local begin id
     patience=2
@@ -757,22 +757,22 @@ case_a_daemon_in_c_closes_who_is_too_slow() {
     begin=$SECONDS
     says
     hears_to_the_end nothing
-    expect_same 'what is said to one that says nothing' /dev/null nothing
+    expect_same 'what is sent to one that sends nothing' /dev/null nothing
     [ $((SECONDS - begin)) -ge $patience ] || differs 'a daemon that did not wait'
     says "$(greeting here version=2)" 0014comm
     hears_to_the_end answer
-    expect_same 'what is said to one that does not go on' <(advertisement sha1) answer
+    expect_same 'what is sent to one that does not go on' <(advertisement sha1) answer
     id=$(git -C heavy rev-parse main)
     says "$(greeting here version=2)"
     fetch "$id" >&5
     daemon_told 'daemon: a client was too slow' 3
     hears_to_the_end answer
-    expect_same 'what the daemon told' <(printf 'daemon: a client was too slow\n%.0s' 1 2 3) daemon.err
+    expect_same 'what the daemon reported' <(printf 'daemon: a client was too slow\n%.0s' 1 2 3) daemon.err
     [ "$(wc -c < answer)" -lt 21000000 ] || differs 'a whole pack for one that does not read'
     end_daemon
 }
 
-# One that says what it wants byte by byte has no longer for it than one that says nothing.
+# One that sends what it wants byte by byte has no longer for it than one that sends nothing.
 case_a_daemon_in_c_closes_who_takes_long_to_begin() {
     local i
     patience=2
@@ -919,7 +919,7 @@ case_a_daemon_in_c_lists_beside_many_prefixes() {
     end_daemon
 }
 
-# A hundred and twenty-eight that say nothing have all its places, until another comes.
+# A hundred and twenty-eight that send nothing have all its places, until another comes.
 case_a_daemon_in_c_makes_room() {
     local i connection
     start_daemon history-sha1
@@ -928,7 +928,7 @@ case_a_daemon_in_c_makes_room() {
     done
     ls_remote "$address"
     expect_same 'the list' <(git ls-remote ./history-sha1) out
-    expect_same 'what the daemon told' <(echo 'daemon: a client made room for another') daemon.err
+    expect_same 'what the daemon reported' <(echo 'daemon: a client made room for another') daemon.err
     end_daemon
 }
 
@@ -949,7 +949,7 @@ case_a_daemon_in_c_serves_beside_those_who_drip() {
     same_clones
     ls_remote "$address"
     expect_same 'the list' <(git ls-remote ./history-sha1) out
-    expect_same 'what the daemon told' <(echo 'daemon: a client made room for another') daemon.err
+    expect_same 'what the daemon reported' <(echo 'daemon: a client made room for another') daemon.err
     kill $dripping || differs 'clients that did not go on' dripping.err
     end_daemon
 }
@@ -969,7 +969,7 @@ case_a_daemon_in_c_keeps_who_takes_an_answer() {
     after=$(ticks)
     expect_status 124
     [ $((after - before)) -lt 100 ] || differs "$((after - before)) hundredths of a second of three for nothing"
-    expect_same 'what the daemon told' /dev/null daemon.err
+    expect_same 'what the daemon reported' /dev/null daemon.err
     end_daemon
 }
 

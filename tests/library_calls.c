@@ -1,9 +1,9 @@
 /*
- * Calls each function of the library once at least, as the header has it: what it tells where all is well, and where it may
+ * Calls each function of the library once at least, as the header has it: what it returns where all is well, and where it may
  * not be called so. It prints each expectation that does not hold; the status is 1 where one did not.
  *
  * What the calls do is proved. What is seen here is that C and the library agree about it: how arguments and answers are handed
- * over, in which order fields and numbers stand, that memory is freed once (built with a sanitizer, and under valgrind), and that
+ * over, in which order fields and numbers are, that memory is freed once (built with a sanitizer, and under valgrind), and that
  * a small stack suffices.
  */
 #include <gitwire.h>
@@ -30,23 +30,23 @@ static int failures;
 static uint8_t room[GITWIRE_PACKET_ROOM];
 static gitwire_writer writer = GITWIRE_NONE;
 
-/* Whether just these fields are told, and the others are 0. */
-static bool tells(gitwire_told told, uint8_t kind, size_t used, uint64_t offset, size_t length)
+/* Whether just these fields are set, and the others are 0. */
+static bool tells(gitwire_answer answer, uint8_t kind, size_t used, uint64_t offset, size_t length)
 {
-	return told.kind == kind && told.used == used && told.offset == offset && told.length == length && told.fault == 0;
+	return answer.kind == kind && answer.used == used && answer.offset == offset && answer.length == length && answer.fault == 0;
 }
 
-static bool tells_fault(gitwire_told told, uint8_t fault, size_t used, uint64_t offset)
+static bool tells_fault(gitwire_answer answer, uint8_t fault, size_t used, uint64_t offset)
 {
-	return told.kind == GITWIRE_FAILED && told.fault == fault && told.used == used && told.offset == offset && told.length == 0;
+	return answer.kind == GITWIRE_FAILED && answer.fault == fault && answer.used == used && answer.offset == offset && answer.length == 0;
 }
 
 /* Whether a whole text was put at the front of the room, and the bytes after it were left alone. */
-static bool wrote(gitwire_told told, const char *text)
+static bool wrote(gitwire_answer answer, const char *text)
 {
-	bool is_it = tells(told, GITWIRE_DONE, 0, 0, strlen(text)) && memcmp(room, text, strlen(text)) == 0;
+	bool is_it = tells(answer, GITWIRE_DONE, 0, 0, strlen(text)) && memcmp(room, text, strlen(text)) == 0;
 
-	for (size_t i = told.length; i < sizeof room; i++)
+	for (size_t i = answer.length; i < sizeof room; i++)
 		is_it = is_it && room[i] == '#';
 	memset(room, '#', sizeof room);
 	return is_it;
@@ -268,7 +268,7 @@ static void try_a_server(void)
 {
 	gitwire_repository repository = GITWIRE_NONE;
 	gitwire_server server = GITWIRE_NONE, other = GITWIRE_NONE;
-	gitwire_told told;
+	gitwire_answer answer;
 
 	gitwire_repository_free(&repository);
 	gitwire_server_free(&server);
@@ -278,8 +278,8 @@ static void try_a_server(void)
 	EXPECT(gitwire_server_close(&server) == GITWIRE_NO_HANDLE);
 	EXPECT(tells(gitwire_repository_new(&repository, NULL, 0, NULL, 0), GITWIRE_FAILED, 0, 1, 0));
 	EXPECT(tells(gitwire_repository_new(&repository, TEXT(SMALL_TEXT), TEXT("PACK")), GITWIRE_DONE, 0, 0, 0));
-	told = gitwire_repository_new(&repository, TEXT("format sha1\nref here\n"), TEXT("PACK"));
-	EXPECT(tells(told, GITWIRE_FAILED, 0, 2, 0));
+	answer = gitwire_repository_new(&repository, TEXT("format sha1\nref here\n"), TEXT("PACK"));
+	EXPECT(tells(answer, GITWIRE_FAILED, 0, 2, 0));
 	EXPECT(gitwire_server_new(&server, &repository, 0, true) == GITWIRE_NO_HANDLE); /* what it had is freed */
 	EXPECT(tells(gitwire_repository_new(&repository, TEXT(SMALL_TEXT), TEXT("PACK")), GITWIRE_DONE, 0, 0, 0));
 	EXPECT(gitwire_server_new(&server, &repository, GITWIRE_MOST_LIMIT + 1, true) == GITWIRE_BAD_VALUE);
@@ -293,16 +293,16 @@ static void try_a_server(void)
 	EXPECT(tells(gitwire_server_feed(&server, TEXT(LS_REFS)), GITWIRE_NOT_NOW, 0, 0, 0));
 	EXPECT(tells(gitwire_server_feed(&server, NULL, 0), GITWIRE_NOT_NOW, 0, 0, 0));
 	EXPECT(gitwire_server_close(&server) == GITWIRE_NOT_NOW);
-	told = gitwire_server_pull(&server, ROOM);
-	EXPECT(tells(told, GITWIRE_PACKET, 0, 0, 14) && memcmp(room, "000eversion 2\n#", 15) == 0);
-	while (told.kind == GITWIRE_PACKET)
-		told = gitwire_server_pull(&server, ROOM);
-	EXPECT(tells(told, GITWIRE_NEED_INPUT, 0, 0, 0));
+	answer = gitwire_server_pull(&server, ROOM);
+	EXPECT(tells(answer, GITWIRE_PACKET, 0, 0, 14) && memcmp(room, "000eversion 2\n#", 15) == 0);
+	while (answer.kind == GITWIRE_PACKET)
+		answer = gitwire_server_pull(&server, ROOM);
+	EXPECT(tells(answer, GITWIRE_NEED_INPUT, 0, 0, 0));
 	EXPECT(tells(gitwire_server_feed(&server, TEXT(LS_REFS LS_REFS)), GITWIRE_MORE, strlen(LS_REFS), 0, 0));
-	told = gitwire_server_pull(&server, ROOM);
-	EXPECT(tells(told, GITWIRE_PACKET, 0, 0, 50) && memcmp(room, "0032" ONE " HEAD\n", 50) == 0);
-	while (told.kind == GITWIRE_PACKET)
-		told = gitwire_server_pull(&server, ROOM);
+	answer = gitwire_server_pull(&server, ROOM);
+	EXPECT(tells(answer, GITWIRE_PACKET, 0, 0, 50) && memcmp(room, "0032" ONE " HEAD\n", 50) == 0);
+	while (answer.kind == GITWIRE_PACKET)
+		answer = gitwire_server_pull(&server, ROOM);
 	EXPECT(tells(gitwire_server_feed(&server, TEXT("0000")), GITWIRE_MORE, 4, 0, 0));
 	EXPECT(tells(gitwire_server_pull(&server, ROOM), GITWIRE_ENDED_BY_FLUSH, 0, 0, 0));
 	EXPECT(tells(gitwire_server_feed(&server, TEXT("0000")), GITWIRE_NOT_NOW, 0, 0, 0));
@@ -320,13 +320,13 @@ static void try_a_refused_session(void)
 {
 	gitwire_repository repository = GITWIRE_NONE;
 	gitwire_server server = GITWIRE_NONE;
-	gitwire_told told;
+	gitwire_answer answer;
 
 	EXPECT(tells(gitwire_repository_new(&repository, TEXT("format sha256"), NULL, 0), GITWIRE_DONE, 0, 0, 0));
 	EXPECT(gitwire_server_new(&server, &repository, 100, false) == GITWIRE_DONE);
 	EXPECT(tells(gitwire_server_feed(&server, TEXT("0014command=ls-refs\n0009peel\n")), GITWIRE_MORE, 29, 0, 0));
-	told = gitwire_server_pull(&server, ROOM);
-	EXPECT(tells(told, GITWIRE_PACKET, 0, 0, 28) && memcmp(room, "001cERR NotAdvertised at 20\n", 28) == 0);
+	answer = gitwire_server_pull(&server, ROOM);
+	EXPECT(tells(answer, GITWIRE_PACKET, 0, 0, 28) && memcmp(room, "001cERR NotAdvertised at 20\n", 28) == 0);
 	EXPECT(tells_fault(gitwire_server_pull(&server, ROOM), GITWIRE_FAULT_NOT_ADVERTISED, 0, 20));
 	EXPECT(tells_fault(gitwire_server_pull(&server, ROOM), GITWIRE_FAULT_NOT_ADVERTISED, 0, 20));
 	gitwire_repository_free(&repository);
@@ -334,7 +334,7 @@ static void try_a_refused_session(void)
 	memset(room, '#', sizeof room);
 }
 
-/* A server and a client that talk to each other, and what the client hears: an event to a line. */
+/* A server and a client that talk to each other, and what the client receives: an event to a line. */
 struct talk {
 	gitwire_server server;
 	gitwire_client client;
@@ -365,26 +365,26 @@ static void hear(struct talk *t, gitwire_event e)
 	t->length += (size_t)sprintf(t->heard + t->length, "\n");
 }
 
-/* Gives what one end owes to the other, until a request can be asked or all was said: the kind that the client tells then. */
+/* Gives what one end owes to the other, until a request can be asked or all was sent: the kind that the client returns then. */
 static uint8_t go_on(struct talk *t)
 {
 	static uint8_t packet[GITWIRE_PACKET_ROOM];
-	gitwire_told told;
+	gitwire_answer answer;
 
 	t->length = 0;
 	for (;;) {
-		told = gitwire_client_pull(&t->client, packet, sizeof packet);
-		if (told.kind == GITWIRE_PACKET) {
-			EXPECT(gitwire_server_feed(&t->server, packet, told.length).used == told.length);
+		answer = gitwire_client_pull(&t->client, packet, sizeof packet);
+		if (answer.kind == GITWIRE_PACKET) {
+			EXPECT(gitwire_server_feed(&t->server, packet, answer.length).used == answer.length);
 			continue;
 		}
-		if (told.kind != GITWIRE_NEED_INPUT)
-			return told.kind;
-		told = gitwire_server_pull(&t->server, packet, sizeof packet);
-		if (told.kind != GITWIRE_PACKET)
-			return told.kind;
-		for (size_t used = 0; used < told.length;) {
-			gitwire_event event = gitwire_client_feed(&t->client, packet + used, told.length - used, ROOM);
+		if (answer.kind != GITWIRE_NEED_INPUT)
+			return answer.kind;
+		answer = gitwire_server_pull(&t->server, packet, sizeof packet);
+		if (answer.kind != GITWIRE_PACKET)
+			return answer.kind;
+		for (size_t used = 0; used < answer.length;) {
+			gitwire_event event = gitwire_client_feed(&t->client, packet + used, answer.length - used, ROOM);
 			used += event.used;
 			if (event.kind == GITWIRE_FAILED)
 				return GITWIRE_FAILED;
@@ -394,22 +394,22 @@ static uint8_t go_on(struct talk *t)
 	}
 }
 
-/* Asks a request of these lines, up to a NULL, and answers what the client tells of it. */
-static gitwire_told ask(struct talk *t, uint8_t command, const char *const *lines)
+/* Asks a request of these lines, up to a NULL, and returns what the client returns for it. */
+static gitwire_answer ask(struct talk *t, uint8_t command, const char *const *lines)
 {
 	gitwire_request request = GITWIRE_NONE;
-	gitwire_told told;
+	gitwire_answer answer;
 
 	EXPECT(gitwire_request_new(&request, command, GITWIRE_SHA1, GITWIRE_USUAL_LIMIT) == GITWIRE_DONE);
 	for (; *lines != NULL; lines++)
 		EXPECT(gitwire_request_add(&request, TEXT(*lines)).kind == GITWIRE_DONE);
-	told = gitwire_client_ask(&t->client, &request);
-	EXPECT(gitwire_request_end(&request).kind == (told.kind == GITWIRE_DONE ? GITWIRE_NO_HANDLE : GITWIRE_DONE));
+	answer = gitwire_client_ask(&t->client, &request);
+	EXPECT(gitwire_request_end(&request).kind == (answer.kind == GITWIRE_DONE ? GITWIRE_NO_HANDLE : GITWIRE_DONE));
 	gitwire_request_free(&request);
-	return told;
+	return answer;
 }
 
-/* What is heard of a request of these lines. */
+/* What is received for a request of these lines. */
 static bool hears(struct talk *t, uint8_t command, const char *const *lines, const char *wanted)
 {
 	EXPECT(tells(ask(t, command, lines), GITWIRE_DONE, 0, 0, 0));
@@ -670,7 +670,7 @@ static void try_what_is_noted(void)
 	for (size_t i = 0; i < sizeof cases / sizeof *cases; i++) {
 		gitwire_client client = GITWIRE_NONE;
 		gitwire_caps caps = { .agent = false };
-		gitwire_told line = gitwire_put_line(&writer, TEXT(cases[i].line), packet, sizeof packet);
+		gitwire_answer line = gitwire_put_line(&writer, TEXT(cases[i].line), packet, sizeof packet);
 
 		EXPECT(gitwire_client_new(&client, GITWIRE_SHA1, GITWIRE_ENDS_BY_FLUSH) == GITWIRE_DONE);
 		EXPECT(gitwire_client_feed(&client, TEXT("000eversion 2\n"), ROOM).kind == GITWIRE_MORE);
@@ -835,12 +835,12 @@ static void try_each_value(void)
 	gitwire_client_free(&client);
 }
 
-/* A text of many lines is read whole, and each of its references is told. */
+/* A text of many lines is read whole, and each of its references is sent. */
 static void try_many_references(void)
 {
 	enum { COUNT = 20000, LINE = 80 };
 	char *text = malloc((COUNT + 1) * LINE);
-	size_t length = 0, told = 0;
+	size_t length = 0, answer = 0;
 	gitwire_repository repository = GITWIRE_NONE;
 	gitwire_server server = GITWIRE_NONE;
 
@@ -854,11 +854,11 @@ static void try_many_references(void)
 	EXPECT(gitwire_server_new(&server, &repository, 0, false) == GITWIRE_DONE);
 	gitwire_repository_free(&repository);
 	EXPECT(gitwire_server_feed(&server, TEXT("0014command=ls-refs\n" "0000")).used == 24);
-	for (char line[LINE]; gitwire_server_pull(&server, ROOM).kind == GITWIRE_PACKET; told++) {
-		sprintf(line, told < COUNT ? "003e" ONE " refs/heads/%05d\n" : "0000", (int)told);
+	for (char line[LINE]; gitwire_server_pull(&server, ROOM).kind == GITWIRE_PACKET; answer++) {
+		sprintf(line, answer < COUNT ? "003e" ONE " refs/heads/%05d\n" : "0000", (int)answer);
 		EXPECT(memcmp(room, line, strlen(line)) == 0);
 	}
-	EXPECT(told == COUNT + 1);
+	EXPECT(answer == COUNT + 1);
 	gitwire_server_free(&server);
 	memset(room, '#', sizeof room);
 }
@@ -940,7 +940,7 @@ static void *try_all(void *nothing)
 	return nothing;
 }
 
-/* All runs on a small stack, of which the header says what a call takes. A sanitizer takes more, and valgrind is content with less. */
+/* All runs on a small stack, of which the header states what a call takes. A sanitizer takes more, and valgrind is content with less. */
 int main(void)
 {
 #ifdef __SANITIZE_ADDRESS__

@@ -91,9 +91,9 @@ case_git_clones_partly_with_a_checkout_and_fails() {
     write_filtered
     clone "$(partly_offered history-sha1)" ours --filter=blob:none
     expect_status 128
-    expect_line 'what Git told' 'warning: Clone succeeded, but checkout failed.' err
-    grep -q 'did not send all necessary objects' err || differs 'what Git told' err
-    grep -q '^fatal: could not fetch [0-9a-f]* from promisor remote$' err || differs 'what Git told' err
+    expect_line 'what Git reported' 'warning: Clone succeeded, but checkout failed.' err
+    grep -q 'did not send all necessary objects' err || differs 'what Git reported' err
+    grep -q '^fatal: could not fetch [0-9a-f]* from promisor remote$' err || differs 'what Git reported' err
     misses_blobs history-sha1
     sent_filter 2
 }
@@ -151,7 +151,7 @@ case_git_clones_partly_over_http_and_fills_in() {
     asked 'POST /partial-web/git-upload-pack plain'
 }
 
-# What a filter says is not looked into.
+# What a filter contains is not looked into.
 case_git_sends_a_filter_of_several() {
     write_filtered
     clone "$(partly_offered history-sha1)" ours --bare --filter=blob:limit=1k --filter=tree:3

@@ -49,7 +49,7 @@ case_play_of_no_request() {
     each_way expect_nothing_asked ''
 }
 
-# Where the server refuses a request the client hears an error packet in the place of its answer.
+# Where the server refuses a request the client receives an error packet in the place of its answer.
 expect_refused_want() {
     expect 1 <(offer_told; echo 'request fetch') <(fault 'RemoteError at 162')
 }
@@ -143,7 +143,7 @@ case_play_of_a_large_pack() {
     done
 }
 
-# A repository of a thousand references, each told as its text has it.
+# A repository of a thousand references, each listed as its text has it.
 case_play_of_a_thousand_references() {
     local i words
     write_played

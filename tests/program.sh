@@ -5,7 +5,7 @@ packet() {
     printf '%04x%s\n' $((${#1} + 5)) "$1"
 }
 
-# advertisement FORMAT: what a server says first.
+# advertisement FORMAT: what a server sends first.
 advertisement() {
     packet 'version 2'
     packet agent=git2/1
@@ -111,12 +111,12 @@ one=1111111111111111111111111111111111111111
 two=2222222222222222222222222222222222222222
 other=4444444444444444444444444444444444444444
 
-# fault NAME: the line that tells a fault.
+# fault NAME: the line that reports a fault.
 fault() {
     echo "git2show: $1"
 }
 
-# expect_refused WORD..: that the program does not take these words, and says so on standard error alone.
+# expect_refused WORD..: that the program does not take these words, and reports it on standard error alone.
 expect_refused() {
     run git2show "$@"
     expect_status 2
@@ -351,7 +351,7 @@ case_serve_tells_a_second_request_that_is_none() {
     expect 1 <(advertisement sha1; whole_answer; packet "ERR UnknownCommand at $at") <(fault "UnknownCommand at $at")
 }
 
-# The argument has 21 bytes, and stands after 20 bytes of command and the delimiter's four.
+# The argument has 21 bytes, and comes after 20 bytes of command and the delimiter's four.
 case_serve_keeps_to_its_limit() {
     request 'ref-prefix refs/tags/' > first
     serve --limit 21 < first
@@ -368,7 +368,7 @@ case_serve_keeps_nothing_where_it_may_not() {
     expect 1 <(advertisement sha1; packet 'ERR TooMuchKept at 24') <(fault 'TooMuchKept at 24')
 }
 
-# An error packet of the client is told, and is not answered.
+# An error packet of the client is reported, and is not answered.
 case_serve_tells_an_error_of_its_client() {
     serve < <(packet 'ERR nope')
     expect 1 <(advertisement sha1) <(fault 'RemoteError at 0')
@@ -524,7 +524,7 @@ case_a_closed_output_is_a_write_fault() {
     expect 1 <(printf 0) <(fault WriteFault)
 }
 
-# expect_device_full WORD..: that the program tells of an output that takes nothing.
+# expect_device_full WORD..: that the program reports an output that takes nothing.
 expect_device_full() {
     status=0
     limited git2show "$@" < <(printf 0000) > /dev/full 2> err || status=$?

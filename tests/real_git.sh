@@ -1,6 +1,6 @@
 # Cases in which the real Git asks our program for the references of a repository.
 
-# What Git sends and gets, packet by packet. It tells whether a case tries what it is meant to.
+# What Git sends and gets, packet by packet. It shows whether a case tries what it is meant to.
 trace=$room/trace
 
 # ls_remote [OPTION..] REPOSITORY [PATTERN..]
@@ -26,15 +26,15 @@ sent() {
 # lists COUNT WANTED: that Git printed just these lines, of which there are so many, and that nobody complained.
 lists() {
     cat "$2" > wanted
-    [ "$(wc -l < wanted)" = "$1" ] || differs "the case's own list, of $(wc -l < wanted) lines in place of $1"
+    [ "$(wc -l < wanted)" = "$1" ] || differs "the case's own list, of $(wc -l < wanted) lines instead of $1"
     expect 0 wanted /dev/null
 }
 
-# fails LINE: that Git failed and listed nothing, and that our program told this fault and no other.
+# fails LINE: that Git failed and listed nothing, and that our program reported this fault and no other.
 fails() {
     expect_status 128
     expect_same 'standard output' /dev/null out
-    expect_same 'what our program told' <(echo "$1") <(grep -a '^git2show: ' err)
+    expect_same 'what our program reported' <(echo "$1") <(grep -a '^git2show: ' err)
 }
 
 case_git_lists_sha1() {
@@ -86,7 +86,7 @@ case_git_lists_without_peeled_tags() {
     lists 208 <(listed < sha1.table | grep -a $'\trefs/' | grep -a -v -F '^{}')
 }
 
-# Git itself picks what its patterns match, out of all that it was told.
+# Git itself picks what its patterns match, out of all that it received.
 case_git_lists_what_patterns_match() {
     ls_remote "$(served sha1.repo)" main 'v1*'
     lists 46 <(listed < sha1.table | grep -a -E '/(main|v1[^/]*)$')
@@ -156,18 +156,18 @@ case_git_fails_at_a_missing_text() {
 }
 
 # patient: our program, and somebody who stays. A server that refuses a request ends at once, also where Git is writing the rest
-# of it, and Git that writes to nobody ends before it reads what it was told. So here somebody reads that rest.
+# of it, and Git that writes to nobody ends before it reads what it was sent. So here somebody reads that rest.
 write_patient() {
     printf '%s\n' '#!/bin/sh' 'git2show "$@"' 'cat > /dev/null' > bin/patient
     chmod +x bin/patient
 }
 
-# The offset depends on what Git says before its arguments, and is taken from Git's own message.
+# The offset depends on what Git sends before its arguments, and is taken from Git's own message.
 case_git_is_told_why_its_request_is_refused() {
     local refusal
     write_patient
     ls_remote 'ext::patient serve --pack empty.pack --repo sha1.repo --limit 3'
     refusal=$(sed -n 's/^fatal: remote error: //p' err)
-    [[ $refusal =~ ^TooMuchKept\ at\ [0-9]+$ ]] || differs 'what Git was told' err
+    [[ $refusal =~ ^TooMuchKept\ at\ [0-9]+$ ]] || differs 'what Git received' err
     fails "git2show: $refusal"
 }

@@ -1,4 +1,4 @@
-# Cases in which all that the real Git's client and its server say to each other is recorded, and `git2show check` judges it: whole, and
+# Cases in which all that the real Git's client and its server send to each other is recorded, and `git2show check` judges it: whole, and
 # damaged in many places.
 
 # record FOLDER [OPTION..]: a server of Git, each of whose streams is copied to a file.
@@ -46,7 +46,7 @@ checks() {
     expect_status 0
     expect_same 'standard error' /dev/null err
     bytes=$(awk '$1 == "end" { bytes += $2 } END { print bytes + 0 }' out)
-    [ "$bytes" = "$(wc -c < packs)" ] || differs "$bytes bytes of packs in place of $(wc -c < packs)" out
+    [ "$bytes" = "$(wc -c < packs)" ] || differs "$bytes bytes of packs instead of $(wc -c < packs)" out
     cp out transcript
     withstands_damage "$@"
 }
@@ -65,7 +65,7 @@ damaged() {
     tail -c "+$(($2 + 2))" "$1"
 }
 
-# is_refused_well: that the last run of `check` told a fault of one of the streams, in one line.
+# is_refused_well: that the last run of `check` reported a fault of one of the streams, in one line.
 is_refused_well() {
     grep -a -q -x -E 'git2show: (requests|responses): [A-Za-z0-9]+ at [0-9]+' err && [ "$(wc -l < err)" = 1 ]
 }

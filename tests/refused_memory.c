@@ -1,6 +1,6 @@
 /*
  * Runs each kind of handle while memory is refused, at the first request for some, at the second, and so on: once only there,
- * and once from there on. Each call has to tell what the header says, and what was had is to be freed whole.
+ * and once from there on. Each call has to return what the header states, and what was had is to be freed whole.
  *
  * Linked with --wrap=malloc, --wrap=realloc and --wrap=free, so that those of the library come here. It prints how many requests
  * for memory there were, and what was not as it should be; the status is 1 where something was not.
@@ -67,14 +67,14 @@ static void expect(bool holds, const char *what)
 	printf("request %ld for memory refused%s: %s\n", refused_at, refused_after ? ", and all after it" : "", what);
 }
 
-/* Whether a call went well, or told that memory was refused. */
+/* Whether a call went well, or reported that memory was refused. */
 static bool is_made(uint8_t answer, const char *what)
 {
 	expect(answer == GITWIRE_DONE || (answer == GITWIRE_OUT_OF_MEMORY && refused > 0), what);
 	return answer == GITWIRE_DONE;
 }
 
-/* What is said and answered by calls that take no memory: none was asked for since it had been asked for so often. */
+/* What is sent and answered by calls that take no memory: none was asked for since it had been asked for so often. */
 static void expect_none_asked(long before, const char *what)
 {
 	expect(asked == before, what);
@@ -89,7 +89,7 @@ static void expect_none_asked(long before, const char *what)
 #define REFUSED LS_REFS "0012command=fetch\n" "0001" "0032want " ONE "\n" "0016deepen-not refs/a\n" "0032want " TWO "\n"
 #define OFFERED "000eversion 2\n" "0012fetch=shallow\n" "0000"
 #define ANSWER "000dpackfile\n" "0007\001AB" "0008\002hi\n" "0008\003no\n"
-#define ALL_PACKETS 6 /* the command, the delimiter, a revision, an object that is wanted, that all was said, and the flush */
+#define ALL_PACKETS 6 /* the command, the delimiter, a revision, an object that is wanted, `done`, and the flush */
 
 static uint8_t room[GITWIRE_PACKET_ROOM];
 
@@ -98,10 +98,10 @@ static void run_packet_reader(void)
 	gitwire_packet_reader reader = GITWIRE_NONE;
 	bool made = is_made(gitwire_packet_reader_new(&reader), "a packet reader");
 	long before = asked;
-	gitwire_told told = gitwire_packet_reader_feed(&reader, TEXT("0009hello"), room, sizeof room);
+	gitwire_answer answer = gitwire_packet_reader_feed(&reader, TEXT("0009hello"), room, sizeof room);
 
 	expect_none_asked(before, "memory for a packet");
-	expect(told.kind == (made ? GITWIRE_PAYLOAD : GITWIRE_NO_HANDLE), "a packet");
+	expect(answer.kind == (made ? GITWIRE_PAYLOAD : GITWIRE_NO_HANDLE), "a packet");
 	made = is_made(gitwire_packet_reader_new(&reader), "a further packet reader");
 	expect(reader.is_made_ == made, "what a handle has");
 	gitwire_packet_reader_free(&reader);
@@ -112,34 +112,34 @@ static void run_writer(void)
 	gitwire_writer writer = GITWIRE_NONE;
 	bool made = is_made(gitwire_writer_new(&writer), "a writer");
 	long before = asked;
-	gitwire_told told = gitwire_put_line(&writer, TEXT("NAK"), room, sizeof room);
+	gitwire_answer answer = gitwire_put_line(&writer, TEXT("NAK"), room, sizeof room);
 
 	expect_none_asked(before, "memory for a line");
-	expect(told.kind == (made ? GITWIRE_DONE : GITWIRE_NO_HANDLE), "a line");
+	expect(answer.kind == (made ? GITWIRE_DONE : GITWIRE_NO_HANDLE), "a line");
 	made = is_made(gitwire_writer_new(&writer), "a further writer");
 	expect(writer.is_made_ == made, "what a writer's handle has");
 	gitwire_writer_free(&writer);
 }
 
-/* Whether a request is heard, or it is refused as OutOfMemory, and stays refused. */
+/* Whether a request is received, or it is refused as OutOfMemory, and stays refused. */
 static void hear_request(gitwire_request_reader *reader, gitwire_request *request, const char *text)
 {
-	gitwire_told told, after;
+	gitwire_answer answer, after;
 
 	do
-		told = gitwire_request_reader_feed(reader, request, TEXT(text));
-	while (told.kind == GITWIRE_OUT_OF_MEMORY && told.used == 0 && !refused_after);
-	if (told.kind == GITWIRE_REQUEST) {
-		expect(told.used == strlen(text), "a whole request");
+		answer = gitwire_request_reader_feed(reader, request, TEXT(text));
+	while (answer.kind == GITWIRE_OUT_OF_MEMORY && answer.used == 0 && !refused_after);
+	if (answer.kind == GITWIRE_REQUEST) {
+		expect(answer.used == strlen(text), "a whole request");
 		return;
 	}
 	expect(refused > 0, "a request");
 	after = gitwire_request_reader_feed(reader, request, TEXT(text));
-	if (told.kind == GITWIRE_FAILED)
-		expect(told.fault == GITWIRE_FAULT_OUT_OF_MEMORY && after.kind == GITWIRE_FAILED && after.used == 0
-			&& after.fault == told.fault && after.offset == told.offset, "a refused request");
+	if (answer.kind == GITWIRE_FAILED)
+		expect(answer.fault == GITWIRE_FAULT_OUT_OF_MEMORY && after.kind == GITWIRE_FAILED && after.used == 0
+			&& after.fault == answer.fault && after.offset == answer.offset, "a refused request");
 	else
-		expect(told.kind == GITWIRE_OUT_OF_MEMORY && told.used == 0, "nothing used");
+		expect(answer.kind == GITWIRE_OUT_OF_MEMORY && answer.used == 0, "nothing used");
 }
 
 static void run_request_reader(void)
@@ -158,20 +158,20 @@ static void run_request_reader(void)
 
 static bool add(gitwire_request *request, const char *line)
 {
-	gitwire_told told = gitwire_request_add(request, TEXT(line));
+	gitwire_answer answer = gitwire_request_add(request, TEXT(line));
 
-	expect(told.kind == GITWIRE_DONE
-		|| (told.kind == GITWIRE_FAILED && told.fault == GITWIRE_FAULT_OUT_OF_MEMORY && refused > 0), "an argument");
-	return told.kind == GITWIRE_DONE;
+	expect(answer.kind == GITWIRE_DONE
+		|| (answer.kind == GITWIRE_FAILED && answer.fault == GITWIRE_FAULT_OUT_OF_MEMORY && refused > 0), "an argument");
+	return answer.kind == GITWIRE_DONE;
 }
 
 /* A flag or a number, which takes no memory. */
 static void add_without_memory(gitwire_request *request, const char *line)
 {
 	long before = asked;
-	gitwire_told told = gitwire_request_add(request, TEXT(line));
+	gitwire_answer answer = gitwire_request_add(request, TEXT(line));
 
-	expect(told.kind == GITWIRE_DONE, "a flag or a number");
+	expect(answer.kind == GITWIRE_DONE, "a flag or a number");
 	expect_none_asked(before, "memory for a flag or a number");
 }
 
@@ -243,13 +243,13 @@ static void run_repository(void)
 static void run_filtered_repository(void)
 {
 	gitwire_repository repository = GITWIRE_NONE;
-	gitwire_told told;
+	gitwire_answer answer;
 	bool made;
 
 	make_repository(&repository);
 	live_then = -1;
-	told = gitwire_repository_new_filtered(&repository, TEXT(small), TEXT("PACK"), TEXT("TINY"));
-	made = is_made(told.kind, "a repository with two packs");
+	answer = gitwire_repository_new_filtered(&repository, TEXT(small), TEXT("PACK"), TEXT("TINY"));
+	made = is_made(answer.kind, "a repository with two packs");
 	expect(live_then == 0, "the repository before one with two packs");
 	expect(repository.is_made_ == made, "what its handle has");
 	gitwire_repository_free(&repository);
@@ -261,22 +261,22 @@ static void run_server(void)
 	static const char *const said = LS_REFS FETCH "0000";
 	gitwire_repository repository = GITWIRE_NONE;
 	gitwire_server server = GITWIRE_NONE;
-	gitwire_told told = { .kind = GITWIRE_PACKET };
+	gitwire_answer answer = { .kind = GITWIRE_PACKET };
 	size_t used = 0;
 	bool made;
 
 	if (make_repository(&repository) && is_made(gitwire_server_new(&server, &repository, 1000, true), "a server")) {
-		while (told.kind == GITWIRE_PACKET || told.kind == GITWIRE_NEED_INPUT) {
+		while (answer.kind == GITWIRE_PACKET || answer.kind == GITWIRE_NEED_INPUT) {
 			long before = asked;
 
-			told = gitwire_server_pull(&server, room, sizeof room);
+			answer = gitwire_server_pull(&server, room, sizeof room);
 			expect_none_asked(before, "memory for an answer");
-			if (told.kind == GITWIRE_NEED_INPUT && used < strlen(said))
+			if (answer.kind == GITWIRE_NEED_INPUT && used < strlen(said))
 				used += gitwire_server_feed(&server, (const uint8_t *)said + used, strlen(said) - used).used;
-			else if (told.kind == GITWIRE_NEED_INPUT)
+			else if (answer.kind == GITWIRE_NEED_INPUT)
 				gitwire_server_close(&server);
 		}
-		expect(told.kind == GITWIRE_ENDED_BY_FLUSH || (told.fault == GITWIRE_FAULT_OUT_OF_MEMORY && refused > 0), "a session");
+		expect(answer.kind == GITWIRE_ENDED_BY_FLUSH || (answer.fault == GITWIRE_FAULT_OUT_OF_MEMORY && refused > 0), "a session");
 		made = is_made(gitwire_server_new(&server, &repository, 1000, true), "a further server");
 		expect(server.is_made_ == made, "what its handle has");
 	}
@@ -289,7 +289,7 @@ static void run_client(void)
 	gitwire_client client = GITWIRE_NONE;
 	gitwire_request request = GITWIRE_NONE;
 	gitwire_event event;
-	gitwire_told told;
+	gitwire_answer answer;
 	bool made;
 	long before;
 
@@ -303,13 +303,13 @@ static void run_client(void)
 		if (is_made(gitwire_request_new(&request, GITWIRE_LS_REFS, GITWIRE_SHA1, 1000), "a request to ask")) {
 			add(&request, "ref-prefix refs/heads/");
 			before = asked;
-			told = gitwire_client_ask(&client, &request);
-			expect(told.kind == GITWIRE_DONE || refused > 0, "a question");
+			answer = gitwire_client_ask(&client, &request);
+			expect(answer.kind == GITWIRE_DONE || refused > 0, "a request");
 			do
-				told = gitwire_client_pull(&client, room, sizeof room);
-			while (told.kind == GITWIRE_PACKET);
-			expect(told.kind == GITWIRE_NEED_INPUT || refused > 0, "what is said of it");
-			expect_none_asked(before, "memory for a question");
+				answer = gitwire_client_pull(&client, room, sizeof room);
+			while (answer.kind == GITWIRE_PACKET);
+			expect(answer.kind == GITWIRE_NEED_INPUT || refused > 0, "what is sent for it");
+			expect_none_asked(before, "memory for a request");
 		}
 		made = is_made(gitwire_client_new(&client, GITWIRE_SHA1, GITWIRE_ENDS_BY_FLUSH), "a further client");
 		expect(client.is_made_ == made, "what its handle has");
@@ -325,12 +325,12 @@ static void break_requests_off(size_t length)
 	gitwire_request_reader reader = GITWIRE_NONE;
 	gitwire_request request = GITWIRE_NONE;
 	gitwire_offer offer = { .features = GITWIRE_FEATURE_SHALLOW | GITWIRE_FEATURE_FILTER };
-	gitwire_told told = { .kind = GITWIRE_MORE };
+	gitwire_answer answer = { .kind = GITWIRE_MORE };
 
 	if (is_made(gitwire_request_reader_new(&reader, offer, GITWIRE_USUAL_LIMIT), "a reader of requests that break off"))
-		for (size_t used = 0; used < length && (told.kind == GITWIRE_MORE || told.kind == GITWIRE_REQUEST); used += told.used)
-			told = gitwire_request_reader_feed(&reader, &request, (const uint8_t *)said + used, length - used);
-	expect(told.kind == GITWIRE_MORE || told.kind == GITWIRE_REQUEST || refused > 0, "requests that break off");
+		for (size_t used = 0; used < length && (answer.kind == GITWIRE_MORE || answer.kind == GITWIRE_REQUEST); used += answer.used)
+			answer = gitwire_request_reader_feed(&reader, &request, (const uint8_t *)said + used, length - used);
+	expect(answer.kind == GITWIRE_MORE || answer.kind == GITWIRE_REQUEST || refused > 0, "requests that break off");
 	gitwire_request_reader_free(&reader);
 	gitwire_request_free(&request);
 	expect(live == 0, "what a reader of requests kept");
@@ -348,18 +348,18 @@ static void break_session_off(size_t length)
 	static const char *const said = REFUSED;
 	gitwire_repository repository = GITWIRE_NONE;
 	gitwire_server server = GITWIRE_NONE;
-	gitwire_told told = { .kind = GITWIRE_NEED_INPUT };
+	gitwire_answer answer = { .kind = GITWIRE_NEED_INPUT };
 
 	if (make_repository(&repository) && is_made(gitwire_server_new(&server, &repository, 1000, false), "a server to break off")) {
-		for (size_t used = 0; used < length && told.kind == GITWIRE_NEED_INPUT;) {
+		for (size_t used = 0; used < length && answer.kind == GITWIRE_NEED_INPUT;) {
 			used += gitwire_server_feed(&server, (const uint8_t *)said + used, length - used).used;
 			do
-				told = gitwire_server_pull(&server, room, sizeof room);
-			while (told.kind == GITWIRE_PACKET);
+				answer = gitwire_server_pull(&server, room, sizeof room);
+			while (answer.kind == GITWIRE_PACKET);
 		}
-		expect((told.kind == GITWIRE_NEED_INPUT && length < strlen(said))
-			|| (told.fault == GITWIRE_FAULT_NOT_OURS && length == strlen(said))
-			|| (told.fault == GITWIRE_FAULT_OUT_OF_MEMORY && refused > 0), "a session that breaks off");
+		expect((answer.kind == GITWIRE_NEED_INPUT && length < strlen(said))
+			|| (answer.fault == GITWIRE_FAULT_NOT_OURS && length == strlen(said))
+			|| (answer.fault == GITWIRE_FAULT_OUT_OF_MEMORY && refused > 0), "a session that breaks off");
 	}
 	gitwire_repository_free(&repository);
 	gitwire_server_free(&server);
@@ -373,7 +373,7 @@ static void run_broken_session(void)
 	break_session_off(strlen(REFUSED));
 }
 
-/* Feeds a client so many bytes, or those up to a fault. What is heard takes no memory. */
+/* Feeds a client so many bytes, or those up to a fault. What is received takes no memory. */
 static gitwire_event hear(gitwire_client *client, const char *said, size_t length)
 {
 	gitwire_event event = { .kind = GITWIRE_MORE };
@@ -381,11 +381,11 @@ static gitwire_event hear(gitwire_client *client, const char *said, size_t lengt
 
 	for (size_t used = 0; used < length && event.kind != GITWIRE_FAILED; used += event.used)
 		event = gitwire_client_feed(client, (const uint8_t *)said + used, length - used, room, sizeof room);
-	expect_none_asked(before, "memory for what is heard");
+	expect_none_asked(before, "memory for what is received");
 	return event;
 }
 
-/* Says so many packets of what is asked, and then hears so many bytes of the answer. */
+/* Sends so many packets of what is asked, and then receives so many bytes of the answer. */
 static void ask_and_hear(gitwire_client *client, gitwire_request *request, int packets, size_t length)
 {
 	gitwire_event event;
@@ -401,11 +401,11 @@ static void ask_and_hear(gitwire_client *client, gitwire_request *request, int p
 	if (length < strlen(ANSWER))
 		return;
 	expect(event.kind == GITWIRE_FAILED && event.fault == GITWIRE_FAULT_REMOTE_FATAL, "the server's fault");
-	expect(gitwire_client_message(client, room, sizeof room).length == 3, "what the server says of it");
-	expect_none_asked(before, "memory for what a server says");
+	expect(gitwire_client_message(client, room, sizeof room).length == 3, "the server's message for it");
+	expect_none_asked(before, "memory for a server's message");
 }
 
-/* A client is freed wherever its conversation breaks off: while it asks, and in the answer, of which the last packet tells a fault. */
+/* A client is freed wherever its conversation breaks off: while it asks, and in the answer, of which the last packet reports a fault. */
 static void break_conversation_off(int packets, size_t length)
 {
 	gitwire_client client = GITWIRE_NONE;
@@ -429,7 +429,7 @@ static void run_broken_conversation(void)
 	break_conversation_off(ALL_PACKETS, strlen(ANSWER));
 }
 
-/* Runs all, with this request for memory refused, and says whether there was one. */
+/* Runs all, with this request for memory refused, and returns whether there was one. */
 static bool run(void (*scenario)(void), long at, bool after)
 {
 	asked = refused = live = 0;

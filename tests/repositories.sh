@@ -21,7 +21,7 @@ EOF
     : > empty.pack
 }
 
-# object FORMAT WORD: the object name that stands for a word, its digest.
+# object FORMAT WORD: the object name that is made of a word, its digest.
 object() {
     local digest
     digest=$(printf '%s' "$2" | "${1}sum")
@@ -61,7 +61,7 @@ table() {
     done
 }
 
-# text FORMAT: the repository text of a large table. Around its references stand lines of other kinds, which no list shows.
+# text FORMAT: the repository text of a large table. Around its references are lines of other kinds, which no list shows.
 text() {
     echo "format $1"
     echo 'ready 3'

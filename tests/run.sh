@@ -1,17 +1,17 @@
 #!/usr/bin/env bash
 # Tests the built program `git2show` from outside: as the real Git calls it (real_git.sh, clones.sh, partial_clones.sh and fetches.sh),
-# over HTTP (http.sh), and by hand (program.sh); our client, as it asks the real Git (asking.sh); what both ends of the real Git say, as `check`
+# over HTTP (http.sh), and by hand (program.sh); our client, as it asks the real Git (asking.sh); what both ends of the real Git send, as `check`
 # judges it (recorded.sh); both of our ends against each other (playing.sh); the library for programs in C, as the examples use it
 # (library.sh), and one of them between both ends of the real Git (watching.sh); and a daemon and `serve` after a thousand clients that
-# mean harm (soak.sh).
+# mean harm (soak.sh); and the pages of this repository beside what they speak of (pages.sh).
 #
 #     tests/run.sh [PROGRAM [LIBRARY]]
 #
 # PROGRAM is the program to test, and LIBRARY the static library; without them, what the gate, `make program` and `make library` left
 # in this repository, which is built first where it is missing or older than a source. CASES, if given, is an extended regular expression:
 # only the cases whose names it matches are run, as `CASES=over_http tests/run.sh`. Where there is no git, no C compiler or no
-# valgrind, Debian's package is installed; where another tool is missing, it is told, and what needs it is passed over. Each failed
-# case is told as it fails; the last line is 'N passed, N failed', and the status is 1 where one failed.
+# valgrind, Debian's package is installed; where another tool is missing, it is reported, and what needs it is passed over. Each failed
+# case is reported as it fails; the last line is 'N passed, N failed', and the status is 1 where one failed.
 set -eu -o pipefail
 shopt -s inherit_errexit
 export LC_ALL=C TZ=UTC
@@ -102,6 +102,7 @@ export PATH=$room/bin:$PATH
 . "$top/tests/library.sh"
 . "$top/tests/watching.sh"
 . "$top/tests/soak.sh"
+. "$top/tests/pages.sh"
 
 git --version
 write_repositories

@@ -51,7 +51,7 @@ def garbage(connection, all_bytes, number):
 
 
 def silence(connection, all_bytes, number):
-    """Says nothing, and waits to be closed."""
+    """Sends nothing, and waits to be closed."""
     to_the_end(connection)
 
 

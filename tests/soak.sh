@@ -6,14 +6,14 @@ write_lie() {
     fetch "$(git -C heavy rev-parse main)" > asks
 }
 
-# descriptors_are COUNT: that the daemon comes to have so many, within half a minute.
+# descriptors_are COUNT: that the daemon reaches so many, within half a minute.
 descriptors_are() {
     local i
     for ((i = 0; i < 300; i++)); do
         [ "$(ls "/proc/$daemon/fd" | wc -l)" != "$1" ] || return 0
         sleep 0.1
     done
-    differs "$(ls "/proc/$daemon/fd" | wc -l) descriptors in place of $1"
+    differs "$(ls "/proc/$daemon/fd" | wc -l) descriptors instead of $1"
 }
 
 # A first round has used each place of the daemon, and a second one each place by many kinds: what came later would be what is never given
@@ -43,5 +43,5 @@ case_serve_takes_a_fixed_memory_of_a_thousand_lies() {
     write_lie
     honest=$("$top/tests/soak.py" serve 1 asks git2show serve --repo heavy.repo --pack heavy.pack)
     most=$(timeout 300 "$top/tests/soak.py" serve 1000 asks git2show serve --repo heavy.repo --pack heavy.pack)
-    [ "$most" -lt $((honest + 1024)) ] || differs "$most KiB in place of $honest"
+    [ "$most" -lt $((honest + 1024)) ] || differs "$most KiB instead of $honest"
 }

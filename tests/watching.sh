@@ -1,4 +1,4 @@
-# Cases in which examples/watch.c stands between the real Git's client and its server: what both say goes on as it is, the transcript is
+# Cases in which examples/watch.c runs between the real Git's client and its server: what both send goes on as it is, the transcript is
 # that of `git2show check`, and what is malformed is refused before it goes on.
 
 # write_watched: a server of Git behind the watcher, as Git is to name it: `watched FOLDER [OPTION..]`. What goes over between the
@@ -41,11 +41,11 @@ stands_in_its_place() {
     expect_same 'the offsets of the transcript' /dev/null misplaced
 }
 
-# went_on [OPTION..]: that each end got what the other said, and the transcript is that of `check`.
+# went_on [OPTION..]: that each end received what the other sent, and the transcript is that of `check`.
 went_on() {
     expect_same 'what the server got' said requests
     expect_same 'what the client got' responses heard
-    expect_same 'what the watcher told' /dev/null watched.err
+    expect_same 'what the watcher reported' /dev/null watched.err
     run git2show check "$@" requests responses
     expect 0 <(told_by_the_watcher) /dev/null
     stands_in_its_place
@@ -144,7 +144,7 @@ case_a_watcher_passes_on_sizes() {
     expect_line 'the transcript' "info $id $(git -C history-sha1 cat-file -s "$id")" <(told_by_the_watcher)
 }
 
-# What a server tells of an error reaches the client.
+# What a server sends of an error reaches the client.
 case_a_watcher_passes_on_an_error_of_the_server() {
     local id
     id=$(printf 'f%.0s' {1..40})
@@ -157,7 +157,7 @@ case_a_watcher_passes_on_an_error_of_the_server() {
     grep -q -x 'watch: responses: RemoteError at [0-9]*' watched.err || differs 'another fault' watched.err
 }
 
-# This server refuses a request before it is whole, and the client says no more before it has that.
+# This server refuses a request before it is whole, and the client sends no more before it has that.
 case_a_watcher_passes_on_an_early_error() {
     mkfifo early
     {
@@ -182,13 +182,13 @@ case_a_watcher_is_taken_for_upload_pack() {
     expect_line 'the transcript' offered <(told_by_the_watcher)
 }
 
-# replayed FILE COPY: a server that says what the file has, and copies what it hears.
+# replayed FILE COPY: a server that sends what the file has, and copies what it receives.
 write_replayed() {
     printf '%s\n' '#!/bin/sh' 'cat "$1"' 'exec cat > "$2"' > bin/replayed
     chmod +x bin/replayed
 }
 
-# is_judged_as_by_check WHAT: that the watcher tells of two streams what `check` tells of them, and that nothing that is refused goes on.
+# is_judged_as_by_check WHAT: that the watcher reports of two streams what `check` reports of them, and that nothing that is refused goes on.
 is_judged_as_by_check() {
     local fault stream at
     run git2show check requests.tried responses.tried
@@ -196,11 +196,11 @@ is_judged_as_by_check() {
     cp out wanted
     : > got
     run watch-watched --transcript watched.transcript replayed responses.tried got < requests.tried
-    # What may not be asked `check` tells where its response would begin, and the watcher where the request does.
+    # What may not be asked `check` reports where its response would begin, and the watcher where the request does.
     if grep -q '^watch: responses: NotAdvertised at ' wanted_err; then
-        grep -q -x 'watch: requests: NotAdvertised at [0-9]*' err || differs "what is told after $1" err
+        grep -q -x 'watch: requests: NotAdvertised at [0-9]*' err || differs "what is reported after $1" err
     else
-        expect_same "what is told after $1" wanted_err err
+        expect_same "what is reported after $1" wanted_err err
     fi
     expect_same "the transcript after $1" wanted <(told_by_the_watcher)
     read -r _ stream fault _ at < err || return 0
@@ -264,7 +264,7 @@ refuses_the_client() {
     rm -f requests
     run watch-watched --transcript watched.transcript record history-sha1 < <(printf "$2")
     expect_status 1
-    expect_same "what is told of '$2'" <(echo "watch: requests: $1") err
+    expect_same "what is reported of '$2'" <(echo "watch: requests: $1") err
     expect_same "the answer to '$2'" <(cat advertised && packet "ERR $1") out
     printf "$3" > front
     touch requests # of which the server may have got nothing
@@ -281,7 +281,7 @@ case_a_watcher_refuses_a_client() {
     refuses_the_client 'Truncated at 20' '0014command=ls-refs\n000' '0014command=ls-refs\n'
 }
 
-# A server behind the watcher that says what the file `bad` has, as Git is to name it.
+# A server behind the watcher that sends what the file `bad` has, as Git is to name it.
 bad_server='ext::watch-watched --transcript watched.transcript replayed bad got'
 
 case_a_watcher_refuses_a_server() {
@@ -294,11 +294,11 @@ case_a_watcher_refuses_a_server() {
     { advertisement sha1 && packet "$one refs/heads/../main" && printf 0000; } > bad
     ls_remote "$bad_server"
     expect_status 128
-    grep -q '^fatal: remote error: BadRefName at [0-9]*$' err || differs 'what Git was told' err
+    grep -q '^fatal: remote error: BadRefName at [0-9]*$' err || differs 'what Git received' err
     expect_same 'what Git printed' /dev/null out
 }
 
-# Within a pack the client is told by a side band.
+# Within a pack the refusal reaches the client by a side band.
 case_a_watcher_refuses_a_pack_that_breaks() {
     local at
     rm -rf ours
@@ -309,7 +309,7 @@ case_a_watcher_refuses_a_pack_that_breaks() {
     clone "$bad_server" ours
     expect_status 128
     expect_line 'what Git was told' "watch: responses: BadBand at $at" err
-    grep -q "^remote: BadBand at $at" err || differs 'what Git was told' err
+    grep -q "^remote: BadBand at $at" err || differs 'what Git received' err
 }
 
 case_a_watcher_ends_with_its_client() {
@@ -320,7 +320,7 @@ case_a_watcher_ends_with_its_client() {
     status=0
     limited watch-watched --transcript watched.transcript record heavy < asked 2> err > >(head -c 100000 > /dev/null) || status=$?
     expect_status 1
-    expect_same 'what is told' <(echo 'watch: the client is gone') err
+    expect_same 'what is reported' <(echo 'watch: the client is gone') err
 }
 
 case_a_watcher_under_valgrind() {

@@ -1,18 +1,18 @@
 #!/usr/bin/env python3
 """By what is each wrong body refused?
 
-Tries every edit, those of the gate in crates/CRATE/must-fail and those beside this script in CRATE/, and tells for each what the
-prover said first. `make test` tries the gate's alone, one by one, and asks only whether each is refused.
+Tries every edit, those of the gate in crates/CRATE/must-fail and those beside this script in CRATE/, and prints for each what the
+prover printed first. `make test` tries the gate's alone, one by one, and asks only whether each is refused.
 
     wrong-bodies/audit.py [CRATE..]
 
-It works on copies of the repository's files as they stand now, committed or not. RT is the command rt; LANES is how many checks
+It works on copies of the repository's files as they are now, committed or not. RT is the command rt; LANES is how many checks
 run at a time (2). Edits of different functions are tried in one check: a function is proved from the contracts of those that it
-calls, so an edit of one leaves the proofs of the others as they are. An edit that no function's proof tells of is tried again
-alone. An edit is counted by what was said first:
+calls, so an edit of one leaves the proofs of the others as they are. An edit that no function's proof reports is tried again
+alone. An edit is counted by what was printed first:
 
     goal      A goal is not proved, or what counts each field of a machine lacks a new one: what an edit is for.
-    proof     A written proof is of another statement than its goal is now: a wrong value stands in it, or the body came to
+    proof     A written proof is of another statement than its goal is now: a wrong value is in it, or the body took
               another form. Such a line is to be read.
     hollow    A proof names what the edit took away: the contract was not tried.
     proved    Not refused.
@@ -31,10 +31,10 @@ BATCH = 10  # edits a check
 
 FUNCTION = re.compile(r"^(\s*)(?:pub(?:\([a-z]+\))? )?(?:const )?fn (\w+)")
 MESSAGE = re.compile(r"(?:note: )?(?:\./)?(\S+?):(\d+):\d+: ")
-# What a proof says that names what an edit took away.
+# What is printed of a proof that names what an edit took away.
 HOLLOW = re.compile(r"only because|record `|projects from|has no field|has no `|is not in scope|was not admitted")
-# The second is said of the invariant of a type.
-# The last but one is how `cc` tells that it proves nothing; the last is said where a definition that counts each field lacks a new one.
+# The second is printed of the invariant of a type.
+# The last but one is how `cc` reports that it proves nothing; the last is printed where a definition that counts each field lacks a new one.
 GOAL = re.compile(
     r"it is not proved that|`search` found no proof|`(omega|search|grind|simp)`:|list the missing equation|which this pattern leaves out"
 )
@@ -98,7 +98,7 @@ def function_of(message, folder):
 
 
 def check(lane, edits):
-    """Checks a crate with these edits. What was said of each function, or of all where there is one edit; None where it was not read."""
+    """Checks a crate with these edits. What was printed of each function, or of all where there is one edit; None where it was not read."""
     crate = edits[0].crate
     folder = lane / "crates" / crate
     texts, before = {}, {}
@@ -126,7 +126,7 @@ def check(lane, edits):
 
 
 def judge(told):
-    """The kind of an edit of which this was told, and what was said first."""
+    """The kind of an edit of which this was printed, and what was printed first."""
     if not told:
         return "proved", "NOT REFUSED"
     first = next((line for line in told if not ("proofs/" in line and HOLLOW.search(line))), told[0])
@@ -173,7 +173,7 @@ def work(lane, tasks, found):
 
 
 def copy_files(room):
-    """The files that are not ignored, as they stand now, by an index of their own."""
+    """The files that are not ignored, as they are now, by an index of their own."""
     with_index = dict(os.environ, GIT_INDEX_FILE=str(room / "index"))
     subprocess.run(["git", "add", "--all"], cwd=TOP, env=with_index, check=True)
     subprocess.run(["git", "checkout-index", "--all", f"--prefix={room}/0/"], cwd=TOP, env=with_index, check=True)

@@ -1,5 +1,5 @@
-//! Asks for a pack and hears the answer on standard input, as a client does, and prints one line, `bytes checksum` of the
-//! pack, or tells the first fault. This is `Client` as a caller uses it, for `bench/run.sh` to measure beside
+//! Asks for a pack and receives the answer on standard input, as a client does, and prints one line, `bytes checksum` of the
+//! pack, or reports the first fault. This is `Client` as a caller uses it, for `bench/run.sh` to measure beside
 //! `bench/client.c`. Neither number depends on how the pack is cut, which a reader of other pieces cuts otherwise.
 #![tactic(auto)]
 
@@ -23,12 +23,12 @@ const WANTED: &[u8] = b"1111111111111111111111111111111111111111";
 /// The bytes of the pack at each multiple of this number of bytes make its checksum: of a packet one at the most.
 const MARKED_BYTES: u64 = 65_536;
 
-/// What is told of a pack; each number wraps at 2^64, as it does in C.
+/// What is reported of a pack; each number wraps at 2^64, as it does in C.
 #[derive(Clone, Copy, Debug)]
 struct Counts {
     bytes: u64,
     checksum: u64,
-    /// Where the next byte stands that the checksum takes.
+    /// The place of the next byte that the checksum takes.
     mark: u64,
 }
 
@@ -87,7 +87,7 @@ fn go_on(client: &mut Client<Global>, asking: &mut Option<Request<Global>>) -> R
     }
 }
 
-/// Hears what a piece says, up to where the client can ask, and counts it. Answers how many bytes were used.
+/// Receives what a piece contains, up to where the client can ask, and counts it. Answers how many bytes were used.
 fn hear_piece(
     client: &mut Client<Global>,
     piece: &[u8],
@@ -109,7 +109,7 @@ fn hear_piece(
     Ok(used)
 }
 
-/// Hears the whole conversation, and counts its pack. What the client sends is dropped.
+/// Receives the whole conversation, and counts its pack. What the client sends is dropped.
 fn hear<R: BufRead>(input: &mut R, request: Request<Global>) -> Result<Counts, RunFault> {
     let mut client = Client::new(Format::Sha1, Ending::FlushOnly);
     let mut asking = Some(request);

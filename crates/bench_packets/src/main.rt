@@ -1,5 +1,5 @@
 //! Counts the packets of standard input and the bytes of their payloads, and prints one line,
-//! `packets bytes checksum`, or tells the first fault. This is `PacketReader` as a caller uses it, for
+//! `packets bytes checksum`, or reports the first fault. This is `PacketReader` as a caller uses it, for
 //! `bench/run.sh` to measure beside `bench/packets.c`. With the word `copied` after its name it copies each payload
 //! into a room of its own, as the library for C does, to be measured beside `bench/calls.c`. With the word `bands`
 //! bytes of the pack and of the progress pass uncopied, and each part of them counts as a packet does: this is
@@ -23,7 +23,7 @@ const PIECE_BYTES: usize = 65_536;
 /// How many bytes a payload has at the most.
 const PAYLOAD_BYTES: usize = 65_516;
 
-/// What is told of a stream; each number wraps at 2^64, as it does in C.
+/// What is reported of a stream; each number wraps at 2^64, as it does in C.
 #[derive(Clone, Copy, Debug)]
 struct Counts {
     packets: u64,
@@ -159,7 +159,7 @@ fn pass_input<R: Read>(
     Ok(reader.close())
 }
 
-/// Tells a fault on standard error.
+/// Reports a fault on standard error.
 fn refuse(rt: &impl Eprint, fault: Fault) -> io::Result<ExitCode> {
     eprintln!(rt; "bench_packets: {:?} at {}", fault.kind, fault.offset)?;
     Ok(ExitCode::FAILURE)

@@ -48,16 +48,7 @@ fn main(rt: HostRuntime) -> io::Result<ExitCode> {
     let Ok(repo) = read_repo(alloc, REPOSITORY, packs) else {
         return Ok(ExitCode::FAILURE);
     };
-    let offer = Offer {
-        format: repo.format(),
-        unborn: false,
-        shallow: false,
-        ref_in_want: false,
-        wait_for_done: false,
-        filter: false,
-        object_info: false,
-        server_option: false,
-    };
+    let offer = Offer::nothing(repo.format());
     let limits = Limits {
         args: Limits::USUAL,
     };

@@ -7,7 +7,7 @@ use Rattle.git_server.specs.Sessions.{Setting}
 use Rattle.git_server.specs.Server.{Running}
 use Rattle.git_server.specs.declared.server.Server.{Server}
 
--- the server used a front of what was read, and all of it where the input ended, which the reader told; nothing was given
+-- the server used a front of what was read, and all of it where the input ended, which the reader reported; nothing was given
 pub record TakesOne {R A : Type 0} (state : R → RepoState) (old new : Server R A) (ended : Bool) (reader : Flow) : Type 0 where
   pub used : List ℕ
   pub unused : List ℕ

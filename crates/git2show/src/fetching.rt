@@ -20,9 +20,9 @@ const PART: usize = 256;
 /// Room for what is shown of them.
 const SHOWN: usize = 4 * PART;
 
-/// Asks on standard output what the script that is named says, and hears on standard input. What comes of packs goes to the file that is
-/// named, and the transcript to one too, or to standard error. Where the command line asks for it, or standard error is a terminal,
-/// the server's progress is shown there.
+/// Sends the requests of the script that is named on standard output, and receives the answers on standard input. What comes of packs
+/// goes to the file that is named, and the transcript to one too, or to standard error. Where the command line asks for it, or
+/// standard error is a terminal, the server's progress is shown there.
 pub(crate) fn run_fetch(rt: &HostRuntime, matches: &ArgMatches<'_>) -> Result<(), ProgramFault> {
     let requests = read_requests(rt, matches, format_of(matches))?;
     let pack = create(rt, matches.get_str("pack").unwrap_or(""))?;
@@ -35,8 +35,8 @@ pub(crate) fn run_fetch(rt: &HostRuntime, matches: &ArgMatches<'_>) -> Result<()
     }
 }
 
-/// Asks the requests in their order, and writes what comes of packs, the transcript, and the server's progress where it is to be shown.
-/// What the server tells where it refuses one goes to standard error.
+/// Sends the requests in their order, and writes what comes of packs, the transcript, and the server's progress where it is to be shown.
+/// The server's message where it refuses one goes to standard error.
 fn fetch<O: Write + Drop>(
     rt: &HostRuntime,
     matches: &ArgMatches<'_>,
@@ -61,7 +61,7 @@ fn fetch<O: Write + Drop>(
     Ok(done?)
 }
 
-/// Asks the requests on standard output, and hears the server on standard input.
+/// Sends the requests on standard output, and receives the answers on standard input.
 fn ask_all<O: Write + Drop, E: Output>(
     rt: &HostRuntime,
     client: &mut Client<Global>,
@@ -96,7 +96,7 @@ fn create(rt: &HostRuntime, path: &str) -> Result<File, ProgramFault> {
     File::create(rt, path).map_err(file_fault)
 }
 
-/// Writes what a server told on one line of standard error, without the line feed at its end, and each byte as `show` shows it.
+/// Writes a server's message on one line of standard error, without the line feed at its end, and each byte as `show` shows it.
 fn tell_message(rt: &HostRuntime, message: &[u8]) -> io::Result<()> {
     let mut error = rt.stderr();
     let text = match message {

@@ -31,13 +31,13 @@ const TURNS: u64 = 1_073_741_824;
 /// The most bytes that the texts of a request's argument lines may have.
 const MOST_KEPT: u32 = 1_073_741_824;
 
-/// The most bytes of a piece in which a played conversation goes over, and as many as it has where nothing else is said.
+/// The most bytes of a piece in which a played conversation goes over, and as many as it has by default.
 const LONGEST_CUT: u32 = 65_536;
 
 /// The status where the command line is refused.
 const BAD_COMMAND_LINE: u8 = 2;
 
-/// What stands below the list of commands: what a status says, and the one fault line whose word needs it.
+/// The text below the list of commands: what a status means, and the one fault line whose word needs it.
 const STATUSES: &str =
     "Status: 0 where all went well; 1 with one line on standard error where a stream or a file is at fault; 2 where the command line is.
 A fault is told by name and offset. `File` alone is a file that cannot be opened, or a text, pack or script that cannot be read.";
@@ -186,7 +186,7 @@ fn script_argument<'a>(alloc: Global) -> Arg<'a> {
     file_argument(alloc, "script").help("Text of the requests, one argument to a line")
 }
 
-/// The argument that tells the object format.
+/// The argument for the object format.
 fn format_argument<'a>(alloc: Global) -> Arg<'a> {
     Arg::new(alloc, "format")
         .long("format")
@@ -196,7 +196,7 @@ fn format_argument<'a>(alloc: Global) -> Arg<'a> {
         .help("Object format of the repository")
 }
 
-/// The argument that tells how responses end.
+/// The argument for how responses end.
 fn stateless_argument<'a>(alloc: Global, help: &'a str) -> Arg<'a> {
     flag_argument(alloc, "stateless").help(help)
 }
@@ -256,7 +256,7 @@ fn open(rt: &HostRuntime, matches: &ArgMatches<'_>, argument: &str) -> Result<Fi
     File::open(rt, path).map_err(file_fault)
 }
 
-/// What is told of a file that cannot be opened or read.
+/// What is reported of a file that cannot be opened or read.
 fn file_fault(error: io::Error) -> ProgramFault {
     match error.kind() {
         io::ErrorKind::OutOfMemory => ProgramFault::OutOfMemory,
@@ -272,7 +272,7 @@ fn buffered_output(rt: &HostRuntime) -> Result<BufWriter<Stdout>, ProgramFault> 
     )
 }
 
-/// What a server is to say.
+/// What a server is to send.
 #[derive(Clone, Copy, Debug, PartialEq, Eq)]
 enum Service {
     /// The advertisement, and the answer to each request.
@@ -283,7 +283,7 @@ enum Service {
     Answer,
 }
 
-/// What a server is to say, by the command line.
+/// What a server is to send, by the command line.
 fn service_of(matches: &ArgMatches<'_>) -> Service {
     if matches.get_flag("http-backend-info-refs") {
         return Service::Advertisement;
@@ -294,7 +294,7 @@ fn service_of(matches: &ArgMatches<'_>) -> Service {
     }
 }
 
-/// How much is kept of a request, by the command line. clap refuses more than the most, which is said once more for the prover.
+/// How much is kept of a request, by the command line. clap refuses more than the most, which is tested once more for the prover.
 fn limits_of(matches: &ArgMatches<'_>) -> Limits {
     let args = match matches.get_one::<u32>("limit") {
         Some(args) => args.min(MOST_KEPT),
@@ -343,7 +343,7 @@ fn run_play(rt: &HostRuntime, matches: &ArgMatches<'_>) -> Result<(), ProgramFau
     let script = read_whole(rt, matches, "script")?;
     let repo = judge_repository(text, packs)?;
     let requests = judge_script(alloc, &script, repo.format())?;
-    // clap refuses 0 and more than the longest, which is said once more for the prover.
+    // clap refuses 0 and more than the longest, which is tested once more for the prover.
     let cut = match matches.get_one::<u32>("cut") {
         Some(cut) => cut.clamp(1, LONGEST_CUT),
         None => LONGEST_CUT,
@@ -498,7 +498,7 @@ fn run_command_line(rt: &HostRuntime) -> Result<u8, NotTaken> {
     Ok(run(rt, &matches))
 }
 
-/// Tells why the command line was not taken, by clap's own text. Answers the status.
+/// Reports why the command line was not taken, by clap's own text. Answers the status.
 fn tell(rt: &HostRuntime, error: NotTaken) -> u8 {
     match error {
         NotTaken::Memory => tell_fault(rt, ProgramFault::OutOfMemory),

@@ -1,15 +1,14 @@
--- A check so far: what was read of both streams, what was asked and heard; and what it comes to at each of its ends.
+-- A check so far: what was read of both streams, what was asked and received; and what it results in at each of its ends.
 use Rattle.std.proofs.Common.{arith, ◌≡◌, inl, inr, ◌⊎◌, ℕ, ◌-◌, ◌<◌, Bool, true, false, List, [], ◌∷◌, ◌++◌, length, map, Option, None}
 use Rattle.std.proofs.Common.{Result, Ok, Err, IfErr, IsErrAnd, refl, sym, ap, ◌∙◌, subst, append_assoc, append-nil, length-append}
 use Rattle.std.proofs.lemmas.List.{map-append}
 use Rattle.std.proofs.lemmas.Result.{err_from_is_err_and}
 use Rattle.std.proofs.KnownBytes.{Consumes-nil, Consumes-trans}
 use Rattle.std.specs.Io.KnownBytes.{Consumes}
-use Rattle.git_names.specs.declared.object_format.Format.{Format}
 use Rattle.git_pkt.specs.Engine.{FailsAs, IsShownBy, IsSpent}
 use Rattle.git_pkt.specs.Faults.{IsOpen, last_position}
 use Rattle.git_pkt.specs.Splits.{Given}
-use Rattle.git_pkt.specs.Streams.{Flow, flow, WrittenAs, Moves, is_broken}
+use Rattle.git_pkt.specs.Streams.{Flow, flow, Moves, is_broken}
 use Rattle.git_pkt.specs.declared.fault.Fault.{Fault}
 use Rattle.git_pkt.specs.declared.fault.Kind.TheVariants.{UnexpectedPacket}
 use Rattle.git_pkt.specs.declared.fault.RunFault.{RunFault}
@@ -19,7 +18,6 @@ use Rattle.git_pkt.specs.declared.told.Told.{Told}
 use Rattle.git_pkt.proofs.Spelling.{none_begins_nothing}
 use Rattle.git_msg.specs.Advertisement.{noted_offer}
 use Rattle.git_msg.specs.Asked.{Asked}
-use Rattle.git_msg.specs.Checks.{Refuses as RefusesBy}
 use Rattle.git_msg.specs.HeldRequest.{asked_of}
 use Rattle.git_msg.specs.Requests.{IsStop}
 use Rattle.git_msg.specs.RequestStreams.{HasRead, AreAsked, IsRefusedAs, bytes_used, limit_of, offer_of}
@@ -27,23 +25,17 @@ use Rattle.git_msg.specs.StreamStages.{AreBegun}
 use Rattle.git_msg.specs.declared.offers.Offer.{Offer}
 use Rattle.git_msg.specs.declared.requests.Request.{Request}
 use Rattle.git_msg.specs.declared.streams.RequestStream.{RequestStream}
-use Rattle.git_client.specs.Client.{History, Converses, nothing_yet, ask_checks, bytes_used as client_bytes, can_ask, caps_of, phase_of, request_of}
+use Rattle.git_client.specs.Client.{History, Converses, nothing_yet, bytes_used as client_bytes, can_ask, caps_of}
 use Rattle.git_client.specs.Client.{wants_input}
 use Rattle.git_client.specs.Conversation.{IsConversation, HasNoted}
 use Rattle.git_client.specs.Parts.{Terms}
 use Rattle.git_client.specs.RunSteps.{AsksNext, AsksTo, HearsFrom, HearsTo, HearsWhole, no_counts, window_of}
-use Rattle.git_client.specs.Runs.{IsInterrupted}
 use Rattle.git_client.specs.Transcript.{transcript_of}
-use Rattle.git_client.specs.Turns.{takes_packets}
 use Rattle.git_client.specs.declared.client.Client.{Client}
 use Rattle.git_client.specs.declared.hearing.Window.{Window}
-use Rattle.git_client.specs.declared.phase.Phase.{Phase}
-use Rattle.git_client.specs.declared.phase.Phase.TheVariants.{Hearing}
-use Rattle.git_client.proofs.Alongs.{written_then}
-use Rattle.git_client.proofs.Carries.{is_quiet, not_left, owes_nothing}
 use Rattle.git_client.proofs.AskedInTurn.{commands_advertised}
-use Rattle.git_client.proofs.ClientRuns.{Running, Ran, ran, begins, asks_on, hears_on, hears_whole, read_on}
-use Rattle.git_client.proofs.EventsHeard.{all_is_said, awaits_more, has_events, has_noted, is_whole, position_is}
+use Rattle.git_client.proofs.ClientRuns.{Running, Ran, ran, ran_as, ran_unasked, begins, asks_on, hears_on, hears_whole, interrupted, read_on, refused_next}
+use Rattle.git_client.proofs.EventsHeard.{has_events, has_noted, is_whole, position_is}
 use Rattle.git_client.proofs.Faults.{first_fault}
 use Rattle.git2show_lib.specs.CheckFaults.{run_fault, run_result, standing_of}
 use Rattle.git2show_lib.specs.CheckSteps.{Asking, ReadsAll, ReadsNoMore, ReadsOn, ReadsRequest, ReadsTo, SeesEnd}
@@ -58,28 +50,6 @@ use Rattle.git2show_lib.specs.declared.checking.CheckFault.TheVariants.{ReadFaul
 -- where the packets that are asked, the packs and the progress go: nowhere
 abbrev pub silent : Flow
 silent = flow None None
-
--- ---- where bytes of the server are due
-
--- a client that hears owes nothing, and has not left
-quiet_where_due : (phase : Phase) → takes_packets phase ≡ true → is_quiet phase ≡ true
-quiet_where_due (Hearing due) e = refl
-quiet_where_due phase e = absurd (cc)
-
--- a conversation that ends there was interrupted: all that was due was said, and more is to come
-interrupted : {A : Type 0} (t : Terms) (h : History) (client : Client A) → Converses t h client → wants_input client ≡ true → IsInterrupted t [] h
-interrupted t h client stands due =
-    let quiet = quiet_where_due (phase_of client) due in
-    record {
-      all = refl;
-      goes_on = awaits_more t h client stands due;
-      stays = stands.left ∙ not_left (phase_of client) quiet;
-      said = record {
-        caps = caps_of client;
-        noted = has_noted t h client stands;
-        said = all_is_said t h client stands (owes_nothing (phase_of client) (request_of client) quiet);
-      };
-    }
 
 -- ---- what an advertisement offers
 
@@ -122,7 +92,7 @@ none_asked offer limit = record { packets = []; splits = record { spelled = refl
 
 module _ {A : Type 0} (t : Terms) where
   module _ (limit : ℕ) where
-    -- ---- how a check stands
+    -- ---- a check so far
 
     -- of the requests these bytes were used, which ask for these, and these wait
     pub record Reading (asked : List Asked) (stream : RequestStream A) (waiting : List ℕ) (requests : Flow) : Type 0 where
@@ -135,20 +105,22 @@ module _ {A : Type 0} (t : Terms) where
     pub record Awaiting (broken : Bool) (front : List (Request A)) (client : Client A) (waiting : List ℕ) (requests responses out : Flow) : Type 0 where
       pub found : Found
       pub offer : Offer
-      pub runs : Running broken t front client no_counts waiting responses silent out silent silent
+      pub h : History
+      pub runs : Running broken t h front client no_counts waiting responses silent out silent silent
       pub read : Consumes requests.before requests.after (found.used ++ found.unused)
       pub asks : AreAsked offer limit found.used found.asked found.left found.rest
       pub asked : found.asked ≡ map asked_of front
       pub nothing_left : found.left ≡ []
       pub no_rest : found.rest ≡ []
-      pub offered : IsOffered t runs.h.used offer ⊎ AreUnread found
+      pub offered : IsOffered t h.used offer ⊎ AreUnread found
 
-    -- the next request can come: those that were read were asked, and the response to each was heard whole
+    -- the next request can come: those that were read were asked, and the response to each was received whole
     pub record Checking (client : Client A) (stream : RequestStream A) (held waiting : List ℕ) (requests responses out : Flow) : Type 0 where
       pub front : List (Request A)
-      pub runs : Running false t front client no_counts waiting responses silent out silent silent
+      pub h : History
+      pub runs : Running false t h front client no_counts waiting responses silent out silent silent
       pub reading : Reading (map asked_of front) stream held requests
-      pub offered : IsOffered t runs.h.used (offer_of stream)
+      pub offered : IsOffered t h.used (offer_of stream)
       pub ready : can_ask client ≡ true
 
     -- ---- the requests
@@ -170,7 +142,7 @@ module _ {A : Type 0} (t : Terms) where
     reads_none {asked} {old} {new} {waiting} {unused} {before} {held} {after} r step =
         subst (λ (qs : List Asked). Reading qs new unused (flow before after)) (append-nil asked) (reads_on r step)
 
-    -- what is found in them, where this stands after the last whole request
+    -- what is found in them, where this comes after the last whole request
     abbrev found_in : {asked : List Asked} {stream : RequestStream A} {waiting : List ℕ} {requests : Flow} → Reading asked stream waiting requests
         → List Given → List ℕ → Found
     found_in {asked} {stream} {waiting} r left rest = record { used = r.used; unused = waiting; asked = asked; left = left; rest = rest }
@@ -198,6 +170,7 @@ module _ {A : Type 0} (t : Terms) where
     advertisement_due client offer requests responses out due stands = record {
       found = nothing_found;
       offer = offer;
+      h = nothing_yet;
       runs = begins t client responses None None out None None due stands tt;
       read = Consumes-nil requests;
       asks = none_asked offer limit;
@@ -207,7 +180,7 @@ module _ {A : Type 0} (t : Terms) where
       offered = inr (record { nothing_used = refl; nothing_waits = refl });
     }
 
-    -- the advertisement was heard whole, and a reader of requests was made of what it offers
+    -- the advertisement was received whole, and a reader of requests was made of what it offers
     pub advertised : (old new : Client A) (stream : RequestStream A) (window : Window) (piece : List ℕ) {requests : Option (List ℕ)}
         {before held after out_before out_held out_after : Option (List ℕ)}
         → Awaiting false [] old [] (flow requests requests) (flow before held) (flow out_before out_held)
@@ -215,20 +188,22 @@ module _ {A : Type 0} (t : Terms) where
         → HasRead [] [] stream → offer_of stream ≡ noted_offer (caps_of new) t.format → limit_of stream ≡ limit
         → Checking new stream [] (window_of window piece) (flow requests requests) (flow before after) (flow out_before out_after)
     advertised old new stream window piece {requests} a due heard reads offers kept =
-        let (on, grown) = hears_whole t [] old new [] window piece a.runs due heard in
+        let on = hears_whole t [] old new [] window piece a.runs due heard in
         let stands = on.along.stands in
+        let now : History = record a.h { used = a.h.used ++ heard.hears.used; events = a.h.events ++ heard.hears.bytes.events } in
         record {
           front = [];
+          h = now;
           runs = on;
           reading = record { used = []; has_read = reads; read = Consumes-nil requests; limit_is = kept };
           offered = record {
-            advertised = on.h.used;
+            advertised = now.used;
             more = [];
-            events = on.h.events;
+            events = now.events;
             caps = caps_of new;
-            cut = sym (append-nil on.h.used);
-            whole = subst (λ (asked : List Asked). IsConversation t asked on.h.used on.h.events) on.in_turn.are (is_whole t on.h new stands heard.can_ask_on);
-            noted = subst (λ (asked : List Asked). HasNoted t asked on.h.used (caps_of new)) on.in_turn.are (has_noted t on.h new stands);
+            cut = sym (append-nil now.used);
+            whole = subst (λ (asked : List Asked). IsConversation t asked now.used now.events) on.in_turn.are (is_whole t now new stands heard.can_ask_on);
+            noted = subst (λ (asked : List Asked). HasNoted t asked now.used (caps_of new)) on.in_turn.are (has_noted t now new stands);
             offers = offers;
           };
           ready = heard.can_ask_on;
@@ -245,20 +220,20 @@ module _ {A : Type 0} (t : Terms) where
         let asked = map asked_of c.front ++ asked_of request ∷ [] in
         let reading = reads_on c.reading step.reads in
         let (left, rest, are_asked, (nothing, none)) = step.alone reading.used asked reading.has_read in
-        let (on, same) = asks_on t broken c.front old new request no_counts waiting c.runs c.ready asks in
         record {
           found = found_in reading left rest;
           offer = offer_of next;
-          runs = on;
+          h = _;
+          runs = asks_on t broken c.front old new request no_counts waiting c.runs c.ready asks;
           read = reading.read;
           asks = asks_within reading left rest are_asked;
           asked = sym (map-append asked_of c.front (request ∷ []));
           nothing_left = nothing;
           no_rest = none;
-          offered = inl (still_offered t step.reads.offer same c.offered);
+          offered = inl (still_offered t step.reads.offer refl c.offered);
         }
 
-    -- a request was read and asked, and the response to it was heard whole
+    -- a request was read and asked, and the response to it was received whole
     pub response_heard : (old middle new : Client A) (stream next : RequestStream A) (request : Request A) (ended : Bool)
         (held later waiting : List ℕ) (window : Window) (piece : List ℕ)
         {before left after heard_before heard heard_after out_before out_held out_asked out_after : Option (List ℕ)}
@@ -268,17 +243,17 @@ module _ {A : Type 0} (t : Terms) where
         → wants_input middle ≡ true → HearsWhole window middle new waiting piece (flow heard heard_after) (flow out_asked out_after) silent silent
         → Checking new next later (window_of window piece) (flow before after) (flow heard_before heard_after) (flow out_before out_after)
     response_heard old middle new stream next request ended held later waiting window piece {before} {left} {after} c step asks due heard =
-        let (asked, same) = asks_on t false c.front old middle request no_counts waiting c.runs c.ready asks in
-        let (on, grown) = hears_whole t (c.front ++ request ∷ []) middle new waiting window piece asked due heard in
         record {
           front = c.front ++ request ∷ [];
-          runs = on;
+          h = _;
+          runs =
+              hears_whole t (c.front ++ request ∷ []) middle new waiting window piece
+              (asks_on t false c.front old middle request no_counts waiting c.runs c.ready asks) due heard;
           reading =
               subst (λ (asks : List Asked). Reading asks next later (flow before after)) (sym (map-append asked_of c.front (request ∷ [])))
               (reads_on c.reading step.reads);
           offered =
-              still_offered t step.reads.offer (grown ∙ ap (λ (l : List ℕ). l ++ heard.hears.used) same)
-              (offered_on t c.runs.h.used heard.hears.used (offer_of stream) c.offered);
+              still_offered t step.reads.offer refl (offered_on t c.h.used heard.hears.used (offer_of stream) c.offered);
           ready = heard.can_ask_on;
         }
 
@@ -298,7 +273,7 @@ module _ (A : Type 0) (t : Terms) (limit : ℕ) {Q R : Type 0} (of_requests : To
       let (e, is, same) = err_from_is_err_and result met in
       subst (λ (r : Result (Unit {0}) CheckFault). CheckEnds r requests responses out) (sym (is ∙ ap Err same)) ends
 
-  -- what the run of the client and the requests come to in a check that ends here
+  -- what the run of the client and the requests mean for a check that ends here
   ends : (result : Result (Unit {0}) CheckFault) (found : Found) (offer : Offer) (h : History) (front : List (Request A)) (client : Client A)
       (unused : List ℕ) (requests responses out : Flow) → Consumes requests.before requests.after (found.used ++ found.unused)
       → Ran (is_broken (run_result result)) t h front client unused responses silent out silent silent → IsOffered t h.used offer ⊎ AreUnread found
@@ -330,20 +305,18 @@ module _ (A : Type 0) (t : Terms) (limit : ℕ) {Q R : Type 0} (of_requests : To
   module _ (front : List (Request A)) (old new : Client A) (waiting : List ℕ) {requests : Flow}
       {before held out_before out_held : Option (List ℕ)} (after out_after : Option (List ℕ))
       (a : Awaiting t limit false front old waiting requests (flow before held) (flow out_before out_held)) (due : wants_input old ≡ true) where
-    -- all that came of it was heard, and then this was told
+    -- all that came of it was received, and then this was reported
     heard_up_to : (result : Result (Unit {0}) CheckFault) (unused : List ℕ)
         (step : HearsFrom (is_broken (run_result result)) old new waiting unused (flow held after) (flow out_held out_after) silent silent)
         → ((h : History) → Converses t h new → AreAllAsked h a.found
         → EndsAs A t a.offer limit result (standing_of of_requests) (standing_of of_responses) unused h a.found)
         → CheckEnds result requests (flow before after) (flow out_before out_after)
     heard_up_to result unused step ended =
-        let (on, grown) = hears_on t (is_broken (run_result result)) front old new waiting unused a.runs due step in
-        let all_asked : AreAllAsked on.h a.found =
-        record { asked = a.asked ∙ sym on.in_turn.are; nothing_left = a.nothing_left; no_rest = a.no_rest } in
-        ends result a.found a.offer on.h front new unused _ _ _ a.read (ran on)
-        (known_on t a.runs.h.used step.used on.h.used a.offer a.found grown a.offered) a.asks (ended on.h on.along.stands all_asked)
+        let on = hears_on t (is_broken (run_result result)) front old new waiting unused a.runs due step in
+        ends result a.found a.offer _ front new unused _ _ _ a.read (ran on) (known_on t a.h.used step.used _ a.offer a.found refl a.offered) a.asks
+        (ended _ on.along.stands (record { asked = a.asked ∙ sym on.in_turn.are; nothing_left = a.nothing_left; no_rest = a.no_rest }))
 
-    -- it was not heard to its end
+    -- it was not received to its end
     pub hearing_stopped : (fault : RunFault) (piece : List ℕ) (turns : ℕ) (written : Bool) (F W : Type 0)
         → HearsTo (Err fault) (has_ended of_responses) old new waiting piece (flow held after) (flow out_held out_after) silent silent
         → FailsAs {T = Window} (Err fault) (has_failed of_responses) written → IsShownBy F W (IsSpent of_responses turns) fault
@@ -373,45 +346,21 @@ module _ (A : Type 0) (t : Terms) (limit : ℕ) {Q R : Type 0} (of_requests : To
   asking_stopped ReadLimit old new stream next request ended held later waiting out_after c step asks = absurd asks
   asking_stopped WriteFault old new stream next request ended held later waiting out_after c step asks =
       let a = response_due t limit true old new stream next request ended held later waiting c step asks in
-      ends (Err CheckWriteFault) a.found a.offer a.runs.h (c.front ++ request ∷ []) new waiting _ _ _ a.read (ran a.runs) a.offered a.asks
+      ends (Err CheckWriteFault) a.found a.offer a.h (c.front ++ request ∷ []) new waiting _ _ _ a.read (ran a.runs) a.offered a.asks
       (record { asked = a.asked ∙ sym a.runs.in_turn.are; nothing_left = a.nothing_left; no_rest = a.no_rest })
-  asking_stopped (Refused fault) old new stream next request ended held later waiting {responses} {before} {left} {after} {out_before} {out_held}
-      out_after c step asks =
+  asking_stopped (Refused fault) old new stream next request ended held later waiting out_after c step asks =
       let asked = map asked_of c.front ++ asked_of request ∷ [] in
       let reading = reads_on t limit c.reading step.reads in
       let (remaining, rest, are_asked, (nothing, none)) = step.alone reading.used asked reading.has_read in
-      let h = c.runs.h in
-      let at = ran c.runs in
-      let stands = at.stands in
-      let lines = transcript_of h.asked h.events in
-      let so : Ran false t h c.front old waiting responses silent (flow out_before out_after) silent silent = record {
-        stands = stands;
-        in_turn = at.in_turn;
-        read = at.read;
-        said = at.said;
-        told =
-            subst (WrittenAs false (flow out_before out_after)) (append-nil lines)
-            (written_then false out_before out_held out_after lines [] at.told asks.told);
-        sent = at.sent;
-        reported = at.reported;
-      } in
-      ends (Err (Responses fault)) (found_in t limit reading remaining rest) (offer_of next) h c.front old waiting _ _ _ reading.read so
-      (inl (still_offered t step.reads.offer refl c.offered)) (asks_within t limit reading remaining rest are_asked) (inr (inl (record {
+      ends (Err (Responses fault)) (found_in t limit reading remaining rest) (offer_of next) c.h c.front old waiting _ _ _ reading.read
+      (ran_unasked t c.runs asks) (inl (still_offered t step.reads.offer refl c.offered)) (asks_within t limit reading remaining rest are_asked)
+      (inr (inl (record {
         request = request;
         format = step.format;
         asked = ap (λ (l : List Asked). l ++ asked_of request ∷ []) (sym c.runs.in_turn.are);
         nothing_left = nothing;
         no_rest = none;
-        refused = record {
-          request = request;
-          later = [];
-          caps = caps_of old;
-          next = refl;
-          whole = is_whole t h old stands c.ready;
-          noted = has_noted t h old stands;
-          refused = subst (λ (format : Format). RefusesBy (ask_checks format (caps_of old) request) fault.kind) stands.format_is asks.refused;
-          at = asks.at ∙ position_is t h old stands;
-        };
+        refused = refused_next t c.h [] request old new fault c.runs.along.stands c.ready asks;
       })))
 
   -- ---- no further request was read
@@ -422,30 +371,22 @@ module _ (A : Type 0) (t : Terms) (limit : ℕ) {Q R : Type 0} (of_requests : To
     abbrev found_after : (used unused : List ℕ) → List Given → List ℕ → Found
     found_after used unused remaining rest = record { used = used; unused = unused; asked = map asked_of c.front; left = remaining; rest = rest }
 
-    -- the requests were read on, and bytes of what is left over of the responses, or none; then this was told
+    -- the requests were read on, and bytes of what is left over of the responses, or none; then this was reported
     told_then : (result : Result (Unit {0}) CheckFault) → is_broken (run_result result) ≡ false → (came : List ℕ) (heard_after : Option (List ℕ))
         → Consumes heard heard_after came → (unused : List ℕ) → ReadsOn stream next [] held unused (flow left after)
         → (Stands : List ℕ → List Given → List ℕ → Type 0) → Asking next Stands
         → ((used : List ℕ) (remaining : List Given) (rest : List ℕ) → Stands used remaining rest
-        → AreAnswered t c.runs.h (found_after used unused remaining rest)
-        → EndsAs A t (offer_of next) limit result (standing_of of_requests) (standing_of of_responses) (waiting ++ came) c.runs.h
+        → AreAnswered t c.h (found_after used unused remaining rest)
+        → EndsAs A t (offer_of next) limit result (standing_of of_requests) (standing_of of_responses) (waiting ++ came) c.h
         (found_after used unused remaining rest)) → CheckEnds result (flow before after) (flow heard_before heard_after) out
     told_then result sound came heard_after read unused step Stands asking ended =
-        let h = c.runs.h in
+        let h = c.h in
         let at = ran c.runs in
         let reading = reads_none t limit c.reading step in
         let (remaining, rest, are_asked, stands) = asking reading.used (map asked_of c.front) reading.has_read in
-        let so : Ran false t h c.front client (waiting ++ came) (flow heard_before heard_after) silent out silent silent = record {
-          stands = at.stands;
-          in_turn = at.in_turn;
-          read =
-              subst (Consumes heard_before heard_after) (append_assoc h.used waiting came)
-              (Consumes-trans heard_before heard heard_after (h.used ++ waiting) came at.read read);
-          said = at.said;
-          told = at.told;
-          sent = at.sent;
-          reported = at.reported;
-        } in
+        let so : Ran false t h c.front client (waiting ++ came) (flow heard_before heard_after) silent out silent silent =
+        ran_as at (subst (Consumes heard_before heard_after) (append_assoc h.used waiting came)
+        (Consumes-trans heard_before heard heard_after (h.used ++ waiting) came at.read read)) at.said at.told at.sent at.reported in
         ends result (found_after reading.used unused remaining rest) (offer_of next) h c.front client (waiting ++ came) _ _ _ reading.read
         (subst (λ (broken : Bool). Ran broken t h c.front client (waiting ++ came) (flow heard_before heard_after) silent out silent silent) (sym sound) so)
         (inl (still_offered t step.offer refl c.offered)) (asks_within t limit reading remaining rest are_asked)
@@ -454,8 +395,8 @@ module _ (A : Type 0) (t : Terms) (limit : ℕ) {Q R : Type 0} (of_requests : To
     -- all bytes of the requests were read, and more can come
     all_read : (result : Result (Unit {0}) CheckFault) → is_broken (run_result result) ≡ false → has_ended of_responses ≡ false
         → ReadsAll (has_ended of_requests) stream next held (flow left after)
-        → ((found : Found) → IsWithinRequest t (offer_of next) limit (standing_of of_requests) (standing_of of_responses) c.runs.h found
-        → EndsAs A t (offer_of next) limit result (standing_of of_requests) (standing_of of_responses) (waiting ++ []) c.runs.h found)
+        → ((found : Found) → IsWithinRequest t (offer_of next) limit (standing_of of_requests) (standing_of of_responses) c.h found
+        → EndsAs A t (offer_of next) limit result (standing_of of_requests) (standing_of of_responses) (waiting ++ []) c.h found)
         → CheckEnds result (flow before after) (flow heard_before heard) out
     all_read result sound more step ended =
         told_then result sound [] heard (Consumes-nil heard) [] step.reads
@@ -491,11 +432,11 @@ module _ (A : Type 0) (t : Terms) (limit : ℕ) {Q R : Type 0} (of_requests : To
 
     -- no request came any more: what is left over of the responses was seen
     module _ (step : ReadsNoMore (has_ended of_requests) stream next held (flow left after)) where
-      -- these bytes of it, and then this was told
+      -- these bytes of it, and then this was reported
       seen_then : (result : Result (Unit {0}) CheckFault) → is_broken (run_result result) ≡ false → (came : List ℕ) (heard_after : Option (List ℕ))
           → Consumes heard heard_after came
-          → ((found : Found) → AreAnswered t c.runs.h found → AreOver (has_ended of_requests) found
-          → EndsAs A t (offer_of next) limit result (standing_of of_requests) (standing_of of_responses) (waiting ++ came) c.runs.h found)
+          → ((found : Found) → AreAnswered t c.h found → AreOver (has_ended of_requests) found
+          → EndsAs A t (offer_of next) limit result (standing_of of_requests) (standing_of of_responses) (waiting ++ came) c.h found)
           → CheckEnds result (flow before after) (flow heard_before heard_after) out
       seen_then result sound came heard_after read ended =
           told_then result sound came heard_after read step.unused step.reads
@@ -521,7 +462,7 @@ module _ (A : Type 0) (t : Terms) (limit : ℕ) {Q R : Type 0} (of_requests : To
             over = over;
             more = seen.some;
             fault_is =
-                fault_is ∙ ap (λ (at : ℕ). the_fault at) (place ∙ position_is t c.runs.h client c.runs.along.stands);
+                fault_is ∙ ap (λ (at : ℕ). the_fault at) (place ∙ position_is t c.h client c.runs.along.stands);
           })))
       seen_the_end (Err CheckReadFault) position turns F W heard_after place seen told shown =
           seen_then (Err CheckReadFault) refl [] heard_after seen.read

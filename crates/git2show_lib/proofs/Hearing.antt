@@ -75,7 +75,7 @@ line_gives format ending caps (ShallowInfo allowed) bytes now of gives = gives
 line_gives format ending caps (WantedRefs allowed) bytes now of gives = gives
 line_gives format ending caps due bytes now of gives = absurd of
 
--- what a flush says that may come
+-- what a flush gives that may come
 flush_is : (ending : Ending) (caps : Caps) (format : Format) (due : Due) → MayEnd due → flush_says ending (place_due caps format due) ≡ Ok (ended_by ending)
 flush_is ending caps format References may = refl
 flush_is ending caps format (Acknowledgments told) may = rw may refl
@@ -106,7 +106,7 @@ module _ (t : Terms) (asked : List Asked) where
   AnswerGives before (p ∷ ps) events =
       (now : List EventValue) × (later : List EventValue) × (events ≡ now ++ later) × GivesAt t asked before p now × AnswerGives (p ∷ before) ps later
 
-  -- wherever they stand
+  -- wherever they are
   pub given_give : (before : List Pkt) (gs : List Given) (events : List EventValue) → AnswerGives before (packets_of gs) events
       → GiveAll t asked before gs events
   given_give before [] events (e, whole) = e

@@ -1,4 +1,4 @@
--- Each answer, section by section, as a client hears it.
+-- Each answer, section by section, as a client receives it.
 use Rattle.std.proofs.Common.{arith, ◌≡◌, ℕ, ◌<◌, Bool, true, false, not, ◌&&◌, ◌||◌, All, length, map, List, [], ◌∷◌, ◌++◌, Option, Some, None}
 use Rattle.std.proofs.Common.{codes, refl, ap}
 use Rattle.std.proofs.Common.{sym, ◌∙◌, subst, append_assoc, slice_index, cond}
@@ -35,11 +35,11 @@ use Rattle.git_client.specs.Conversation.{GiveAll}
 use Rattle.git_client.specs.Events.{EventValue, GivesLine, ack, ended, info, nak, pack, ready, reference, wanted_ref}
 use Rattle.git_client.specs.Parts.{Terms, nearest}
 use Rattle.git_client.specs.Places.{acknowledgments as acknowledgments_at, references, shallow_info as shallow_place, sizes, wanted_refs as wanted_place}
-use Rattle.git_client.specs.Sections.{allowed_after, told_with}
+use Rattle.git_client.specs.Sections.{allowed_after, acks_with}
 use Rattle.git_client.specs.Turns.{after_acknowledgments, first_due}
 use Rattle.git_client.specs.declared.phase.Due.TheVariants.{Acknowledgments, Header, Packfile, References, ShallowInfo, SizeLine, Sizes, WantedRefs}
 use Rattle.git_client.specs.declared.sections.Allowed.{Allowed}
-use Rattle.git_client.specs.declared.sections.Told.{Told}
+use Rattle.git_client.specs.declared.sections.Acks.{Acks}
 use Rattle.git_client.proofs.Questions.{due_said}
 use Rattle.git_client.proofs.Sequences.{gives_more}
 use Rattle.git_server.specs.Answers.{IsAnswer, reference_packet, info_packet, is_shown, ls_refs_answer, object_info_answer, shown_line, shown_refs}
@@ -304,13 +304,13 @@ module _ (t : Terms) (asked : List Asked) (repo : Repository) (sound : IsSound r
   -- ---- the acknowledgments
 
   -- so far there was no `NAK` and no `ready`
-  abbrev told_acks : Bool → Told
+  abbrev told_acks : Bool → Acks
   told_acks any = record { any = any; nak = false; ready = false }
 
   -- a line for each object that both ends have: none of them is `NAK` or `ready`
   acks_give : (ids : List ObjectName) (any : Bool) (before ps : List Pkt) (later : List EventValue) → All (IsNameIn t.format) ids
       → IsDue t asked before (Acknowledgments (told_acks any))
-      → ((told : Told) (behind : List Pkt) → told.ready ≡ false → IsDue t asked behind (Acknowledgments told) → AnswerGives t asked behind ps later)
+      → ((told : Acks) (behind : List Pkt) → told.ready ≡ false → IsDue t asked behind (Acknowledgments told) → AnswerGives t asked behind ps later)
       → AnswerGives t asked before (map ack_packet ids ++ ps) (map ack ids ++ later)
   acks_give [] any before ps later all is then = then (told_acks any) before refl is
   acks_give (id ∷ ids) any before ps later all is then =
@@ -320,13 +320,14 @@ module _ (t : Terms) (asked : List Asked) (repo : Repository) (sound : IsSound r
       packet_gives t asked before (Acknowledgments (told_acks any)) (ack_packet id) (ack id ∷ []) (map ack_packet ids ++ ps) (map ack ids ++ later) is
       (of_text t asked (Acknowledgments (told_acks any)) (caps_at t asked before) (ack_text id) (ack id ∷ []) gives) refl
       (λ behind. acks_give ids true (ack_packet id ∷ before) ps later (All-tail (IsNameIn t.format) id ids all)
-      (subst (λ (u : List ℕ). IsDue t asked (ack_packet id ∷ before) (Acknowledgments (told_with (told_acks any) u))) (text_of-line_end (ack_text id)) behind)
+      (subst (λ (u : List ℕ). IsDue t asked (ack_packet id ∷ before) (Acknowledgments (acks_with (told_acks any) u))) (text_of-line_end (ack_text id))
+      behind)
       then)
 
-  -- a line for each object that both ends have, or one that says that there is none
+  -- a line for each object that both ends have, or `NAK` where there is none
   common_gives : (ids : List ObjectName) (before ps : List Pkt) (later : List EventValue) → All (IsNameIn t.format) ids
       → IsDue t asked before (Acknowledgments (told_acks false))
-      → ((told : Told) (behind : List Pkt) → told.ready ≡ false → IsDue t asked behind (Acknowledgments told) → AnswerGives t asked behind ps later)
+      → ((told : Acks) (behind : List Pkt) → told.ready ≡ false → IsDue t asked behind (Acknowledgments told) → AnswerGives t asked behind ps later)
       → AnswerGives t asked before (nak_or_acks ids ++ ps) (told_common ids ++ later)
   common_gives [] before ps later all is then =
       packet_gives t asked before (Acknowledgments (told_acks false)) (text_line (codes "NAK")) (nak ∷ []) ps later is
@@ -335,13 +336,13 @@ module _ (t : Terms) (asked : List Asked) (repo : Repository) (sound : IsSound r
   common_gives (id ∷ ids) before ps later all is then = acks_give (id ∷ ids) false before ps later all is then
 
   -- `ready` and the delimiter after it
-  ready_gives : (told : Told) (before ps : List Pkt) (later : List EventValue) → told.ready ≡ false → IsDue t asked before (Acknowledgments told)
+  ready_gives : (told : Acks) (before ps : List Pkt) (later : List EventValue) → told.ready ≡ false → IsDue t asked before (Acknowledgments told)
       → ((behind : List Pkt) → IsDue t asked behind (Header after_acknowledgments) → AnswerGives t asked behind ps later)
       → AnswerGives t asked before (ready_lines ++ ps) (ready ∷ later)
   ready_gives told before ps later not_yet is then =
       packet_gives t asked before (Acknowledgments told) (text_line (codes "ready")) (ready ∷ []) (delim ∷ ps) later is
       (record { no_error = no_error (codes "ready") (λ e. omega arith); says = (refl, not_yet) }) refl
-      (λ is. packet_gives t asked (text_line (codes "ready") ∷ before) (Acknowledgments (told_with told (codes "ready"))) delim [] ps later is refl refl
+      (λ is. packet_gives t asked (text_line (codes "ready") ∷ before) (Acknowledgments (acks_with told (codes "ready"))) delim [] ps later is refl refl
       (λ is. then (delim ∷ text_line (codes "ready") ∷ before) is))
 
   -- ---- a fetch
@@ -454,7 +455,7 @@ module _ (t : Terms) (asked : List Asked) (repo : Repository) (sound : IsSound r
 
   -- ---- each answer
 
-  -- the answer to a question, where that is due
+  -- the answer to a request, where that is due
   pub answer_gives : (q : Asked) (before packets : List Pkt) → IsDue t asked before (first_due q) → AsksIn t.format q → IsAnswer repo q packets
       → AnswerGives t asked before (packets ++ end_packets t.ending) (told_by repo q ++ ended ∷ [])
   answer_gives (ls_refs q) before packets is asks answer = listing_gives q before packets is answer
@@ -463,7 +464,7 @@ module _ (t : Terms) (asked : List Asked) (repo : Repository) (sound : IsSound r
       fetch_gives (negotiates q) q (allowed_after q.done []) before packets ends refl refl is asks answer
   answer_gives (object_info q) before packets is asks answer = sizes_give q before packets is asks answer
 
--- what an answer gives, wherever it stands, and that the next one may come after it
+-- what an answer gives, wherever it is, and that the next one may come after it
 module _ (t : Terms) (repo : Repository) (earlier : List Asked) (q : Asked) (before packets : List Pkt) (gs : List Given) (sound : IsSound repo)
     (written : CanBeWritten repo) (same : repo.format ≡ t.format) (asks : AsksIn t.format q) (answer : IsAnswer repo q packets)
     (before_whole : AreWhole t earlier before) (cut : packets_of gs ≡ packets ++ end_packets t.ending) where

@@ -1,6 +1,8 @@
--- The advertisement of a server that offers everything, as a client hears it.
+-- The advertisement of a server that offers everything, as a client receives it.
 use Rattle.std.proofs.Common.{arith, ◌≡◌, ℕ, Bool, true, false, List, [], ◌∷◌, ◌++◌, Option, Some, None, Ok, Err, codes, drop, map, refl, ap, sym, ◌∙◌}
-use Rattle.std.proofs.Common.{subst, cond}
+use Rattle.std.proofs.Common.{subst, cond, eqb, not, unwrap_or, slice_index, tests, ◌&&◌, ◌≢◌}
+use Rattle.std.specs.List.{list_all}
+use Rattle.std.proofs.lemmas.Bool.{and_parts}
 use Rattle.git_names.specs.ObjectFormat.{name_of as format_name}
 use Rattle.git_names.specs.declared.object_format.Format.{Format}
 use Rattle.git_names.specs.declared.object_format.Format.TheVariants.{Sha1, Sha256}
@@ -9,10 +11,10 @@ use Rattle.git_pkt.specs.Splits.{Given}
 use Rattle.git_pkt.specs.declared.fault.Kind.TheVariants.{WrongFormat}
 use Rattle.git_pkt.proofs.Texts.{text_of-line_end}
 use Rattle.git_msg.specs.Advertisement.{everything, is_spoken, noted_of}
-use Rattle.git_msg.specs.Capability.{IsCapability}
+use Rattle.git_msg.specs.Capability.{is_key, is_value, IsCapability}
+use Rattle.git_msg.specs.Features.{features_value, fetch_features, ls_refs_features, valued}
 use Rattle.git_msg.specs.Lines.{IsFormatMeant}
-use Rattle.git_msg.specs.Texts.{IsErrorText}
-use Rattle.git_msg.specs.WrittenRequest.{agent_line, format_line, text_line}
+use Rattle.git_msg.specs.WrittenRequest.{text_line}
 use Rattle.git_msg.specs.Asked.{Asked}
 use Rattle.git_client.specs.Client.{AreWhole}
 use Rattle.git_client.specs.Conversation.{GiveAll}
@@ -35,14 +37,26 @@ line_due : (format : Format) (ending : Ending) (line : List ℕ) (before : List 
 line_due format FlushOnly line before none = rw none refl
 line_due format ResponseEnd line before none = rw none refl
 
--- the packets of the lines, the last one first
-abbrev pub lines_said : Format → List Pkt
-lines_said format =
-    text_line (codes "object-info") ∷ format_line format ∷ text_line (codes "server-option")
-    ∷ text_line (codes "fetch=shallow ref-in-want wait-for-done filter")
-    ∷ text_line (codes "ls-refs=unborn") ∷ agent_line ∷ text_line (codes "version 2") ∷ []
+-- the lines after the first: a key, and a value where there is one
+abbrev offer_lines : Format → List (List ℕ × Option (List ℕ))
+offer_lines format =
+    (codes "agent", Some (codes "git2/1")) ∷ (codes "ls-refs", features_value (ls_refs_features (everything format)))
+    ∷ (codes "fetch", features_value (fetch_features (everything format))) ∷ (codes "server-option", None)
+    ∷ (codes "object-format", Some (format_name format)) ∷ (codes "object-info", None) ∷ []
 
--- they say that the format is spoken
+abbrev line_packets : List (List ℕ × Option (List ℕ)) → List Pkt
+line_packets = map (λ line. text_line (valued line.0 line.1))
+
+-- the packets of a list, the last one first, after those before
+abbrev pushed : List Pkt → List Pkt → List Pkt
+pushed [] before = before
+pushed (p ∷ ps) before = pushed ps (p ∷ before)
+
+-- the packets of all lines, the last one first
+abbrev pub lines_said : Format → List Pkt
+lines_said format = pushed (line_packets (offer_lines format)) (text_line (codes "version 2") ∷ [])
+
+-- by them the server speaks the format
 is_said : (format : Format) → is_spoken (noted_of (lines_said format)) format ≡ true
 is_said Sha1 = refl
 is_said Sha256 = refl
@@ -57,86 +71,47 @@ pub format_meant : (format : Format) (named : Bool) → named ≡ (noted_of (flu
 format_meant Sha1 named e = tt
 format_meant Sha256 named e = e ∙ names_format Sha256
 
--- the line of the format
-format_says : (format : Format) → IsCapability (codes "object-format=" ++ format_name format) (codes "object-format") (Some (format_name format))
-format_says Sha1 = (refl, refl, refl)
-format_says Sha256 = (refl, refl, refl)
-
 -- the flush of the advertisement is that of no response
 no_end : (format : Format) (ending : Ending) → is_end_due ending (flush ∷ lines_said format) ≡ false
 no_end format FlushOnly = refl
 no_end format ResponseEnd = refl
 
--- a capability line as it is written, and its parts
-record Written : Type 0 where
-  text : List ℕ
-  key : List ℕ
-  value : Option (List ℕ)
+-- each is a capability line, and begins as no error packet does
+abbrev is_line : List ℕ × Option (List ℕ) → Bool
+is_line (key, value) = not (eqb (slice_index (valued key value) 0) 69) && (is_key key && is_value (unwrap_or value []))
 
-abbrev written : List ℕ → List ℕ → Option (List ℕ) → Written
-written text key value = record { text = text; key = key; value = value }
+are_lines : (format : Format) → list_all is_line (offer_lines format) ≡ true
+are_lines Sha1 = refl
+are_lines Sha256 = refl
 
--- the lines after the first
-abbrev offer_lines : Format → List Written
-offer_lines format =
-    written (codes "agent=git2/1") (codes "agent") (Some (codes "git2/1")) ∷ written (codes "ls-refs=unborn") (codes "ls-refs") (Some (codes "unborn"))
-    ∷ written (codes "fetch=shallow ref-in-want wait-for-done filter") (codes "fetch") (Some (codes "shallow ref-in-want wait-for-done filter"))
-    ∷ written (codes "server-option") (codes "server-option") None
-    ∷ written (codes "object-format=" ++ format_name format) (codes "object-format") (Some (format_name format))
-    ∷ written (codes "object-info") (codes "object-info") None ∷ []
+other_byte : (byte : ℕ) → not (eqb byte 69) ≡ true → byte ≢ 69
+other_byte byte e same = grind (arith, tests)
 
--- each is a capability line, and no error packet's
-abbrev AreCapabilities : List Written → Type 0
-AreCapabilities [] = Unit {0}
-AreCapabilities (x ∷ xs) = (¬ IsErrorText x.text) × IsCapability x.text x.key x.value × AreCapabilities xs
-
-offer_lines_are : (format : Format) → AreCapabilities (offer_lines format)
-offer_lines_are format = (
-  no_error (codes "agent=git2/1") (λ e. omega arith),
-  (refl, refl, refl),
-  (
-    no_error (codes "ls-refs=unborn") (λ e. omega arith),
-    (refl, refl, refl),
-    (
-      no_error (codes "fetch=shallow ref-in-want wait-for-done filter") (λ e. omega arith),
-      (refl, refl, refl),
-      (
-        no_error (codes "server-option") (λ e. omega arith),
-        (refl, refl),
-        (
-          no_error (codes "object-format=" ++ format_name format) (λ e. omega arith),
-          format_says format,
-          (no_error (codes "object-info") (λ e. omega arith), (refl, refl), tt),
-        ),
-      ),
-    ),
-  ),
-)
-
--- the packets of a list, the last one first, after those before
-abbrev pushed : List Pkt → List Pkt → List Pkt
-pushed [] before = before
-pushed (p ∷ ps) before = pushed ps (p ∷ before)
+capability_of : (key : List ℕ) (value : Option (List ℕ)) → (is_key key && is_value (unwrap_or value [])) ≡ true → IsCapability (valued key value) key value
+capability_of key None e = ((and_parts (is_key key) (is_value []) e).0, refl)
+capability_of key (Some value) e = let parts = and_parts (is_key key) (is_value value) e in (parts.0, refl, parts.1)
 
 module _ (format : Format) (ending : Ending) where
   -- capability lines give their capabilities, and then the others
-  capabilities_give : (xs : List Written) (line : List ℕ) (before ps : List Pkt) (later : List EventValue) → flushes before ≡ 0 → AreCapabilities xs
-      → AnswerGives (terms_of format ending) [] (pushed (map (λ x. text_line x.text) xs) (payload line ∷ before)) ps later
-      → AnswerGives (terms_of format ending) [] (payload line ∷ before) (map (λ x. text_line x.text) xs ++ ps)
-      (map (λ x. capability x.key x.value) xs ++ later)
+  capabilities_give : (lines : List (List ℕ × Option (List ℕ))) (line : List ℕ) (before ps : List Pkt) (later : List EventValue) → flushes before ≡ 0
+      → list_all is_line lines ≡ true → AnswerGives (terms_of format ending) [] (pushed (line_packets lines) (payload line ∷ before)) ps later
+      → AnswerGives (terms_of format ending) [] (payload line ∷ before) (line_packets lines ++ ps) (map (λ said. capability said.0 said.1) lines ++ later)
   capabilities_give [] line before ps later none are others = others
-  capabilities_give (x ∷ xs) line before ps later none (clean, is, are) others =
-      let place = capabilities (is_spoken (noted_of (payload line ∷ message_of before)) format) in (
-        capability x.key x.value ∷ [],
-        map (λ x. capability x.key x.value) xs ++ later,
+  capabilities_give ((key, value) ∷ lines) line before ps later none are others =
+      let place = capabilities (is_spoken (noted_of (payload line ∷ message_of before)) format) in
+      let text = valued key value in
+      let is = and_parts (is_line (key, value)) (list_all is_line lines) are in
+      let parts = and_parts (not (eqb (slice_index text 0) 69)) (is_key key && is_value (unwrap_or value [])) is.0 in (
+        capability key value ∷ [],
+        map (λ said. capability said.0 said.1) lines ++ later,
         refl,
         record {
           place = place;
           is_place = line_due format ending line before none;
-          gives = subst (λ (u : List ℕ). GivesLine place format u (capability x.key x.value ∷ [])) (sym (text_of-line_end x.text))
-              (record { no_error = clean; says = is });
+          gives = subst (λ (u : List ℕ). GivesLine place format u (capability key value ∷ [])) (sym (text_of-line_end text))
+              (record { no_error = no_error text (other_byte (slice_index text 0) parts.0); says = capability_of key value parts.1 });
         },
-        capabilities_give xs (x.text ++ 10 ∷ []) (payload line ∷ before) ps later none are others,
+        capabilities_give lines (text ++ 10 ∷ []) (payload line ∷ before) ps later none is.1 others,
       )
 
   -- the flush gives that everything was offered
@@ -164,12 +139,12 @@ module _ (format : Format) (ending : Ending) where
       is_place = refl;
       gives = record { no_error = no_error (codes "version 2") (λ e. omega arith); says = refl };
     },
-    capabilities_give (offer_lines format) (codes "version 2" ++ 10 ∷ []) [] (flush ∷ []) (offered ∷ []) refl (offer_lines_are format) end_gives,
+    capabilities_give (offer_lines format) (codes "version 2" ++ 10 ∷ []) [] (flush ∷ []) (offered ∷ []) refl (are_lines format) end_gives,
   )
 
--- ---- wherever the packets stand
+-- ---- wherever the packets are
 
--- packets stand so wherever they stand
+-- packets are the same wherever they are in the stream
 nearest_pushed : (gs : List Given) (before : List Pkt) → nearest gs before ≡ pushed (packets_of gs) before
 nearest_pushed [] before = refl
 nearest_pushed (g ∷ gs) before = nearest_pushed gs (g.packet ∷ before)
@@ -196,13 +171,13 @@ advertisement_stays (g ∷ gs) before some =
     advertisement_stays gs (g.packet ∷ before) (some_more g.packet before some)
     ∙ ap (λ (none : Bool). cond none (g.packet ∷ advertisement_of before) (advertisement_of before)) some
 
--- ---- what is heard
+-- ---- what is received
 
 module _ (t : Terms) (gs : List Given) (are : packets_of gs ≡ server_says (everything t.format)) where
   given : AnswerGives t [] [] (packets_of gs) (told_offer (everything t.format))
   given = subst (λ (ps : List Pkt). AnswerGives t [] [] ps (told_offer (everything t.format))) (sym are) (offer_gives t.format t.ending)
 
-  -- the packets give what is told, whatever is asked later
+  -- the packets give the events of the offer, whatever is asked later
   pub offer_heard : (asked : List Asked) → GiveAll t asked [] gs (told_offer (everything t.format))
   offer_heard asked =
       gives_more t [] asked [] gs (told_offer (everything t.format)) (given_give t [] [] gs (told_offer (everything t.format)) given)

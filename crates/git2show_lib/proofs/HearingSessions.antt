@@ -33,7 +33,7 @@ use Rattle.git_repository.specs.RepositoryLines.{Said, Says, boundary, object, r
 use Rattle.git_repository.specs.RepositoryText.{IsRepositoryText, SayAll, boundary_in, object_in, ref_in}
 use Rattle.git_client.proofs.Sequences.{give_all_append, nearest-append}
 use Rattle.git2show_lib.specs.ToldAnswers.{AsksIn, IsEntryOfNames, CanBeWritten, end_packets, packets_of, told_all, told_by}
-use Rattle.git2show_lib.proofs.FoundParts.{All-filter_map}
+use Rattle.git_msg.proofs.FoundParts.{All-filter_map}
 use Rattle.git2show_lib.proofs.HearingAnswers.{heard, whole_after}
 
 -- ---- answers one after the other
@@ -62,7 +62,7 @@ cut_at (g ∷ gs) (p ∷ front) back e =
       second_are = c.second_are;
     }
 
--- the packets are an answer to each question, in their order, each with what comes after its flush
+-- the packets are an answer to each request, in their order, each with what comes after its flush
 abbrev pub AreEnded : Ending → Repository → List Asked → List Pkt → Type 0
 AreEnded ending repo [] packets = packets ≡ []
 AreEnded ending repo (q ∷ asked) packets =
@@ -75,7 +75,7 @@ ended_by_flush repo (q ∷ asked) packets (answer, more, parts, is, rest) =
     (answer, more, parts ∙ ap (λ (l : List Pkt). l ++ more) (sym (append-nil answer)), is, ended_by_flush repo asked more rest)
 
 module _ (t : Terms) (repo : Repository) (sound : IsSound repo) (written : CanBeWritten repo) (same : repo.format ≡ t.format) where
-  -- all answers give what they tell, and then the conversation is whole
+  -- all answers give their events, and then the conversation is whole
   pub all_heard : (asked earlier later : List Asked) (before packets : List Pkt) (gs : List Given) → All (AsksIn t.format) asked
       → AreEnded t.ending repo asked packets → AreWhole t earlier before → packets_of gs ≡ packets
       → GiveAll t (earlier ++ (asked ++ later)) before gs (told_all repo asked) × AreWhole t (earlier ++ asked) (nearest gs before)
@@ -98,7 +98,7 @@ module _ (t : Terms) (repo : Repository) (sound : IsSound repo) (written : CanBe
             (sym (ap (λ (l : List Given). nearest l before) c.whole ∙ nearest-append c.first c.second before)) others.1),
       )
 
--- ---- what a text says can be written
+-- ---- what a text contains can be written
 
 -- the object names of a reference line are names
 names_of : (format : Format) (line : List ℕ) (entry : Entry) → IsReferenceLine format line (ref_of entry) → IsEntryOfNames entry
@@ -112,7 +112,7 @@ names_of format line entry h = record {
       let there : named ≡ id = cc in
       subst IsOid there (IsOid-of_text format digits named is)
 
--- each thing that a text says stands in a line
+-- each thing that a text contains is in a line
 each_said : (format : Format) (lines : List (List ℕ)) (said : List Said) → SayAll format lines said
     → All (λ s. (line : List ℕ) × Says format line s) said
 each_said format [] [] h = All-nil (λ s. (line : List ℕ) × Says format line s)
@@ -122,7 +122,7 @@ each_said format [] (s ∷ said) h = absurd h
 each_said format (line ∷ lines) [] h = absurd h
 
 module _ (format : Format) where
-  -- what holds of a part that a line says holds of those that all lines say
+  -- what holds of a part that a line contains holds of those that all lines contain
   parts_written : {X : Type 0} (P : X → Type 0) (part : Said → Option X) → ((s : Said) (line : List ℕ) → Says format line s → IfSome (part s) P)
       → (lines : List (List ℕ)) (said : List Said) → SayAll format lines said → All P (filter_map part said)
   parts_written P part is lines said h =
@@ -157,7 +157,7 @@ found_size (first ∷ objects) id size all found =
           subst IsSize same (All-head (λ (o : ObjectName × ℕ). IsSize o.1) first objects all)
       go behind false later = behind later
 
--- what a repository answers that is made of what a text says can be written
+-- what a repository answers that is made of what a text contains can be written
 pub can_be_written : (repo : ListRepo) (text : List ℕ) (packs : PackBytes) → IsRepositoryText text packs (lists_of repo) → CanBeWritten (state_of repo).answers
 can_be_written repo text packs h =
     let lines = h.begins.others in

@@ -8,7 +8,6 @@ pub mod ScriptLaws
 pub mod RequestsRead
 pub mod Hearing
 pub mod HearingAnswers
-pub mod FoundParts
 pub mod HearingSessions
 pub mod HearingOffers
 pub mod ValuesRead
@@ -20,8 +19,7 @@ pub mod PlayFlushes
 pub mod PlayTalks
 pub mod PlayRuns
 pub mod PlayMany
-pub mod PlayTurns
-pub mod PlayEnding
+pub mod PlayOne
 pub mod PlayTelling
 pub mod PlayHearing
 pub mod PlayAsking

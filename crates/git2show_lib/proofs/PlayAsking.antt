@@ -1,4 +1,4 @@
--- What a client owes said to a server, one packet after another.
+-- What a client owes is sent to a server, one packet after another.
 use Rattle.std.proofs.Common.{◌≡◌, ℕ, false, List, [], ◌++◌, None, sym, ◌∙◌, subst, append_assoc, append-nil, refl}
 use Rattle.git_pkt.specs.Streams.{Flow, WrittenAs}
 use Rattle.git_msg.specs.Asked.{command_asked}
@@ -28,7 +28,7 @@ module _ {R A : Type 0} (state : R → RepoState) where
       (subst (λ (l : List ℕ). Stands state s l ((given ++ g) ++ k) new) (append_assoc said u v)
       (second s (said ++ u) (given ++ g) (first s said given h)))
 
-  -- some of the packets that were owed were said
+  -- some of the packets that were owed were sent
   pub record TellsSome (old new : Client A) (server after : Server R A) : Type 0 where
     pub given : List ℕ
     pub says : SaysOn old given new
@@ -49,7 +49,7 @@ module _ {R A : Type 0} (state : R → RepoState) where
 
   module _ (old middle new : Client A) (server held : Server R A) (sent : Sent) (so_far : TellsSome old middle server held)
       (pulls : Pulls middle sent new) where
-    -- a packet was pulled and said
+    -- a packet was pulled and sent
     pub tells_packet : (after : Server R A) (bytes : Bor (List ℕ)) → sent ≡ Packet bytes → StandsOn state held bytes.now [] after
         → TellsSome old new server after
     tells_packet after bytes is goes =
@@ -82,7 +82,7 @@ module _ {R A : Type 0} (state : R → RepoState) where
           server_goes = so_far.server_goes;
         })
 
-  -- the request was taken, its line written, and all of it said
+  -- the request was taken, its line written, and all of it sent
   pub asks_server : (old middle new : Client A) (request : Request A) (server after : Server R A) (out : Flow)
       → Asks old request middle → WrittenAs false out (asked_line (command_asked (asked_of request))) → TellsAll state middle new server after
       → AsksServer state old new request server after out

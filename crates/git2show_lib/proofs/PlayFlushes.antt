@@ -1,4 +1,4 @@
--- Messages end with their flushes, the questions of a client as well as what a server gives.
+-- Messages end with their flushes, the requests of a client as well as what a server gives.
 use Rattle.std.proofs.Common.{arith, if◌then◌else◌, ◌≡◌, ℕ, ◌+◌, Bool, true, false, map, List, [], ◌∷◌}
 use Rattle.std.proofs.Common.{◌++◌, length, codes, inl, inr, ◌⊎◌, refl, sym, ap, ◌∙◌, subst, append_assoc, append-nil}
 use Rattle.git_names.specs.declared.object_format.Format.{Format}
@@ -60,7 +60,7 @@ pub ends_closed : (qs : List Pkt) → Closes qs → EndsWithFlush qs
 ends_closed qs (inl none) front back e zero = nothing_both front back (sym none ∙ e)
 ends_closed qs (inr h) front back e zero = nothing_behind h.front front back (sym h.is ∙ e) zero
 
--- ---- questions
+-- ---- requests
 
 arguments_none : (args : List Arg) → flushes (map (λ arg. text_line (written_text arg)) args) ≡ 0
 arguments_none [] = refl
@@ -154,21 +154,16 @@ offered_last offer =
     (last_more (fetch_line offer) option
     (last_after (offered_line offer.server_option (codes "server-option")) format (last_more (format_line offer.format) ends last)))))
 
-advertised_close : (s : Setting) (b : Bool) → s.advertise ≡ b → Closes (advertised s)
-advertised_close s true e = subst (λ (b : Bool). Closes (if b then advertisement_of s.offer else [])) (sym e) (inr (offered_last s.offer))
-advertised_close s false e = subst (λ (b : Bool). Closes (if b then advertisement_of s.offer else [])) (sym e) (inl refl)
+advertised_close : (b : Bool) (offer : Offer) → Closes (if b then advertisement_of offer else [])
+advertised_close true offer = inr (offered_last offer)
+advertised_close false offer = inl refl
 
 pub given_close : (s : Setting) (asked : List Asked) (answers : List Pkt) → AreAnswers s.repo asked answers → Closes (advertised s ++ answers)
-given_close s asked answers h = closes_both (advertised s) answers (advertised_close s s.advertise refl) (answers_close s.repo asked answers h)
+given_close s asked answers h = closes_both (advertised s) answers (advertised_close s.advertise s.offer) (answers_close s.repo asked answers h)
 
 -- an advertisement has one flush
-advertised_by : (s : Setting) (b : Bool) → s.advertise ≡ b → b ≡ true → flushes (advertised s) ≡ 1
-advertised_by s true e is =
-    subst (λ (b : Bool). flushes (if b then advertisement_of s.offer else []) ≡ 1) (sym e) (line_owes s.offer Version)
-advertised_by s false e is = absurd (cc)
-
 pub advertises_once : (s : Setting) → s.advertise ≡ true → flushes (advertised s) ≡ 1
-advertises_once s is = advertised_by s s.advertise refl is
+advertises_once s is = subst (λ (b : Bool). flushes (if b then advertisement_of s.offer else []) ≡ 1) (sym is) (line_owes s.offer Version)
 
 -- ---- packets, the nearest first
 

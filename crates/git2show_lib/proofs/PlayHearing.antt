@@ -1,4 +1,4 @@
--- A packet heard by a client, piece by piece.
+-- A packet received by a client, piece by piece.
 use Rattle.std.proofs.Common.{arith, ◌≡◌, ℕ, ◌+◌, ◌≤◌, Bool, true, false, length, take, min, List, Option}
 use Rattle.std.proofs.Common.{Err, sym, ap, subst, length-drop}
 use Rattle.std.proofs.lemmas.List.{length-take, take_min}
@@ -18,7 +18,7 @@ use Rattle.git2show_lib.specs.PlaySteps.{silent}
 use Rattle.git2show_lib.proofs.PlayTelling.{next_piece, left_after, piece_joined}
 
 module _ {A : Type 0} where
-  -- no more bytes of a piece were heard than it has
+  -- no more bytes of a piece were received than it has
   within_piece : (broken : Bool) (old new : Client A) (counts after : Counts) (piece : List ℕ) (used : ℕ) (out packs : Flow)
       → HearsBytes broken old new counts after (take used piece) out packs silent
       → HearsBytes broken old new counts after (take (min used (length piece)) piece) out packs silent
@@ -49,7 +49,7 @@ module _ {A : Type 0} where
       );
     }
 
-    -- the hearing of a piece stopped
+    -- the receiving of a piece stopped
     pub hearing_stopped : (out_after pack_after : Option (List ℕ)) (fault : RunFault)
         → HearsPieceTo (Err fault) b c now after (next_piece packet done k) (flow out out_after) (flow pack pack_after) silent
         → HearsPieceTo (Err fault) old c counts after packet (flow out_before out_after) (flow pack_before pack_after) silent

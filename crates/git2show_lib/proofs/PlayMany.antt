@@ -1,35 +1,50 @@
 -- A play in which each request is answered by a server of its own.
-use Rattle.std.proofs.Common.{arith, ◌≡◌, inl, ℕ, suc, ◌+◌, Bool, true, false, map, flat_map, List, [], ◌∷◌, ◌++◌, length, Some, None}
-use Rattle.std.proofs.Common.{refl, sym, ap, ◌∙◌, subst, append_assoc, append-nil}
+use Rattle.std.proofs.Common.{arith, ◌≡◌, ℕ, Bool, true, false, flat_map, List, [], ◌∷◌, ◌++◌, Option, Some, None}
+use Rattle.std.proofs.Common.{Ok, Err, refl, sym, ap, ◌∙◌, subst, append_assoc, append-nil, length-append}
 use Rattle.std.proofs.lemmas.Grind.{flat_map-append}
 use Rattle.std.proofs.lemmas.List.{map-append}
 use Rattle.std.proofs.lemmas.List.Elements.{All-append, All-cons, All-nil}
-use Rattle.git_pkt.specs.Packets.{Pkt, resp_end, flushes}
-use Rattle.git_pkt.specs.Streams.{IsTimely}
-use Rattle.git_pkt.specs.declared.fault.Fault.{Fault}
+use Rattle.git_names.specs.Digits.{lower_digit}
+use Rattle.git_names.specs.declared.object_format.Format.{Format}
+use Rattle.git_pkt.specs.Packets.{Pkt, resp_end}
+use Rattle.git_pkt.specs.Streams.{flow}
+use Rattle.git_pkt.specs.declared.fault.RunFault.{RunFault}
+use Rattle.git_pkt.proofs.Spelling.{append_cancel_length}
+use Rattle.git_msg.specs.Asked.{Asked}
+use Rattle.git_msg.specs.HeldRequest.{asked_of}
+use Rattle.git_msg.specs.WrittenRequest.{lines_written}
 use Rattle.git_msg.specs.declared.offers.Caps.{Caps}
 use Rattle.git_msg.specs.declared.requests.Request.{Request}
-use Rattle.git_client.specs.Client.{History, Converses, fault_of, phase_of, spelled}
-use Rattle.git_client.specs.Conversation.{HasNoted, IsConversation}
-use Rattle.git_client.specs.Events.{EventValue}
-use Rattle.git_client.specs.Parts.{Terms, is_end_due, nearest}
+use Rattle.git_client.specs.Client.{History, Converses, can_ask, caps_of, nothing_yet, phase_of, questions_of, spelled, wants_input}
+use Rattle.git_client.specs.Conversation.{HasNoted}
+use Rattle.git_client.specs.Parts.{Terms, terms_of}
+use Rattle.git_client.specs.RunSteps.{no_counts}
+use Rattle.git_client.specs.Runs.{leaves_last}
 use Rattle.git_client.specs.declared.client.Client.{Client}
 use Rattle.git_client.specs.declared.events.Ending.{Ending}
-use Rattle.git_client.specs.declared.events.Ending.TheVariants.{ResponseEnd}
-use Rattle.git_client.proofs.Faults.{first_fault}
-use Rattle.git_server.specs.Repository.{RepoState}
+use Rattle.git_client.specs.declared.events.Ending.TheVariants.{FlushOnly, ResponseEnd}
+use Rattle.git_client.proofs.ClientRuns.{asks_on, quietly_said, ran}
+use Rattle.git_client.proofs.EventsHeard.{has_noted, is_whole}
+use Rattle.git_client.proofs.Notes.{noted_same}
+use Rattle.git_client.proofs.Phases.{quiet_where_due, quiet_where_ready}
+use Rattle.git_server.specs.Repository.{RepoState, Repository}
 use Rattle.git_server.specs.Server.{repo_of, wants_input as waits_for_input}
 use Rattle.git_server.specs.Sessions.{Setting, IsAnswered}
 use Rattle.git_server.specs.declared.server.Server.{Server}
-use Rattle.git_server.proofs.AtRest.{packets_of}
-use Rattle.git_server.proofs.Flushes.{flushes-append}
 use Rattle.git_server.proofs.Going.{no_outcome}
-use Rattle.git2show_lib.specs.PlaySteps.{GivesOn, IsSpent, Settled, Stands}
-use Rattle.git2show_lib.specs.Plays.{AreAll, AreSaid, CanFail, IsDone, IsRefusedPlay, IsServed, IsTalk, Talk, said_each, setting_of, with_end}
-use Rattle.git2show_lib.proofs.PlayFlushes.{Closes, flushes_nearest}
-use Rattle.git2show_lib.proofs.PlayRuns.{has_said, has_stayed, late, quiet_failed}
-use Rattle.git2show_lib.proofs.PlayTalks.{Enough, Rests, behind, done, enough_heard, last_of_closed}
-use Rattle.git2show_lib.proofs.PlayTalks.{no_end_unheard, rests, settle, spelled-append, talk, talk_of, waits_on}
+use Rattle.git2show_lib.specs.PlaySteps.{Answers, AnswersTo, AsksServer, HearsMessage, Settled, Stands}
+use Rattle.git2show_lib.specs.Plays.{AreAll, AreSaid, AreWholeSessions, CanFail, IsDone, IsTalk, Talk, said_each, setting_of, with_end}
+use Rattle.git2show_lib.proofs.PlayFlushes.{questions_close, questions_count}
+use Rattle.git2show_lib.proofs.PlayRuns.{PlayEnds, Plays, Runs, Turn, answer_stopped, begun, first_turn, given_is, heard, now_whole, play_ends, settled, waits}
+use Rattle.git2show_lib.proofs.PlayTalks.{spelled-append, talk_of}
+
+-- a response end, as the code writes it
+abbrev pub end_bytes : List ℕ
+end_bytes = 48 ∷ 48 ∷ 48 ∷ 50 ∷ []
+
+end_is : end_bytes ≡ spelled (resp_end ∷ [])
+unfolding lower_digit
+end_is = refl
 
 -- a server's repository is as it was at the beginning
 pub record KeepsRepo {R A : Type 0} (state : R → RepoState) (s0 : RepoState) (server : Server R A) : Type 0 where
@@ -37,186 +52,173 @@ pub record KeepsRepo {R A : Type 0} (state : R → RepoState) (s0 : RepoState) (
   pub failures : (state (repo_of server)).failures ≡ s0.failures
 
 -- a server that waits has failed at nothing
-pub keeps_repo : {R A : Type 0} (state : R → RepoState) (t : Terms) (limit : ℕ) (s0 : RepoState) (advertise : Bool) (said given : List ℕ) (server : Server R A)
+keeps_repo : {R A : Type 0} (state : R → RepoState) (t : Terms) (limit : ℕ) (s0 : RepoState) {advertise : Bool} {said given : List ℕ} (server : Server R A)
     → Settled state (setting_of t limit s0 advertise) said given server → waits_for_input server ≡ true → KeepsRepo state s0 server
-keeps_repo state t limit s0 advertise said given server st waits =
+keeps_repo state t limit s0 server st waits =
     let none = no_outcome server.phase waits in
     record {
       answers = st.runs.repo;
       failures = st.runs.failures.same (λ lost. let no : None ≡ Some _ = sym none ∙ lost.1 in cc);
     }
 
-module _ (Fails : Type 0) (t : Terms) (limit : ℕ) (s0 : RepoState) where
-  -- a server advertised, and then one answered each question, and all are at rest
-  pub record Earlier (h : History) : Type 0 where
-    pub first : Talk
-    pub later : List Talk
-    pub none_said : first.said ≡ []
-    pub said : (caps : Caps) → HasNoted t h.asked h.used caps → map (λ talk. talk.said) later ≡ said_each t caps h.asked
-    pub gave : h.used ≡ first.given ++ flat_map with_end later
-    pub talks : AreAll (IsTalk Fails) t limit s0 first later
-    pub done : AreAll (IsDone Fails) t limit s0 first later
-    pub answered : AreAll (λ s talk. IsAnswered s talk.said talk.given) t limit s0 first later
-    pub packets : List Pkt
-    pub packets_are : h.used ≡ spelled packets
-    pub counted : flushes packets ≡ suc (length h.asked)
+-- a further session
+with_one : (Holds : Setting → Talk → Type 0) (t : Terms) (limit : ℕ) (s0 : RepoState) (first : Talk) (later : List Talk) (talk : Talk)
+    → AreAll Holds t limit s0 first later → Holds (setting_of t limit s0 false) talk → AreAll Holds t limit s0 first (later ++ talk ∷ [])
+with_one Holds t limit s0 first later talk all one = (
+  all.0,
+  All-append (Holds (setting_of t limit s0 false)) later (talk ∷ []) all.1
+      (All-cons (Holds (setting_of t limit s0 false)) talk [] one (All-nil (Holds (setting_of t limit s0 false)))),
+)
+
+module _ {A : Type 0} (t : Terms) (h : History) (old new : Client A) (request : Request A) (u : List ℕ) (stands : Converses t h old)
+    (ready : can_ask old ≡ true) (after : Converses t (record h { asked = h.asked ++ asked_of request ∷ []; given = h.given ++ u }) new)
+    (due : wants_input new ≡ true) where
+  same_caps : caps_of new ≡ caps_of old
+  same_caps =
+      noted_same t h.asked h.used h.events (is_whole t h old stands ready) (asked_of request ∷ []) (h.asked ++ asked_of request ∷ []) [] h.used
+      (caps_of new) (caps_of old) refl (sym (append-nil h.used))
+      (has_noted t (record h { asked = h.asked ++ asked_of request ∷ []; given = h.given ++ u }) new after) (has_noted t h old stands)
+
+  -- the request was sent
+  question_is : u ≡ spelled (questions_of t.format (caps_of old) (asked_of request ∷ []))
+  question_is =
+      let q = asked_of request in
+      let now : History = record h { asked = h.asked ++ q ∷ []; given = h.given ++ u } in
+      let before = given_is t h old stands (quiet_where_ready (phase_of old) ready) in
+      let first = questions_of t.format (caps_of old) h.asked in
+      let second = questions_of t.format (caps_of old) (q ∷ []) in
+      let all : h.given ++ u ≡ spelled first ++ spelled second =
+      given_is t now new after (quiet_where_due (phase_of new) due)
+      ∙ ap (λ (c : Caps). spelled (questions_of t.format c (h.asked ++ q ∷ []))) same_caps
+      ∙ ap spelled (flat_map-append (lines_written (caps_of old).agent (caps_of old).object_format t.format) h.asked (q ∷ []))
+      ∙ spelled-append first second in
+      (append_cancel_length h.given h.given u (spelled second) refl (all ∙ ap (λ (l : List ℕ). l ++ spelled second) (sym before))).1
 
 module _ {R A : Type 0} (state : R → RepoState) (t : Terms) (limit : ℕ) (s0 : RepoState) where
-  -- and a further one was asked a question
-  pub record Asks (h : History) (server : Server R A) : Type 0 where
-    pub h0 : History
-    pub earlier : Earlier (CanFail state s0.failures) t limit s0 h0
-    pub same_used : h.used ≡ h0.used
-    pub question : List ℕ
-    pub asks : List Pkt
-    pub closes : Closes asks
-    pub once : flushes asks ≡ 1
-    pub question_is : question ≡ spelled asks
-    pub one_more : length h.asked ≡ suc (length h0.asked)
-    pub said : (caps : Caps) (x : List ℕ) → HasNoted t h.asked (h.used ++ x) caps
-        → map (λ talk. talk.said) earlier.later ++ question ∷ [] ≡ said_each t caps h.asked
-    pub stands : Stands state (setting_of t limit s0 false) question [] server
+  -- the last server can hand its repository on
+  abbrev pub Kept : History → Server R A → Type 0
+  Kept h server = KeepsRepo state s0 server
 
-  module _ (h : History) (server after : Server R A) (given used unheard : List ℕ) (a : Asks h server) (ending : t.ending ≡ ResponseEnd)
-      (goes : GivesOn state server given after) (parts : given ++ spelled (resp_end ∷ []) ≡ used ++ unheard) where
-    many_settled : Settled state (setting_of t limit s0 false) a.question given after
-    many_settled =
-        goes (setting_of t limit s0 false) a.question []
-        (settle state (setting_of t limit s0 false) a.asks a.closes a.question [] server a.stands a.question_is (λ ps fit e. omega (arith, a.once)))
+  -- the next server of the same repository
+  pub next_server : (server new : Server R A) {repo : R} → t.format ≡ s0.answers.format → KeepsRepo state s0 server → repo ≡ repo_of server
+      → Stands state (setting_of (terms_of (state repo).answers.format FlushOnly) limit (state repo) false) [] [] new
+      → Stands state (setting_of t limit s0 false) [] [] new
+  next_server server new {repo} format keeps same st =
+      subst (λ (f : Format). Stands state (setting_of (terms_of f FlushOnly) limit s0 false) [] [] new) (sym format)
+      (subst (λ (n : ℕ). Stands state (setting_of (terms_of s0.answers.format FlushOnly) limit (record { answers = s0.answers; failures = n }) false) [] []
+      new) (ap (λ (r : R). (state r).failures) same ∙ keeps.failures)
+      (subst (λ (r : Repository). Stands state (setting_of (terms_of r.format FlushOnly) limit
+      (record { answers = r; failures = (state repo).failures }) false) [] [] new) (ap (λ (r : R). (state r).answers) same ∙ keeps.answers) st))
 
-    many_gave : (h.used ++ used) ++ unheard ≡ h.used ++ (given ++ spelled (resp_end ∷ []))
-    many_gave = append_assoc h.used used unheard ∙ ap (λ (l : List ℕ). h.used ++ l) (sym parts)
+  module _ {advertise : Bool} {before tail : List Pkt} {said : List ℕ} {h : History} {server : Server R A}
+      (turn : Turn state t limit s0 advertise before tail said h server) (front : List (Request A)) (old new : Client A) (after : Server R A)
+      {o0 o1 o2 p0 p1 p2 : Option (List ℕ)} (due : wants_input old ≡ true) (r : Runs t false h front old no_counts (flow o0 o1) (flow p0 p1))
+      (step : HearsMessage state (spelled tail) old new server after (flow o1 o2) (flow p1 p2)) where
+    heard_kept : Plays state t limit s0 Kept front new after (flow o0 o2) (flow p0 p2)
+    heard_kept =
+        let hears = step.hears in
+        let whole = now_whole state t limit s0 turn front old new after due r step in
+        heard state t limit s0 turn front old new after due r step {StandsBy = Kept}
+        (keeps_repo state t limit s0 after
+        (settled state t limit s0 turn after hears.given hears.used step.unheard hears.server_goes hears.parts)
+        (waits state t limit s0 turn after hears.given hears.used step.unheard hears.server_goes hears.parts (h.events ++ hears.heard.events) whole))
 
-    many_given : h.used ++ (given ++ spelled (resp_end ∷ [])) ≡ a.earlier.first.given ++ flat_map with_end (a.earlier.later ++ talk_of a.question given ∷ [])
-    many_given =
-        let first = a.earlier.first in
-        let later = a.earlier.later in
-        let end = given ++ spelled (resp_end ∷ []) in
-        ap (λ (l : List ℕ). l ++ end) (a.same_used ∙ a.earlier.gave) ∙ append_assoc first.given (flat_map with_end later) end
-        ∙ ap (λ (l : List ℕ). first.given ++ l) (ap (λ (l : List ℕ). flat_map with_end later ++ l) (sym (append-nil end))
-        ∙ sym (flat_map-append with_end later (talk_of a.question given ∷ [])))
+  pub advertised_many : (old new : Client A) (server after : Server R A) {o1 o2 p1 p2 : Option (List ℕ)} → wants_input old ≡ true
+      → Converses t nothing_yet old → Stands state (setting_of t limit s0 true) [] [] server
+      → HearsMessage state [] old new server after (flow o1 o2) (flow p1 p2) → Plays state t limit s0 Kept [] new after (flow o1 o2) (flow p1 p2)
+  advertised_many old new server after {o1} {o2} {p1} {p2} due stands st step =
+      heard_kept (first_turn state t limit s0 server st) [] old new after due (begun t old o1 p1 due stands) step
 
-    many_said : (caps : Caps) → HasNoted t h.asked (h.used ++ used) caps
-        → map (λ (talk : Talk). talk.said) (a.earlier.later ++ talk_of a.question given ∷ []) ≡ said_each t caps h.asked
-    many_said caps noted =
-        map-append (λ (talk : Talk). talk.said) a.earlier.later (talk_of a.question given ∷ []) ∙ a.said caps used noted
+  module _ {front : List (Request A)} {old : Client A} {server : Server R A} {o0 o1 p0 p1 : Option (List ℕ)}
+      (p : Plays state t limit s0 Kept front old server (flow o0 o1) (flow p0 p1)) (ending : t.ending ≡ ResponseEnd) where
+    sessions_said : (caps : Caps) → HasNoted t p.h.asked p.h.used caps → AreSaid ResponseEnd p.rest.first p.rest.later p.h.given (said_each t caps p.h.asked)
+    sessions_said caps noted =
+        subst (λ (e : Ending). AreSaid e p.rest.first p.rest.later p.h.given (said_each t caps p.h.asked)) ending (p.rest.said caps noted)
 
-    many_all : (Holds : Setting → Talk → Type 0) → AreAll Holds t limit s0 a.earlier.first a.earlier.later
-        → Holds (setting_of t limit s0 false) (talk_of a.question given)
-        → AreAll Holds t limit s0 a.earlier.first (a.earlier.later ++ talk_of a.question given ∷ [])
-    many_all Holds all one = (
-      all.0,
-      All-append (Holds (setting_of t limit s0 false)) a.earlier.later (talk_of a.question given ∷ []) all.1
-          (All-cons (Holds (setting_of t limit s0 false)) (talk_of a.question given) [] one (All-nil (Holds (setting_of t limit s0 false)))),
-    )
-
-    -- what was heard comes of the servers
-    pub served_many : (events : List EventValue) → IsServed (CanFail state s0.failures) t limit s0 (record h { used = h.used ++ used; events = events })
-    served_many events = record {
-      first = a.earlier.first;
-      later = a.earlier.later ++ talk_of a.question given ∷ [];
-      unheard = unheard;
-      served = record {
-        said = λ caps noted. subst (λ (e : Ending). AreSaid e a.earlier.first (a.earlier.later ++ talk_of a.question given ∷ []) h.given
-            (said_each t caps h.asked)) (sym ending) (a.earlier.none_said, many_said caps noted);
-        gave = many_gave ∙ many_given;
-      };
-      sessions =
-          many_all (IsTalk (CanFail state s0.failures)) a.earlier.talks
-          (talk state (setting_of t limit s0 false) a.asks a.closes a.question given after many_settled a.question_is);
-    }
-
-    -- what was heard is refused
-    pub refused_many : (rest : List (Request A)) (events : List EventValue) (new : Client A) (fault : Fault) (ended : Bool)
-        → Converses t (record h { used = h.used ++ used; events = h.events ++ events }) new → fault_of new ≡ Some fault → IsTimely fault.kind ended unheard
-        → (ended ≡ true → IsSpent state after)
-        → IsRefusedPlay (CanFail state s0.failures) t limit s0 rest (record h { used = h.used ++ used; events = h.events ++ events }) fault
-    unfolding served_many
-    refused_many rest events new fault ended stands told timely spent =
-        let heard = served_many (h.events ++ events) in
-        let now : History = record h { used = h.used ++ used; events = h.events ++ events } in
-        let in_time = late fault.kind ended unheard (IsSpent state after) timely spent in
-        let quietly = quiet_failed (phase_of new) fault told in
-        let st = many_settled in
+    -- a request was asked of the next server
+    pub next_turn : (request : Request A) (new : Client A) (next told : Server R A) {o2 : Option (List ℕ)}
+        → Stands state (setting_of t limit s0 false) [] [] next → (step : AsksServer state old new request next told (flow o1 o2))
+        → Turn state t limit s0 false p.rest.packets (resp_end ∷ []) step.asks.given
+        (record p.h { asked = p.h.asked ++ asked_of request ∷ []; given = p.h.given ++ step.asks.given }) told
+    next_turn request new next told st step =
+        let q = asked_of request in
+        let h = p.h in
+        let first = p.rest.first in
+        let later = p.rest.later in
+        let question = step.asks.given in
+        let on = step.asks.goes t h p.runs.along.stands in
+        let is = question_is t h old new request question p.runs.along.stands p.ready on step.waits in
+        let noted = has_noted t h old p.runs.along.stands in
+        let whole = is_whole t h old p.runs.along.stands p.ready in
+        let once = questions_count t.format (caps_of old) (q ∷ []) in
+        let more = length-append h.asked (q ∷ []) in
         record {
-          first = heard.first;
-          later = heard.later;
-          unheard = unheard;
-          ended = in_time.ended;
-          fault_is = inl (record { first = first_fault t now new fault stands told; timely = in_time.timely });
-          stays = has_stayed t now new stands quietly;
-          said = has_said t now new stands quietly;
-          served = heard.served;
-          sessions = heard.sessions;
-          done = λ over. (
-            (in_time.at_end over).0,
-            many_all (IsDone (CanFail state s0.failures)) a.earlier.done
-                (done state (setting_of t limit s0 false) a.asks a.closes a.question given after st a.question_is (in_time.at_end over).1),
-          );
+          asks = questions_of t.format (caps_of old) (q ∷ []);
+          closes = questions_close t.format (caps_of old) (q ∷ []);
+          said_is = is;
+          given = [];
+          used_is = p.rest.packets_are ∙ sym (append-nil (spelled p.rest.packets));
+          stands = step.server_goes (setting_of t limit s0 false) [] [] st;
+          quota = λ ps fit e. omega (arith, once);
+          counted = omega (arith, p.rest.counted, once, more);
+          ends = (refl, omega (arith, p.rest.counted), omega (arith, once), ending);
+          first = λ all. first;
+          later = λ all. later ++ talk_of question all ∷ [];
+          all_said = λ all caps x has.
+              let same = noted_same t h.asked h.used h.events whole (q ∷ []) (h.asked ++ q ∷ []) x (h.used ++ x) caps (caps_of old) refl refl has noted in
+              subst (λ (e : Ending). AreSaid e first (later ++ talk_of question all ∷ []) (h.given ++ question) (said_each t caps (h.asked ++ q ∷ [])))
+              (sym ending) (
+                (sessions_said (caps_of old) noted).0,
+                map-append (λ (talk : Talk). talk.said) later (talk_of question all ∷ [])
+                    ∙ ap (λ (l : List (List ℕ)). l ++ question ∷ []) (sessions_said (caps_of old) noted).1
+                    ∙ ap (λ (b : List ℕ). said_each t (caps_of old) h.asked ++ b ∷ []) is
+                    ∙ sym (map-append (λ (a : Asked). spelled (questions_of t.format (caps_of old) (a ∷ []))) h.asked (q ∷ []))
+                    ∙ ap (λ (c : Caps). said_each t c (h.asked ++ q ∷ [])) (sym same),
+              );
+          gave = λ all.
+              let end = all ++ spelled (resp_end ∷ []) in
+              ap (λ (l : List ℕ). l ++ end) (sym p.rest.packets_are ∙ p.rest.gave) ∙ append_assoc first.given (flat_map with_end later) end
+              ∙ ap (λ (l : List ℕ). first.given ++ l) (ap (λ (l : List ℕ). flat_map with_end later ++ l) (sym (append-nil end))
+              ∙ sym (flat_map-append with_end later (talk_of question all ∷ [])));
+          talks = λ all. with_one (IsTalk (CanFail state s0.failures)) t limit s0 first later (talk_of question all) p.rest.talks;
+          done = λ all. with_one (IsDone (CanFail state s0.failures)) t limit s0 first later (talk_of question all) p.rest.done;
+          answered = λ all. with_one (λ s talk. IsAnswered s talk.said talk.given) t limit s0 first later (talk_of question all) p.rest.answered;
         }
 
-    -- a response was heard whole
-    module _ (events : List EventValue) (whole : IsConversation t h.asked (h.used ++ used) events) where
-      many_parts : (h.used ++ used) ++ unheard ≡ spelled a.earlier.packets ++ (given ++ spelled (resp_end ∷ []))
-      many_parts = many_gave ∙ ap (λ (l : List ℕ). l ++ (given ++ spelled (resp_end ∷ []))) (a.same_used ∙ a.earlier.packets_are)
+    module _ (request : Request A) (new : Client A) (next after : Server R A) {o2 p2 : Option (List ℕ)}
+        (st : Stands state (setting_of t limit s0 false) [] [] next) where
+      -- and not answered
+      pub many_stopped : (requests later : List (Request A)) (fault : RunFault) → requests ≡ front ++ request ∷ later
+          → AnswersTo state (Err fault) end_bytes old new request next after (flow o1 o2) (flow p1 p2)
+          → PlayEnds t (CanFail state s0.failures) limit s0 requests (Err fault) (flow o0 o2) (flow p0 p2)
+      many_stopped requests later fault split step =
+          answer_stopped state t limit s0 requests front later request old new server after p fault next split
+          (λ asking told written step. (_, next_turn request asking next told st step))
+          (subst (λ (end : List ℕ). AnswersTo state (Err fault) end old new request next after (flow o1 o2) (flow p1 p2)) end_is step)
 
-      many_count : flushes (packets_of whole.given) ≡ flushes a.earlier.packets + (flushes a.asks + 0)
-      many_count = omega (arith, whole.all_flushes, flushes_nearest whole.given [], a.earlier.counted, a.once, a.one_more)
+      -- or answered
+      pub answered_many : (done : Unit {0}) → Answers state (Ok done) end_bytes old new request next after (flow o1 o2) (flow p1 p2)
+          → Plays state t limit s0 Kept (front ++ request ∷ []) new after (flow o0 o2) (flow p0 p2)
+      answered_many done a =
+          heard_kept (next_turn request a.asking next a.told st a.asks) (front ++ request ∷ []) a.asking new after a.asks.waits
+          (asks_on t false front old a.asking request no_counts [] p.runs p.ready a.asks.asks)
+          (subst (λ (end : List ℕ). HearsMessage state end a.asking new a.told after (flow a.written o2) (flow p1 p2)) end_is a.hears)
 
-      many_enough : Enough state (setting_of t limit s0 false) a.asks a.closes a.question given after many_settled a.question_is
-      many_enough =
-          enough_heard state (setting_of t limit s0 false) a.asks a.closes a.question given after many_settled a.question_is
-          (h.used ++ used) unheard whole.given a.earlier.packets (resp_end ∷ []) whole.splits.spelled refl many_parts many_count
-
-      many_rests : Rests (CanFail state s0.failures) (setting_of t limit s0 false) (flushes a.asks + 0) a.question given
-      many_rests = rests state (setting_of t limit s0 false) a.asks a.closes a.question given after many_settled a.question_is many_enough
-
-      pub many_waits : waits_for_input after ≡ true
-      many_waits = waits_on state (setting_of t limit s0 false) a.asks a.closes a.question given after many_settled a.question_is many_enough
-
-      pub many_none : unheard ≡ []
-      many_none =
-          let left = behind state (setting_of t limit s0 false) a.asks a.closes a.question given after many_settled a.question_is
-          (h.used ++ used) unheard whole.given a.earlier.packets (resp_end ∷ []) whole.splits.spelled refl many_parts many_count many_rests in
-          no_end_unheard a.earlier.packets many_rests.packets whole.given left.more unheard
-          (last_of_closed many_rests.packets many_rests.closed (omega (arith, many_rests.counted, a.once))) left.all left.unheard_is left.none
-          (omega (arith, many_count, a.earlier.counted, a.once))
-          (subst (λ (e : Ending). is_end_due e (nearest whole.given []) ≡ false) ending whole.no_end_due)
-
-      many_heard : h.used ++ used ≡ h.used ++ (given ++ spelled (resp_end ∷ []))
-      many_heard = sym (append-nil (h.used ++ used)) ∙ ap (λ (l : List ℕ). (h.used ++ used) ++ l) (sym many_none) ∙ many_gave
-
-      pub many_repo : KeepsRepo state s0 after
-      many_repo = keeps_repo state t limit s0 false a.question given after many_settled many_waits
-
-      pub many_earlier : (more : List EventValue)
-          → Earlier (CanFail state s0.failures) t limit s0 (record h { used = h.used ++ used; events = h.events ++ more })
-      many_earlier more =
-          let rest = many_rests in
-          record {
-            first = a.earlier.first;
-            later = a.earlier.later ++ talk_of a.question given ∷ [];
-            none_said = a.earlier.none_said;
-            said = many_said;
-            gave = many_heard ∙ many_given;
-            talks = many_all (IsTalk (CanFail state s0.failures)) a.earlier.talks rest.talk;
-            done = many_all (IsDone (CanFail state s0.failures)) a.earlier.done
-                (done state (setting_of t limit s0 false) a.asks a.closes a.question given after many_settled a.question_is (inl many_waits));
-            answered = many_all (λ s talk. IsAnswered s talk.said talk.given) a.earlier.answered rest.done;
-            packets = a.earlier.packets ++ (rest.packets ++ resp_end ∷ []);
-            packets_are =
-                many_heard ∙ ap (λ (l : List ℕ). l ++ (given ++ spelled (resp_end ∷ []))) (a.same_used ∙ a.earlier.packets_are)
-                ∙ ap (λ (l : List ℕ). spelled a.earlier.packets ++ (l ++ spelled (resp_end ∷ []))) rest.given_is
-                ∙ ap (λ (l : List ℕ). spelled a.earlier.packets ++ l) (sym (spelled-append rest.packets (resp_end ∷ [])))
-                ∙ sym (spelled-append a.earlier.packets (rest.packets ++ resp_end ∷ []));
-            counted =
-                omega (
-                  arith,
-                  flushes-append a.earlier.packets (rest.packets ++ resp_end ∷ []),
-                  flushes-append rest.packets (resp_end ∷ []),
-                  rest.counted,
-                  a.once,
-                  a.one_more,
-                  a.earlier.counted,
-                );
-          }
+    -- all requests were answered
+    pub many_end : (requests : List (Request A)) → requests ≡ front ++ []
+        → PlayEnds t (CanFail state s0.failures) limit s0 requests (Ok tt) (flow o0 o1) (flow p0 p1)
+    many_end requests split =
+        let h = p.h in
+        let stands = p.runs.along.stands in
+        play_ends t (CanFail state s0.failures) limit s0 requests (Ok tt) h front [] old split (ran p.runs) (record {
+          first = p.rest.first;
+          later = p.rest.later;
+          run = record {
+            all = refl;
+            whole = is_whole t h old stands p.ready;
+            leaves = p.runs.stays ∙ ap leaves_last (sym ending);
+            said = quietly_said t h old stands (quiet_where_ready (phase_of old) p.ready);
+          };
+          served = record { said = p.rest.said; gave = append-nil h.used ∙ p.rest.gave };
+          sessions = subst (λ (x : Ending). AreWholeSessions (CanFail state s0.failures) x t limit s0 p.rest.first p.rest.later) (sym ending) p.rest.answered;
+        })

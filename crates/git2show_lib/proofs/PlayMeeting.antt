@@ -1,4 +1,4 @@
--- A client that hears a server, packet by packet.
+-- A client that receives what a server gives, packet by packet.
 use Rattle.std.proofs.Common.{arith, ◌≡◌, ℕ, Bool, true, false, take, drop, List, [], ◌++◌, Option, Some, None}
 use Rattle.std.proofs.Common.{Err, refl, sym, ap, ◌∙◌, subst, append_assoc, append-nil, length-drop, take-append-drop, inl, inr}
 use Rattle.std.proofs.lemmas.List.{drop_all}
@@ -20,7 +20,7 @@ use Rattle.git_server.specs.declared.server.Pulled.{Pulled}
 use Rattle.git_server.specs.declared.server.Pulled.TheVariants.{Packet, NeedInput, Finished}
 use Rattle.git_server.specs.declared.server.Server.{Server}
 use Rattle.git_server.proofs.Outcomes.{too_long_before}
-use Rattle.git2show_lib.specs.PlaySteps.{GivesOn, Hears, HearsOut, HearsServerTo, IsSpent, Settled, silent}
+use Rattle.git2show_lib.specs.PlaySteps.{GivesOn, Hears, HearsOut, HearsServerTo, IsSpent, Settled, StopsAt, silent}
 use denote.Ref.{Bor}
 
 -- ---- the server
@@ -52,7 +52,43 @@ module _ {R A : Type 0} (state : R → RepoState) where
 
   -- ---- both
 
-  -- the client heard all that the server gave so far, or can ask
+  -- all that was given was received, and then some of these bytes, which the server gave, or which come after all that it gave
+  module _ (old b c : Client A) (counts now after : Counts) (server middle new : Server R A)
+      (told_after sent_after : Option (List ℕ)) {told_before told sent_before sent : Option (List ℕ)} {unheard : List ℕ}
+      (hears : Hears state false old b counts now server middle [] unheard (flow told_before told) (flow sent_before sent)) (waits : wants_input b ≡ true)
+      (none : unheard ≡ []) (bytes given end : List ℕ) (parts : given ++ end ≡ hears.given ++ bytes) (goes : GivesOn state server given new) where
+    pub hears_more : (broken : Bool) (u : ℕ) → HearsBytes broken b c now after (take u bytes) (flow told told_after) (flow sent sent_after) silent
+        → Hears state broken old c counts after server new end (drop u bytes) (flow told_before told_after) (flow sent_before sent_after)
+    hears_more broken u step =
+        let all : hears.given ≡ hears.used =
+        sym (append-nil hears.given) ∙ hears.parts ∙ ap (λ (l : List ℕ). hears.used ++ l) none ∙ append-nil hears.used in
+        record {
+          given = given;
+          used = hears.used ++ take u bytes;
+          parts = parts ∙ ap (λ (l : List ℕ). l ++ bytes) all ∙ ap (λ (l : List ℕ). hears.used ++ l) (sym (take-append-drop u bytes))
+              ∙ sym (append_assoc hears.used (take u bytes) (drop u bytes));
+          heard = heard_then (not_ready_where_due (phase_of b) waits) hears.heard step;
+          server_goes = goes;
+        }
+
+    -- a fault was met in them
+    pub stops_in : (fault : RunFault) → HearsPieceTo (Err fault) b c now after bytes (flow told told_after) (flow sent sent_after) silent
+        → StopsAt state fault false old c counts after server new end (flow told_before told_after) (flow sent_before sent_after)
+    stops_in ReadFault step = absurd step
+    stops_in ReadLimit step = absurd step
+    stops_in WriteFault step = (drop step.used bytes, hears_more true step.used step.hears)
+    stops_in (RefusedRun fault) step = (
+      drop step.used bytes,
+      record {
+        hears = hears_more false step.used step.hears;
+        told = step.told;
+        timely = timely fault.kind false (drop step.used bytes) step.shown.not_the_end
+            (λ late. omega (arith, step.shown.one_more late, length-drop step.used bytes));
+        done = λ no. absurd (cc);
+      },
+    )
+
+  -- the client received all that the server gave so far, or can ask
   pub record Hearing (old new : Client A) (counts counts_after : Counts) (server after : Server R A) (out packs : Flow) : Type 0 where
     pub unheard : List ℕ
     pub hears : Hears state false old new counts counts_after server after [] unheard out packs
@@ -78,27 +114,15 @@ module _ {R A : Type 0} (state : R → RepoState) where
       (told_before told told_after sent_before sent sent_after : Option (List ℕ))
       (so_far : Hearing old b counts now server middle (flow told_before told) (flow sent_before sent)) (waits : wants_input b ≡ true)
       (pulls : Pulls state middle pulled new) (is : pulled ≡ Packet bytes) where
-    tells : TellsPulled state middle (Packet bytes) new
-    tells = subst (λ (p : Pulled). TellsPulled state middle p new) is pulls.tells
+    given_on : GivesOn state server (so_far.hears.given ++ bytes.now) new
+    given_on = gives_then server middle new so_far.hears.given bytes.now so_far.hears.server_goes (gives_packet middle new pulled bytes pulls is)
 
-    all_heard : so_far.hears.given ≡ so_far.hears.used
-    all_heard =
-        sym (append-nil so_far.hears.given) ∙ so_far.hears.parts ∙ ap (λ (l : List ℕ). so_far.hears.used ++ l) (so_far.due waits)
-        ∙ append-nil so_far.hears.used
-
-    -- some of a packet was heard, as far as that went
+    -- some of a packet was received, as far as that went
     hears_packet : (broken : Bool) (u : ℕ) → HearsBytes broken b c now after (take u bytes.now) (flow told told_after) (flow sent sent_after) silent
         → Hears state broken old c counts after server new [] (drop u bytes.now) (flow told_before told_after) (flow sent_before sent_after)
-    hears_packet broken u step = record {
-      given = so_far.hears.given ++ bytes.now;
-      used = so_far.hears.used ++ take u bytes.now;
-      parts = append-nil (so_far.hears.given ++ bytes.now) ∙ ap (λ (l : List ℕ). l ++ bytes.now) all_heard
-          ∙ ap (λ (l : List ℕ). so_far.hears.used ++ l) (sym (take-append-drop u bytes.now))
-          ∙ sym (append_assoc so_far.hears.used (take u bytes.now) (drop u bytes.now));
-      heard = heard_then (not_ready_where_due (phase_of b) waits) so_far.hears.heard step;
-      server_goes = gives_then server middle new so_far.hears.given bytes.now so_far.hears.server_goes
-          (gives_packet middle new pulled bytes pulls is);
-    }
+    hears_packet broken u step =
+        hears_more old b c counts now after server middle new told_after sent_after so_far.hears waits (so_far.due waits) bytes.now
+        (so_far.hears.given ++ bytes.now) [] (append-nil (so_far.hears.given ++ bytes.now)) given_on broken u step
 
     module _ (u : ℕ) (step : HearsInPiece b c now after bytes.now u (flow told told_after) (flow sent sent_after) silent) where
       pub hearing_on : Hearing old c counts after server new (flow told_before told_after) (flow sent_before sent_after)
@@ -109,22 +133,12 @@ module _ {R A : Type 0} (state : R → RepoState) where
         asks = step.whole;
       }
 
-    -- the hearing of a packet stopped
+    -- the receiving of a packet stopped
     pub meeting_stopped : (fault : RunFault) → HearsPieceTo (Err fault) b c now after bytes.now (flow told told_after) (flow sent sent_after) silent
         → HearsServerTo state (Err fault) old c counts after server new (flow told_before told_after) (flow sent_before sent_after)
-    meeting_stopped ReadFault step = absurd step
-    meeting_stopped ReadLimit step = absurd step
-    meeting_stopped WriteFault step = (drop step.used bytes.now, hears_packet true step.used step.hears)
-    meeting_stopped (RefusedRun fault) step = (
-      drop step.used bytes.now,
-      record {
-        hears = hears_packet false step.used step.hears;
-        told = step.told;
-        timely = timely fault.kind false (drop step.used bytes.now) step.shown.not_the_end
-            (λ late. omega (arith, step.shown.one_more late, length-drop step.used bytes.now));
-        done = λ no. absurd (cc);
-      },
-    )
+    meeting_stopped fault step =
+        stops_in old b c counts now after server middle new told_after sent_after so_far.hears waits (so_far.due waits) bytes.now
+        (so_far.hears.given ++ bytes.now) [] (append-nil (so_far.hears.given ++ bytes.now)) given_on fault step
 
   -- the client can ask, or the server gives nothing more
   pub heard_out : (old new : Client A) (counts after : Counts) (server last : Server R A) (out packs : Flow)

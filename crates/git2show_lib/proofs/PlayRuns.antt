@@ -1,169 +1,94 @@
--- A play so far: what the client asked and heard, and how the server stands that it hears.
-use Rattle.std.proofs.Common.{arith, ◌≡◌, inl, ℕ, ◌+◌, ◌≤◌, Bool, true, false, List, [], ◌∷◌, ◌++◌, length, Option, Some}
-use Rattle.std.proofs.Common.{Result, refl, sym, ap, ◌∙◌, append_assoc, append-nil, length-append}
+-- A play so far: what the client asked and received, and the servers, from one of which it receives.
+use Rattle.std.proofs.Common.{arith, ◌≡◌, inl, inr, ℕ, suc, ◌+◌, ◌≤◌, ◌<◌, Bool, true, false, flat_map, List, [], ◌∷◌, ◌++◌, length, Option, None}
+use Rattle.std.proofs.Common.{Result, Err, IsErrAnd, refl, sym, ap, ◌∙◌, subst, append_assoc, append-nil}
 use Rattle.std.proofs.lemmas.List.Elements.{All-nil}
-use Rattle.git_pkt.specs.Digits.{digits_of}
-use Rattle.git_pkt.specs.Packets.{Pkt, flushes, body_of, length_field, spelling_of}
-use Rattle.git_pkt.specs.Streams.{Flow, flow, WrittenAs, IsTimely, Moves, is_broken}
-use Rattle.git_pkt.specs.declared.fault.Fault.{Fault}
+use Rattle.git_pkt.specs.Packets.{Pkt, flushes, resp_end}
+use Rattle.git_pkt.specs.Streams.{Flow, flow, IsTimely, Moves, is_broken}
 use Rattle.git_pkt.specs.declared.fault.Kind.{Kind}
 use Rattle.git_pkt.specs.declared.fault.Kind.TheVariants.{Truncated, StreamTooLong}
 use Rattle.git_pkt.specs.declared.fault.RunFault.{RunFault}
-use Rattle.git_pkt.proofs.Spelling.{same_start}
-use Rattle.git_pkt.proofs.Written.{spells_written}
-use Rattle.git_msg.specs.Asked.{command_asked}
+use Rattle.git_pkt.specs.declared.fault.RunFault.TheVariants.{ReadFault, WriteFault, ReadLimit, Refused}
+use Rattle.git_pkt.proofs.EngineLemmas.{at_fault}
 use Rattle.git_msg.specs.HeldRequest.{asked_of}
 use Rattle.git_msg.specs.declared.offers.Caps.{Caps}
 use Rattle.git_msg.specs.declared.requests.Request.{Request}
-use Rattle.git_client.specs.Client.{History, Converses, can_ask, caps_of, fault_of, nothing_yet}
-use Rattle.git_client.specs.Client.{phase_of, questions_of, request_of, said_of, spelled, wants_input}
-use Rattle.git_client.specs.Conversation.{IsConversation}
-use Rattle.git_client.specs.Events.{EventValue, pack_bytes, progress_bytes}
-use Rattle.git_client.specs.Parts.{Terms}
-use Rattle.git_client.specs.RunSteps.{AsksNext, no_counts}
-use Rattle.git_client.specs.Runs.{HasSaid}
-use Rattle.git_client.specs.Transcript.{asked_line, transcript_from, transcript_of}
-use Rattle.git_client.specs.Turns.{fault_in, is_ready, takes_packets}
+use Rattle.git_client.specs.Client.{History, Converses, can_ask, caps_of, nothing_yet, phase_of, questions_of, request_of, said_of, spelled, wants_input}
+use Rattle.git_client.specs.Conversation.{HasNoted, IsConversation}
+use Rattle.git_client.specs.Events.{EventValue, pack_bytes}
+use Rattle.git_client.specs.Parts.{Terms, is_end_due, nearest}
+use Rattle.git_client.specs.RunSteps.{no_counts}
+use Rattle.git_client.specs.Transcript.{transcript_of}
 use Rattle.git_client.specs.declared.client.Client.{Client}
+use Rattle.git_client.specs.declared.events.Ending.{Ending}
+use Rattle.git_client.specs.declared.events.Ending.TheVariants.{FlushOnly, ResponseEnd}
 use Rattle.git_client.specs.declared.hearing.Counts.{Counts}
-use Rattle.git_client.specs.declared.phase.Phase.{Phase}
-use Rattle.git_client.specs.declared.phase.Phase.TheVariants.{Hearing, Ready, Failed}
-use Rattle.git_client.proofs.Alongs.{written_nothing, written_then, written_whole}
-use Rattle.git_client.proofs.Alongs.{Along, along_anew, along_asked, along_begun, along_heard, counts_on}
-use Rattle.git_client.proofs.Carries.{is_quiet, not_left, owes_nothing}
-use Rattle.git_client.proofs.AskedInTurn.{AskedInTurn, asked_in_turn, has_asked, heard_in_turn, none_in_turn}
-use Rattle.git_client.proofs.ClientRuns.{Ran, ran_by}
-use Rattle.git_client.proofs.EventsHeard.{all_is_said, has_events, has_noted}
+use Rattle.git_client.proofs.AskedInTurn.{has_asked}
+use Rattle.git_client.proofs.Carries.{is_quiet, owes_nothing}
+use Rattle.git_client.proofs.ClientRuns.{Ran, Running, anew, asks_on, begins, hears_on, quietly_said, ran, ran_unasked, refused_next, stayed}
+use Rattle.git_client.proofs.EventsHeard.{all_is_said, has_events, is_whole}
 use Rattle.git_client.proofs.Faults.{first_fault}
+use Rattle.git_client.proofs.Phases.{quiet_where_due, quiet_where_failed, quiet_where_ready}
 use Rattle.git_server.specs.Answers.{AllFit}
 use Rattle.git_server.specs.Repository.{RepoState}
 use Rattle.git_server.specs.Server.{wants_input as waits_for_input}
-use Rattle.git_server.specs.Sessions.{Setting, advertised}
+use Rattle.git_server.specs.Sessions.{IsAnswered, advertised}
 use Rattle.git_server.specs.declared.server.Server.{Server}
 use Rattle.git_server.proofs.AtRest.{packets_of}
-use Rattle.git2show_lib.specs.PlaySteps.{GivesOn, Hears, IsSpent, Settled, Stands, silent}
-use Rattle.git2show_lib.specs.Plays.{AreSaid, CanFail, EndsAs, IsDone, IsRefusedPlay, IsServed, IsTalk, Played, said_each, setting_of}
-use Rattle.git2show_lib.proofs.PlayFlushes.{Closes, advertises_once, flushes_nearest, questions_close, questions_count}
-use Rattle.git2show_lib.proofs.PlayTalks.{Enough, Quota, Rests, behind, done, enough_heard, nothing_unheard, rests, settle, talk, talk_of, waits_on}
-
--- ---- phases in which the client says nothing
-
-pub quiet_ready : (phase : Phase) → is_ready phase ≡ true → is_quiet phase ≡ true
-quiet_ready Ready e = refl
-quiet_ready phase e = absurd (cc)
-
-pub quiet_due : (phase : Phase) → takes_packets phase ≡ true → is_quiet phase ≡ true
-quiet_due (Hearing due) e = refl
-quiet_due phase e = absurd (cc)
-
-pub quiet_failed : (phase : Phase) (fault : Fault) → fault_in phase ≡ Some fault → is_quiet phase ≡ true
-quiet_failed (Failed f) fault e = refl
-quiet_failed phase fault e = absurd (cc)
+use Rattle.git_server.proofs.Flushes.{flushes-append}
+use Rattle.git2show_lib.specs.PlaySteps.{AnswersTo, AsksServer, AsksServerTo, GivesOn, Hears, HearsMessage, HearsMessageTo, IsSpent}
+use Rattle.git2show_lib.specs.PlaySteps.{Settled, Stands, silent}
+use Rattle.git2show_lib.specs.Plays.{AreAll, AreSaid, AreServed, CanFail, EndsAs, IsDone, IsServed, IsTalk, Played, Talk, said_each, setting_of, with_end}
+use Rattle.git2show_lib.proofs.PlayFlushes.{Closes, advertises_once, flushes_nearest}
+use Rattle.git2show_lib.proofs.PlayTalks.{Enough, Rests, behind, done, enough_heard, last_of_closed, no_end_unheard, nothing_unheard}
+use Rattle.git2show_lib.proofs.PlayTalks.{rests, settle, spelled-append, talk, talk_of, waits_on}
 
 -- ---- faults in time
 
--- a fault is told in time: truncated alone where nothing more is given
-pub record IsLate (kind : Kind) (unheard : List ℕ) (D : Type 0) : Type 0 where
-  pub ended : Bool
-  pub timely : IsTimely kind ended unheard
-  pub at_end : ended ≡ true → (unheard ≡ []) × D
+-- a fault is reported in time: truncated alone where nothing more is given
+record IsLate (kind : Kind) (unheard : List ℕ) (D : Type 0) : Type 0 where
+  ended : Bool
+  timely : IsTimely kind ended unheard
+  at_end : ended ≡ true → (unheard ≡ []) × D
 
-pub late : (kind : Kind) (ended : Bool) (unheard : List ℕ) (D : Type 0) → IsTimely kind ended unheard → (ended ≡ true → D) → IsLate kind unheard D
+late : (kind : Kind) (ended : Bool) (unheard : List ℕ) (D : Type 0) → IsTimely kind ended unheard → (ended ≡ true → D) → IsLate kind unheard D
 late Truncated ended unheard D timely spent = record { ended = true; timely = (timely.0, refl); at_end = λ _. (timely.0, spent timely.1) }
 late StreamTooLong ended unheard D timely spent = record { ended = false; timely = timely; at_end = λ no. absurd (cc) }
 late kind ended unheard D timely spent = record { ended = false; timely = tt; at_end = λ no. absurd (cc) }
 
--- ---- spelled packets
-
--- whole packets whose bytes begin with those of others begin with these
-spelled_front : (ps qs : List Pkt) (x : List ℕ) → AllFit ps → AllFit qs → spelled ps ++ x ≡ spelled qs → (more : List Pkt) × (qs ≡ ps ++ more)
-spelled_front [] qs x h k e = (qs, refl)
-spelled_front (p ∷ ps) [] x h k e = absurd (omega (
-  arith,
-  ap length e,
-  length-append (spelling_of p ++ spelled ps) x,
-  length-append (spelling_of p) (spelled ps),
-  length-append (digits_of (length_field p)) (body_of p),
-))
-spelled_front (p ∷ ps) (q ∷ qs) x h k e =
-    let same = same_start p q (spelling_of p) (spelling_of q) (spelled ps ++ x) (spelled qs) (spells_written p h.0) (spells_written q k.0)
-    (sym (append_assoc (spelling_of p) (spelled ps) x) ∙ e) in
-    let (more, is) = spelled_front ps qs x h.1 k.1 same.rest in
-    (more, ap (λ (r : Pkt). r ∷ qs) (sym same.packet) ∙ ap (λ (l : List Pkt). p ∷ l) is)
-
 -- ---- the client's run
 
 module _ {A : Type 0} (t : Terms) where
-  -- what a client has asked and heard, what was written of it
-  pub record Runs (broken : Bool) (h : History) (front : List (Request A)) (client : Client A) (counts : Counts) (out pack : Flow) : Type 0 where
-    pub lines : List ℕ
-    pub packed : List ℕ
-    pub along : Along t h client lines packed counts
-    pub in_turn : AskedInTurn t h.asked h.used h.events front
-    pub told : WrittenAs broken out lines
-    pub sent : WrittenAs broken pack packed
+  -- what a client has asked and received, and what was written of it: it reads no stream, and writes no other
+  abbrev pub Runs : Bool → History → List (Request A) → Client A → Counts → Flow → Flow → Type 0
+  Runs broken h front client counts out pack = Running broken t h front client counts [] silent silent out pack silent
 
   pub begun : (client : Client A) (out pack : Option (List ℕ)) → wants_input client ≡ true → Converses t nothing_yet client
       → Runs false nothing_yet [] client no_counts (flow out out) (flow pack pack)
-  begun client out pack due stands = record {
-    lines = [];
-    packed = [];
-    along = along_begun t client due stands;
-    in_turn = none_in_turn t;
-    told = written_nothing out;
-    sent = written_nothing pack;
-  }
+  begun client out pack due stands = begins t client None None None out pack None due stands tt
 
-  pub anew : (h : History) (front : List (Request A)) (client : Client A) (counts : Counts) {out pack : Flow} → can_ask client ≡ true
-      → Runs false h front client counts out pack → Runs false h front client no_counts out pack
-  anew h front client counts ready r = record {
-    lines = r.lines;
-    packed = r.packed;
-    along = along_anew r.along ready;
-    in_turn = r.in_turn;
-    told = r.told;
-    sent = r.sent;
-  }
-
-  pub asks_runs : (broken : Bool) (h : History) (front : List (Request A)) (old new : Client A) (request : Request A)
-      {pack : Flow} {o0 o1 o2 : Option (List ℕ)} → Runs false h front old no_counts (flow o0 o1) pack → can_ask old ≡ true
-      → (step : AsksNext broken old new request silent (flow o1 o2))
-      → Runs broken (record h { asked = h.asked ++ asked_of request ∷ []; given = h.given ++ step.given }) (front ++ request ∷ []) new no_counts
-      (flow o0 o2) pack
-  asks_runs broken h front old new request {pack} {o0} {o1} {o2} r ready step = record {
-    lines = r.lines ++ asked_line (command_asked (asked_of request));
-    packed = r.packed;
-    along = along_asked r.along ready step;
-    in_turn = asked_in_turn t h old front request r.along.stands ready step.passes r.in_turn;
-    told = written_then broken o0 o1 o2 r.lines (asked_line (command_asked (asked_of request))) r.told step.told;
-    sent = written_whole broken pack r.packed r.sent;
-  }
-
-  -- a client that says nothing has said all
-  pub has_said : (h : History) (client : Client A) → Converses t h client → is_quiet (phase_of client) ≡ true → HasSaid t h
-  has_said h client stands quietly = record {
-    caps = caps_of client;
-    noted = has_noted t h client stands;
-    said = all_is_said t h client stands (owes_nothing (phase_of client) (request_of client) quietly);
-  }
-
-  pub has_stayed : (h : History) (client : Client A) → Converses t h client → is_quiet (phase_of client) ≡ true → h.left ≡ false
-  has_stayed h client stands quietly = stands.left ∙ not_left (phase_of client) quietly
-
-  pub ran_of : {broken : Bool} {h : History} {front : List (Request A)} {client : Client A} {counts : Counts} {out pack : Flow}
-      → Runs broken h front client counts out pack → Ran broken t h front client [] silent silent out pack silent
-  ran_of {broken} {h} r = ran_by r.lines r.packed r.along r.in_turn tt (written_whole broken silent h.given tt) r.told r.sent
-      (written_whole broken silent (progress_bytes h.events) tt)
+  -- a client that owes nothing has sent all requests
+  pub given_is : (h : History) (client : Client A) → Converses t h client → is_quiet (phase_of client) ≡ true
+      → h.given ≡ spelled (questions_of t.format (caps_of client) h.asked)
+  given_is h client stands quietly =
+      all_is_said t h client stands (owes_nothing (phase_of client) (request_of client) quietly)
+      ∙ ap (λ (b : Bool). spelled (said_of t.format (caps_of client) h.asked b)) (stayed t h client stands quietly)
+      ∙ ap spelled (append-nil (questions_of t.format (caps_of client) h.asked))
 
   module _ (Fails : Type 0) (limit : ℕ) (s0 : RepoState) (requests : List (Request A)) where
     -- how a play with this answer moved its streams
     abbrev pub PlayEnds : Result (Unit {0}) RunFault → Flow → Flow → Type 0
     PlayEnds result out pack = Moves (is_broken result) (Played Fails t limit s0 requests result) [] (out ∷ pack ∷ [])
 
-    pub play_told : (result : Result (Unit {0}) RunFault) (h : History) (front rest : List (Request A)) (client : Client A) {out pack : Flow}
+    -- what `?` answers is the fault that it met
+    pub ends_at : (result : Result (Unit {0}) RunFault) (fault : RunFault) {out pack : Flow} → IsErrAnd result (λ e. e ≡ fault)
+        → PlayEnds (Err fault) out pack → PlayEnds result out pack
+    ends_at result fault {out} {pack} met ends =
+        at_fault result fault fault (λ (r : Result (Unit {0}) RunFault). PlayEnds r out pack) refl met ends
+
+    pub play_ends : (result : Result (Unit {0}) RunFault) (h : History) (front rest : List (Request A)) (client : Client A) {out pack : Flow}
         → requests ≡ front ++ rest → Ran (is_broken result) t h front client [] silent silent out pack silent → EndsAs Fails t limit s0 result rest h
         → PlayEnds result out pack
-    play_told result h front rest client split at ends = record {
+    play_ends result h front rest client split at ends = record {
       used = [];
       given = transcript_of h.asked h.events ∷ pack_bytes h.events ∷ [];
       read = tt;
@@ -179,141 +104,335 @@ module _ {A : Type 0} (t : Terms) where
       };
     }
 
-    pub play_ends : (result : Result (Unit {0}) RunFault) (h : History) (front rest : List (Request A)) (client : Client A) (counts : Counts) {out pack : Flow}
-        → requests ≡ front ++ rest → Runs (is_broken result) h front client counts out pack → EndsAs Fails t limit s0 result rest h → PlayEnds result out pack
-    play_ends result h front rest client counts split r ends = play_told result h front rest client split (ran_of r) ends
+-- ---- the servers
 
--- ---- one server alone, or the first one
+-- more reads of the repository can fail than had failed at the beginning
+abbrev pub MayFail : {R : Type 0} → (R → RepoState) → RepoState → Type 0
+MayFail state s0 = CanFail state s0.failures
 
--- the setting of a server that advertises
-abbrev pub only : Terms → ℕ → RepoState → Setting
-only t limit s0 = setting_of t limit s0 true
+-- all servers are at rest: each gave all that its session gives for what was sent to it, and the client received it
+pub record AtRest (Fails : Type 0) (t : Terms) (limit : ℕ) (s0 : RepoState) (h : History) : Type 0 where
+  pub first : Talk
+  pub later : List Talk
+  pub said : (caps : Caps) → HasNoted t h.asked h.used caps → AreSaid t.ending first later h.given (said_each t caps h.asked)
+  pub gave : h.used ≡ first.given ++ flat_map with_end later
+  pub talks : AreAll (IsTalk Fails) t limit s0 first later
+  pub done : AreAll (IsDone Fails) t limit s0 first later
+  pub answered : AreAll (λ s talk. IsAnswered s talk.said talk.given) t limit s0 first later
+  pub packets : List Pkt
+  pub packets_are : h.used ≡ spelled packets
+  pub counted : flushes packets ≡ suc (length h.asked)
 
-questions_are : (t : Terms) (h : History) (all : HasSaid t h) → h.left ≡ false → h.given ≡ spelled (questions_of t.format all.caps h.asked)
-questions_are t h all stays =
-    all.said ∙ ap (λ (b : Bool). spelled (said_of t.format all.caps h.asked b)) stays
-    ∙ ap spelled (append-nil (questions_of t.format all.caps h.asked))
+-- what comes after the message that is due: nothing, or a response end where others gave a message before
+abbrev pub IsTail : Terms → (tail before asks : List Pkt) → Type 0
+IsTail t [] before asks = Closes before
+IsTail t (p ∷ ps) before asks = (p ∷ ps ≡ resp_end ∷ []) × (0 < flushes before) × (0 < flushes asks) × (t.ending ≡ ResponseEnd)
+
+-- before anything was sent
+no_questions : (e : Ending) (given : List ℕ) → AreSaid e (talk_of [] given) [] [] []
+no_questions FlushOnly given = (refl, refl)
+no_questions ResponseEnd given = (refl, refl)
 
 module _ {R A : Type 0} (state : R → RepoState) (t : Terms) (limit : ℕ) (s0 : RepoState) where
-  pub heard_runs : (broken : Bool) (h : History) (front : List (Request A)) (old new : Client A) (counts : Counts) (server after : Server R A)
-      (end unheard : List ℕ) {o0 o1 o2 p0 p1 p2 : Option (List ℕ)} → Runs t false h front old no_counts (flow o0 o1) (flow p0 p1)
-      → wants_input old ≡ true → (hears : Hears state broken old new no_counts counts server after end unheard (flow o1 o2) (flow p1 p2))
-      → (events : List EventValue)
-      × Runs t broken (record h { used = h.used ++ hears.used; events = h.events ++ events }) front new counts (flow o0 o2) (flow p0 p2)
-  heard_runs broken h front old new counts server after end unheard {o0} {o1} {o2} {p0} {p1} {p2} r waits hears =
-      let heard = hears.heard in
-      let lines = transcript_from [] 0 0 heard.events in (
-        heard.events,
-        record {
-          lines = r.lines ++ lines;
-          packed = r.packed ++ pack_bytes heard.events;
-          along = along_heard r.along waits heard;
-          in_turn = heard_in_turn t h.asked h.used hears.used h.events heard.events front r.in_turn;
-          told = written_then broken o0 o1 o2 r.lines lines r.told (heard.told (counts_on r.along heard.hears));
-          sent = written_then broken p0 p1 p2 r.packed (pack_bytes heard.events) r.sent heard.sent;
-        },
-      )
+  -- a message of this server is due, and after it this comes: it was sent this, and gave something before; others before it gave these
+  -- packets. Where it gives all this, these are the sessions.
+  pub record Turn (advertise : Bool) (before tail : List Pkt) (said : List ℕ) (h : History) (server : Server R A) : Type 0 where
+    pub asks : List Pkt
+    pub closes : Closes asks
+    pub said_is : said ≡ spelled asks
+    pub given : List ℕ
+    pub used_is : h.used ≡ spelled before ++ given
+    pub stands : Stands state (setting_of t limit s0 advertise) said given server
+    pub quota : (ps : List Pkt) → AllFit ps → given ≡ spelled ps → flushes asks + flushes (advertised (setting_of t limit s0 advertise)) ≤ flushes ps + 1
+    pub counted : flushes before + (flushes asks + flushes (advertised (setting_of t limit s0 advertise))) ≡ suc (length h.asked)
+    pub ends : IsTail t tail before asks
+    pub first : List ℕ → Talk
+    pub later : List ℕ → List Talk
+    pub all_said : (all : List ℕ) (caps : Caps) (x : List ℕ) → HasNoted t h.asked (h.used ++ x) caps
+        → AreSaid t.ending (first all) (later all) h.given (said_each t caps h.asked)
+    pub gave : (all : List ℕ) → spelled before ++ (all ++ spelled tail) ≡ (first all).given ++ flat_map with_end (later all)
+    pub talks : (all : List ℕ) → IsTalk (MayFail state s0) (setting_of t limit s0 advertise) (talk_of said all)
+        → AreAll (IsTalk (MayFail state s0)) t limit s0 (first all) (later all)
+    pub done : (all : List ℕ) → IsDone (MayFail state s0) (setting_of t limit s0 advertise) (talk_of said all)
+        → AreAll (IsDone (MayFail state s0)) t limit s0 (first all) (later all)
+    pub answered : (all : List ℕ) → IsAnswered (setting_of t limit s0 advertise) said all
+        → AreAll (λ s talk. IsAnswered s talk.said talk.given) t limit s0 (first all) (later all)
 
-  -- the server that is heard was said all, and gave all, but a response
-  pub record OneServer (h : History) (server : Server R A) : Type 0 where
-    pub stands : Stands state (only t limit s0) h.given h.used server
-    pub messages : (ps : List Pkt) → AllFit ps → h.used ≡ spelled ps → length h.asked ≤ flushes ps
-    pub said : (caps : Caps) (given : List ℕ) → AreSaid t.ending (talk_of h.given given) [] h.given (said_each t caps h.asked)
+  -- a message of the first server is due, and no other answered before
+  pub sole_turn : (h : History) (asks : List Pkt) (server : Server R A) → Closes asks → h.given ≡ spelled asks → flushes asks ≡ length h.asked
+      → Stands state (setting_of t limit s0 true) h.given h.used server → ((ps : List Pkt) → h.used ≡ spelled ps → length h.asked ≤ flushes ps)
+      → ((all : List ℕ) (caps : Caps) → AreSaid t.ending (talk_of h.given all) [] h.given (said_each t caps h.asked)) → Turn true [] [] h.given h server
+  sole_turn h asks server closes said count st heard all_said =
+      let once = advertises_once (setting_of t limit s0 true) refl in
+      record {
+        asks = asks;
+        closes = closes;
+        said_is = said;
+        given = h.used;
+        used_is = refl;
+        stands = st;
+        quota = λ ps fit e. omega (arith, once, count, heard ps e);
+        counted = omega (arith, once, count);
+        ends = inl refl;
+        first = λ all. talk_of h.given all;
+        later = λ all. [];
+        all_said = λ all caps x noted. all_said all caps;
+        gave = λ all. refl;
+        talks = λ all talk. (talk, All-nil (IsTalk (MayFail state s0) (setting_of t limit s0 false)));
+        done = λ all done. (done, All-nil (IsDone (MayFail state s0) (setting_of t limit s0 false)));
+        answered = λ all answered. (answered, All-nil (λ (talk : Talk). IsAnswered (setting_of t limit s0 false) talk.said talk.given));
+      }
 
-  module _ (h : History) (server after : Server R A) (given used unheard : List ℕ) (one : OneServer h server) (all : HasSaid t h) (stays : h.left ≡ false)
-      (goes : GivesOn state server given after) (parts : given ++ [] ≡ used ++ unheard) where
-    closes : Closes (questions_of t.format all.caps h.asked)
-    closes = questions_close t.format all.caps h.asked
+  pub first_turn : (server : Server R A) → Stands state (setting_of t limit s0 true) [] [] server → Turn true [] [] [] nothing_yet server
+  first_turn server st =
+      sole_turn nothing_yet [] server (inl refl) refl refl st (λ ps e. omega arith) (λ all caps. no_questions t.ending all)
 
-    quota : Quota state (only t limit s0) (questions_of t.format all.caps h.asked) closes h.given h.used server one.stands
-        (questions_are t h all stays)
-    quota ps fit e = omega (arith, one.messages ps fit e, questions_count t.format all.caps h.asked, advertises_once (only t limit s0) refl)
+  module _ {advertise : Bool} {before tail : List Pkt} {said : List ℕ} {h : History} {server : Server R A}
+      (turn : Turn advertise before tail said h server) (after : Server R A) (given used unheard : List ℕ) (goes : GivesOn state server given after)
+      (parts : given ++ spelled tail ≡ used ++ unheard) where
+    pub settled : Settled state (setting_of t limit s0 advertise) said (turn.given ++ given) after
+    settled =
+        goes (setting_of t limit s0 advertise) said turn.given
+        (settle state (setting_of t limit s0 advertise) turn.asks turn.closes said turn.given server turn.stands turn.said_is turn.quota)
 
-    pub stands_on : Settled state (only t limit s0) h.given (h.used ++ given) after
-    stands_on =
-        goes (only t limit s0) h.given h.used
-        (settle state (only t limit s0) (questions_of t.format all.caps h.asked) closes h.given h.used server one.stands (questions_are t h all stays) quota)
-
-    gave_all : (h.used ++ used) ++ unheard ≡ (h.used ++ given) ++ []
+    gave_all : (h.used ++ used) ++ unheard ≡ spelled before ++ ((turn.given ++ given) ++ spelled tail)
     gave_all =
-        append_assoc h.used used unheard ∙ ap (λ (l : List ℕ). h.used ++ l) (sym parts) ∙ sym (append_assoc h.used given [])
+        append_assoc h.used used unheard ∙ ap (λ (l : List ℕ). l ++ (used ++ unheard)) turn.used_is
+        ∙ ap (λ (l : List ℕ). (spelled before ++ turn.given) ++ l) (sym parts) ∙ append_assoc (spelled before) turn.given (given ++ spelled tail)
+        ∙ ap (λ (l : List ℕ). spelled before ++ l) (sym (append_assoc turn.given given (spelled tail)))
 
-    -- what was heard comes of the server
-    pub served_one : (events : List EventValue) → IsServed (CanFail state s0.failures) t limit s0 (record h { used = h.used ++ used; events = events })
-    served_one events = record {
-      first = talk_of h.given (h.used ++ given);
-      later = [];
+    -- what was received comes of the servers
+    served : (events : List EventValue) → IsServed (MayFail state s0) t limit s0 (record h { used = h.used ++ used; events = events })
+    served events = record {
+      first = turn.first (turn.given ++ given);
+      later = turn.later (turn.given ++ given);
       unheard = unheard;
-      served = record { said = λ caps noted. one.said caps (h.used ++ given); gave = gave_all };
-      sessions = (
-        talk state (only t limit s0) (questions_of t.format all.caps h.asked) closes h.given (h.used ++ given) after stands_on (questions_are t h all stays),
-        All-nil (IsTalk (CanFail state s0.failures) (setting_of t limit s0 false)),
-      );
+      served = record {
+        said = λ caps noted. turn.all_said (turn.given ++ given) caps used noted;
+        gave = gave_all ∙ turn.gave (turn.given ++ given);
+      };
+      sessions = turn.talks (turn.given ++ given) (talk state (setting_of t limit s0 advertise) turn.asks turn.closes said (turn.given ++ given) after settled
+          turn.said_is);
     }
 
-    -- what was heard is refused
-    pub refused_one : (rest : List (Request A)) (events : List EventValue) (new : Client A) (fault : Fault) (ended : Bool)
-        → Converses t (record h { used = h.used ++ used; events = h.events ++ events }) new → fault_of new ≡ Some fault → IsTimely fault.kind ended unheard
-        → (ended ≡ true → IsSpent state after)
-        → IsRefusedPlay (CanFail state s0.failures) t limit s0 rest (record h { used = h.used ++ used; events = h.events ++ events }) fault
-    unfolding served_one
-    refused_one rest events new fault ended stands told timely spent =
-        let heard = served_one (h.events ++ events) in
-        let now : History = record h { used = h.used ++ used; events = h.events ++ events } in
-        let is = questions_are t h all stays in
-        let in_time = late fault.kind ended unheard (IsSpent state after) timely spent in
-        let quietly = quiet_failed (phase_of new) fault told in
-        record {
-          first = heard.first;
-          later = heard.later;
+    -- nothing more is given
+    all_done : IsSpent state after → AreAll (IsDone (MayFail state s0)) t limit s0 (turn.first (turn.given ++ given)) (turn.later (turn.given ++ given))
+    all_done spent =
+        turn.done (turn.given ++ given)
+        (done state (setting_of t limit s0 advertise) turn.asks turn.closes said (turn.given ++ given) after settled turn.said_is spent)
+
+    -- a message was received whole
+    module _ (events : List EventValue) (whole : IsConversation t h.asked (h.used ++ used) events) where
+      no_flush : (tail : List Pkt) → IsTail t tail before turn.asks → flushes tail ≡ 0
+      no_flush [] ends = refl
+      no_flush (p ∷ ps) ends = ap flushes ends.0
+
+      count : flushes (packets_of whole.given) ≡ flushes before + (flushes turn.asks + flushes (advertised (setting_of t limit s0 advertise)))
+      count = omega (arith, whole.all_flushes, flushes_nearest whole.given [], turn.counted)
+
+      enough : Enough state (setting_of t limit s0 advertise) turn.asks turn.closes said (turn.given ++ given) after settled turn.said_is
+      enough =
+          enough_heard state (setting_of t limit s0 advertise) turn.asks turn.closes said (turn.given ++ given) after settled turn.said_is
+          (h.used ++ used) unheard whole.given before tail whole.splits.spelled (no_flush tail turn.ends) gave_all count
+
+      pub waits : waits_for_input after ≡ true
+      waits = waits_on state (setting_of t limit s0 advertise) turn.asks turn.closes said (turn.given ++ given) after settled turn.said_is enough
+
+      pub rested : Rests (MayFail state s0) (setting_of t limit s0 advertise) (flushes turn.asks + flushes (advertised (setting_of t limit s0 advertise))) said
+          (turn.given ++ given)
+      rested = rests state (setting_of t limit s0 advertise) turn.asks turn.closes said (turn.given ++ given) after settled turn.said_is enough
+
+      left_by : (tail : List Pkt) → IsTail t tail before turn.asks → (more : List Pkt) → before ++ (rested.packets ++ tail) ≡ packets_of whole.given ++ more
+          → unheard ≡ spelled more → flushes more ≡ 0 → unheard ≡ []
+      left_by [] closed more all is none = nothing_unheard before rested.packets (packets_of whole.given) more unheard closed rested.closed all is none
+      left_by (p ∷ ps) (same, some, asked, ending) more all is none =
+          no_end_unheard before rested.packets whole.given more unheard
+          (last_of_closed rested.packets rested.closed (omega (arith, rested.counted, asked)))
+          (ap (λ (l : List Pkt). before ++ (rested.packets ++ l)) (sym same) ∙ all) is none (omega (arith, count, some, asked))
+          (subst (λ (e : Ending). is_end_due e (nearest whole.given []) ≡ false) ending whole.no_end_due)
+
+      none_unheard : unheard ≡ []
+      none_unheard =
+          let left = behind state (setting_of t limit s0 advertise) turn.asks turn.closes said (turn.given ++ given) after settled turn.said_is
+          (h.used ++ used) unheard whole.given before tail whole.splits.spelled (no_flush tail turn.ends) gave_all count rested in
+          left_by tail turn.ends left.more left.all left.unheard_is left.none
+
+      pub used_all : h.used ++ used ≡ spelled before ++ ((turn.given ++ given) ++ spelled tail)
+      used_all = sym (append-nil (h.used ++ used)) ∙ ap (λ (l : List ℕ). (h.used ++ used) ++ l) (sym none_unheard) ∙ gave_all
+
+      pub at_rest : (more : List EventValue) → AtRest (MayFail state s0) t limit s0 (record h { used = h.used ++ used; events = more })
+      at_rest more =
+          let all = turn.given ++ given in
+          record {
+            first = turn.first all;
+            later = turn.later all;
+            said = λ caps noted. turn.all_said all caps used noted;
+            gave = used_all ∙ turn.gave all;
+            talks = turn.talks all rested.talk;
+            done = all_done (inl waits);
+            answered = turn.answered all rested.done;
+            packets = before ++ (rested.packets ++ tail);
+            packets_are =
+                used_all ∙ ap (λ (l : List ℕ). spelled before ++ (l ++ spelled tail)) rested.given_is
+                ∙ ap (λ (l : List ℕ). spelled before ++ l) (sym (spelled-append rested.packets tail))
+                ∙ sym (spelled-append before (rested.packets ++ tail));
+            counted = omega (
+              arith,
+              flushes-append before (rested.packets ++ tail),
+              flushes-append rested.packets tail,
+              no_flush tail turn.ends,
+              rested.counted,
+              turn.counted,
+            );
+          }
+
+  -- ---- a message that was received
+
+  heard_runs : (broken : Bool) {h : History} (front : List (Request A)) (old new : Client A) {counts : Counts} {server after : Server R A}
+      {end unheard : List ℕ} {o0 o1 o2 p0 p1 p2 : Option (List ℕ)} → Runs t false h front old no_counts (flow o0 o1) (flow p0 p1) → wants_input old ≡ true
+      → (hears : Hears state broken old new no_counts counts server after end unheard (flow o1 o2) (flow p1 p2))
+      → Runs t broken (record h { used = h.used ++ hears.used; events = h.events ++ hears.heard.events }) front new counts (flow o0 o2) (flow p0 p2)
+  heard_runs broken front old new {counts} r due hears =
+      hears_on t broken front old new [] [] r due
+      (record { came = hears.used; used = hears.used; counts = counts; read = tt; parts = sym (append-nil hears.used); bytes = hears.heard })
+
+  -- a play so far, where this holds of the server
+  pub record Plays (StandsBy : History → Server R A → Type 0) (front : List (Request A)) (client : Client A) (server : Server R A) (out pack : Flow)
+      : Type 0 where
+    pub h : History
+    pub runs : Runs t false h front client no_counts out pack
+    pub ready : can_ask client ≡ true
+    pub rest : AtRest (MayFail state s0) t limit s0 h
+    pub stands : StandsBy h server
+
+  -- a message was received whole
+  module _ {advertise : Bool} {before tail : List Pkt} {said : List ℕ} {h : History} {server : Server R A}
+      (turn : Turn advertise before tail said h server) (front : List (Request A)) (old new : Client A) (after : Server R A)
+      {o0 o1 o2 p0 p1 p2 : Option (List ℕ)} (due : wants_input old ≡ true) (r : Runs t false h front old no_counts (flow o0 o1) (flow p0 p1))
+      (step : HearsMessage state (spelled tail) old new server after (flow o1 o2) (flow p1 p2)) where
+    abbrev now : History
+    now = record h { used = h.used ++ step.hears.used; events = h.events ++ step.hears.heard.events }
+
+    pub now_whole : IsConversation t h.asked (h.used ++ step.hears.used) (h.events ++ step.hears.heard.events)
+    now_whole = is_whole t now new (heard_runs false front old new r due step.hears).along.stands step.asks
+
+    pub heard : {StandsBy : History → Server R A → Type 0} → StandsBy now after → Plays StandsBy front new after (flow o0 o2) (flow p0 p2)
+    heard stands = record {
+      h = now;
+      runs = anew t step.asks (heard_runs false front old new r due step.hears);
+      ready = step.asks;
+      rest =
+          at_rest turn after step.hears.given step.hears.used step.unheard step.hears.server_goes step.hears.parts now.events now_whole now.events;
+      stands = stands;
+    }
+
+  module _ (requests : List (Request A)) where
+    -- a message was not received to its end
+    stopped : (fault : RunFault) {advertise : Bool} {before tail : List Pkt} {said : List ℕ} {h : History} (front rest : List (Request A)) (old new : Client A)
+        {server : Server R A} (after : Server R A) {o0 o1 o2 p0 p1 p2 : Option (List ℕ)} → requests ≡ front ++ rest → wants_input old ≡ true
+        → Turn advertise before tail said h server → Runs t false h front old no_counts (flow o0 o1) (flow p0 p1)
+        → HearsMessageTo state (Err fault) (spelled tail) old new server after (flow o1 o2) (flow p1 p2)
+        → PlayEnds t (MayFail state s0) limit s0 requests (Err fault) (flow o0 o2) (flow p0 p2)
+    unfolding served
+    stopped ReadFault front rest old new after split due turn r (ended, counts, none) = absurd none
+    stopped ReadLimit front rest old new after split due turn r (ended, counts, none) = absurd none
+    stopped WriteFault {h = h} front rest old new after split due turn r (ended, counts, (unheard, hears)) =
+        let all = quietly_said t h old r.along.stands (quiet_where_due (phase_of old) due) in
+        let now : History = record h { used = h.used ++ hears.used; events = h.events ++ hears.heard.events } in
+        play_ends t (MayFail state s0) limit s0 requests (Err WriteFault) now front rest new split (ran (heard_runs true front old new r due hears)) (record {
+          said = now;
+          same_used = refl;
+          asked = inl refl;
+          before = h.used;
+          heard = hears.used;
+          cut = refl;
+          all_said = record { caps = all.caps; noted = all.noted; said = all.said };
+          is_served = served turn after hears.given hears.used unheard hears.server_goes hears.parts now.events;
+        })
+    stopped (Refused fault) {h = h} front rest old new after split due turn r (ended, counts, (unheard, step)) =
+        let hears = step.hears in
+        let now : History = record h { used = h.used ++ hears.used; events = h.events ++ hears.heard.events } in
+        let on = heard_runs false front old new r due hears in
+        let quietly = quiet_where_failed (phase_of new) fault step.told in
+        let in_time = late fault.kind ended unheard (IsSpent state after) step.timely step.done in
+        let given = served turn after hears.given hears.used unheard hears.server_goes hears.parts now.events in
+        play_ends t (MayFail state s0) limit s0 requests (Err (Refused fault)) now front rest new split (ran on) (record {
+          first = turn.first (turn.given ++ hears.given);
+          later = turn.later (turn.given ++ hears.given);
           unheard = unheard;
           ended = in_time.ended;
-          fault_is = inl (record { first = first_fault t now new fault stands told; timely = in_time.timely });
-          stays = has_stayed t now new stands quietly;
-          said = has_said t now new stands quietly;
-          served = heard.served;
-          sessions = heard.sessions;
+          fault_is = inl (record { first = first_fault t now new fault on.along.stands step.told; timely = in_time.timely });
+          stays = on.stays;
+          said = quietly_said t now new on.along.stands quietly;
+          served = given.served;
+          sessions = given.sessions;
           done = λ over. (
             (in_time.at_end over).0,
-            (
-              done state (only t limit s0) (questions_of t.format all.caps h.asked) closes h.given (h.used ++ given) after stands_on is (in_time.at_end over).1,
-              All-nil (IsDone (CanFail state s0.failures) (setting_of t limit s0 false)),
-            ),
+            all_done turn after hears.given hears.used unheard hears.server_goes hears.parts (in_time.at_end over).1,
           );
-        }
+        })
 
-    -- a message was heard whole
-    module _ (events : List EventValue) (whole : IsConversation t h.asked (h.used ++ used) events) where
-      heard_count : flushes (packets_of whole.given) ≡ flushes [] + (flushes (questions_of t.format all.caps h.asked) + flushes (advertised (only t limit s0)))
-      heard_count =
-          omega (arith, whole.all_flushes, flushes_nearest whole.given [], questions_count t.format all.caps h.asked, advertises_once (only t limit s0) refl)
+    -- the advertisement was not
+    pub advertising_stopped : (fault : RunFault) (old new : Client A) (server after : Server R A) {o1 o2 p1 p2 : Option (List ℕ)}
+        → wants_input old ≡ true → Converses t nothing_yet old → Stands state (setting_of t limit s0 true) [] [] server
+        → HearsMessageTo state (Err fault) [] old new server after (flow o1 o2) (flow p1 p2)
+        → PlayEnds t (MayFail state s0) limit s0 requests (Err fault) (flow o1 o2) (flow p1 p2)
+    advertising_stopped fault old new server after {o1} {o2} {p1} {p2} due stands st step =
+        stopped fault [] requests old new after refl due (first_turn server st) (begun t old o1 p1 due stands) step
 
-      enough_one : Enough state (only t limit s0) (questions_of t.format all.caps h.asked) closes h.given (h.used ++ given) after stands_on
-          (questions_are t h all stays)
-      enough_one =
-          enough_heard state (only t limit s0) (questions_of t.format all.caps h.asked) closes h.given (h.used ++ given) after stands_on
-          (questions_are t h all stays)
-          (h.used ++ used) unheard whole.given [] [] whole.splits.spelled refl gave_all heard_count
+    -- ---- a request
 
-      pub rests_one : Rests (CanFail state s0.failures) (only t limit s0)
-          (flushes (questions_of t.format all.caps h.asked) + flushes (advertised (only t limit s0))) h.given
-          (h.used ++ given)
-      rests_one =
-          rests state (only t limit s0) (questions_of t.format all.caps h.asked) closes h.given (h.used ++ given) after stands_on
-          (questions_are t h all stays) enough_one
+    module _ {StandsBy : History → Server R A → Type 0} (front later : List (Request A)) (request : Request A) (old new : Client A)
+        (server after : Server R A) {o0 o1 p0 p1 : Option (List ℕ)} (p : Plays StandsBy front old server (flow o0 o1) (flow p0 p1)) where
+      still_served : AreServed t p.h [] p.rest.first p.rest.later
+      still_served = record { said = p.rest.said; gave = append-nil p.h.used ∙ p.rest.gave }
 
-      pub waits_one : waits_for_input after ≡ true
-      waits_one =
-          waits_on state (only t limit s0) (questions_of t.format all.caps h.asked) closes h.given (h.used ++ given) after stands_on
-          (questions_are t h all stays) enough_one
+      -- it was refused, or its line could not be written
+      asking_stopped : (fault : RunFault) (next : Server R A) {o2 : Option (List ℕ)} → requests ≡ front ++ request ∷ later
+          → AsksServerTo state (Err fault) old new request next after (flow o1 o2)
+          → PlayEnds t (MayFail state s0) limit s0 requests (Err fault) (flow o0 o2) (flow p0 p1)
+      asking_stopped ReadFault next split step = absurd step
+      asking_stopped ReadLimit next split step = absurd step
+      asking_stopped WriteFault next split step =
+          let all = quietly_said t p.h old p.runs.along.stands (quiet_where_ready (phase_of old) p.ready) in
+          play_ends t (MayFail state s0) limit s0 requests (Err WriteFault) _ (front ++ request ∷ []) later new
+          (split ∙ sym (append_assoc front (request ∷ []) later)) (ran (asks_on t true front old new request no_counts [] p.runs p.ready step)) (record {
+            said = p.h;
+            same_used = refl;
+            asked = inr (asked_of request, refl);
+            before = p.h.used;
+            heard = [];
+            cut = sym (append-nil p.h.used);
+            all_said = record { caps = all.caps; noted = all.noted; said = all.said };
+            is_served = record { first = p.rest.first; later = p.rest.later; unheard = []; served = still_served; sessions = p.rest.talks };
+          })
+      asking_stopped (Refused fault) next split (step, same) =
+          let stands = p.runs.along.stands in
+          play_ends t (MayFail state s0) limit s0 requests (Err (Refused fault)) p.h front (request ∷ later) old split (ran_unasked t p.runs step) (record {
+            first = p.rest.first;
+            later = p.rest.later;
+            unheard = [];
+            ended = false;
+            fault_is = inr (refused_next t p.h later request old new fault stands p.ready step);
+            stays = p.runs.stays;
+            said = quietly_said t p.h old stands (quiet_where_ready (phase_of old) p.ready);
+            served = still_served;
+            sessions = p.rest.talks;
+            done = λ no. absurd (cc);
+          })
 
-      pub none_unheard : unheard ≡ []
-      none_unheard =
-          let left = behind state (only t limit s0) (questions_of t.format all.caps h.asked) closes h.given (h.used ++ given) after stands_on
-          (questions_are t h all stays)
-          (h.used ++ used) unheard whole.given [] [] whole.splits.spelled refl gave_all heard_count rests_one in
-          nothing_unheard [] rests_one.packets (packets_of whole.given) left.more unheard (inl refl) rests_one.closed left.all left.unheard_is left.none
-
-      pub used_all : h.used ++ given ≡ h.used ++ used
-      used_all =
-          sym (append-nil (h.used ++ given)) ∙ sym gave_all ∙ ap (λ (l : List ℕ). (h.used ++ used) ++ l) none_unheard ∙ append-nil (h.used ++ used)
+      -- it was not answered
+      pub answer_stopped : (fault : RunFault) (next : Server R A) {advertise : Bool} {before tail : List Pkt} {o2 p2 : Option (List ℕ)}
+          → requests ≡ front ++ request ∷ later
+          → ((asking : Client A) (told : Server R A) (written : Option (List ℕ)) (step : AsksServer state old asking request next told (flow o1 written))
+          → (said : List ℕ)
+          × Turn advertise before tail said (record p.h { asked = p.h.asked ++ asked_of request ∷ []; given = p.h.given ++ step.asks.given }) told)
+          → AnswersTo state (Err fault) (spelled tail) old new request next after (flow o1 o2) (flow p1 p2)
+          → PlayEnds t (MayFail state s0) limit s0 requests (Err fault) (flow o0 o2) (flow p0 p2)
+      answer_stopped fault next split turns (inl a) =
+          let (said, turn) = turns a.asking a.told a.written a.asks in
+          stopped fault (front ++ request ∷ []) later a.asking new after (split ∙ sym (append_assoc front (request ∷ []) later)) a.asks.waits turn
+          (asks_on t false front old a.asking request no_counts [] p.runs p.ready a.asks.asks) a.hears
+      answer_stopped fault next {o2 = o2} split turns (inr (step, same)) =
+          subst (λ (p2 : Option (List ℕ)). PlayEnds t (MayFail state s0) limit s0 requests (Err fault) (flow o0 o2) (flow p0 p2)) (sym same)
+          (asking_stopped fault next split step)

@@ -1,4 +1,4 @@
--- A server of a play: how it stands to what was said to it, by how many messages it gave.
+-- A server of a play: what holds of it and of what was sent to it, by how many messages it gave.
 use Rattle.std.proofs.Common.{arith, ◌≡◌, ◌⊎◌, inl, inr, ℕ, zero, suc, ◌+◌, ◌≤◌, ◌<◌, true, false, not, List, [], ◌∷◌, ◌++◌, Option, Some, None}
 use Rattle.std.proofs.Common.{refl, sym, ap, ◌∙◌, subst, append_assoc, append-nil}
 use Rattle.std.proofs.lemmas.Bool.{cases_lt}
@@ -30,7 +30,7 @@ spelled-append ps qs = flat_map-append spelling_of ps qs
 abbrev pub talk_of : List ℕ → List ℕ → Talk
 talk_of said given = record { said = said; given = given }
 
--- all was given that is due for what was said
+-- all was given that is due for what was sent
 pub record Rests (Fails : Type 0) (s : Setting) (count : ℕ) (said given : List ℕ) : Type 0 where
   pub talk : IsTalk Fails s (talk_of said given)
   pub done : IsAnswered s said given
@@ -113,7 +113,7 @@ module _ {R A : Type 0} (state : R → RepoState) (s : Setting) (qs : List Pkt) 
   pub gave : Gave
   gave = gave_by (outcome_of server) refl st.runs.stands
 
-  -- a pack was given up after a read that failed
+  -- a pack was lost after a read that failed
   lost_for : (outcome : Outcome) → outcome_of server ≡ Some outcome → IsLostFor (CanFail state s.failures) outcome
   lost_for outcome some lost = (repo_of server, st.runs.failures.risen (subst IsPackLost (sym some) lost))
 
@@ -172,7 +172,7 @@ module _ {R A : Type 0} (state : R → RepoState) (s : Setting) (qs : List Pkt) 
         counted = omega (arith, many, so_far.few, ap flushes same);
       }
 
-  -- ---- as far as a client heard it: after whole messages, with a packet behind
+  -- ---- as far as a client received it: after whole messages, with a packet after them
 
   module _ (heard unheard : List ℕ) (gs : List Given) (before tail : List Pkt) (spells : SpellsAll 0 heard gs []) (no_flush : flushes tail ≡ 0)
       (parts : heard ++ unheard ≡ spelled before ++ (given ++ spelled tail))
@@ -228,7 +228,7 @@ nothing_unheard before ps front more unheard first second all is none =
     let closed = closes_both before (ps ++ []) first (closes_both ps [] second (inl refl)) in
     is ∙ ap spelled (ends_closed (before ++ (ps ++ [])) closed front more all none)
 
--- ---- with a response end behind
+-- ---- with a response end after the message
 
 -- a flush and a response end: with the first goes the second
 end_or_nothing : (f front more : List Pkt) → (f ++ flush ∷ []) ++ resp_end ∷ [] ≡ front ++ more → flushes more ≡ 0
@@ -262,7 +262,7 @@ ends_due gs f e many =
     let (r, is) = nearest_last gs [] f flush e in
     ap (is_end_due ResponseEnd) is ∙ not_zero (flushes r) (omega (arith, many, flushes_nearest gs [], ap flushes is))
 
--- where a message ends with a flush, and a response end comes behind, a client that owes no response end has heard it
+-- where a message ends with a flush, and a response end comes after it, a client that waits for no response end has received it
 pub no_end_unheard : (before ps : List Pkt) (gs : List Given) (more : List Pkt) (unheard : List ℕ) → LastFlush ps
     → before ++ (ps ++ resp_end ∷ []) ≡ packets_of gs ++ more → unheard ≡ spelled more → flushes more ≡ 0 → 1 < flushes (packets_of gs)
     → is_end_due ResponseEnd (nearest gs []) ≡ false → unheard ≡ []

@@ -1,4 +1,4 @@
--- A packet said to a server, piece by piece.
+-- A packet sent to a server, piece by piece.
 use Rattle.std.proofs.Common.{arith, ◌≡◌, ◌≢◌, ℕ, suc, ◌+◌, ◌-◌, ◌<◌, ◌≤◌, Bool, true, false}
 use Rattle.std.proofs.Common.{cond, length, take, drop, min, List, [], ◌∷◌, ◌++◌, Some}
 use Rattle.std.proofs.Common.{refl, sym, ap, ◌∙◌, subst, append_assoc, append-nil, length-drop, take-append-drop, inl, inr}
@@ -59,7 +59,7 @@ some_left [] ys some none = some refl
 some_left (x ∷ xs) ys some none = cc
 
 module _ {R A : Type 0} (state : R → RepoState) where
-  -- a server stands so while a packet is said to it, of which this is left
+  -- what holds of a server while a packet is sent to it, of which this is left
   pub record Telling (s : Setting) (said given left : List ℕ) (server : Server R A) : Type 0 where
     pub used : List ℕ
     pub unused : List ℕ

@@ -1,4 +1,4 @@
--- What a play tells that ended well.
+-- What a play gives that ended well.
 use Rattle.std.proofs.Common.{arith, ◌≡◌, inl, ℕ, Bool, true, false, All, flat_map, map, List, [], ◌∷◌, ◌++◌, Option, IfSome, Ok}
 use Rattle.std.proofs.Common.{refl, ap, sym, ◌∙◌, subst}
 use Rattle.std.specs.List.{filter_map}
@@ -13,11 +13,12 @@ use Rattle.git_msg.specs.declared.arguments.Command.TheVariants.{LsRefs, Fetch, 
 use Rattle.git_msg.specs.declared.offers.Caps.{Caps}
 use Rattle.git_msg.specs.declared.requests.Request.{Request}
 use Rattle.git_msg.specs.Advertisement.{everything, noted_of, takes_command}
-use Rattle.git_msg.specs.Arguments.{Arg, IsNameIn, IsValue, deepen, deepen_not, deepen_relative, deepen_since, have, is_offered, object_id, shallow, want_ref}
-use Rattle.git_msg.specs.Asked.{Asked, HasValues, arguments_in, fetch, have_in, haves_of, ls_refs, object_id_in, object_info, oids_of}
+use Rattle.git_msg.specs.Arguments.{Arg, IsNameIn, IsValue, MayFollow, Value, Word, have, id_value, is_offered, object_id, row}
+use Rattle.git_msg.specs.Asked.{Asked, HasValues, arguments_in, fetch, haves_of, id_in, ls_refs, object_info, oids_of}
 use Rattle.git_msg.specs.HeldRequest.{asked_of, format_of}
 use Rattle.git_msg.specs.Lines.{IsFormatMeant}
 use Rattle.git_msg.proofs.ArgumentsInOrder.{arguments_in_order}
+use Rattle.git_msg.proofs.FoundParts.{All-filter_map}
 use Rattle.git_msg.proofs.RoundTrip.{meant_when_said}
 use Rattle.git_msg.proofs.WholeRequests.{lines_have_no_flush}
 use Rattle.git_client.specs.Client.{History, questions_of, said_of, spelled}
@@ -35,21 +36,22 @@ use Rattle.git_server.specs.Sessions.{AreAnswers, IsAnswered, Setting, Stream}
 use Rattle.git_server.proofs.Sent.{spelled_both}
 use Rattle.git2show_lib.specs.Plays.{IsWholePlay, Played, Talk, said_each, setting_of, with_end}
 use Rattle.git2show_lib.specs.ToldAnswers.{AsksIn, CanBeWritten, told_all, told_offer, told_play}
-use Rattle.git2show_lib.proofs.FoundParts.{All-filter_map}
 use Rattle.git2show_lib.proofs.HearingOffers.{advertisement_stays, format_meant, lines_said, nearest_offer, offer_heard, offer_whole}
 use Rattle.git2show_lib.proofs.HearingSessions.{AreEnded, all_heard, cut_at, ended_by_flush}
 use Rattle.git2show_lib.proofs.RequestsHeard.{HaveValues, IsLeft, IsTail, requests_are, written_all}
 use Rattle.git2show_lib.proofs.SpelledPackets.{are_spelled, fit_both, fit_front, front_are, packets_are, requests_fit}
 
--- ---- the object names of a question that an answer repeats
+-- ---- the object names of a request that an answer repeats
 
-have_named : (format : Format) (arg : Arg) → IsValue Fetch format arg → IfSome (have_in arg) (IsNameIn format)
-have_named format (have name) value = value.1
-have_named format arg value = tt
+have_named : (format : Format) (word : Word) (value : Value) → MayFollow (row word).shape format value
+    → IfSome (id_in have (record { word = word; value = value })) (IsNameIn format)
+have_named format have (id_value name) fits = fits
+have_named format word value fits = tt
 
-object_named : (format : Format) (arg : Arg) → IsValue ObjectInfo format arg → IfSome (object_id_in arg) (IsNameIn format)
-object_named format (object_id name) value = value.1
-object_named format arg value = tt
+object_named : (format : Format) (word : Word) (value : Value) → MayFollow (row word).shape format value
+    → IfSome (id_in object_id (record { word = word; value = value })) (IsNameIn format)
+object_named format object_id (id_value name) fits = fits
+object_named format word value fits = tt
 
 -- the values that are object names of the format
 names_in : (format : Format) (command : Command) (named : Arg → Option ObjectName)
@@ -62,10 +64,10 @@ asks_in : (format : Format) (q : Asked) → HasValues format q → AsksIn format
 asks_in format (ls_refs q) values = tt
 asks_in format (fetch q) values =
     subst (All (IsNameIn format)) (ap haves_of (arguments_in_order (fetch q)))
-    (names_in format Fetch have_in (have_named format) (arguments_in (fetch q)) values)
+    (names_in format Fetch (id_in have) (λ arg value. have_named format arg.word arg.value value.1) (arguments_in (fetch q)) values)
 asks_in format (object_info q) values =
     subst (All (IsNameIn format)) (ap oids_of (arguments_in_order (object_info q)))
-    (names_in format ObjectInfo object_id_in (object_named format) (arguments_in (object_info q)) values)
+    (names_in format ObjectInfo (id_in object_id) (λ arg value. object_named format arg.word arg.value value.1) (arguments_in (object_info q)) values)
 
 -- ---- what a server reads that offers everything
 
@@ -74,14 +76,12 @@ takes_all format LsRefs = refl
 takes_all format Fetch = refl
 takes_all format ObjectInfo = refl
 
+offers_word : (format : Format) (word : Word) → (row word).offered (everything format) ≡ true
+offers_word format have = refl
+offers_word format word = refl
+
 offers_all : (format : Format) (arg : Arg) → is_offered (everything format) arg ≡ true
-offers_all format (shallow id) = refl
-offers_all format (deepen depth) = refl
-offers_all format deepen_relative = refl
-offers_all format (deepen_since time) = refl
-offers_all format (deepen_not revision) = refl
-offers_all format (want_ref name) = refl
-offers_all format arg = refl
+offers_all format arg = offers_word format arg.word
 
 -- the requests that it reads of written requests are those
 stream_asks : (format : Format) (ending : Ending) (limit : ℕ) (state : RepoState) (advertise says_agent says_format : Bool) (asked others : List Asked)
@@ -99,7 +99,7 @@ stream_asks format ending limit state advertise says_agent says_format asked oth
 spelled_alone : (bytes : List ℕ) (ps : List Pkt) → bytes ≡ spelled ps → bytes ≡ spelled (ps ++ [])
 spelled_alone bytes ps e = e ∙ ap spelled (sym (append-nil ps))
 
--- ---- what a client notes and hears
+-- ---- what a client notes and receives
 
 -- a whole conversation has its events
 heard_so : (t : Terms) (asked : List Asked) (used : List ℕ) (events : List EventValue) (c : IsConversation t asked used events)
@@ -114,7 +114,7 @@ heard_so t asked used events c = record {
   stops = tt;
 }
 
--- what was advertised says that the format is meant
+-- what was advertised names the format that is meant
 meant_after : (t : Terms) (asked : List Asked) (used more : List ℕ) (events : List EventValue) (caps : Caps) → IsConversation t asked used events
     → HasNoted t asked used caps → AllFit (server_says (everything t.format)) → used ≡ spelled (server_says (everything t.format)) ++ more
     → IsFormatMeant t.format caps.object_format
@@ -131,7 +131,7 @@ meant_after t asked used more events caps c noted fit e =
     ∙ ap (λ (l : List Pkt). noted_of (advertisement_of l)) order ∙ ap noted_of (advertisement_stays back said refl) in
     format_meant t.format caps.object_format (ap (λ (k : Caps). k.object_format) same)
 
--- what is heard of the advertisement and the answers is what they tell
+-- what is received of the advertisement and the answers is what they give
 events_told : (t : Terms) (repo : Repository) (asked : List Asked) (answers : List Pkt) (used : List ℕ) (events : List EventValue) → IsSound repo
     → CanBeWritten repo → repo.format ≡ t.format → All (HasValues t.format) asked → AreEnded t.ending repo asked answers
     → AllFit (server_says (everything t.format) ++ answers) → used ≡ spelled (server_says (everything t.format) ++ answers)
@@ -155,7 +155,7 @@ events_told t repo asked answers used events sound written same values are fit e
 
 -- ---- each ending
 
--- the values of a question may stand there, where its object names have some format
+-- the values of a request are allowed there, where its object names have some format
 abbrev HasOwn : Asked → Type 0
 HasOwn q = (format : Format) × HasValues format q
 

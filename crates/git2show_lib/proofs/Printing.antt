@@ -1,4 +1,4 @@
--- Packets printed one after another, and what that comes to.
+-- Packets printed one after another, and what that results in.
 use Rattle.std.proofs.Common.{◌≡◌, ℕ, ◌+◌, ◌-◌, ◌<◌, ◌≤◌, Bool, true, false, List, [], ◌∷◌, ◌++◌, length, take, drop, Option, Some, None}
 use Rattle.std.proofs.Common.{Result, Ok, Err, IfErr, IsErrAnd, MatchResult, OnOk, arith, ap, sym, ◌∙◌, refl, subst, append_assoc, append-nil}
 use Rattle.std.proofs.Common.{length-drop, take-append-drop, zero-add}

@@ -1,6 +1,6 @@
 -- A server reads of what a client wrote just the requests that were written.
 use Rattle.std.proofs.Common.{arith, ◌≡◌, ◌≢◌, ◌⊎◌, inl, inr, ℕ, ◌+◌, ◌≤◌, Bool, true, false, All, flat_map, List, [], ◌∷◌, ◌++◌, codes, refl}
-use Rattle.std.proofs.Common.{ap, sym, ◌∙◌, subst, append_assoc}
+use Rattle.std.proofs.Common.{ap, sym, ◌∙◌, subst, append_assoc, get_or}
 use Rattle.std.proofs.lemmas.List.{map-append}
 use Rattle.std.proofs.lemmas.List.Elements.{All-cons, All-head, All-nil, All-tail}
 use Rattle.git_names.specs.declared.object_format.Format.{Format}
@@ -54,7 +54,8 @@ module _ (offer : Offer) (says_agent says_format : Bool) (meant : IsFormatMeant 
       → packets_of gs ≡ lines_written says_agent says_format offer.format q → Asks offer limit gs other kept → other ≡ q
   one_written limit kept q other gs values e a =
       let most = limit + written_bytes q in
-      let r = lines_read_back offer most says_agent says_format q gs meant (takes (command_asked q)) values (λ k d within. offers _) (omega arith) e in
+      let r = lines_read_back offer most says_agent says_format q gs meant (takes (command_asked q)) values
+      (λ k d within. offers (get_or (arguments_in q) k d)) (omega arith) e in
       let fronts = fronts_same a.front r.front a.last r.last (sym a.whole ∙ r.whole) in
       let lines : a.lines ≡ r.lines =
       one_list_of_lines offer most [] r.front a.lines r.lines
@@ -170,7 +171,7 @@ no_request_left left line front back (inr stop) e =
     let same : payload line ≡ stop.last.packet = cc in
     no_flush line (same ∙ stop.ends)
 
--- the values of each request may stand there, where its object names have some format
+-- the values of each request are allowed there, where its object names have some format
 abbrev pub HaveValues : List Asked → Type 0
 HaveValues asked = All (λ q. (format : Format) × HasValues format q) asked
 

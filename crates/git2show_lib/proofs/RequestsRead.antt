@@ -1,4 +1,4 @@
--- The next request, read a piece at a time: what all pieces so far come to, and what each end of the reading says of them.
+-- The next request, read a piece at a time: what all pieces so far result in, and what each end of the reading states of them.
 use Rattle.std.proofs.Common.{arith, ◌≡◌, ℕ, ◌-◌, ◌≤◌, Bool, true, false, List, [], ◌++◌, length, take, drop, Option, None, Result, Ok, Err}
 use Rattle.std.proofs.Common.{IsErrAnd, inl, inr, refl, sym, ap, ◌∙◌, subst, append_assoc, append-nil, length-append, length-drop, take-append-drop}
 use Rattle.std.proofs.Math.Seq.{drop-length}
@@ -114,7 +114,7 @@ module _ {A : Type 0} where
             alone = λ bytes known h. (h.left, h.rest, asked_so_far h, nothing_begun h between shut);
           })
 
-      -- they end in a flush in the place of a request
+      -- they end in a flush instead of a request
       pub fed_stop : {ended : Bool} → read.got ≡ Stop → Feeds middle unused read new → ReadsNoMore ended old new waiting (flow before left)
       fed_stop is feeds =
           let news = feeds_with read is feeds in

@@ -27,7 +27,7 @@ upto_blank (blank ∷ lines) = refl
 upto_blank (command c ∷ lines) = refl
 upto_blank (argument arg ∷ lines) = ap (λ (args : List Arg). arg ∷ args) (upto_blank lines)
 
--- an empty line says no request
+-- an empty line contains no request
 pub requests_blank : (format : Format) (limit : ℕ) (lines : List ScriptLine) → requests_in format limit (lines ++ blank ∷ []) ≡ requests_in format limit lines
 requests_blank format limit [] = refl
 requests_blank format limit (blank ∷ lines) = requests_blank format limit lines
@@ -42,7 +42,7 @@ upto_command (blank ∷ lines) c more = refl
 upto_command (command d ∷ lines) c more = refl
 upto_command (argument arg ∷ lines) c more = ap (λ (args : List Arg). arg ∷ args) (upto_command lines c more)
 
--- a command begins a request, whatever stands before it
+-- a command begins a request, whatever comes before it
 pub requests_cut : (format : Format) (limit : ℕ) (lines : List ScriptLine) (c : Command) (more : List ScriptLine)
     → requests_in format limit (lines ++ command c ∷ more)
     ≡ requests_in format limit lines ++ (request_of format limit c (arguments_upto more) ∷ requests_in format limit more)

@@ -27,7 +27,7 @@ cut_shorter text = elim (text_loses_a_line_end text) [
 pub room_at_all : (text cut : List ℕ) → cut ≡ text_of text → 0 + bytes_left (Some cut) ≤ length text + 1
 room_at_all text cut is = omega (arith, cut_shorter text, ap length is)
 
--- and so do those behind it
+-- and so do those after it
 pub room_behind : (most line : ℕ) (left : List ℕ) (rest : Option (Bor (List ℕ))) → line + (length left + 1) ≤ most + 1
     → MatchOption rest (Unit {0}) (λ r. length r.now < length left) → line + 1 + bytes_left (option_copied rest) ≤ most + 1
 room_behind most line left None room h = omega (arith, room)

@@ -1,4 +1,4 @@
--- Each request of a script has values that may stand in it.
+-- Each request of a script has values that are allowed in it.
 use Rattle.std.proofs.Common.{◌≡◌, ℕ, List, [], ◌∷◌, Option, Some, refl, sym, subst, All}
 use Rattle.std.proofs.lemmas.List.Elements.{All-cons, All-nil}
 use Rattle.git_msg.specs.declared.offers.Offer.{Offer}
@@ -18,7 +18,7 @@ module _ (offer : Offer) (limit : ℕ) where
   abbrev Has : Kept Asked → Type 0
   Has q = HasValues q.format q.asked
 
-  -- the arguments of the request that is open may stand in it
+  -- the arguments of the request that is open are allowed in it
   values_upto : (c : Command) (before : List ScriptLine) (texts : List (List ℕ)) (lines : List ScriptLine) → FollowAll offer limit before texts lines
       → open_after before ≡ Some c → All (IsValue c offer.format) (arguments_upto lines)
   values_upto c before [] [] h is = All-nil (IsValue c offer.format)

@@ -14,36 +14,21 @@ use Rattle.git_msg.specs.declared.offers.Offer.{Offer}
 use Rattle.git_msg.specs.declared.arguments.Command.{Command}
 use Rattle.git_msg.specs.declared.arguments.Command.TheVariants.{LsRefs, Fetch, ObjectInfo}
 use Rattle.git_msg.specs.declared.requests.Request.{Request}
-use Rattle.git_msg.specs.Arguments.{Arg, ref_prefix, want, have, shallow, deepen, deepen_since, deepen_not, filter_spec, want_ref, object_id}
-use Rattle.git_msg.specs.Arguments.{IsArgumentFault, IsInRange, ReadsAs, SaysArgument, name_of, stored_in, written_text}
+use Rattle.git_msg.specs.Arguments.{Arg, IsArgumentFault, IsInRange, ReadsAs, name_of, stored_in, written_text}
 use Rattle.git_msg.specs.Asked.{Asked, asked_by, nothing_asked, with_argument}
 use Rattle.git_msg.specs.Checks.{Passes, Refuses}
 use Rattle.git_msg.specs.HeldRequest.{IsEmpty, Keeps, add_checks, command_of, format_of, holding_of, limit_of}
 use Rattle.git_msg.specs.Kept.{IsNew, Kept, KeepsArgument}
 use Rattle.git_msg.proofs.ArgumentsInOrder.{asked_snoc}
+use Rattle.git_msg.proofs.AskedValues.{says_in_range}
 use Rattle.git_msg.proofs.Rows.{argument_or_fault, one_argument}
 use Rattle.git_msg.proofs.Values.{added_or_refused}
-use Rattle.git_msg.proofs.WrittenNames.{named_in}
 use Rattle.git_repository.specs.declared.text_faults.LineFault.{LineFault}
 use Rattle.git_repository.specs.declared.text_faults.LineFault.TheVariants.{Refused, OutOfMemory}
 use Rattle.git2show_lib.specs.Scripts.{ScriptLine, blank, command, argument, MayFollow, kept_after, nearest, open_after, request_of, requests_in}
 use Rattle.git2show_lib.specs.HeldScripts.{Held, AddsArgument, Begins, FitsIn, GoesOn, HasOpen, Holds, IsBeginFault, IsLineFault, IsOpenAs, TakesLine}
 use Rattle.git2show_lib.specs.HeldScripts.{nothing_held, with_requests}
 use Rattle.git2show_lib.proofs.ScriptLists.{Cut, cut_of, nearest_more, requests_blank, requests_cut, requests_of_cut}
-
--- an argument that a text says may stand in a request
-in_range : (format : Format) (text : List ℕ) (arg : Arg) → SaysArgument format text arg → IsInRange format arg
-in_range format text (ref_prefix prefix) h = h.1
-in_range format text (want id) h = named_in format h.value id h.holds
-in_range format text (have id) h = named_in format h.value id h.holds
-in_range format text (shallow id) h = named_in format h.value id h.holds
-in_range format text (deepen depth) h = h.holds.in_range
-in_range format text (deepen_since time) h = h.holds.in_range
-in_range format text (deepen_not revision) h = h.1
-in_range format text (filter_spec spec) h = h.1
-in_range format text (want_ref name) h = h.1
-in_range format text (object_id id) h = named_in format h.value id h.holds
-in_range format text arg h = tt
 
 module _ {X : Type 0} where
   pub last_item : (items others : List X) (last d : X) → items ≡ others ++ last ∷ [] → get_or items (length items - 1) d ≡ last
@@ -109,7 +94,7 @@ module _ {A : Type 0} where
   fits_passes : (offer : Offer) (last : Request A) (text : List ℕ) (arg : Arg) → format_of last ≡ offer.format → FitsIn offer last text arg
       → Passes (add_checks last arg)
   fits_passes offer last text arg format h =
-      let range = in_range offer.format text arg h.reads.is_argument.1 in
+      let range = says_in_range offer.format text arg h.reads.is_argument.1 in
       ((h.reads.is_argument.0, subst (λ (f : Format). IsInRange f arg) (sym format) range), (h.fits, tt))
 
   -- where the checks refuse the argument that a text is, no argument that fits is this text
@@ -218,7 +203,7 @@ module _ {A : Type 0} where
         fits = omega (arith, may.fits, o.kept_is, last_limit lines held h o);
       }
 
-  -- what the lines say with an argument more
+  -- what the lines contain with an argument more
   requests_more : (lines : List ScriptLine) (held : Held A) (arg : Arg) (request : Request A) (h : Holds lines held) (o : HasOpen lines held.requests)
       → Keeps o.last arg (length (written_text arg)) request
       → map holding_of (o.others ++ request ∷ []) ≡ requests_in held.offer.format held.limit (lines ++ argument arg ∷ [])

@@ -1,15 +1,16 @@
 -- One thing after another goes through a buffer.
-use Rattle.std.proofs.Common.{length, ◌≡◌, ℕ, List, [], ◌++◌, Option, ap, sym, ◌∙◌, subst, append_assoc, append-nil}
+use Rattle.std.proofs.Common.{length, ◌≡◌, ℕ, List, [], ◌++◌, Option, Result, Ok, Err, IsErrAnd, ap, sym, ◌∙◌, subst, append_assoc, append-nil}
 use Rattle.std.proofs.lemmas.List.{nil_from_length}
-use Rattle.std.proofs.KnownBytes.{Appends-nil, Appends-trans}
-use Rattle.git_pkt.specs.Told.{AppendsFront}
+use Rattle.git_pkt.specs.Told.{AppendsFront, inner_of}
+use Rattle.git_pkt.specs.Escape.{escaped_of}
+use Rattle.git_pkt.specs.Sends.{Puts}
+use Rattle.git_pkt.specs.declared.fault.RunFault.{RunFault}
+use Rattle.git_pkt.specs.declared.told.Told.{Told}
 use Rattle.git_pkt.proofs.EngineLemmas.{AppendsFront-after, AppendsFront-longer}
 use Rattle.git_pkt.proofs.Escapes.{escaped-append}
-use Rattle.git_pkt.specs.Escape.{escaped_of}
+use Rattle.git_pkt.proofs.Sends.{puts_waiting, puts_then, puts_front}
+use Rattle.std.proofs.KnownBytes.{Appends-trans}
 use Rattle.git2show_lib.specs.LineBuffer.{Emits, EmitsFront}
-
-pub emits_nothing : (held : Option (List ℕ)) (before : List ℕ) → Emits held held before [] before
-emits_nothing held before = record { sent = []; written = Appends-nil held; all = append-nil before }
 
 pub emits_then : (a b c : Option (List ℕ)) (x bytes y more z : List ℕ) → Emits a b x bytes y → Emits b c y more z → Emits a c x (bytes ++ more) z
 emits_then a b c x bytes y more z one two = record {
@@ -20,56 +21,65 @@ emits_then a b c x bytes y more z one two = record {
       ∙ ap (λ (l : List ℕ). one.sent ++ l) two.all ∙ sym (append_assoc one.sent two.sent z);
 }
 
--- a head, and the escapes of a body
-pub head_and_body : (a b c : Option (List ℕ)) (x y z head shown body : List ℕ) → shown ≡ body → Emits a b x head y → Emits b c y (escaped_of shown) z
-    → Emits a c x (head ++ escaped_of body) z
-head_and_body a b c x y z head shown body e began went =
-    subst (λ (l : List ℕ). Emits a c x (head ++ escaped_of l) z) e (emits_then a b c x head y (escaped_of shown) z began went)
-
 pub front_after : (a b c : Option (List ℕ)) (x bytes y more : List ℕ) → Emits a b x bytes y → EmitsFront b c y more → EmitsFront a c x (bytes ++ more)
 front_after a b c x bytes y more one two =
     let same : one.sent ++ (y ++ more) ≡ x ++ (bytes ++ more) =
     sym (append_assoc one.sent y more) ∙ ap (λ (l : List ℕ). l ++ more) (sym one.all) ∙ append_assoc x bytes more in
     subst (λ (l : List ℕ). AppendsFront a c l) same (AppendsFront-after a b c one.sent (y ++ more) one.written two)
 
-pub front_longer : (a b : Option (List ℕ)) (x bytes more : List ℕ) → EmitsFront a b x bytes → EmitsFront a b x (bytes ++ more)
-front_longer a b x bytes more one =
-    subst (λ (l : List ℕ). AppendsFront a b l) (append_assoc x bytes more) (AppendsFront-longer a b (x ++ bytes) more one)
+module _ {W : Type 0} {contents : W → Option (List ℕ)} where
+  -- what was put into the buffer, and what was sent of it
+  pub emits_by : {T : Type 0} {a b : Told W} {s u t : List ℕ} {x : T} → Puts contents a s u (Ok x) b t
+      → Emits (contents (inner_of a)) (contents (inner_of b)) s u t
+  emits_by {s = s} {u = u} puts = record {
+    sent = puts.sent;
+    written = puts.sends.ok;
+    all = puts.all ∙ ap (λ (l : List ℕ). puts.sent ++ l) (sym puts.waits);
+  }
 
--- a failed write of what waited is a failure of what was to come
-pub front_before : (a b : Option (List ℕ)) (x more : List ℕ) → AppendsFront a b x → EmitsFront a b x more
-front_before a b x more one = AppendsFront-longer a b x more one
+  pub front_by : {T : Type 0} {a c : Told W} {s u t : List ℕ} {fault : RunFault} → Puts {T = T} contents a s u (Err fault) c t
+      → EmitsFront (contents (inner_of a)) (contents (inner_of c)) s u
+  front_by {a = a} {c = c} puts =
+      subst (λ (l : List ℕ). AppendsFront (contents (inner_of a)) (contents (inner_of c)) l) (sym puts.all)
+      (AppendsFront-longer (contents (inner_of a)) (contents (inner_of c)) puts.sent puts.rest puts.sends.err)
+
+  -- a head, and the escapes of a body
+  pub head_and_body : {S T : Type 0} {a b c : Told W} {s t x head shown body : List ℕ} {y : S} {result : Result T RunFault} → shown ≡ body
+      → Puts contents a s head (Ok y) b t → Puts contents b t (escaped_of shown) result c x → Puts contents a s (head ++ escaped_of body) result c x
+  head_and_body {a = a} {c = c} {s = s} {x = x} {head = head} {result = result} e began went =
+      subst (λ (l : List ℕ). Puts contents a s (head ++ escaped_of l) result c x) e (puts_then began went)
 
 -- ---- a loop over the pieces of bytes: those that came so far have gone through the buffer, escaped, and the rest has not
 
-pub record EscapesTo (held_before held_after : Option (List ℕ)) (before bytes after rest : List ℕ) : Type 0 where
+pub record EscapesTo {W : Type 0} (contents : W → Option (List ℕ)) (old new : Told W) (before bytes after rest : List ℕ) : Type 0 where
   pub done : List ℕ
   pub parts : done ++ rest ≡ bytes
-  pub emits : Emits held_before held_after before (escaped_of done) after
+  pub puts : Puts {T = Unit {0}} contents old before (escaped_of done) (Ok tt) new after
 
-pub escapes_begin : (held : Option (List ℕ)) (before bytes rest : List ℕ) → rest ≡ bytes → EscapesTo held held before bytes before rest
-escapes_begin held before bytes rest all = record { done = []; parts = all; emits = emits_nothing held before }
+module _ {W : Type 0} {contents : W → Option (List ℕ)} where
+  pub escapes_begin : {old : Told W} {before bytes rest : List ℕ} → rest ≡ bytes → EscapesTo contents old old before bytes before rest
+  escapes_begin {before = before} all = record { done = []; parts = all; puts = puts_waiting (sym (append-nil before)) }
 
-module _ (a b c : Option (List ℕ)) (x bytes y left piece rest : List ℕ) (so_far : EscapesTo a b x bytes y left) (cut : left ≡ piece ++ rest) where
-  pub escapes_on : (z : List ℕ) → Emits b c y (escaped_of piece) z → EscapesTo a c x bytes z rest
-  escapes_on z next = record {
-    done = so_far.done ++ piece;
-    parts = append_assoc so_far.done piece rest ∙ ap (λ (l : List ℕ). so_far.done ++ l) (sym cut) ∙ so_far.parts;
-    emits = subst (λ (l : List ℕ). Emits a c x l z) (sym (escaped-append so_far.done piece))
-        (emits_then a b c x (escaped_of so_far.done) y (escaped_of piece) z so_far.emits next);
-  }
+  module _ {a b c : Told W} {x bytes y z left : List ℕ} (piece rest : List ℕ) (so_far : EscapesTo contents a b x bytes y left)
+      (cut : left ≡ piece ++ rest) where
+    pub escapes_on : Puts {T = Unit {0}} contents b y (escaped_of piece) (Ok tt) c z → EscapesTo contents a c x bytes z rest
+    escapes_on next = record {
+      done = so_far.done ++ piece;
+      parts = append_assoc so_far.done piece rest ∙ ap (λ (l : List ℕ). so_far.done ++ l) (sym cut) ∙ so_far.parts;
+      puts = subst (λ (l : List ℕ). Puts {T = Unit {0}} contents a x l (Ok tt) c z) (sym (escaped-append so_far.done piece)) (puts_then so_far.puts next);
+    }
 
-  pub escapes_front : EmitsFront b c y (escaped_of piece) → EmitsFront a c x (escaped_of bytes)
-  escapes_front next =
-      let whole : escaped_of so_far.done ++ (escaped_of piece ++ escaped_of rest) ≡ escaped_of bytes =
-      ap (λ (l : List ℕ). escaped_of so_far.done ++ l) (sym (escaped-append piece rest) ∙ ap escaped_of (sym cut))
-      ∙ sym (escaped-append so_far.done left) ∙ ap escaped_of so_far.parts in
-      subst (λ (l : List ℕ). EmitsFront a c x l) whole
-      (front_after a b c x (escaped_of so_far.done) y (escaped_of piece ++ escaped_of rest) so_far.emits
-      (front_longer b c y (escaped_of piece) (escaped_of rest) next))
+    pub escapes_front : {S : Type 0} {met : RunFault} {result : Result (Unit {0}) RunFault}
+        → Puts {T = S} contents b y (escaped_of piece) (Err met) c z → IsErrAnd result (λ e. e ≡ met) → Puts contents a x (escaped_of bytes) result c z
+    escapes_front {result = result} next answered =
+        let whole : escaped_of so_far.done ++ (escaped_of piece ++ escaped_of rest) ≡ escaped_of bytes =
+        ap (λ (l : List ℕ). escaped_of so_far.done ++ l) (sym (escaped-append piece rest) ∙ ap escaped_of (sym cut))
+        ∙ sym (escaped-append so_far.done left) ∙ ap escaped_of so_far.parts in
+        subst (λ (l : List ℕ). Puts contents a x l result c z) whole (puts_then so_far.puts (puts_front (escaped_of rest) next answered))
 
-pub escapes_end : (a b : Option (List ℕ)) (x bytes y rest : List ℕ) → EscapesTo a b x bytes y rest → length rest ≡ 0 → Emits a b x (escaped_of bytes) y
-escapes_end a b x bytes y rest so_far none =
-    let all : so_far.done ≡ bytes =
-    sym (append-nil so_far.done) ∙ ap (λ (l : List ℕ). so_far.done ++ l) (sym (nil_from_length rest none)) ∙ so_far.parts in
-    subst (λ (l : List ℕ). Emits a b x (escaped_of l) y) all so_far.emits
+  pub escapes_end : {a b : Told W} {x bytes y rest : List ℕ} → EscapesTo contents a b x bytes y rest → length rest ≡ 0
+      → Puts {T = Unit {0}} contents a x (escaped_of bytes) (Ok tt) b y
+  escapes_end {a = a} {b = b} {x = x} {bytes = bytes} {y = y} {rest = rest} so_far none =
+      let all : so_far.done ≡ bytes =
+      sym (append-nil so_far.done) ∙ ap (λ (l : List ℕ). so_far.done ++ l) (sym (nil_from_length rest none)) ∙ so_far.parts in
+      subst (λ (l : List ℕ). Puts {T = Unit {0}} contents a x (escaped_of l) (Ok tt) b y) all so_far.puts

@@ -1,5 +1,5 @@
 -- The values of requests that a server reads: object names of its format, whatever the format of the request.
-use Rattle.std.proofs.Common.{arith, ◌≡◌, ℕ, Bool, true, false, ◌||◌, All, map, List, [], ◌∷◌, ◌++◌, codes, refl, ◌∙◌, subst}
+use Rattle.std.proofs.Common.{arith, ◌≡◌, ℕ, Bool, true, false, ◌||◌, All, map, List, [], ◌∷◌, ◌++◌, refl, ◌∙◌, subst}
 use Rattle.std.proofs.lemmas.List.Elements.{All-cons, All-head, All-nil, All-tail}
 use Rattle.git_names.specs.ObjectName.{IsObjectName, ObjectName, hex_of}
 use Rattle.git_names.specs.declared.object_format.Format.{Format}
@@ -9,14 +9,15 @@ use Rattle.git_pkt.specs.Splits.{Given}
 use Rattle.git_pkt.proofs.Texts.{text_of-line_end}
 use Rattle.git_msg.specs.declared.arguments.Command.{Command}
 use Rattle.git_msg.specs.declared.offers.Offer.{Offer}
-use Rattle.git_msg.specs.Arguments.{Arg, IsInRange, IsNameIn, IsValue, SaysArgument, have, object_id, shallow, want, written_text}
-use Rattle.git_msg.specs.Arguments.{of_have, of_object_id, of_shallow, of_want, row_in}
+use Rattle.git_msg.specs.Arguments.{Arg, IsInRange, IsNameIn, IsValue, MayFollow, SaysArgument, SaysValue, Shape, Value, Word, id_value, object_name}
+use Rattle.git_msg.specs.Arguments.{row, written_text, written_value}
 use Rattle.git_msg.specs.Lines.{IsLine, IsLineIn, Line, delimiter, has_delimiter, is_delimiter}
 use Rattle.git_msg.specs.Requests.{AreLines}
 use Rattle.git_msg.specs.WrittenRequest.{text_line}
 use Rattle.git_msg.proofs.LineLaws.{payload_argument}
 use Rattle.git_msg.proofs.LineLists.{delimiter_snoc}
-use Rattle.git_msg.proofs.Rows.{in_row}
+use Rattle.git_msg.proofs.RoundTrip.{written_says}
+use Rattle.git_msg.proofs.Rows.{headed, one_value, one_word}
 use Rattle.git_msg.proofs.WrittenNames.{length-hex_of}
 use Rattle.git2show_lib.specs.ToldAnswers.{packets_of}
 
@@ -31,39 +32,21 @@ name_fits Sha256 Sha256 id h (other, is) = h
 name_fits Sha1 Sha256 id h (other, is) = absurd (omega (arith, length-hex_of Sha1 id h, is.count))
 name_fits Sha256 Sha1 id h (other, is) = absurd (omega (arith, length-hex_of Sha256 id h, is.count))
 
-want_named : (format : Format) (name : List ℕ) (arg : Arg) → SaysArgument format (codes "want " ++ name) arg → of_want ≡ row_in arg → IsSomeName format name
-want_named format name (want id) says e =
-    let same : says.value ≡ name = cc in (id, subst (λ (text : List ℕ). IsObjectName format text id) same says.holds)
-want_named format name arg says e = absurd (cc)
+value_stays : (shape : Shape) (word : List ℕ) (written read : Format) (value other : Value) → MayFollow shape written value
+    → SaysValue shape word read (word ++ written_value value) other → MayFollow shape read value
+value_stays object_name word written read (id_value id) (id_value other) fits says =
+    let same : says.value ≡ hex_of id = one_value word (word ++ hex_of id) says.value (hex_of id) says.spelled refl in
+    name_fits written read id fits (other, subst (λ (text : List ℕ). IsObjectName read text other) same says.holds)
+value_stays object_name word written read (id_value id) other fits says = absurd says
+value_stays shape word written read value other fits says = fits
 
-have_named : (format : Format) (name : List ℕ) (arg : Arg) → SaysArgument format (codes "have " ++ name) arg → of_have ≡ row_in arg → IsSomeName format name
-have_named format name (have id) says e =
-    let same : says.value ≡ name = cc in (id, subst (λ (text : List ℕ). IsObjectName format text id) same says.holds)
-have_named format name arg says e = absurd (cc)
-
-shallow_named : (format : Format) (name : List ℕ) (arg : Arg) → SaysArgument format (codes "shallow " ++ name) arg → of_shallow ≡ row_in arg
-    → IsSomeName format name
-shallow_named format name (shallow id) says e =
-    let same : says.value ≡ name = cc in (id, subst (λ (text : List ℕ). IsObjectName format text id) same says.holds)
-shallow_named format name arg says e = absurd (cc)
-
-object_named : (format : Format) (name : List ℕ) (arg : Arg) → SaysArgument format (codes "oid " ++ name) arg → of_object_id ≡ row_in arg
-    → IsSomeName format name
-object_named format name (object_id id) says e =
-    let same : says.value ≡ name = cc in (id, subst (λ (text : List ℕ). IsObjectName format text id) same says.holds)
-object_named format name arg says e = absurd (cc)
-
--- so an argument whose text is read may stand in a request of that format
+-- so an argument whose text is read is allowed in a request of that format
 in_range : (written read : Format) (arg other : Arg) → IsInRange written arg → SaysArgument read (written_text arg) other → IsInRange read arg
-in_range written read (want id) other value says =
-    name_fits written read id value (want_named read (hex_of id) other says (in_row read (codes "want " ++ hex_of id) other says))
-in_range written read (have id) other value says =
-    name_fits written read id value (have_named read (hex_of id) other says (in_row read (codes "have " ++ hex_of id) other says))
-in_range written read (shallow id) other value says =
-    name_fits written read id value (shallow_named read (hex_of id) other says (in_row read (codes "shallow " ++ hex_of id) other says))
-in_range written read (object_id id) other value says =
-    name_fits written read id value (object_named read (hex_of id) other says (in_row read (codes "oid " ++ hex_of id) other says))
-in_range written read arg other value says = value
+in_range written read arg other value says =
+    let same = one_word (written_text arg) other.word arg.word (headed read (written_text arg) other says)
+    (headed written (written_text arg) arg (written_says written arg value)) in
+    value_stays (row arg.word).shape (row arg.word).keyword written read arg.value other.value value
+    (subst (λ (w : Word). SaysValue (row w).shape (row w).keyword read (written_text arg) other.value) same says)
 
 -- ---- the lines of a request
 
@@ -80,7 +63,7 @@ delimiter_line : (part : Bool) (offer : Offer) (limit : ℕ) (before : List Line
 delimiter_line false offer limit before delimiter h = refl
 delimiter_line part offer limit before line h = absurd h
 
--- behind the delimiter each argument whose line is taken may stand there
+-- after the delimiter each argument whose line is taken is allowed there
 arguments_behind : (offer : Offer) (limit : ℕ) (command : Command) (format : Format) (args : List Arg) (before : List Line) (gs : List Given)
     (lines : List Line) → has_delimiter before ≡ true → AreLines offer limit before gs lines → packets_of gs ≡ argument_packets args
     → All (IsValue command format) args → All (IsValue command offer.format) args

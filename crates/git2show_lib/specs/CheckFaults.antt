@@ -25,7 +25,7 @@ abbrev pub AreSpent : {Q R : Type 0} → Told Q → Told R → ℕ → Type 0
 AreSpent requests responses turns =
     (reads_of requests + reads_of responses ≡ turns) × ((has_ended requests ≡ false) ⊎ (has_ended responses ≡ false))
 
--- where a stream stands: whether it ended, and whether a read of it failed
+-- how a stream was left: whether it ended, and whether a read of it failed
 pub record Standing : Type 0 where
   pub ended : Bool
   pub failed : Bool

@@ -29,7 +29,7 @@ module _ {A : Type 0} where
     pub offer : offer_of new ≡ offer_of old
     pub limit : limit_of new ≡ limit_of old
 
-  -- what the bytes used so far ask, whatever they are, with what stands after the last whole request
+  -- what the bytes used so far ask, whatever they are, with what comes after the last whole request
   abbrev pub Asking : RequestStream A → (List ℕ → List Given → List ℕ → Type 0) → Type 0
   Asking s Stands =
       (before : List ℕ) (known : List Asked) → HasRead before known s
@@ -44,7 +44,7 @@ module _ {A : Type 0} where
     pub some : 0 < length reads.used
     pub alone : Asking new (λ used left rest. (left ≡ []) × (rest ≡ []))
 
-  -- no further request comes: a flush stands in the place of one, or the input ended after a whole one
+  -- no further request comes: a flush comes instead of one, or the input ended after a whole one
   pub record ReadsNoMore (ended : Bool) (old new : RequestStream A) (waiting : List ℕ) (reader : Flow) : Type 0 where
     pub unused : List ℕ
     pub reads : ReadsOn old new [] waiting unused reader
@@ -56,7 +56,7 @@ module _ {A : Type 0} where
     pub begun : Asking new (λ used left rest. AreBegun (offer_of new) (limit_of new) left × IsOpen rest)
     pub can_come : ended ≡ false
 
-  -- what stands in the place of a request is refused
+  -- what comes instead of a request is refused
   pub record ReadsFault (fault : Fault) (ended : Bool) (old new : RequestStream A) (waiting : List ℕ) (reader : Flow) : Type 0 where
     pub unused : List ℕ
     pub reads : ReadsOn old new [] waiting unused reader

@@ -1,4 +1,4 @@
--- What a check of two recorded streams comes to: what the requests ask, what the responses say to them, and how it ended.
+-- What a check of two recorded streams results in: what the requests ask, what the responses to them contain, and how it ended.
 use Rattle.std.specs.Prelude.{◌≡◌, ◌⊎◌, ℕ, ◌<◌, ◌≤◌, All, Bool, true, false, List, [], ◌∷◌, ◌++◌, length, Result, Ok, Err}
 use Rattle.git_pkt.specs.Splits.{Given}
 use Rattle.git_pkt.specs.Faults.{IsOpen}
@@ -26,7 +26,7 @@ use Rattle.git2show_lib.specs.CheckFaults.{Standing}
 use Rattle.git2show_lib.specs.declared.checking.CheckFault.{CheckFault}
 use Rattle.git2show_lib.specs.declared.checking.CheckFault.TheVariants.{Requests, Responses, ReadFault, WriteFault, ReadLimit}
 
--- a fault of the hearing or the asking, as the check tells it
+-- a fault that was met in receiving or asking, as the check reports it
 abbrev pub of_responses : RunFault → CheckFault
 of_responses RunReadFault = ReadFault
 of_responses RunWriteFault = WriteFault
@@ -35,7 +35,7 @@ of_responses (Refused fault) = Responses fault
 
 -- ---- what was found in the streams
 
--- the requests: the bytes that were used and those read after them, what they ask, and what stands after the last whole request
+-- the requests: the bytes that were used and those read after them, what they ask, and what comes after the last whole request
 pub record Found : Type 0 where
   pub used : List ℕ
   pub unused : List ℕ
@@ -43,7 +43,7 @@ pub record Found : Type 0 where
   pub left : List Given
   pub rest : List ℕ
 
--- a whole advertisement stands at the head of the bytes, and this is offered by it
+-- a whole advertisement is at the head of the bytes, and this is offered by it
 pub record IsOffered (t : Terms) (bytes : List ℕ) (offer : Offer) : Type 0 where
   pub advertised : List ℕ
   pub more : List ℕ
@@ -70,7 +70,7 @@ pub record AreAnswered (t : Terms) (h : History) (found : Found) : Type 0 where
   pub asked : found.asked ≡ h.asked
   pub whole : IsConversation t h.asked h.used h.events
 
--- no request comes any more: a flush stands in the place of one, or they ended after a whole one
+-- no request comes any more: a flush comes instead of one, or they ended after a whole one
 abbrev pub AreOver : Bool → Found → Type 0
 AreOver ended found =
     (found.rest ≡ []) × (IsStop found.left ⊎ ((found.left ≡ []) × (found.unused ≡ []) × (ended ≡ true)))
@@ -84,7 +84,7 @@ pub record IsWhole (t : Terms) (requests responses : Standing) (unused : List �
   pub nothing_left : unused ≡ []
   pub ended : responses.ended ≡ true
 
--- what stands in the place of a request is refused, where each before it was answered: truncated only where the requests have
+-- what comes instead of a request is refused, where each before it was answered: truncated only where the requests have
 -- ended, and too long only where one more byte of them was read
 pub record IsBadRequest (t : Terms) (offer : Offer) (limit : ℕ) (requests responses : Standing) (h : History) (found : Found) (fault : Fault) : Type 0 where
   pub answered : AreAnswered t h found
@@ -153,7 +153,7 @@ EndsAs A t offer limit (Err ReadLimit) requests responses unused h found =
 
 -- what a check has to do with the bytes of its streams: the requests are read against what the advertisement offers, and not before
 -- it is whole; each that counts as asked has a command that is advertised, and there are no more of them than one for the advertisement
--- and one for each whole response; what is given is the transcript of what was asked and heard
+-- and one for each whole response; what is given is the transcript of what was asked and received
 pub record Checked (A : Type 0) (t : Terms) (limit : ℕ) (result : Result (Unit {0}) CheckFault) (requests responses : Standing)
     (read given : List (List ℕ)) : Type 0 where
   pub h : History

@@ -1,4 +1,4 @@
--- What a play of both ends against each other comes to: what the client asked and heard, and the sessions of the servers that
+-- What a play of both ends against each other results in: what the client asked and received, and the sessions of the servers that
 -- answered it.
 use Rattle.std.specs.Prelude.{◌≡◌, ◌⊎◌, ℕ, ◌<◌, Bool, true, false, All, List, [], ◌∷◌, ◌++◌, map, flat_map, Some, Result, Ok, Err}
 use Rattle.git_pkt.specs.Packets.{Pkt, flush, resp_end}
@@ -34,7 +34,7 @@ setting_of t limit state advertise = record {
   failures = state.failures;
 }
 
--- what was said to a server, and what it gave
+-- what was sent to a server, and what it gave
 pub record Talk : Type 0 where
   pub said : List ℕ
   pub given : List ℕ
@@ -43,11 +43,11 @@ pub record Talk : Type 0 where
 abbrev pub CanFail : {R : Type 0} → (R → RepoState) → ℕ → Type 0
 CanFail {R} state failures = (repo : R) × (failures < (state repo).failures)
 
--- a pack was given up only where its reads can fail
+-- a pack was lost only where its reads can fail
 abbrev pub IsLostFor : Type 0 → Outcome → Type 0
 IsLostFor Fails outcome = IsPackLost (Some outcome) → Fails
 
--- a server goes on with all that was said to it, or its session ended after a front of that
+-- a server goes on with all that was sent to it, or its session ended after a front of that
 pub record IsTalk (Fails : Type 0) (s : Setting) (talk : Talk) : Type 0 where
   pub used : List ℕ
   pub unused : List ℕ
@@ -55,7 +55,7 @@ pub record IsTalk (Fails : Type 0) (s : Setting) (talk : Talk) : Type 0 where
   pub runs : ((unused ≡ []) × GoesOn s used talk.given)
       ⊎ ((outcome : Outcome) × (owed : List Pkt) × IsEnding s used false talk.given outcome owed × IsLostFor Fails outcome)
 
--- a server gave all that it gives: it waits for more, or its session ended after a front of what was said to it
+-- a server gave all that it gives: it waits for more, or its session ended after a front of what was sent to it
 pub record IsDone (Fails : Type 0) (s : Setting) (talk : Talk) : Type 0 where
   pub used : List ℕ
   pub unused : List ℕ
@@ -67,26 +67,26 @@ pub record IsDone (Fails : Type 0) (s : Setting) (talk : Talk) : Type 0 where
 abbrev pub with_end : Talk → List ℕ
 with_end talk = talk.given ++ spelled (resp_end ∷ [])
 
--- who answers: one server alone, or one that only advertises and then one for each question, which is said to it
+-- who answers: one server alone, or one that only advertises and then one for each request, which is sent to it
 abbrev pub AreSaid : Ending → (first : Talk) (later : List Talk) (said : List ℕ) (questions : List (List ℕ)) → Type 0
 AreSaid FlushOnly first later said questions = (later ≡ []) × (first.said ≡ said)
 AreSaid ResponseEnd first later said questions = (first.said ≡ []) × (map (λ talk. talk.said) later ≡ questions)
 
--- the bytes of each question as it is said, where this was advertised
+-- the bytes of each request as it is sent, where this was advertised
 abbrev pub said_each : Terms → Caps → List Asked → List (List ℕ)
 said_each t caps asked = map (λ q. spelled (questions_of t.format caps (q ∷ []))) asked
 
--- what was said to the servers, and what the client used is a front of what they gave
+-- what was sent to the servers, and what the client used is a front of what they gave
 pub record AreServed (t : Terms) (h : History) (unheard : List ℕ) (first : Talk) (later : List Talk) : Type 0 where
   pub said : (caps : Caps) → HasNoted t h.asked h.used caps → AreSaid t.ending first later h.given (said_each t caps h.asked)
   pub gave : h.used ++ unheard ≡ first.given ++ flat_map with_end later
 
--- the sessions stand so: that of the first server, and those of the others
+-- this holds of the sessions: that of the first server, and those of the others
 abbrev pub AreAll : (Setting → Talk → Type 0) → Terms → ℕ → RepoState → Talk → List Talk → Type 0
 AreAll Stands t limit state first later =
     Stands (setting_of t limit state true) first × All (Stands (setting_of t limit state false)) later
 
--- what was said to the servers, and their sessions, of which the client has heard a front
+-- what was sent to the servers, and their sessions, of which the client has received a front
 pub record IsServed (Fails : Type 0) (t : Terms) (limit : ℕ) (state : RepoState) (h : History) : Type 0 where
   pub first : Talk
   pub later : List Talk
@@ -94,7 +94,7 @@ pub record IsServed (Fails : Type 0) (t : Terms) (limit : ℕ) (state : RepoStat
   pub served : AreServed t h unheard first later
   pub sessions : AreAll (IsTalk Fails) t limit state first later
 
--- a server answered all questions that were said to it, and after them it was told by a flush that the client leaves
+-- a server answered all requests that were sent to it, and after them it received the flush by which the client leaves
 pub record IsAnsweredAndLeft (Fails : Type 0) (s : Setting) (talk : Talk) : Type 0 where
   pub questions : List ℕ
   pub parts : talk.said ≡ questions ++ spelled (flush ∷ [])
@@ -108,8 +108,8 @@ AreWholeSessions Fails ResponseEnd t limit state first later = AreAll (λ s talk
 
 -- ---- how a play ended
 
--- a write failed: what was heard comes of the servers, to whom all was said that is written of the questions when these bytes had
--- been heard; the last question may not have been said yet
+-- a write failed: what was received comes of the servers, to which all was sent that is written of the requests when these bytes had
+-- been received; the last request may not have been sent yet
 pub record IsBrokenPlay (Fails : Type 0) (t : Terms) (limit : ℕ) (state : RepoState) (h : History) : Type 0 where
   pub said : History
   pub same_used : h.used ≡ said.used
@@ -121,7 +121,7 @@ pub record IsBrokenPlay (Fails : Type 0) (t : Terms) (limit : ℕ) (state : Repo
   pub is_served : IsServed Fails t limit state said
 
 module _ {A : Type 0} where
-  -- each request was asked, answered and heard whole, and all that was given was heard
+  -- each request was asked, answered and received whole, and all that was given was received
   pub record IsWholePlay (Fails : Type 0) (t : Terms) (limit : ℕ) (state : RepoState) (rest : List (Request A)) (h : History) : Type 0 where
     pub first : Talk
     pub later : List Talk
@@ -129,7 +129,7 @@ module _ {A : Type 0} where
     pub served : AreServed t h [] first later
     pub sessions : AreWholeSessions Fails t.ending t limit state first later
 
-  -- what was heard is refused for its first fault, truncated only where the servers give nothing more; or the next request is
+  -- what was received is refused for its first fault, truncated only where the servers give nothing more; or the next request is
   pub record IsRefusedPlay (Fails : Type 0) (t : Terms) (limit : ℕ) (state : RepoState) (rest : List (Request A)) (h : History) (fault : Fault) : Type 0 where
     pub first : Talk
     pub later : List Talk
@@ -149,7 +149,7 @@ module _ {A : Type 0} where
   EndsAs Fails t limit state (Err ReadFault) rest h = ⊥
   EndsAs Fails t limit state (Err ReadLimit) rest h = ⊥
 
-  -- what a play of these requests, in which a pack is given up only where this is so, gives: the transcript of what was asked and heard, and what came of packs
+  -- what a play of these requests, in which a pack is lost only where this is so, gives: the transcript of what was asked and received, and what came of packs
   pub record Played (Fails : Type 0) (t : Terms) (limit : ℕ) (state : RepoState) (requests : List (Request A)) (result : Result (Unit {0}) RunFault)
       (read given : List (List ℕ)) : Type 0 where
     pub h : History

@@ -9,7 +9,7 @@ use Rattle.git_repository.specs.declared.text_faults.TextFault.{TextFault}
 use Rattle.git_repository.specs.declared.text_faults.TextFault.TheVariants.{Bad, OutOfMemory}
 use Rattle.git2show_lib.specs.Scripts.{HasBadScriptLine, IsScript, WantsScriptMemory}
 
--- the text says these requests, and nothing more is held of each
+-- the text contains these requests, and nothing more is held of each
 abbrev pub IsWholeScript : {A : Type 0} → Format → ℕ → List ℕ → List (Request A) → Type 0
 IsWholeScript format limit text requests = IsScript (everything format) limit text (map holding_of requests)
 

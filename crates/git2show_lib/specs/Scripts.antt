@@ -1,4 +1,4 @@
--- What the text of a script says, requests one after another, and which of its lines is refused.
+-- What the text of a script contains, requests one after another, and which of its lines is refused.
 use Rattle.std.specs.Prelude.{◌≡◌, ℕ, ◌+◌, ◌≤◌, List, [], ◌∷◌, ◌++◌, Option, Some, None, length, sum_by}
 use Rattle.git_names.specs.declared.object_format.Format.{Format}
 use Rattle.git_msg.specs.declared.offers.Offer.{Offer}
@@ -35,13 +35,13 @@ pub record IsArgumentAfter (offer : Offer) (limit : ℕ) (before : List ScriptLi
   pub reads : ReadsAs of offer text arg
   pub fits : kept_after (argument arg ∷ before) ≤ limit
 
--- the text is this line, which may stand after those before it, the nearest first
+-- the text is this line, which may follow those before it, the nearest first
 abbrev pub MayFollow : Offer → ℕ → List ScriptLine → List ℕ → ScriptLine → Type 0
 MayFollow offer limit before text blank = text ≡ []
 MayFollow offer limit before text (command c) = (open_after before ≡ None) × (text ≡ name_of c)
 MayFollow offer limit before text (argument arg) = IsArgumentAfter offer limit before text arg
 
--- the texts are these lines, each of which may stand after those before it
+-- the texts are these lines, each of which may follow those before it
 abbrev pub FollowAll : Offer → ℕ → List ScriptLine → List (List ℕ) → List ScriptLine → Type 0
 FollowAll offer limit before [] [] = Unit {0}
 FollowAll offer limit before (text ∷ texts) (line ∷ lines) =
@@ -64,20 +64,20 @@ arguments_upto (argument arg ∷ lines) = arg ∷ arguments_upto lines
 abbrev pub request_of : Format → ℕ → Command → List Arg → Kept Asked
 request_of format limit c args = record { format = format; asked = asked_by c args; kept = bytes_of args; limit = limit; stored = sum_by stored_in args }
 
--- the requests that the lines say, in their order
+-- the requests that the lines contain, in their order
 abbrev pub requests_in : Format → ℕ → List ScriptLine → List (Kept Asked)
 requests_in format limit [] = []
 requests_in format limit (blank ∷ lines) = requests_in format limit lines
 requests_in format limit (command c ∷ lines) = request_of format limit c (arguments_upto lines) ∷ requests_in format limit lines
 requests_in format limit (argument arg ∷ lines) = requests_in format limit lines
 
--- the lines of the text say these requests
+-- the lines of the text contain these requests
 pub record IsScript (offer : Offer) (limit : ℕ) (text : List ℕ) (requests : List (Kept Asked)) : Type 0 where
   pub lines : List ScriptLine
   pub follow : FollowAll offer limit [] (lines_of text) lines
   pub requests_are : requests ≡ requests_in offer.format limit lines
 
--- the lines before this one may stand, and after them it is none that may
+-- the lines before this one are allowed, and after them it is none that is
 pub record HasBadScriptLine (offer : Offer) (limit : ℕ) (texts : List (List ℕ)) (number : ℕ) : Type 0 where
   pub before : List (List ℕ)
   pub bad : List ℕ
@@ -94,7 +94,7 @@ TakesMemory blank = ⊥
 TakesMemory (command c) = Unit {0}
 TakesMemory (argument arg) = TakesMemoryFor arg
 
--- memory ran out at a line that takes some, and that may stand after the lines before it
+-- memory ran out at a line that takes some, and that may follow the lines before it
 pub record WantsScriptMemory (offer : Offer) (limit : ℕ) (texts : List (List ℕ)) : Type 0 where
   pub before : List (List ℕ)
   pub at : List ℕ

@@ -1,4 +1,4 @@
--- What showing a stream comes to.
+-- What showing a stream results in.
 use Rattle.std.specs.Prelude.{◌≡◌, ℕ, ◌-◌, ◌≤◌, Bool, true, false, List, [], ◌∷◌, ◌++◌, length, take, Result, Ok, Err, Option, Some, None}
 use Rattle.git_pkt.specs.Splits.{Given, Splits}
 use Rattle.git_pkt.specs.Faults.{IsOpen, StopsBy}
@@ -11,7 +11,7 @@ use Rattle.git_pkt.specs.declared.reader.PacketReader.{PacketReader}
 use Rattle.git2show_lib.specs.PacketLines.{lines_of}
 use Rattle.git2show_lib.specs.LineBuffer.{Emits}
 
--- how the run ended: well where the input did, between two packets; else the rest says why, or a stream failed. Where its
+-- how the run ended: well where the input did, between two packets; else the rest shows why, or a stream failed. Where its
 -- reads were spent each of them had brought some bytes.
 abbrev pub EndsAs : Result (Unit {0}) RunFault → Bool → ℕ → List ℕ → List ℕ → List ℕ → Type 0
 EndsAs (Ok done) ended turns used rest unused = (rest ≡ []) × (unused ≡ []) × (ended ≡ true)

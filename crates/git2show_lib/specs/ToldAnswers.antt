@@ -1,4 +1,4 @@
--- What a repository's answer to a question tells a client: the events, however the answer is written and cut.
+-- What a repository's answer to a request gives a client: the events, however the answer is written and cut.
 use Rattle.std.specs.Prelude.{◌≡◌, ℕ, Bool, true, false, not, ◌||◌, if◌then◌else◌, All, Option, Some, None, List, [], ◌∷◌, ◌++◌, map, codes}
 use Rattle.std.specs.List.{filter_map, flat_map}
 use Rattle.std.specs.Option.{ForSome, option_map}
@@ -65,13 +65,13 @@ told_fetch false repo q = told_pack repo q
 abbrev pub told_sizes : Repository → ObjectInfoAsked → List EventValue
 told_sizes repo q = map (λ id. info (record { id = id; size = repo.object_size id })) q.oids
 
--- what an answer tells, but for its end
+-- what an answer gives, but for its end
 abbrev pub told_by : Repository → Asked → List EventValue
 told_by repo (ls_refs q) = told_refs repo q
 told_by repo (fetch q) = told_fetch (negotiates q) repo q
 told_by repo (object_info q) = told_sizes repo q
 
--- the object names of a question that an answer repeats are names of the format
+-- the object names of a request that an answer repeats are names of the format
 abbrev pub AsksIn : Format → Asked → Type 0
 AsksIn format (ls_refs q) = Unit {0}
 AsksIn format (fetch q) = All (IsNameIn format) q.haves
@@ -93,11 +93,11 @@ abbrev pub end_packets : Ending → List Pkt
 end_packets FlushOnly = []
 end_packets ResponseEnd = resp_end ∷ []
 
--- the packets, wherever they stand
+-- the packets, wherever they are
 abbrev pub packets_of : List Given → List Pkt
 packets_of gs = map (λ g. g.packet) gs
 
--- what the answers to these questions tell, each with its end
+-- what the answers to these requests give, each with its end
 abbrev pub told_all : Repository → List Asked → List EventValue
 told_all repo asked = flat_map (λ q. told_by repo q ++ ended ∷ []) asked
 
@@ -105,7 +105,7 @@ told_all repo asked = flat_map (λ q. told_by repo q ++ ended ∷ []) asked
 abbrev pub told_where : Bool → List ℕ → List EventValue
 told_where is_offered key = if is_offered then capability key None ∷ [] else []
 
--- what the advertisement of an offer tells
+-- what the advertisement of an offer gives
 abbrev pub told_offer : Offer → List EventValue
 told_offer offer =
     capability (codes "agent") (Some (codes "git2/1")) ∷ capability (codes "ls-refs") (features_value (ls_refs_features offer))
@@ -113,7 +113,7 @@ told_offer offer =
     ∷ (told_where offer.server_option (codes "server-option")
     ++ capability (codes "object-format") (Some (format_name offer.format)) ∷ (told_where offer.object_info (codes "object-info") ++ offered ∷ []))
 
--- what a play of these requests tells: all that is offered, and the answers
+-- what a play of these requests gives: all that is offered, and the answers
 abbrev pub told_play : Format → Repository → List Asked → List EventValue
 told_play format repo asked = told_offer (everything format) ++ told_all repo asked
 

@@ -1,4 +1,4 @@
-//! Laws of what a client hears of a server's answers.
+//! Laws of what a client receives of a server's answers.
 
 ghost use Rattle.std.specs.Prelude.{ℕ, ◌≡◌, ◌∷◌, ◌++◌, [], All, List};
 ghost use Rattle.git_pkt.specs.Packets.{Pkt};
@@ -19,15 +19,16 @@ ghost use Rattle.git_repository.specs.Packs.{PackBytes};
 ghost use Rattle.git_repository.specs.RepositoryText.{IsRepositoryText};
 ghost use Rattle.git2show_lib.specs.ToldAnswers.{AsksIn, CanBeWritten, end_packets, packets_of, told_all, told_by, told_offer};
 
-/// The advertisement of a server that offers everything is heard as it was meant, whatever is asked later. Then the first answer may follow.
+/// The advertisement of a server that offers everything is received as it was meant, whatever is asked later. Then the first answer may
+/// follow.
 pub fn heard_offer()
     ensures heard { (t : Terms) (asked : List Asked) (gs : List Given) → packets_of gs ≡ advertisement_of (everything t.format)
         → GiveAll t asked [] gs (told_offer (everything t.format)) }
     ensures whole { (t : Terms) (gs : List Given) → packets_of gs ≡ advertisement_of (everything t.format) → AreWhole t [] (nearest gs []) }
 {}
 
-/// A whole answer is heard as it was meant: after the advertisement and the answers to the questions before, none of its packets is refused,
-/// and it gives just the events that the repository's answers name, however the pack is cut. Then the next answer may follow.
+/// A whole answer is received as it was meant: after the advertisement and the answers to the requests before, none of its packets is
+/// refused, and it gives just the events that the repository's answers name, however the pack is cut. Then the next answer may follow.
 pub fn heard_answer()
     ensures heard { (t : Terms) (repo : Repository) (earlier later : List Asked) (q : Asked) (before packets : List Pkt) (gs : List Given)
         → IsSound repo → CanBeWritten repo → repo.format ≡ t.format → AsksIn t.format q → IsAnswer repo q packets
@@ -39,8 +40,8 @@ pub fn heard_answer()
         → AreWhole t (earlier ++ q ∷ []) (nearest gs before) }
 {}
 
-/// The answers of a session are heard as they were meant: all answers that a server gave, one after the other, give just the events that the
-/// repository's answers to the questions name, and then the conversation is whole.
+/// The answers of a session are received as they were meant: all answers that a server gave, one after the other, give just the events
+/// that the repository's answers to the requests name, and then the conversation is whole.
 pub fn heard_answers()
     ensures heard { (t : Terms) (repo : Repository) (earlier later asked : List Asked) (before packets : List Pkt) (gs : List Given)
         → IsSound repo → CanBeWritten repo → repo.format ≡ t.format → All (AsksIn t.format) asked → AreAnswers repo asked packets
@@ -52,7 +53,7 @@ pub fn heard_answers()
         → AreWhole t (earlier ++ asked) (nearest gs before) }
 {}
 
-/// What a repository answers that was read from a text can be written: so its answers are heard.
+/// What a repository answers that was read from a text can be written: so its answers are received.
 pub fn read_repository_can_be_written()
     ensures { (repo : ListRepo) (text : List ℕ) (packs : PackBytes) → IsRepositoryText text packs (lists_of repo) → CanBeWritten (state_of repo).answers }
 {}

@@ -38,7 +38,7 @@ pub enum CheckFault {
     ReadLimit,
 }
 
-/// What ended the hearing of a response, or the asking of a request.
+/// What ended the receiving of a response, or the asking of a request.
 impl From<RunFault> for CheckFault {
     ghost from_gives = { λ fault told. told ≡ of_responses fault };
 
@@ -55,7 +55,7 @@ impl From<RunFault> for CheckFault {
 /// Checks a recorded conversation: `requests` is what the client sent, and `responses` what the server did, which begins with its
 /// advertisement. Each request is read against what that offers, and has to be one that a client may ask; then the whole response
 /// to it is read. After the last request, which is before a flush alone or at the end of the requests, no byte of the responses may
-/// be left. `ending` says how each response ends. The pieces are where the bytes that are read go, that of the requests first; they
+/// be left. `ending` is how each response ends. The pieces are where the bytes that are read go, that of the requests first; they
 /// may not be empty. Arguments are kept in memory from `alloc`, up to the usual limit for each request.
 ///
 /// The transcript is written to `out`: a line for each event and for each request. It is flushed before each read and at the end.

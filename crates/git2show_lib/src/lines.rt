@@ -1,12 +1,10 @@
 //! Lines on their way to a writer.
 
-ghost use Rattle.std.specs.Prelude.{◌≡◌, ◌+◌, ◌≤◌, ◌++◌, [], ◌||◌, length, take, OnOk, OnErr, IfErr, is_err, decimal};
-ghost use Rattle.std.specs.Io.KnownBytes.{Appends};
-ghost use Rattle.git_pkt.specs.Told.{inner_of, has_failed, AppendsFront};
+ghost use Rattle.std.specs.Prelude.{◌≡◌, ◌+◌, ◌≤◌, ◌++◌, [], length, take, OnOk, decimal};
 ghost use Rattle.git_pkt.specs.Packets.{body_of, seen};
 ghost use Rattle.git_pkt.specs.Escape.{escaped_of};
+ghost use Rattle.git_pkt.specs.Sends.{Puts, Sends};
 ghost use Rattle.git2show_lib.specs.PacketLines.{kind_shown, line_of};
-ghost use Rattle.git2show_lib.specs.LineBuffer.{Emits, EmitsFront};
 
 use git_pkt::{Packet, RunFault, Told, escape_into, flush, is_plain, send};
 use itoa::Buffer;
@@ -19,10 +17,10 @@ const CAPACITY: usize = 65_536;
 /// How many bytes are escaped at a time.
 const BLOCK: usize = 32;
 
-/// How many bytes are tested at a time, whether each stands for itself.
+/// How many bytes are tested at a time, whether each is its own escape.
 const RUN: usize = 512;
 
-/// How many bytes stand in a packet's line before the payload, at the most.
+/// How many bytes are in a packet's line before the payload, at the most.
 const HEAD: usize = 64;
 
 /// A buffer of lines. It lies where its owner does and never allocates.
@@ -55,11 +53,8 @@ impl Lines {
 
     /// Sends all that waits.
     fn drain<W: Write>(&mut self, writer: &mut Told<W>) -> Result<(), RunFault>
-        ensures ok { OnOk result (Appends (W.contents (inner_of writer.old)) (W.contents (inner_of writer.new)) self.old) }
+        ensures sends { Sends W.contents writer.old self.old result writer.new }
         ensures empty { OnOk result (self.new ≡ []) }
-        ensures err { OnErr result (AppendsFront (W.contents (inner_of writer.old)) (W.contents (inner_of writer.new)) self.old) }
-        ensures fault { IfErr result (λ fault. fault ≡ RunFault.WriteFault) }
-        ensures failed { has_failed writer.new ≡ (has_failed writer.old || is_err result) }
     {
         send(writer, &self.bytes[..self.count])?;
         self.count = 0;
@@ -68,11 +63,8 @@ impl Lines {
 
     /// Sends all that waits, and has the writer pass it on.
     pub(crate) fn send_all<W: Write>(&mut self, writer: &mut Told<W>) -> Result<(), RunFault>
-        ensures ok { OnOk result (Appends (W.contents (inner_of writer.old)) (W.contents (inner_of writer.new)) self.old) }
+        ensures sends { Sends W.contents writer.old self.old result writer.new }
         ensures empty { OnOk result (self.new ≡ []) }
-        ensures err { OnErr result (AppendsFront (W.contents (inner_of writer.old)) (W.contents (inner_of writer.new)) self.old) }
-        ensures fault { IfErr result (λ fault. fault ≡ RunFault.WriteFault) }
-        ensures failed { has_failed writer.new ≡ (has_failed writer.old || is_err result) }
     {
         self.drain(writer)?;
         flush(writer)
@@ -85,31 +77,21 @@ impl Lines {
         packet: Packet<'_>,
         offset: u64,
     ) -> Result<(), RunFault>
-        ensures ok { OnOk result (Emits (W.contents (inner_of writer.old)) (W.contents (inner_of writer.new)) self.old
-            (line_of (record { packet = seen packet.entry; offset = offset })) self.new) }
-        ensures err { OnErr result (EmitsFront (W.contents (inner_of writer.old)) (W.contents (inner_of writer.new)) self.old
-            (line_of (record { packet = seen packet.entry; offset = offset }))) }
-        ensures fault { IfErr result (λ fault. fault ≡ RunFault.WriteFault) }
-        ensures failed { has_failed writer.new ≡ (has_failed writer.old || is_err result) }
+        ensures { Puts W.contents writer.old self.old (line_of (record { packet = seen packet.entry; offset = offset })) result writer.new self.new }
     {
         self.emit_head(writer, packet, offset)?;
         self.emit_escaped(writer, body(packet))?;
         self.emit(writer, b"\n")
     }
 
-    /// Puts what stands in a packet's line before the payload after the others.
+    /// Puts what a packet's line has before the payload after the others.
     fn emit_head<W: Write>(
         &mut self,
         writer: &mut Told<W>,
         packet: Packet<'_>,
         offset: u64,
     ) -> Result<(), RunFault>
-        ensures ok { OnOk result (Emits (W.contents (inner_of writer.old)) (W.contents (inner_of writer.new)) self.old
-            (decimal offset ++ kind_shown (seen packet.entry)) self.new) }
-        ensures err { OnErr result (EmitsFront (W.contents (inner_of writer.old)) (W.contents (inner_of writer.new)) self.old
-            (decimal offset ++ kind_shown (seen packet.entry))) }
-        ensures fault { IfErr result (λ fault. fault ≡ RunFault.WriteFault) }
-        ensures failed { has_failed writer.new ≡ (has_failed writer.old || is_err result) }
+        ensures { Puts W.contents writer.old self.old (decimal offset ++ kind_shown (seen packet.entry)) result writer.new self.new }
     {
         self.make_room(writer)?;
         self.count = write_head(packet, offset, &mut self.bytes, self.count);
@@ -119,10 +101,7 @@ impl Lines {
     /// Puts a few bytes after the others.
     fn emit<W: Write>(&mut self, writer: &mut Told<W>, bytes: &[u8]) -> Result<(), RunFault>
         requires { length bytes.now ≤ RUN }
-        ensures ok { OnOk result (Emits (W.contents (inner_of writer.old)) (W.contents (inner_of writer.new)) self.old bytes.now self.new) }
-        ensures err { OnErr result (EmitsFront (W.contents (inner_of writer.old)) (W.contents (inner_of writer.new)) self.old bytes.now) }
-        ensures fault { IfErr result (λ fault. fault ≡ RunFault.WriteFault) }
-        ensures failed { has_failed writer.new ≡ (has_failed writer.old || is_err result) }
+        ensures { Puts W.contents writer.old self.old bytes.now result writer.new self.new }
     {
         self.make_room(writer)?;
         self.count = put_at(&mut self.bytes, self.count, bytes);
@@ -131,10 +110,7 @@ impl Lines {
 
     /// Puts the escapes of bytes after the others, a run at a time.
     fn emit_escaped<W: Write>(&mut self, writer: &mut Told<W>, bytes: &[u8]) -> Result<(), RunFault>
-        ensures ok { OnOk result (Emits (W.contents (inner_of writer.old)) (W.contents (inner_of writer.new)) self.old (escaped_of bytes.now) self.new) }
-        ensures err { OnErr result (EmitsFront (W.contents (inner_of writer.old)) (W.contents (inner_of writer.new)) self.old (escaped_of bytes.now)) }
-        ensures fault { IfErr result (λ fault. fault ≡ RunFault.WriteFault) }
-        ensures failed { has_failed writer.new ≡ (has_failed writer.old || is_err result) }
+        ensures { Puts W.contents writer.old self.old (escaped_of bytes.now) result writer.new self.new }
     {
         for run in bytes.chunks(RUN) {
             self.emit_run(writer, run)?;
@@ -142,13 +118,10 @@ impl Lines {
         Ok(())
     }
 
-    /// Puts the escapes of a run after the others: at once where each byte stands for itself.
+    /// Puts the escapes of a run after the others: at once where each byte is its own escape.
     fn emit_run<W: Write>(&mut self, writer: &mut Told<W>, bytes: &[u8]) -> Result<(), RunFault>
         requires { length bytes.now ≤ RUN }
-        ensures ok { OnOk result (Emits (W.contents (inner_of writer.old)) (W.contents (inner_of writer.new)) self.old (escaped_of bytes.now) self.new) }
-        ensures err { OnErr result (EmitsFront (W.contents (inner_of writer.old)) (W.contents (inner_of writer.new)) self.old (escaped_of bytes.now)) }
-        ensures fault { IfErr result (λ fault. fault ≡ RunFault.WriteFault) }
-        ensures failed { has_failed writer.new ≡ (has_failed writer.old || is_err result) }
+        ensures { Puts W.contents writer.old self.old (escaped_of bytes.now) result writer.new self.new }
     {
         if bytes.len() == RUN && is_plain(bytes) {
             return self.emit(writer, bytes);
@@ -158,10 +131,7 @@ impl Lines {
 
     /// Puts the escapes of a run after the others, a block at a time.
     fn emit_blocks<W: Write>(&mut self, writer: &mut Told<W>, bytes: &[u8]) -> Result<(), RunFault>
-        ensures ok { OnOk result (Emits (W.contents (inner_of writer.old)) (W.contents (inner_of writer.new)) self.old (escaped_of bytes.now) self.new) }
-        ensures err { OnErr result (EmitsFront (W.contents (inner_of writer.old)) (W.contents (inner_of writer.new)) self.old (escaped_of bytes.now)) }
-        ensures fault { IfErr result (λ fault. fault ≡ RunFault.WriteFault) }
-        ensures failed { has_failed writer.new ≡ (has_failed writer.old || is_err result) }
+        ensures { Puts W.contents writer.old self.old (escaped_of bytes.now) result writer.new self.new }
     {
         for block in bytes.chunks(BLOCK) {
             self.emit_block(writer, block)?;
@@ -169,13 +139,10 @@ impl Lines {
         Ok(())
     }
 
-    /// Puts the escapes of one block after the others: at once where it is a whole one, each byte of which stands for itself.
+    /// Puts the escapes of one block after the others: at once where it is a whole one, each byte of which is its own escape.
     fn emit_block<W: Write>(&mut self, writer: &mut Told<W>, block: &[u8]) -> Result<(), RunFault>
         requires { length block.now ≤ BLOCK }
-        ensures ok { OnOk result (Emits (W.contents (inner_of writer.old)) (W.contents (inner_of writer.new)) self.old (escaped_of block.now) self.new) }
-        ensures err { OnErr result (EmitsFront (W.contents (inner_of writer.old)) (W.contents (inner_of writer.new)) self.old (escaped_of block.now)) }
-        ensures fault { IfErr result (λ fault. fault ≡ RunFault.WriteFault) }
-        ensures failed { has_failed writer.new ≡ (has_failed writer.old || is_err result) }
+        ensures { Puts W.contents writer.old self.old (escaped_of block.now) result writer.new self.new }
     {
         self.make_room(writer)?;
         self.count = if block.len() == BLOCK && is_plain(block) {
@@ -188,11 +155,8 @@ impl Lines {
 
     /// Makes room for a run.
     fn make_room<W: Write>(&mut self, writer: &mut Told<W>) -> Result<(), RunFault>
-        ensures ok { OnOk result (Emits (W.contents (inner_of writer.old)) (W.contents (inner_of writer.new)) self.old [] self.new) }
+        ensures puts { Puts W.contents writer.old self.old [] result writer.new self.new }
         ensures room { OnOk result (length self.new + RUN ≤ CAPACITY) }
-        ensures err { OnErr result (AppendsFront (W.contents (inner_of writer.old)) (W.contents (inner_of writer.new)) self.old) }
-        ensures fault { IfErr result (λ fault. fault ≡ RunFault.WriteFault) }
-        ensures failed { has_failed writer.new ≡ (has_failed writer.old || is_err result) }
     {
         if self.count <= CAPACITY - RUN {
             return Ok(());
@@ -211,7 +175,7 @@ fn body<'a>(packet: Packet<'a>) -> &'a [u8]
     }
 }
 
-/// Writes what stands in a packet's line before the payload at a place, over what stands there, and answers where it ends.
+/// Writes what a packet's line has before the payload to a place, over what is there, and answers where it ends.
 fn write_head(packet: Packet<'_>, offset: u64, out: &mut [u8], at: usize) -> usize
     requires { at + HEAD ≤ length out.old }
     ensures within { result ≤ at + HEAD }
@@ -234,7 +198,7 @@ fn write_head(packet: Packet<'_>, offset: u64, out: &mut [u8], at: usize) -> usi
     }
 }
 
-/// Puts bytes at a place, over what stands there, and answers where they end.
+/// Puts bytes at a place, over what is there, and answers where they end.
 pub(crate) fn put_at(out: &mut [u8], at: usize, bytes: &[u8]) -> usize
     requires { at + length bytes.now ≤ length out.old }
     ensures end { result ≡ at + length bytes.now }

@@ -14,9 +14,9 @@ ghost use Rattle.git2show_lib.specs.ToldAnswers.{CanBeWritten, answered_pack, to
 use git_server::Repo;
 use std::alloc::Allocator;
 
-/// A play that ended well tells what the repository answers to all requests: its transcript is that of the advertisement and of the answers,
-/// however they are cut and whichever packet ends a response, and its packs are those of the answers, one after the other. Of the requests it
-/// asks only what holds of each that is kept: its values may stand in a request of its format.
+/// A play that ended well reports what the repository answers to all requests: its transcript is that of the advertisement and of the
+/// answers, however they are cut and whichever packet ends a response, and its packs are those of the answers, one after the other. Of the
+/// requests it asks only what holds of each that is kept: its values are allowed in a request of its format.
 pub fn played_as_told<R: Repo, A: Allocator + Copy>()
     ensures told { (t : Terms) (limit : ℕ) (state : RepoState) (requests : List (Request A)) (done : Unit {0}) (read given : List (List ℕ))
         → Played (CanFail R.state state.failures) t limit state requests (Ok done) read given

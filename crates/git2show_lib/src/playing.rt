@@ -1,6 +1,7 @@
-//! Both ends against each other in memory: the client asks requests of a server of a repository, and hears its answers.
+//! Both ends against each other in memory: the client asks requests of a server of a repository, and receives its answers.
 
 ghost use Rattle.std.specs.Prelude.{◌≡◌, ◌<◌, ◌||◌, ◌∷◌, [], true, false, None, IsTrue, IfErr};
+ghost use Rattle.std.specs.Io.KnownBytes.{Keeps};
 ghost use Rattle.git_pkt.specs.Told.{inner_of, has_failed};
 ghost use Rattle.git_pkt.specs.Engine.{FailsAs, IsShownBy};
 ghost use Rattle.git_pkt.specs.Streams.{flow, is_broken, Moves};
@@ -9,7 +10,7 @@ ghost use Rattle.git_client.specs.Parts.{terms_of};
 ghost use Rattle.git_client.specs.RunSteps.{HearsPieceTo};
 ghost use Rattle.git_server.specs.Server.{outcome_of};
 ghost use Rattle.git2show_lib.specs.Plays.{CanFail, Played, setting_of};
-ghost use Rattle.git2show_lib.specs.PlaySteps.{AsksServerTo, HearsMessageTo, HearsServerTo, Stands, StandsOn, TellsAll, silent};
+ghost use Rattle.git2show_lib.specs.PlaySteps.{AnswersTo, AsksServerTo, EndsMessageTo, HearsMessageTo, HearsServerTo, Stands, StandsOn, TellsAll, silent};
 
 use git_client::{Client, Counts, Ending, Sent, hear_piece, write_asked};
 use git_msg::{Limits, Offer, Request};
@@ -19,7 +20,7 @@ use git_server::{Pulled, Repo, Server};
 use std::alloc::Allocator;
 use std::io::Write;
 
-/// Hears one whole packet in pieces of at most `cut` bytes, up to where the client can ask. The server's progress is dropped. Answers
+/// Hears one whole packet, or nothing, in pieces of at most `cut` bytes, up to where the client can ask. The progress is dropped. Answers
 /// how many bytes were used.
 fn hear_packet<O: Write, P: Output, A: Allocator + Copy>(
     client: &mut Client<A>,
@@ -48,7 +49,7 @@ fn hear_packet<O: Write, P: Output, A: Allocator + Copy>(
     Ok(used)
 }
 
-/// Hears what a server gives, up to where the client can ask or the server gives nothing more.
+/// Receives what a server gives, up to where the client can ask or the server gives nothing more.
 fn hear_server<R: Repo, O: Write, P: Output, A: Allocator + Copy>(
     client: &mut Client<A>,
     counts: &mut Counts,
@@ -79,15 +80,15 @@ fn hear_server<R: Repo, O: Write, P: Output, A: Allocator + Copy>(
     Ok(())
 }
 
-/// Hears a message of a server, the advertisement or a response, and after it a response end where the server answers one request
-/// alone. Both writers are flushed.
+/// Hears a message of a server, the advertisement or a response, and what comes after it: a response end, or nothing. Both writers are
+/// flushed.
 ///
-/// `Refused` with the first fault of what was heard, truncated where the server gives nothing more and more is due; `WriteFault` where a
+/// `Refused` with the first fault of what was received, truncated where the server gives nothing more and more is due; `WriteFault` where a
 /// write or a flush fails.
 fn hear_message<R: Repo, O: Write, P: Output, A: Allocator + Copy>(
     client: &mut Client<A>,
     server: &mut Server<R, A>,
-    alone: bool,
+    end: &[u8],
     cut: usize,
     out: &mut Told<O>,
     pack: &mut P,
@@ -96,7 +97,7 @@ fn hear_message<R: Repo, O: Write, P: Output, A: Allocator + Copy>(
     requires cut { 0 < cut }
     requires sound_out { has_failed out.old ≡ false }
     requires sound_pack { P.failed pack.old ≡ false }
-    ensures heard { HearsMessageTo R.state result alone client.old client.new server.old server.new
+    ensures heard { HearsMessageTo R.state result end.now client.old client.new server.old server.new
         (flow (O.contents (inner_of out.old)) (O.contents (inner_of out.new)))
         (flow (P.contents pack.old) (P.contents pack.new)) }
     ensures fault { IfErr result (IsShownBy ⊥ (IsTrue (has_failed out.new || P.failed pack.new)) ⊥) }
@@ -107,9 +108,28 @@ fn hear_message<R: Repo, O: Write, P: Output, A: Allocator + Copy>(
         progress: 0,
     };
     hear_server(client, &mut counts, server, cut, out, pack)?;
-    if alone && client.wants_input() {
-        hear_packet(client, &mut counts, b"0002", cut, out, pack)?;
+    if client.wants_input() {
+        hear_packet(client, &mut counts, end, cut, out, pack)?;
     }
+    end_message(client, out, pack)
+}
+
+/// Flushes both writers after a message of which nothing more comes.
+///
+/// `Refused`, truncated, where more of it is due; `WriteFault` where a flush fails.
+fn end_message<O: Write, P: Output, A: Allocator + Copy>(
+    client: &mut Client<A>,
+    out: &mut Told<O>,
+    pack: &mut P,
+) -> Result<(), RunFault>
+    requires sound_out { has_failed out.old ≡ false }
+    requires sound_pack { P.failed pack.old ≡ false }
+    ensures ends { EndsMessageTo result client.old client.new }
+    ensures out_kept { Keeps (O.contents (inner_of out.old)) (O.contents (inner_of out.new)) }
+    ensures pack_kept { Keeps (P.contents pack.old) (P.contents pack.new) }
+    ensures fault { IfErr result (IsShownBy ⊥ (IsTrue (has_failed out.new || P.failed pack.new)) ⊥) }
+    ensures told { FailsAs result false (has_failed out.new || P.failed pack.new) }
+{
     flush(out)?;
     pack.flush()?;
     if client.wants_input() {
@@ -118,7 +138,7 @@ fn hear_message<R: Repo, O: Write, P: Output, A: Allocator + Copy>(
     Ok(())
 }
 
-/// Says one packet to a server, in pieces of at most `cut` bytes. Bytes for which the server does not wait any more are dropped.
+/// Sends one packet to a server, in pieces of at most `cut` bytes. Bytes for which the server does not wait any more are dropped.
 fn tell_packet<R: Repo, A: Allocator + Copy>(server: &mut Server<R, A>, packet: &[u8], cut: usize)
     requires cut { 0 < cut }
     ensures told { StandsOn R.state server.old packet.now [] server.new }
@@ -131,7 +151,7 @@ fn tell_packet<R: Repo, A: Allocator + Copy>(server: &mut Server<R, A>, packet: 
     }
 }
 
-/// Says all that the client owes to a server.
+/// Sends all that the client owes to a server.
 fn tell_all<R: Repo, A: Allocator + Copy>(
     client: &mut Client<A>,
     server: &mut Server<R, A>,
@@ -172,15 +192,39 @@ fn ask_server<R: Repo, O: Write, A: Allocator + Copy>(
     Ok(())
 }
 
-/// Plays both ends against each other in memory: a client of the repository's format asks the requests in their order of a server of
-/// the repository that offers everything, by gitprotocol-v2(5), and each hears the other in pieces of at most `cut` bytes. Where each
-/// response ends with its flush alone one server answers all requests, and the client leaves it after the last. Where a response
-/// end comes after each, the first server only advertises, and each request is answered by one that does not, and then the client gets
-/// the response end. A server keeps arguments in memory from `alloc`, up to the usual limit for each request.
+/// Asks a request of a server and receives the response, and what comes after it: a response end, or nothing.
+fn answer_request<R: Repo, O: Write, P: Output, A: Allocator + Copy>(
+    client: &mut Client<A>,
+    request: Request<A>,
+    server: &mut Server<R, A>,
+    end: &[u8],
+    cut: usize,
+    out: &mut Told<O>,
+    pack: &mut P,
+) -> Result<(), RunFault>
+    requires ready { can_ask client.old ≡ true }
+    requires cut { 0 < cut }
+    requires sound_out { has_failed out.old ≡ false }
+    requires sound_pack { P.failed pack.old ≡ false }
+    ensures answered { AnswersTo R.state result end.now client.old client.new request server.old server.new
+        (flow (O.contents (inner_of out.old)) (O.contents (inner_of out.new)))
+        (flow (P.contents pack.old) (P.contents pack.new)) }
+    ensures fault { IfErr result (IsShownBy ⊥ (IsTrue (has_failed out.new || P.failed pack.new)) ⊥) }
+    ensures told { FailsAs result false (has_failed out.new || P.failed pack.new) }
+{
+    ask_server(client, request, server, cut, out)?;
+    hear_message(client, server, end, cut, out, pack)
+}
+
+/// Plays both ends against each other in memory: a client of the repository's format asks the requests in their order of a server of the
+/// repository that offers everything, by gitprotocol-v2(5), and each receives from the other in pieces of at most `cut` bytes. Where each
+/// response ends with its flush alone one server answers all requests, and the client leaves it after the last. Where a response end comes
+/// after each, the first server only advertises, and each request is answered by one that does not, and then the client gets the response
+/// end. A server keeps arguments in memory from `alloc`, up to the usual limit for each request.
 ///
 /// The client's transcript is written to `out`, and what came of packs, in order, to `pack`. Both are flushed after each response.
 ///
-/// `Refused` with the first fault of what the client heard, truncated where the server gives nothing more and more is due, or with
+/// `Refused` with the first fault of what the client received, truncated where the server gives nothing more and more is due, or with
 /// what [`Client::ask`] refused of a request; `WriteFault` where a write or a flush fails. No other fault is met.
 pub fn play<R: Repo + Drop, O: Write, P: Output, A: Allocator + Copy>(
     alloc: A,
@@ -201,21 +245,67 @@ pub fn play<R: Repo + Drop, O: Write, P: Output, A: Allocator + Copy>(
     ensures fault { IfErr result (IsShownBy ⊥ (IsTrue (has_failed out.new || P.failed pack.new)) ⊥) }
     ensures told { FailsAs result false (has_failed out.new || P.failed pack.new) }
 {
-    let format = repo.format();
-    let mut client = Client::new(format, ending);
-    let mut server = new_server(alloc, repo, true);
-    hear_message(&mut client, &mut server, false, cut, out, pack)?;
-    let alone = ending == Ending::ResponseEnd;
-    for request in requests {
-        if alone {
-            server = new_server(alloc, server.into_repo(), false);
-        }
-        ask_server(&mut client, request, &mut server, cut, out)?;
-        hear_message(&mut client, &mut server, alone, cut, out, pack)?;
+    match ending {
+        Ending::FlushOnly => play_one(alloc, repo, requests, cut, out, pack),
+        Ending::ResponseEnd => play_each(alloc, repo, requests, cut, out, pack),
     }
-    if !alone {
-        client.leave();
-        tell_all(&mut client, &mut server, cut);
+}
+
+/// One server answers all requests, and the client leaves it after the last.
+fn play_one<R: Repo + Drop, O: Write, P: Output, A: Allocator + Copy>(
+    alloc: A,
+    repo: R,
+    requests: Vec<Request<A>, A>,
+    cut: usize,
+    out: &mut Told<O>,
+    pack: &mut P,
+) -> Result<(), RunFault>
+    requires cut { 0 < cut }
+    requires sound_out { has_failed out.old ≡ false }
+    requires sound_pack { P.failed pack.old ≡ false }
+    ensures played { Moves (is_broken result)
+        (Played (CanFail R.state (R.state repo).failures) (terms_of (R.state repo).answers.format Ending.FlushOnly) Limits.USUAL
+        (R.state repo) requests.items result) []
+        (flow (O.contents (inner_of out.old)) (O.contents (inner_of out.new)) ∷ flow (P.contents pack.old) (P.contents pack.new) ∷ []) }
+    ensures fault { IfErr result (IsShownBy ⊥ (IsTrue (has_failed out.new || P.failed pack.new)) ⊥) }
+    ensures told { FailsAs result false (has_failed out.new || P.failed pack.new) }
+{
+    let mut client = Client::new(repo.format(), Ending::FlushOnly);
+    let mut server = new_server(alloc, repo, true);
+    hear_message(&mut client, &mut server, b"", cut, out, pack)?;
+    for request in requests {
+        answer_request(&mut client, request, &mut server, b"", cut, out, pack)?;
+    }
+    client.leave();
+    tell_all(&mut client, &mut server, cut);
+    Ok(())
+}
+
+/// The first server only advertises. Each request is answered by one of its own, and a response end comes after the response.
+fn play_each<R: Repo + Drop, O: Write, P: Output, A: Allocator + Copy>(
+    alloc: A,
+    repo: R,
+    requests: Vec<Request<A>, A>,
+    cut: usize,
+    out: &mut Told<O>,
+    pack: &mut P,
+) -> Result<(), RunFault>
+    requires cut { 0 < cut }
+    requires sound_out { has_failed out.old ≡ false }
+    requires sound_pack { P.failed pack.old ≡ false }
+    ensures played { Moves (is_broken result)
+        (Played (CanFail R.state (R.state repo).failures) (terms_of (R.state repo).answers.format Ending.ResponseEnd) Limits.USUAL
+        (R.state repo) requests.items result) []
+        (flow (O.contents (inner_of out.old)) (O.contents (inner_of out.new)) ∷ flow (P.contents pack.old) (P.contents pack.new) ∷ []) }
+    ensures fault { IfErr result (IsShownBy ⊥ (IsTrue (has_failed out.new || P.failed pack.new)) ⊥) }
+    ensures told { FailsAs result false (has_failed out.new || P.failed pack.new) }
+{
+    let mut client = Client::new(repo.format(), Ending::ResponseEnd);
+    let mut server = new_server(alloc, repo, true);
+    hear_message(&mut client, &mut server, b"", cut, out, pack)?;
+    for request in requests {
+        server = new_server(alloc, server.into_repo(), false);
+        answer_request(&mut client, request, &mut server, b"0002", cut, out, pack)?;
     }
     Ok(())
 }

@@ -1,4 +1,4 @@
-//! What the program tells of a fault.
+//! What the program reports of a fault.
 
 ghost use Rattle.std.specs.Prelude.{◌≡◌, ◌≤◌, ◌++◌, ◌+◌, false, length, take, decimal};
 ghost use Rattle.std.specs.Io.KnownBytes.{Appends};

@@ -25,7 +25,7 @@ pub fn one_bad_script_line()
         → HasBadScriptLine offer limit (lines_of text) other → number ≡ other }
 {}
 
-/// Each request of a script has values that may stand in a request of its command and format, as what is played has to.
+/// Each request of a script has values that are allowed in a request of its command and format, as what is played has to.
 pub fn script_requests_have_values()
     ensures { (offer : Offer) (limit : ℕ) (text : List ℕ) (requests : List (Kept Asked)) → IsScript offer limit text requests
         → All (λ request. HasValues request.format request.asked) requests }

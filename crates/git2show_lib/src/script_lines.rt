@@ -1,4 +1,4 @@
-//! The lines of a script, and what they said so far.
+//! The lines of a script, and what they contain so far.
 
 ghost use Rattle.std.specs.Prelude.{◌≡◌, MatchOption, MatchResult};
 ghost use Rattle.git_msg.specs.Advertisement.{everything};
@@ -12,7 +12,7 @@ use git_pkt::Kind;
 use git_repository::LineFault;
 use std::alloc::Allocator;
 
-/// What the lines said so far.
+/// What the lines so far contain.
 #[derive(Drop)]
 pub(crate) struct Script<A: Allocator + Copy> {
     offer: Offer,
@@ -37,7 +37,7 @@ impl<A: Allocator + Copy> Script<A> {
         }
     }
 
-    /// Takes a line, or answers that it may not stand after the lines before it.
+    /// Takes a line, or returns why not: it may not come after the lines before it, or memory ran out.
     pub(crate) fn take(&mut self, alloc: A, text: &[u8]) -> Result<(), LineFault>
         ensures { MatchResult result (λ _. TakesLine (held self.old) text.now (held self.new)) (IsLineFault (held self.old) text.now) }
     {
@@ -88,7 +88,7 @@ impl<A: Allocator + Copy> Script<A> {
         }
     }
 
-    /// The requests that the lines said.
+    /// The requests that the lines contain.
     pub(crate) fn finish(self) -> Vec<Request<A>, A>
         ensures { result.items ≡ (held self).requests }
     {

@@ -1,4 +1,4 @@
-//! Bytes of a pack and of the progress, as they pass: what the packet reader tells of them, and what a client hands out.
+//! Bytes of a pack and of the progress, as they pass: what the packet reader returns of them, and what a client hands out.
 
 ghost use Rattle.git_pkt.specs.BandReader.{MayPass};
 
@@ -13,7 +13,7 @@ use std::test::Fail;
 /// More answers than any of these pieces has.
 const MANY: usize = 100;
 
-/// Appends a line of what was told: how many bytes were used, and what they came to.
+/// Appends a line of what was returned: how many bytes were used, and what came of them.
 fn note(
     lines: &mut Vec<u8>,
     alloc: Global,
@@ -59,7 +59,7 @@ fn feed_piece(
     Ok(())
 }
 
-/// What the reader tells of these pieces, and how the stream ends after them.
+/// What the reader returns of these pieces, and how the stream ends after them.
 fn told(alloc: Global, pieces: &[&[u8]]) -> Result<Vec<u8>, AllocError> {
     let mut lines = Vec::new(alloc);
     let mut reader = PacketReader::new();

@@ -1,4 +1,4 @@
-//! Recorded streams that are checked against each other: what is told where one stops, where memory or the reads run out, and how far
+//! Recorded streams that are checked against each other: what is reported where one stops, where memory or the reads run out, and how far
 //! each is read.
 use crate::stopping::{ALL, MANY, TURNS, expect_due, expect_front};
 use git_client::Ending;
@@ -24,7 +24,7 @@ const RESPONSES: &[u8] =
 const REQUESTS: &[u8] =
     b"0014command=ls-refs\n00000012command=fetch\n00010032want aaaaaaaaaaaaaaaaaaaaaaaaaaaaaaaaaaaaaaaa\n0009done\n00000000";
 
-/// The transcript.
+/// The transcript that is due of both.
 const TRANSCRIPT: &[u8] =
     b"capability agent=git2/1\ncapability ls-refs\ncapability fetch=shallow\ncapability object-format=sha1\ncapability x-later\noffered\n\
 request ls-refs\nref aaaaaaaaaaaaaaaaaaaaaaaaaaaaaaaaaaaaaaaa HEAD\nend 0 0\nrequest fetch\nend 3 0\n";
@@ -184,7 +184,7 @@ fn slow_conversation(alloc: Global, step: usize, turns: u64) -> Checked {
     )
 }
 
-/// A read of the responses that fails is told behind the lines before it: the requests are read as soon as they are due.
+/// A read of the responses that fails is reported after the lines before it: the requests are read as soon as they are due.
 #[test]
 fn each_read_of_the_responses_fails_in_turn_while_they_are_checked(
     rt: HostRuntime,
@@ -246,7 +246,7 @@ fn each_write_and_flush_fails_in_turn_while_streams_are_checked(
     Ok(())
 }
 
-/// The client asks for the references for ever, and is told for ever that there is none.
+/// The client asks for the references for ever, and receives for ever that there is none.
 #[test]
 fn a_conversation_without_an_end_ends_at_the_limit_of_reads(rt: HostRuntime) -> Result<(), Fail> {
     let asked = Endless::new(b"", b"0014command=ls-refs\n0000");
@@ -312,7 +312,7 @@ fn nothing_is_read_before_it_is_due(rt: HostRuntime) -> Result<(), Fail> {
     Ok(())
 }
 
-// Whether the conversation is checked well with so much memory. Without it the want that memory ran out at is told, at its offset.
+// Whether the conversation is checked well with so much memory. Without it the want that memory ran out at is reported, at its offset.
 fn check_with(rt: &(impl Abort + AllocGlobal), size: usize) -> Result<bool, Fail> {
     let heap = LocalHeap::new(rt.alloc(), size)?;
     let answer = check(

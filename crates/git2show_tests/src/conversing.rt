@@ -1,4 +1,4 @@
-//! A client over readers and writers: what it says and hears, what is flushed when, and what is told of streams that stop.
+//! A client over readers and writers: what it sends and receives, what is flushed when, and what is reported of streams that stop.
 use crate::serving::{Asking, Counted};
 use crate::stopping::{ALL, MANY, TURNS, expect_due, expect_front};
 use git_client::{Client, Ending, converse};
@@ -19,21 +19,21 @@ const NEVER: u32 = u32::MAX;
 /// What is asked: the references, and then a pack.
 const SCRIPT: &[u8] = b"ls-refs\n\nfetch\nwant aaaaaaaaaaaaaaaaaaaaaaaaaaaaaaaaaaaaaaaa\ndone\n";
 
-/// What the server says: its advertisement of 71 bytes, the references, and a pack of three bytes with three of progress.
+/// What the server sends: its advertisement of 71 bytes, the references, and a pack of three bytes with three of progress.
 const ANSWERS: [&[u8]; 3] = [
     b"000eversion 2\n000cls-refs\n0012fetch=shallow\n0017object-format=sha1\n0000",
     b"0032aaaaaaaaaaaaaaaaaaaaaaaaaaaaaaaaaaaaaaaa HEAD\n0000",
     b"000dpackfile\n0007\x01AB0008\x02hi\n0006\x01C0000",
 ];
 
-/// What the client says for the references.
+/// What the client sends for the references.
 const LISTS: &[u8] = b"0014command=ls-refs\n0017object-format=sha1\n00010000";
 
-/// What it says for the pack.
+/// What it sends for the pack.
 const FETCHES: &[u8] =
     b"0012command=fetch\n0017object-format=sha1\n00010032want aaaaaaaaaaaaaaaaaaaaaaaaaaaaaaaaaaaaaaaa\n0009done\n0000";
 
-/// All that it says, up to its leaving.
+/// All that it sends, up to its leaving.
 const SAID: [&[u8]; 3] = [LISTS, FETCHES, b"0000"];
 
 /// The transcript of it.
@@ -41,10 +41,10 @@ const TRANSCRIPT: &[u8] =
     b"capability ls-refs\ncapability fetch=shallow\ncapability object-format=sha1\noffered\n\
 request ls-refs\nref aaaaaaaaaaaaaaaaaaaaaaaaaaaaaaaaaaaaaaaa HEAD\nend 0 0\nrequest fetch\nend 3 3\n";
 
-/// The pack.
+/// The pack that is due.
 const PACK: &[u8] = b"ABC";
 
-/// The progress.
+/// The progress that is due.
 const PROGRESS: &[u8] = b"hi\n";
 
 /// The requests of a script.
@@ -99,7 +99,7 @@ const SOUND: Stopping = Stopping {
     turns: TURNS,
 };
 
-/// Runs a client over what a server says, which comes so, and over streams that stop.
+/// Runs a client over a reader of what a server sends, and over streams that stop.
 fn run<R: Read + Drop>(
     rt: &(impl Abort + AllocGlobal),
     answers: R,
@@ -201,7 +201,7 @@ const DUE: [(u32, &[u8], &[u8], &[u8], &[u8]); 8] = [
     (10, b"", b"", b"C", b""),
 ];
 
-/// How much of what is said, of the transcript, of the pack and of the progress is due after so many reads.
+/// How much of what is sent, of the transcript, of the pack and of the progress is due after so many reads.
 fn due_after(reads: u32) -> (usize, usize, usize, usize) {
     let mut due = (0usize, 0usize, 0usize, 0usize);
     for (number, said, out, pack, progress) in DUE {
@@ -232,7 +232,7 @@ fn expect_interrupted(
     Ok(())
 }
 
-/// A read that fails, and reads that are spent, are told behind all that is due before them.
+/// A read that fails, and reads that are spent, are reported after all that is due before them.
 #[test]
 fn each_read_fails_in_turn_while_a_client_converses(rt: HostRuntime) -> Result<(), Fail> {
     for reads in 0..11u32 {
@@ -317,7 +317,7 @@ fn each_write_and_flush_fails_in_turn_while_a_client_converses(
 const ADVERTISEMENT: &[u8] =
     b"000eversion 2\n0011agent=git2/1\n000cls-refs\n0012fetch=shallow\n0017object-format=sha1\n000cx-later\n0000";
 
-/// What the client says for a pack to a server that names itself.
+/// What the client sends for a pack to a server that names itself.
 const FETCHES_FROM_AN_AGENT: &[u8] =
     b"0012command=fetch\n0011agent=git2/1\n0017object-format=sha1\n00010032want aaaaaaaaaaaaaaaaaaaaaaaaaaaaaaaaaaaaaaaa\n0009done\n0000";
 
@@ -355,7 +355,7 @@ fn run_fetch<R: Read + Drop>(
     Ok((got, pack.taken))
 }
 
-/// What was heard before a fatal error has been passed on by the time that it is told.
+/// What was received before a fatal error has been passed on by the time that the error is reported.
 #[test]
 fn what_came_before_a_fault_is_flushed(rt: HostRuntime) -> Result<(), Fail> {
     let response = b"000dpackfile\n0007\x01AB0008\x02hi\n0005\x010008\x03bad";
@@ -380,7 +380,7 @@ fn a_piece_is_heard_whole_before_the_read_that_fails(rt: HostRuntime) -> Result<
     Ok(())
 }
 
-/// The server tells of its progress for ever.
+/// The server sends progress for ever.
 #[test]
 fn a_response_without_an_end_ends_at_the_limit_of_reads(rt: HostRuntime) -> Result<(), Fail> {
     let first = joined(&rt, &[ADVERTISEMENT, b"000dpackfile\n0007\x01AB"])?;

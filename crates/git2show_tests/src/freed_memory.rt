@@ -22,7 +22,7 @@ const NOT_OURS: &[u8] =
     b"0012command=fetch\n00010032want aaaaaaaaaaaaaaaaaaaaaaaaaaaaaaaaaaaaaaaa\n\
 0035shallow cccccccccccccccccccccccccccccccccccccccc\n0032want dddddddddddddddddddddddddddddddddddddddd\n0000";
 
-/// What a server says to a client: its advertisement, and a pack that breaks off.
+/// What a server sends to a client: its advertisement, and a pack that breaks off.
 const BROKEN_OFF: &[u8] =
     b"000eversion 2\n000cls-refs\n0019fetch=shallow filter\n0017object-format=sha1\n0000\
 0014acknowledgments\n0031ACK bbbbbbbbbbbbbbbbbbbbbbbbbbbbbbbbbbbbbbbb\n000aready\n0001000dpackfile\n0007\x01AB0008\x02hi\n0008\x03no\n";
@@ -87,7 +87,7 @@ fn request<'h>(rt: &impl Abort, heap: &'h LocalHeap) -> Option<Request<&'h Local
     Some(request)
 }
 
-/// Says so many packets of what the client owes.
+/// Sends so many packets of what the client owes.
 fn say(client: &mut Client<&LocalHeap>, packets: usize) {
     for _ in 0..packets {
         if !matches!(client.pull(), Sent::Packet(_)) {
@@ -96,7 +96,7 @@ fn say(client: &mut Client<&LocalHeap>, packets: usize) {
     }
 }
 
-/// Feeds a client that asks as soon as it can, and says so many packets of that, and drops it. How much memory its request took.
+/// Feeds a client that asks as soon as it can, and sends so many packets of that, and drops it. How much memory its request took.
 fn ask(rt: &impl Abort, heap: &LocalHeap, input: &[u8], packets: usize) -> usize {
     let mut client = Client::new(Format::Sha1, Ending::FlushOnly);
     let mut rest = input;

@@ -1,6 +1,6 @@
 //! Tests that need code: memory that is refused, and given back, packs that come in parts or fail, readers and writers that fail or are
 //! asked when they were flushed, what a repository is asked, bytes of a pack as they pass, many packets and prefixes at once, and the
-//! names and texts of faults. What a text can tell is a case of `worked_conversations`.
+//! names and texts of faults. What a text can state is a case of `worked_conversations`.
 #![tactic(auto)]
 
 #[cfg(test)]

@@ -81,16 +81,7 @@ fn due(alloc: Global, tens: bool) -> Result<Vec<u8>, AllocError> {
 
 fn check_answer(rt: &(impl Abort + AllocGlobal), order: Order) -> Result<(), Fail> {
     let repo = repository(rt)?;
-    let offer = Offer {
-        format: repo.format(),
-        unborn: false,
-        shallow: false,
-        ref_in_want: false,
-        wait_for_done: false,
-        filter: false,
-        object_info: false,
-        server_option: false,
-    };
+    let offer = Offer::nothing(repo.format());
     let mut server = Server::new(rt.alloc(), repo, offer, usual().limits, false);
     let request = request(rt.alloc(), order)?;
     let (given, ended) = converse(&mut server, rt.alloc(), &[request.as_slice()])?;

@@ -1,4 +1,4 @@
-//! A server and a client that meet in a loop of the test's own: what the client is told where the server refuses.
+//! A server and a client that meet in a loop of the test's own: what the client receives where the server refuses.
 use crate::conversing::requests;
 use crate::servers::{advertising, new_server};
 use git_client::{Client, Ending, HeardGot, Sent};
@@ -29,7 +29,7 @@ fn hear<A: Allocator + Copy>(
     None
 }
 
-/// Gives the server all that the client has to say.
+/// Gives the server all that the client has to send.
 fn say<A: Allocator + Copy>(client: &mut Client<Global>, server: &mut Server<ListRepo, A>) {
     for _ in 0..PACKETS {
         let Sent::Packet(bytes) = client.pull() else {
@@ -39,7 +39,7 @@ fn say<A: Allocator + Copy>(client: &mut Client<Global>, server: &mut Server<Lis
     }
 }
 
-/// The server refuses the third packet of a request, and the client hears its name and offset.
+/// The server refuses the third packet of a request, and the client receives its name and offset.
 #[test]
 fn a_client_hears_why_a_server_refuses(rt: HostRuntime) -> Result<(), Fail> {
     let script = b"fetch\nwant dddddddddddddddddddddddddddddddddddddddd\ndone\n";
@@ -67,7 +67,7 @@ fn a_client_hears_why_a_server_refuses(rt: HostRuntime) -> Result<(), Fail> {
 }
 
 /// Asks for a pack of a server that has so much memory, by a revision and an object name. Where the server refuses the request as
-/// OutOfMemory, which the client hears with its offset; or nothing where it answers.
+/// OutOfMemory, which the client receives with its offset; or nothing where it answers.
 fn refused_within(rt: &(impl Abort + AllocGlobal), size: usize) -> Result<Option<u64>, Fail> {
     let script = b"fetch\nwant aaaaaaaaaaaaaaaaaaaaaaaaaaaaaaaaaaaaaaaa\ndeepen-not v1\ndone\n";
     let heap = LocalHeap::new(rt.alloc(), size)?;

@@ -34,14 +34,14 @@ fn faults_by_name(rt: HostRuntime) -> Result<(), Fail> {
     Ok(())
 }
 
-// `==` says whether the values are equal.
+// `==` answers whether the values are equal.
 fn is_same(a: &Oid, b: &Oid) -> bool
     ensures { IsTrue result ↔ (a.now ≡ b.now) }
 {
     *a == *b
 }
 
-// Names of one format stand in the order of their bytes.
+// Names of one format are in the order of their bytes.
 fn stands_before(a: &Oid, b: &Oid) -> bool
     requires { a.now.format ≡ b.now.format }
     ensures { IsTrue result ↔ (slice_cmp nat_cmp a.now.bytes b.now.bytes ≡ Ordering.Less) }

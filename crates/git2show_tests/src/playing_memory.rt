@@ -65,7 +65,7 @@ fn play_within<'h>(
     Ok(Played { ended, out, pack })
 }
 
-/// That the client was told of an error of the server, or got the filtered pack. Whether it was an error.
+/// That the client received an error of the server, or got the filtered pack. Whether it was an error.
 fn is_refused(rt: &impl Abort, played: &Played) -> bool {
     assert!(rt; played.out.as_slice().starts_with(ASKED));
     let rest = &played.out.as_slice()[ASKED.len().min(played.out.len())..];

@@ -90,7 +90,7 @@ fn times_asked(rt: &(impl Abort + AllocGlobal), requests: &[u8]) -> Result<u32, 
     Ok(times.get())
 }
 
-/// A fetch that negotiates alone gets no pack, and one that is done, or says nothing of what the client has, gets it in any case.
+/// A fetch that negotiates alone gets no pack, and one that is done, or contains nothing of what the client has, gets it in any case.
 #[test]
 fn a_repository_is_asked_whether_it_is_ready_only_where_its_pack_may_follow(
     rt: HostRuntime,

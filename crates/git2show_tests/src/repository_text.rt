@@ -1,4 +1,4 @@
-//! How a bad repository text is told.
+//! How a bad repository text is reported.
 use git_repository::TextFault;
 use std::test::Fail;
 

@@ -10,18 +10,14 @@ use std::alloc::{AllocError, Allocator, Global};
 use std::process::Abort;
 
 /// An offer of all but `object-info`, in SHA-1.
-const OFFER: Offer = Offer {
-    format: Format::Sha1,
-    unborn: true,
-    shallow: true,
-    ref_in_want: true,
-    wait_for_done: true,
-    filter: true,
-    object_info: false,
-    server_option: true,
-};
+fn offer() -> Offer {
+    Offer {
+        object_info: false,
+        ..Offer::everything(Format::Sha1)
+    }
+}
 
-/// Adds two prefixes to a request that may use this much memory, and says how many were kept.
+/// Adds two prefixes to a request that may use this much memory, and returns how many were kept.
 fn kept_within(rt: &impl Abort, alloc: Global, size: usize) -> Result<u32, AllocError> {
     let heap = LocalHeap::new(alloc, size)?;
     let mut request = Request::new(&heap, Command::LsRefs, Format::Sha1, Limits { args: 1000 });
@@ -67,7 +63,7 @@ fn each_growth_of_a_request_is_refused_in_turn(rt: HostRuntime) -> Result<(), Al
 /// Two filters, which take the blocks that the two prefixes do: their bytes are 14, and then 24, with those of their lengths.
 const FILTERS: [&[u8]; 2] = [b"blob:limit=8", b"tree:100"];
 
-/// Adds the filters to a fetch that may use this much memory, and says how many were kept.
+/// Adds the filters to a fetch that may use this much memory, and returns how many were kept.
 fn filters_within(rt: &impl Abort, alloc: Global, size: usize) -> Result<u32, AllocError> {
     let heap = LocalHeap::new(alloc, size)?;
     let mut request = Request::new(&heap, Command::Fetch, Format::Sha1, Limits { args: 1000 });
@@ -128,7 +124,7 @@ fn filters_are_kept_in_order(rt: HostRuntime) -> Result<(), AllocError> {
 /// More wants than fit into the first place that is taken for them.
 const MANY: usize = 20;
 
-/// Adds wants to a request that may use this much memory, and says how many were kept.
+/// Adds wants to a request that may use this much memory, and returns how many were kept.
 fn wants_within(rt: &impl Abort, alloc: Global, size: usize) -> Result<usize, AllocError> {
     let heap = LocalHeap::new(alloc, size)?;
     let mut request = Request::new(&heap, Command::Fetch, Format::Sha1, Limits { args: 1000 });
@@ -187,7 +183,7 @@ fn hear<A: Allocator + Copy>(
 fn a_reader_without_memory_refuses_the_first_prefix(rt: HostRuntime) -> Result<(), AllocError> {
     // The places of four texts take all of it, and their bytes find none.
     let heap = LocalHeap::new(rt.alloc(), 16)?;
-    let mut reader = RequestReader::new(&heap, OFFER, Limits { args: 1000 });
+    let mut reader = RequestReader::new(&heap, offer(), Limits { args: 1000 });
     let refused = Err(Fault {
         kind: Kind::OutOfMemory,
         offset: 33,
@@ -215,7 +211,7 @@ fn a_request_of_flags_takes_no_memory(rt: HostRuntime) -> Result<(), AllocError>
     assert_eq!(&rt; request.kept(), 11);
     let added = request.add(Argument::RefPrefix(b""));
     assert_eq!(&rt; added, Err(Kind::OutOfMemory));
-    let mut reader = RequestReader::new(&heap, OFFER, Limits { args: 1000 });
+    let mut reader = RequestReader::new(&heap, offer(), Limits { args: 1000 });
     assert_eq!(&rt;
         hear(&mut reader, Packet::Payload(b"command=ls-refs\n"), 0),
         Ok(())
@@ -248,7 +244,7 @@ fn heard_within(
     line: &[u8],
 ) -> Result<Result<(), Fault>, AllocError> {
     let heap = LocalHeap::new(alloc, size)?;
-    let mut reader = RequestReader::new(&heap, OFFER, Limits { args: 1000 });
+    let mut reader = RequestReader::new(&heap, offer(), Limits { args: 1000 });
     let command = hear(&mut reader, Packet::Payload(b"command=fetch\n"), 0);
     assert_eq!(rt; command, Ok(()));
     assert_eq!(rt; hear(&mut reader, Packet::Delim, 18), Ok(()));

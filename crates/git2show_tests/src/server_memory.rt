@@ -138,7 +138,7 @@ fn each_growth_of_the_wants_is_refused_in_turn(rt: HostRuntime) -> Result<(), Fa
 const LATE_TEXT: &[u8] = b"0014command=ls-refs\n0016object-format=sha10001\
     0009peel\n000csymrefs\n001bref-prefix refs/heads/\n0000";
 
-/// What is told of it without memory.
+/// What is reported of it without memory.
 const LATE_TEXT_REFUSED: &[u8] = b"001aERR OutOfMemory at 67\n";
 
 /// Less than a text takes: the places of four texts fit, and their bytes do not.

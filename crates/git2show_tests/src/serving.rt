@@ -1,4 +1,4 @@
-//! Servers over readers and writers: what is flushed when, what is told of streams that stop, and reads that are spent.
+//! Servers over readers and writers: what is flushed when, what is reported of streams that stop, and reads that are spent.
 use crate::servers::{Setup, advertising, new_server, usual};
 use crate::stopping::{ALL, MANY, TURNS, expect_due, expect_front};
 use git_names::Format;
@@ -183,7 +183,7 @@ fn serve_stopping(
     Ok((run, sink))
 }
 
-/// A read that fails, and reads that are spent, are told behind the whole answers before them.
+/// A read that fails, and reads that are spent, are reported after the whole answers before them.
 #[test]
 fn each_read_fails_in_turn_while_a_session_is_served(rt: HostRuntime) -> Result<(), Fail> {
     let mut due = Vec::new(rt.alloc());

@@ -1,4 +1,4 @@
-//! Many short texts: they stand in one vector with the places where they end, and none has a block of its own.
+//! Many short texts: they are in one vector with the places where they end, and none has a block of its own.
 use git_msg::{Argument, Command, Limits, Request};
 use git_names::Format;
 use linked_list_allocator::LocalHeap;

@@ -59,7 +59,7 @@ fn an_endless_stream_ends_at_the_limit_of_reads(rt: HostRuntime) -> Result<(), F
     Ok(())
 }
 
-/// A read that fails, and reads that are spent, are told behind the lines before them.
+/// A read that fails, and reads that are spent, are reported after the lines before them.
 #[test]
 fn each_read_fails_in_turn_while_packets_are_shown(rt: HostRuntime) -> Result<(), Fail> {
     let mut due = Vec::new(rt.alloc());

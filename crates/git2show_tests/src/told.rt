@@ -1,4 +1,4 @@
-//! What a `Told` tells of calls that go well, fail, and go well again, and which reads a `Retries` makes again.
+//! What a `Told` reports of calls that go well, fail, and go well again, and which reads a `Retries` makes again.
 use git_pkt::{Retries, Stops, Told};
 use std::io::{ErrorKind, Read, Write};
 use std::test::Fail;

@@ -85,8 +85,9 @@ fn a_long_value_is_written_whole(rt: HostRuntime) -> Result<(), Fail> {
 #[test]
 fn a_writer_that_fails_is_a_write_fault(rt: HostRuntime) -> Result<(), Fail> {
     let line = b"capability key=value\n";
+    // The writer takes five bytes at a time, so that the line takes five writes.
     for failing in 0..5 {
-        let mut sink = Sink::new(Vec::new(rt.alloc()), usize::MAX, failing);
+        let mut sink = Sink::new(Vec::new(rt.alloc()), 5, failing);
         let mut out = Told::new(&mut sink);
         let event = event_of(Some(b"value"));
         assert_eq!(rt;

@@ -1,17 +1,13 @@
--- The steps of a run, one after another: what was written, and how the history goes on.
-use Rattle.std.proofs.Common.{arith, ◌≡◌, ℕ, ◌+◌, ◌≤◌, Bool, true, false, List, [], ◌∷◌, ◌++◌, length, drop, Option, Some, None}
-use Rattle.std.proofs.Common.{Result, Err, IsErrAnd, refl, sym, ap, ◌∙◌, subst, append_assoc, append-nil, length-append}
-use Rattle.std.proofs.lemmas.Result.{err_from_is_err_and}
-use Rattle.std.proofs.KnownBytes.{Appends-nil, Appends-trans}
+-- The steps of a run, one after another: how the history goes on.
+use Rattle.std.proofs.Common.{arith, ◌≡◌, ℕ, ◌+◌, ◌≤◌, Bool, true, false, List, [], ◌∷◌, ◌++◌, length, drop, Some, None}
+use Rattle.std.proofs.Common.{refl, sym, ap, ◌∙◌, subst, append_assoc, length-append}
 use Rattle.git_pkt.specs.declared.fault.Fault.{Fault}
-use Rattle.git_pkt.specs.declared.fault.RunFault.{RunFault}
-use Rattle.git_pkt.proofs.EngineLemmas.{AppendsFront-after}
 use Rattle.git_msg.specs.Asked.{Asked, command_asked}
 use Rattle.git_msg.specs.HeldRequest.{asked_of}
 use Rattle.git_msg.specs.declared.requests.Request.{Request}
 use Rattle.git_client.specs.Events.{EventValue, pack_bytes, progress_bytes}
 use Rattle.git_client.specs.Parts.{Terms}
-use Rattle.git_pkt.specs.Streams.{Flow, flow, WrittenAs, IsTimely}
+use Rattle.git_pkt.specs.Streams.{Flow, IsTimely}
 use Rattle.git_client.specs.Transcript.{asked_line, next_asked, transcript_from, transcript_of}
 use Rattle.git_client.specs.Client.{History, Converses, HearsOn, can_ask, fault_of, nothing_yet, phase_of, wants_input}
 use Rattle.git_client.specs.RunSteps.{no_counts, counts_with, CanCount, HearsBytes, AsksNext, FaultsInTime}
@@ -23,36 +19,10 @@ use Rattle.git_client.proofs.OneTurn.{Adds, turn_adds}
 use Rattle.git_client.proofs.Packs.{pack_bytes-append}
 use Rattle.git_client.proofs.Phases.{not_ready_where_due}
 
--- ---- what was written
-
-pub written_nothing : (held : Option (List ℕ)) → WrittenAs false (flow held held) []
-written_nothing held = Appends-nil held
-
--- bytes that were written whole, and then others, whole or up to where a write failed
-pub written_then : (broken : Bool) (before held after : Option (List ℕ)) (u v : List ℕ) → WrittenAs false (flow before held) u
-    → WrittenAs broken (flow held after) v → WrittenAs broken (flow before after) (u ++ v)
-written_then false before held after u v first second = Appends-trans before held after u v first second
-written_then true before held after u v first second = AppendsFront-after before held after u v first second
-
--- all bytes are a front of themselves
-pub in_part : (stream : Flow) (u : List ℕ) → WrittenAs false stream u → WrittenAs true stream u
-in_part stream u written = (u, [], sym (append-nil u), written)
-
--- where a write failed, bytes that were written whole before count as written too
-pub written_whole : (broken : Bool) (stream : Flow) (u : List ℕ) → WrittenAs false stream u → WrittenAs broken stream u
-written_whole false stream u written = written
-written_whole true stream u written = in_part stream u written
-
--- what a `?` answers is the fault that it met
-pub at_fault : {T : Type 0} (r : Result T RunFault) (fault met : RunFault) (P : Result T RunFault → Type 0) → fault ≡ met
-    → IsErrAnd r (λ e. e ≡ fault) → P (Err met) → P r
-at_fault r fault met P named answered at =
-    let (e, is, same) = err_from_is_err_and r answered in subst P (sym (is ∙ ap Err (same ∙ named))) at
-
--- ---- what is told of a history
+-- ---- what is known of a history
 
 -- however the conversation goes on, its transcript begins with these lines. Where the client can ask, the line of the next
--- question comes after them; else so many bytes of the pack and the progress of the response have come.
+-- request comes after them; else so many bytes of the pack and the progress of the response have come.
 abbrev pub IsTold : Bool → History → List ℕ → Counts → Type 0
 IsTold true h lines counts = (later : List Asked) (more : List EventValue)
     → transcript_of (h.asked ++ later) (h.events ++ more) ≡ lines ++ next_asked later ++ transcript_from (drop 1 later) 0 0 more
@@ -78,14 +48,14 @@ lines_told false h used events lines counts told adds = λ later more.
     ∙ sym (append_assoc lines (transcript_from [] counts.pack counts.progress events)
     (transcript_from later (counts.pack + length (pack_bytes events)) (counts.progress + length (progress_bytes events)) more))
 
--- however the conversation goes on after the question: its line comes next, and no byte of its response has come
+-- however the conversation goes on after the request: its line comes next, and no byte of its response has come
 told_asked : (h : History) (question : Asked) (lines : List ℕ) (counts : Counts) → IsTold true h lines counts
     → IsTold false (record h { asked = h.asked ++ question ∷ [] }) (lines ++ asked_line (command_asked question)) no_counts
 told_asked h question lines counts told later more =
     ap (λ (asked : List Asked). transcript_of asked (h.events ++ more)) (append_assoc h.asked (question ∷ []) later) ∙ told (question ∷ later) more
 
 module _ {A : Type 0} where
-  -- after this history a client on these terms stands so, with these lines of the transcript, and these bytes of the pack
+  -- what holds of a client on these terms after this history, with these lines of the transcript, and these bytes of the pack
   pub record Along (t : Terms) (h : History) (client : Client A) (lines packed : List ℕ) (counts : Counts) : Type 0 where
     pub stands : Converses t h client
     pub told : IsTold (can_ask client) h lines counts
@@ -126,7 +96,7 @@ module _ {A : Type 0} where
       within = omega arith;
     }
 
-    -- no count comes to its end by what a client hears
+    -- no count reaches its end by what a client receives
     pub counts_on : {new : Client A} {used : List ℕ} {events : List EventValue} → HearsOn client used events new → CanCount counts events
     counts_on {new = new} {used = used} {events = events} hears =
         let few = few_events t (record h { used = h.used ++ used; events = h.events ++ events }) new (hears t h along.stands) in
@@ -136,7 +106,7 @@ module _ {A : Type 0} where
           progress = omega (arith, few, all, along.within, bytes_fit events);
         }
 
-    -- bytes were heard
+    -- bytes were received
     pub along_heard : {broken : Bool} {new : Client A} {counts_after : Counts} {used : List ℕ} {out packs progress : Flow} → wants_input client ≡ true
         → (step : HearsBytes broken client new counts counts_after used out packs progress)
         → Along t (record h { used = h.used ++ used; events = h.events ++ step.events }) new

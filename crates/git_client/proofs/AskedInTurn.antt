@@ -1,7 +1,7 @@
 -- Requests that were asked, each in its turn, and that may be asked by what was advertised.
 use Rattle.std.proofs.Common.{arith, ◌≡◌, ◌⊎◌, inl, inr, ℕ, ◌≤◌, true, All, List, [], ◌∷◌, ◌++◌, length, map}
 use Rattle.std.proofs.Common.{refl, sym, ap, ◌∙◌, subst, append_assoc, append-nil, length-append}
-use Rattle.std.proofs.lemmas.List.{map-append}
+use Rattle.std.proofs.lemmas.List.{map-append, nil_from_length}
 use Rattle.std.proofs.lemmas.List.Elements.{All-cons, All-head, All-nil, All-push, All-tail}
 use Rattle.git_names.specs.declared.object_format.Format.{Format}
 use Rattle.git_msg.specs.Advertisement.{noted_of, offers_command}
@@ -21,7 +21,22 @@ use Rattle.git_client.proofs.EventsHeard.{has_noted, is_whole}
 use Rattle.git_client.proofs.Notes.{noted_at}
 use Rattle.git_client.proofs.Sequences.{turns-append}
 
--- the command of a question was advertised
+-- ---- requests that come off a vector
+
+-- one more came off it
+pub next_is : {X : Type 0} (all front rest later : List X) (x : X) → all ≡ front ++ rest → rest ≡ x ∷ later → all ≡ front ++ x ∷ later
+next_is {X} all front rest later x split next = split ∙ ap (λ (l : List X). front ++ l) next
+
+pub one_more : {X : Type 0} (all front rest later : List X) (x : X) → all ≡ front ++ rest → rest ≡ x ∷ later → all ≡ (front ++ x ∷ []) ++ later
+one_more all front rest later x split next = next_is all front rest later x split next ∙ sym (append_assoc front (x ∷ []) later)
+
+-- and then none
+pub none_more : {X : Type 0} (all front rest : List X) → all ≡ front ++ rest → length rest ≡ 0 → all ≡ front ++ []
+none_more {X} all front rest split none = split ∙ ap (λ (l : List X). front ++ l) (nil_from_length rest none)
+
+-- ---- requests that were asked
+
+-- the command of a request was advertised
 abbrev pub HasCommand : Caps → Asked → Type 0
 HasCommand caps q = offers_command caps (command_asked q) ≡ true
 
@@ -137,7 +152,7 @@ module _ {A : Type 0} (t : Terms) where
         (sym (noted_at t m.first m.begun m.events m.whole m.more asked m.later used caps m.asked_is m.used_is noted)) m.passes
   ]
 
-  -- and the command of each question was advertised
+  -- and the command of each request was advertised
   commands_of_each : (caps : Caps) (front : List (Request A)) → All (MayAsk caps) front
       → All (HasCommand caps) (map asked_of front)
   commands_of_each caps [] all = All-nil (HasCommand caps)

@@ -1,4 +1,4 @@
--- A step of a client that hears carries what it stands for.
+-- A step of a client that receives carries what it represents.
 use Rattle.std.proofs.Common.{arith, ◌≡◌, inl, inr, Bool, Option, Some, ◌+◌, ◌-◌, ℕ, List, [], ◌∷◌, ◌++◌}
 use Rattle.std.proofs.Common.{length, zero-add, true, false, None, ap, sym, ◌∙◌, refl, subst, append_assoc}
 use Rattle.std.proofs.lemmas.List.{append-nil}
@@ -37,13 +37,13 @@ use Rattle.git_client.proofs.Judged.{place_is, judged_well, judged_badly}
 use Rattle.git_client.proofs.Opened.{nothing_opened}
 use Rattle.git_client.proofs.Reached.{Reached, Reaches}
 
--- the server is heard, or can be asked
+-- the client receives, or can ask
 abbrev pub goes_on : Phase → Bool
 goes_on (Hearing due) = true
 goes_on Ready = true
 goes_on phase = false
 
--- how a phase in which the conversation goes on stands, whatever the request was
+-- what holds in a phase in which the conversation goes on, whatever the request was
 stands_on : (phase : Phase) (t : Terms) (asked : List Asked) (clean given : List Given) (rest : List ℕ) (end : ℕ) (question : Option Asked)
     (reader : PacketReader) → goes_on phase ≡ true → Goes t asked clean given rest None phase reader
     → StandsIn phase t asked clean given rest end question reader
@@ -53,7 +53,7 @@ stands_on Ready t asked clean given rest end question reader e h =
     record { cut = h.cut; sound = h.sound; behind = h.behind; shut = h.shut }
 stands_on phase t asked clean given rest end question reader e h = absurd (cc)
 
--- a phase in which the client says nothing, and has not left
+-- a phase in which the client sends nothing, and has not left
 abbrev pub is_quiet : Phase → Bool
 is_quiet (Failed fault) = true
 is_quiet phase = goes_on phase
@@ -99,14 +99,14 @@ same_questions t asked before Capabilities caps after (payload line) d notes =
 same_questions t asked before due caps after p d notes = ap (λ (a : Caps). questions_of t.format a asked) notes
 
 module _ {A : Type 0} where
-  -- the client has read these bytes, after which these packets are told, and these events were handed out of what passed
+  -- the client has read these bytes, after which these packets are returned, and these events were handed out of what passed
   pub record HearsBytes (old new : Client A) (due : Due) (u : List ℕ) (told : List Given) (parts : List EventValue) : Type 0 where
     pub hearing : phase_of old ≡ Hearing due
     pub reaches : Reaches old due u told parts (reader_of new)
     pub format : format_of new ≡ format_of old
     pub ending : ending_of new ≡ ending_of old
 
-  -- where the conversation stands after it
+  -- what holds of the conversation after it
   pub record Continues (t : Terms) (h : History) (old new : Client A) (now : List EventValue) (given : List Given) (rest : List ℕ) (end : ℕ) : Type 0 where
     pub clean : List Given
     pub whole : List EventValue
@@ -144,7 +144,7 @@ module _ {A : Type 0} where
             ∙ c.spoken ∙ ap (λ (l : List Pkt). spelled (l ++ farewell h.left)) (sym a.same_questions);
       }
 
-  -- no packet is told: the same is due as before
+  -- no packet is returned: the same is due as before
   pub hears_parts : (old new : Client A) (due : Due) (u : List ℕ) (parts : List EventValue) → HearsBytes old new due u [] parts
       → reader_fault_of (reader_of new) ≡ None → phase_of new ≡ Hearing due → caps_of new ≡ caps_of old → HearsOn old u parts new
   hears_parts old new due u parts b sound now caps =

@@ -1,5 +1,5 @@
--- A run of a client over its streams so far, and what it comes to at each of its ends.
-use Rattle.std.proofs.Common.{◌≡◌, inl, inr, ℕ, Bool, true, false, List, [], ◌∷◌, ◌++◌, Option, Some, None}
+-- A run of a client over its streams so far, and what it results in at each of its ends.
+use Rattle.std.proofs.Common.{◌≡◌, inl, inr, ℕ, Bool, true, false, List, [], ◌∷◌, ◌++◌, Option, None}
 use Rattle.std.proofs.Common.{◌||◌, IsTrue, Result, Ok, Err, is_err, IfErr, IsErrAnd, refl, sym, ap, ◌∙◌, subst, append_assoc, append-nil}
 use Rattle.std.proofs.Math.Bool.{or-false}
 use Rattle.std.proofs.lemmas.Bool.{or_from, or_left}
@@ -15,45 +15,28 @@ use Rattle.git_msg.specs.Checks.{Refuses as RefusesBy}
 use Rattle.git_msg.specs.HeldRequest.{asked_of}
 use Rattle.git_msg.specs.declared.requests.Request.{Request}
 use Rattle.git_names.specs.declared.object_format.Format.{Format}
-use Rattle.git_pkt.proofs.EngineLemmas.{holds_at_fault}
+use Rattle.git_pkt.proofs.EngineLemmas.{holds_at_fault, written_nothing, written_then, written_whole}
 use Rattle.git_client.specs.Parts.{Terms}
 use Rattle.git_client.specs.Events.{EventValue, pack_bytes, progress_bytes}
 use Rattle.git_client.specs.Transcript.{transcript_from, transcript_of}
-use Rattle.git_client.specs.Turns.{takes_packets, fault_in, is_ready}
 use Rattle.git_client.specs.Client.{History, Converses, Leaves, nothing_yet, ask_checks, caps_of, ending_of, can_ask, fault_of, wants_input}
 use Rattle.git_client.specs.Client.{left_to_say, phase_of, request_of}
 use Rattle.git_pkt.specs.Streams.{Flow, flow, WrittenAs, Moves, is_broken}
-use Rattle.git_client.specs.RunSteps.{HearsFrom, HearsTo, HearsWhole, Says, AsksNext, AsksTo, FaultsInTime, no_counts, window_of}
-use Rattle.git_client.specs.Runs.{leaves_last, HasSaid, IsBrokenRun, IsInterrupted, IsWholeRun, EndsAs, Conversed}
-use Rattle.git_client.specs.declared.phase.Phase.{Phase}
-use Rattle.git_client.specs.declared.phase.Phase.TheVariants.{Hearing, Ready, Failed}
+use Rattle.git_client.specs.RunSteps.{HearsFrom, HearsTo, HearsWhole, Says, AsksNext, AsksNot, AsksTo, FaultsInTime, no_counts, window_of}
+use Rattle.git_client.specs.Runs.{leaves_last, HasSaid, IsBrokenRun, IsInterrupted, IsRefusedRequest, IsWholeRun, EndsAs, Conversed}
 use Rattle.git_client.specs.declared.client.Client.{Client}
 use Rattle.git_client.specs.declared.events.Ending.{Ending}
 use Rattle.git_client.specs.declared.events.Ending.TheVariants.{FlushOnly, ResponseEnd}
 use Rattle.git_client.specs.declared.hearing.Counts.{Counts}
 use Rattle.git_client.specs.declared.hearing.Window.{Window}
-use Rattle.git_client.proofs.Alongs.{written_nothing, written_then, written_whole, in_part, in_time_where_sound, in_time_where_told}
+use Rattle.git_client.proofs.Alongs.{in_time_where_sound, in_time_where_told}
 use Rattle.git_client.proofs.Alongs.{IsTold, Along, along_anew, along_asked, along_begun, along_heard, counts_on}
 use Rattle.git_client.proofs.Counting.{progress_bytes-append}
 use Rattle.git_client.proofs.Carries.{is_quiet, not_left, owes_nothing}
-use Rattle.git_client.proofs.Phases.{sound_where_due, sound_where_ready}
+use Rattle.git_client.proofs.Phases.{sound_where_due, sound_where_ready, quiet_where_due, quiet_where_failed, quiet_where_ready}
 use Rattle.git_client.proofs.EventsHeard.{has_noted, awaits_more, is_whole, position_is, all_is_said}
 use Rattle.git_client.proofs.Faults.{first_fault}
 use Rattle.git_client.proofs.AskedInTurn.{AskedInTurn, asked_in_turn, has_asked, heard_in_turn, none_in_turn}
-
--- ---- what a phase is in which the client can ask, hears, or has failed
-
-quiet_where_ready : (phase : Phase) → is_ready phase ≡ true → is_quiet phase ≡ true
-quiet_where_ready Ready e = refl
-quiet_where_ready phase e = absurd (cc)
-
-quiet_where_due : (phase : Phase) → takes_packets phase ≡ true → is_quiet phase ≡ true
-quiet_where_due (Hearing due) e = refl
-quiet_where_due phase e = absurd (cc)
-
-quiet_where_failed : (phase : Phase) (fault : Fault) → fault_in phase ≡ Some fault → is_quiet phase ≡ true
-quiet_where_failed (Failed f) fault e = refl
-quiet_where_failed phase fault e = absurd (cc)
 
 -- ---- what was read and written
 
@@ -64,7 +47,7 @@ read_on before held after used waiting came more unused first second parts =
     subst (Consumes before after) (append_assoc used waiting came ∙ ap (λ (l : List ℕ). used ++ l) parts ∙ sym (append_assoc used more unused))
     (Consumes-trans before held after (used ++ waiting) came first second)
 
--- where nothing is asked and heard any more, the lines so far are all of the transcript
+-- where nothing is asked and received any more, the lines so far are all of the transcript
 all_lines : (ready : Bool) (h : History) (lines : List ℕ) (counts : Counts) → IsTold ready h lines counts
     → transcript_of (h.asked ++ []) (h.events ++ []) ≡ lines
 all_lines true h lines counts told = told [] [] ∙ append-nil (lines ++ []) ∙ append-nil lines
@@ -84,7 +67,7 @@ sound_last a b c sound = ap (λ (x : Bool). a || x) (sym (or-false b) ∙ ap (λ
 pub sound_first : (a b : Bool) → a ≡ false → b ≡ (a || b)
 sound_first a b sound = ap (λ (x : Bool). x || b) (sym sound)
 
--- what `?` answers tells what the fault tells that it met
+-- what `?` answers reports the same as the fault that it met
 pub fails_at : (r : Result (Unit {0}) RunFault) (fault : RunFault) (read reads written writes : Bool) → IsErrAnd r (λ e. e ≡ fault) → read ≡ reads
     → written ≡ writes → FailsAs {T = Unit {0}} (Err fault) read written → FailsAs r reads writes
 fails_at r fault read reads written writes met same others told =
@@ -121,13 +104,12 @@ module _ (before after others : Bool) (sound : before ≡ false) where
       subst (IsShownBy R (IsTrue (after || others)) S) (sym named) (or_left after others (failed ∙ ap (λ (b : Bool). b || true) sound))
 
 module _ {A : Type 0} where
-  -- ---- how a run stands
+  -- ---- a run so far
 
-  -- a run of a client so far, which can go on: it asked the requests of the front, these bytes were read beside those that it used,
-  -- and so each stream moved
-  pub record Running (broken : Bool) (t : Terms) (front : List (Request A)) (client : Client A) (counts : Counts) (unused : List ℕ)
+  -- a run of a client with this history, which can go on: it asked the requests of the front, these bytes were read beside those that it
+  -- used, and so each stream moved
+  pub record Running (broken : Bool) (t : Terms) (h : History) (front : List (Request A)) (client : Client A) (counts : Counts) (unused : List ℕ)
       (reader writer out pack progress : Flow) : Type 0 where
-    pub h : History
     pub lines : List ℕ
     pub packed : List ℕ
     pub along : Along t h client lines packed counts
@@ -150,37 +132,37 @@ module _ {A : Type 0} where
     pub sent : WrittenAs broken pack (pack_bytes h.events)
     pub reported : WrittenAs broken progress (progress_bytes h.events)
 
-  -- a run may end wherever it stands
-  pub ran_by : {broken : Bool} {t : Terms} {h : History} {front : List (Request A)} {client : Client A} {counts : Counts} {unused : List ℕ}
-      {reader writer out pack progress : Flow} (lines packed : List ℕ) → Along t h client lines packed counts → AskedInTurn t h.asked h.used h.events front
-      → Consumes reader.before reader.after (h.used ++ unused) → WrittenAs broken writer h.given → WrittenAs broken out lines
-      → WrittenAs broken pack packed → WrittenAs broken progress (progress_bytes h.events)
+  -- a run may end wherever it is
+  pub ran : {broken : Bool} {t : Terms} {h : History} {front : List (Request A)} {client : Client A} {counts : Counts} {unused : List ℕ}
+      {reader writer out pack progress : Flow} → Running broken t h front client counts unused reader writer out pack progress
       → Ran broken t h front client unused reader writer out pack progress
-  ran_by {broken} {t} {h} {front} {client} {counts} {unused} {reader} {writer} {out} {pack} {progress} lines packed along in_turn read said told sent
-      reported = record {
-        stands = along.stands;
-        in_turn = in_turn;
-        read = read;
-        said = said;
-        told = subst (WrittenAs broken out) (all_told (can_ask client) h lines counts along.told) told;
-        sent = subst (WrittenAs broken pack) along.pack_is sent;
-        reported = reported;
-      }
+  ran {broken} {t} {h} {front} {client} {counts} {unused} {reader} {writer} {out} {pack} {progress} r = record {
+    stands = r.along.stands;
+    in_turn = r.in_turn;
+    read = r.read;
+    said = r.said;
+    told = subst (WrittenAs broken out) (all_told (can_ask client) h r.lines counts r.along.told) r.told;
+    sent = subst (WrittenAs broken pack) r.along.pack_is r.sent;
+    reported = r.reported;
+  }
 
-  pub ran : {broken : Bool} {t : Terms} {front : List (Request A)} {client : Client A} {counts : Counts} {unused : List ℕ}
-      {reader writer out pack progress : Flow} → (r : Running broken t front client counts unused reader writer out pack progress)
-      → Ran broken t r.h front client unused reader writer out pack progress
-  ran r = ran_by r.lines r.packed r.along r.in_turn r.read r.said r.told r.sent r.reported
+  -- its streams were moved otherwise to the same
+  pub ran_as : {broken again : Bool} {t : Terms} {h : History} {front : List (Request A)} {client : Client A} {unused more : List ℕ}
+      {reader writer out pack progress reader_now writer_now out_now pack_now progress_now : Flow}
+      → Ran broken t h front client unused reader writer out pack progress → Consumes reader_now.before reader_now.after (h.used ++ more)
+      → WrittenAs again writer_now h.given → WrittenAs again out_now (transcript_of h.asked h.events) → WrittenAs again pack_now (pack_bytes h.events)
+      → WrittenAs again progress_now (progress_bytes h.events) → Ran again t h front client more reader_now writer_now out_now pack_now progress_now
+  ran_as r read said told sent reported =
+      record { stands = r.stands; in_turn = r.in_turn; read = read; said = said; told = told; sent = sent; reported = reported }
 
   -- ---- its steps
 
   module _ (t : Terms) where
     -- before the first byte: the writer was flushed, or failed in that
     pub begins : (client : Client A) (reader writer flushed out pack progress : Option (List ℕ)) → wants_input client ≡ true → Converses t nothing_yet client
-        → Keeps writer flushed → Running false t [] client no_counts [] (flow reader reader) (flow writer flushed) (flow out out) (flow pack pack)
-        (flow progress progress)
+        → Keeps writer flushed → Running false t nothing_yet [] client no_counts [] (flow reader reader) (flow writer flushed) (flow out out)
+        (flow pack pack) (flow progress progress)
     begins client reader writer flushed out pack progress due stands kept = record {
-      h = nothing_yet;
       lines = [];
       packed = [];
       along = along_begun t client due stands;
@@ -194,107 +176,102 @@ module _ {A : Type 0} where
     }
 
     -- a request was asked, or a write failed while it was
-    pub asks_on : (broken : Bool) (front : List (Request A)) (old new : Client A) (request : Request A) (counts : Counts) (unused : List ℕ)
-        {reader pack progress : Flow} {writer_before writer_held writer_after out_before out_held out_after : Option (List ℕ)}
-        → (r : Running false t front old counts unused reader (flow writer_before writer_held) (flow out_before out_held) pack progress)
-        → can_ask old ≡ true → AsksNext broken old new request (flow writer_held writer_after) (flow out_held out_after)
-        → (on : Running broken t (front ++ request ∷ []) new no_counts unused reader (flow writer_before writer_after) (flow out_before out_after) pack
-        progress) × (on.h.used ≡ r.h.used)
-    asks_on broken front old new request counts unused {reader} {pack} {progress} {writer_before = w0} {writer_held = w1} {writer_after = w2}
-        {out_before = o0} {out_held = o1} {out_after = o2} r ready step = (
-          record {
-            h = record r.h { asked = r.h.asked ++ asked_of request ∷ []; given = r.h.given ++ step.given };
-            lines = _;
-            packed = r.packed;
-            along = along_asked r.along ready step;
-            stays = r.stays;
-            in_turn = asked_in_turn t r.h old front request r.along.stands ready step.passes r.in_turn;
-            read = r.read;
-            said = written_then broken w0 w1 w2 r.h.given step.given r.said step.said;
-            told = written_then broken o0 o1 o2 r.lines _ r.told step.told;
-            sent = written_whole broken pack r.packed r.sent;
-            reported = written_whole broken progress (progress_bytes r.h.events) r.reported;
-          },
-          refl,
-        )
+    pub asks_on : (broken : Bool) {h : History} (front : List (Request A)) (old new : Client A) (request : Request A) (counts : Counts)
+        (unused : List ℕ) {reader pack progress : Flow} {writer_before writer_held writer_after out_before out_held out_after : Option (List ℕ)}
+        → Running false t h front old counts unused reader (flow writer_before writer_held) (flow out_before out_held) pack progress
+        → can_ask old ≡ true → (step : AsksNext broken old new request (flow writer_held writer_after) (flow out_held out_after))
+        → Running broken t (record h { asked = h.asked ++ asked_of request ∷ []; given = h.given ++ step.given }) (front ++ request ∷ []) new no_counts
+        unused reader (flow writer_before writer_after) (flow out_before out_after) pack progress
+    asks_on broken {h} front old new request counts unused {reader} {pack} {progress} {writer_before = w0} {writer_held = w1} {writer_after = w2}
+        {out_before = o0} {out_held = o1} {out_after = o2} r ready step = record {
+          lines = _;
+          packed = r.packed;
+          along = along_asked r.along ready step;
+          stays = r.stays;
+          in_turn = asked_in_turn t h old front request r.along.stands ready step.passes r.in_turn;
+          read = r.read;
+          said = written_then broken w0 w1 w2 h.given step.given r.said step.said;
+          told = written_then broken o0 o1 o2 r.lines _ r.told step.told;
+          sent = written_whole broken pack r.packed r.sent;
+          reported = written_whole broken progress (progress_bytes h.events) r.reported;
+        }
 
-    -- bytes were heard, or a write failed while they were
-    pub hears_on : (broken : Bool) (front : List (Request A)) (old new : Client A) (waiting unused : List ℕ)
+    -- bytes were received, or a write failed while they were
+    pub hears_on : (broken : Bool) {h : History} (front : List (Request A)) (old new : Client A) (waiting unused : List ℕ)
         {writer : Flow} {left_before left left_after out_before out_held out_after pack_before pack_held pack_after : Option (List ℕ)}
         {progress_before progress_held progress_after : Option (List ℕ)}
-        → (r : Running false t front old no_counts waiting (flow left_before left) writer (flow out_before out_held) (flow pack_before pack_held)
-        (flow progress_before progress_held))
-        → wants_input old ≡ true
+        → Running false t h front old no_counts waiting (flow left_before left) writer (flow out_before out_held) (flow pack_before pack_held)
+        (flow progress_before progress_held) → wants_input old ≡ true
         → (step : HearsFrom broken old new waiting unused (flow left left_after) (flow out_held out_after) (flow pack_held pack_after)
         (flow progress_held progress_after))
-        → (on : Running broken t front new step.counts unused (flow left_before left_after) writer (flow out_before out_after) (flow pack_before pack_after)
-        (flow progress_before progress_after)) × (on.h.used ≡ r.h.used ++ step.used)
-    hears_on broken front old new waiting unused {writer} {left_before = r0} {left = r1} {left_after = r2} {out_before = o0} {out_held = o1} {out_after = o2}
-        {pack_before = p0} {pack_held = p1} {pack_after = p2} {progress_before = q0} {progress_held = q1} {progress_after = q2} r waits step =
+        → Running broken t (record h { used = h.used ++ step.used; events = h.events ++ step.bytes.events }) front new step.counts unused
+        (flow left_before left_after) writer (flow out_before out_after) (flow pack_before pack_after) (flow progress_before progress_after)
+    hears_on broken {h} front old new waiting unused {writer} {left_before = r0} {left = r1} {left_after = r2} {out_before = o0} {out_held = o1}
+        {out_after = o2} {pack_before = p0} {pack_held = p1} {pack_after = p2} {progress_before = q0} {progress_held = q1} {progress_after = q2} r waits
+        step =
         let heard = step.bytes in
-        let lines = transcript_from [] 0 0 heard.events in (
-          record {
-            h = record r.h { used = r.h.used ++ step.used; events = r.h.events ++ heard.events };
-            lines = r.lines ++ lines;
-            packed = r.packed ++ pack_bytes heard.events;
-            along = along_heard r.along waits heard;
-            stays = r.stays;
-            in_turn = heard_in_turn t r.h.asked r.h.used step.used r.h.events heard.events front r.in_turn;
-            read = read_on r0 r1 r2 r.h.used waiting step.came step.used unused r.read step.read step.parts;
-            said = written_whole broken writer r.h.given r.said;
-            told = written_then broken o0 o1 o2 r.lines lines r.told (heard.told (counts_on r.along heard.hears));
-            sent = written_then broken p0 p1 p2 r.packed (pack_bytes heard.events) r.sent heard.sent;
-            reported = subst (WrittenAs broken (flow q0 q2)) (sym (progress_bytes-append r.h.events heard.events))
-                (written_then broken q0 q1 q2 (progress_bytes r.h.events) (progress_bytes heard.events) r.reported heard.reported);
-          },
-          refl,
-        )
+        let lines = transcript_from [] 0 0 heard.events in
+        record {
+          lines = r.lines ++ lines;
+          packed = r.packed ++ pack_bytes heard.events;
+          along = along_heard r.along waits heard;
+          stays = r.stays;
+          in_turn = heard_in_turn t h.asked h.used step.used h.events heard.events front r.in_turn;
+          read = read_on r0 r1 r2 h.used waiting step.came step.used unused r.read step.read step.parts;
+          said = written_whole broken writer h.given r.said;
+          told = written_then broken o0 o1 o2 r.lines lines r.told (heard.told (counts_on r.along heard.hears));
+          sent = written_then broken p0 p1 p2 r.packed (pack_bytes heard.events) r.sent heard.sent;
+          reported = subst (WrittenAs broken (flow q0 q2)) (sym (progress_bytes-append h.events heard.events))
+              (written_then broken q0 q1 q2 (progress_bytes h.events) (progress_bytes heard.events) r.reported heard.reported);
+        }
 
-    -- a response was heard whole: at the next one the client counts from nothing
-    pub hears_whole : (front : List (Request A)) (old new : Client A) (waiting : List ℕ) (window : Window) (piece : List ℕ)
+    -- at the next response a client that can ask counts from nothing
+    pub anew : {h : History} {front : List (Request A)} {client : Client A} {counts : Counts} {unused : List ℕ} {reader writer out pack progress : Flow}
+        → can_ask client ≡ true → Running false t h front client counts unused reader writer out pack progress
+        → Running false t h front client no_counts unused reader writer out pack progress
+    anew ready r = record {
+      lines = r.lines;
+      packed = r.packed;
+      along = along_anew r.along ready;
+      stays = r.stays;
+      in_turn = r.in_turn;
+      read = r.read;
+      said = r.said;
+      told = r.told;
+      sent = r.sent;
+      reported = r.reported;
+    }
+
+    -- a response was received whole
+    pub hears_whole : {h : History} (front : List (Request A)) (old new : Client A) (waiting : List ℕ) (window : Window) (piece : List ℕ)
         {writer : Flow} {left_before left left_after out_before out_held out_after pack_before pack_held pack_after : Option (List ℕ)}
         {progress_before progress_held progress_after : Option (List ℕ)}
-        → (r : Running false t front old no_counts waiting (flow left_before left) writer (flow out_before out_held) (flow pack_before pack_held)
-        (flow progress_before progress_held))
-        → wants_input old ≡ true
+        → Running false t h front old no_counts waiting (flow left_before left) writer (flow out_before out_held) (flow pack_before pack_held)
+        (flow progress_before progress_held) → wants_input old ≡ true
         → (step : HearsWhole window old new waiting piece (flow left left_after) (flow out_held out_after) (flow pack_held pack_after)
         (flow progress_held progress_after))
-        → (on : Running false t front new no_counts (window_of window piece) (flow left_before left_after) writer (flow out_before out_after)
-        (flow pack_before pack_after) (flow progress_before progress_after)) × (on.h.used ≡ r.h.used ++ step.hears.used)
+        → Running false t (record h { used = h.used ++ step.hears.used; events = h.events ++ step.hears.bytes.events }) front new no_counts
+        (window_of window piece) (flow left_before left_after) writer (flow out_before out_after) (flow pack_before pack_after)
+        (flow progress_before progress_after)
     hears_whole front old new waiting window piece r waits step =
-        let (on, grown) = hears_on false front old new waiting (window_of window piece) r waits step.hears in (
-          record {
-            h = on.h;
-            lines = on.lines;
-            packed = on.packed;
-            along = along_anew on.along step.can_ask_on;
-            stays = on.stays;
-            in_turn = on.in_turn;
-            read = on.read;
-            said = on.said;
-            told = on.told;
-            sent = on.sent;
-            reported = on.reported;
-          },
-          grown,
-        )
+        anew step.can_ask_on (hears_on false front old new waiting (window_of window piece) r waits step.hears)
 
     -- the conversation was left, or a write failed while it was
-    pub leaves_on : (broken : Bool) (front : List (Request A)) (old mid new : Client A) (counts : Counts) (unused : List ℕ)
+    pub leaves_on : (broken : Bool) {h : History} (front : List (Request A)) (old mid new : Client A) (counts : Counts) (unused : List ℕ)
         {reader out pack progress : Flow} {before held after : Option (List ℕ)}
-        → (r : Running false t front old counts unused reader (flow before held) out pack progress) → Leaves old mid
+        → Running false t h front old counts unused reader (flow before held) out pack progress → Leaves old mid
         → (step : Says broken mid new (flow held after))
-        → Ran broken t (record r.h { left = true; given = r.h.given ++ step.given }) front new unused reader (flow before after) out pack progress
-    leaves_on broken front old mid new counts unused {reader} {out} {pack} {progress} {before} {held} {after} r leaving step =
+        → Ran broken t (record h { left = true; given = h.given ++ step.given }) front new unused reader (flow before after) out pack progress
+    leaves_on broken {h} front old mid new counts unused {reader} {out} {pack} {progress} {before} {held} {after} r leaving step =
         let at = ran r in
         record {
-          stands = step.says t (record r.h { left = true }) (leaving.leaves t r.h at.stands);
+          stands = step.says t (record h { left = true }) (leaving.leaves t h at.stands);
           in_turn = at.in_turn;
           read = at.read;
-          said = written_then broken before held after r.h.given step.given at.said step.written;
-          told = written_whole broken out (transcript_of r.h.asked r.h.events) at.told;
-          sent = written_whole broken pack (pack_bytes r.h.events) at.sent;
-          reported = written_whole broken progress (progress_bytes r.h.events) at.reported;
+          said = written_then broken before held after h.given step.given at.said step.written;
+          told = written_whole broken out (transcript_of h.asked h.events) at.told;
+          sent = written_whole broken pack (pack_bytes h.events) at.sent;
+          reported = written_whole broken progress (progress_bytes h.events) at.reported;
         }
 
     -- the writer was flushed, or failed in that
@@ -302,28 +279,14 @@ module _ {A : Type 0} where
         {before held after : Option (List ℕ)}
         → Ran false t h front client unused reader (flow before held) out pack progress → Keeps held after
         → Ran false t h front client unused reader (flow before after) out pack progress
-    ran_flushed {h} {before} {held} {after} r kept = record {
-      stands = r.stands;
-      in_turn = r.in_turn;
-      read = r.read;
-      said = Appends-kept before held after h.given r.said kept;
-      told = r.told;
-      sent = r.sent;
-      reported = r.reported;
-    }
+    ran_flushed {h} {before} {held} {after} r kept = ran_as r r.read (Appends-kept before held after h.given r.said kept) r.told r.sent r.reported
 
     -- where only a flush failed, all was written
     ran_in_part : {h : History} {front : List (Request A)} {client : Client A} {unused : List ℕ} {reader writer out pack progress : Flow}
         → Ran false t h front client unused reader writer out pack progress → Ran true t h front client unused reader writer out pack progress
-    ran_in_part {h} {writer} {out} {pack} {progress} r = record {
-      stands = r.stands;
-      in_turn = r.in_turn;
-      read = r.read;
-      said = in_part writer h.given r.said;
-      told = in_part out (transcript_of h.asked h.events) r.told;
-      sent = in_part pack (pack_bytes h.events) r.sent;
-      reported = in_part progress (progress_bytes h.events) r.reported;
-    }
+    ran_in_part {h} {writer} {out} {pack} {progress} r =
+        ran_as r r.read (written_whole true writer h.given r.said) (written_whole true out (transcript_of h.asked h.events) r.told)
+        (written_whole true pack (pack_bytes h.events) r.sent) (written_whole true progress (progress_bytes h.events) r.reported)
 
 -- ---- the ends of a run
 
@@ -333,19 +296,19 @@ stays_last FlushOnly other = absurd (other refl)
 stays_last ResponseEnd other = refl
 
 module _ {A : Type 0} (t : Terms) where
-  -- a client that owes nothing has said all that is due
-  has_said : (h : History) (client : Client A) → Converses t h client → left_to_say client ≡ [] → HasSaid t h
+  -- a client that owes nothing has sent all that is due
+  pub has_said : (h : History) (client : Client A) → Converses t h client → left_to_say client ≡ [] → HasSaid t h
   has_said h client stands nothing =
       record { caps = caps_of client; noted = has_noted t h client stands; said = all_is_said t h client stands nothing }
 
-  quietly_said : (h : History) (client : Client A) → Converses t h client → is_quiet (phase_of client) ≡ true → HasSaid t h
+  pub quietly_said : (h : History) (client : Client A) → Converses t h client → is_quiet (phase_of client) ≡ true → HasSaid t h
   quietly_said h client stands quiet = has_said h client stands (owes_nothing (phase_of client) (request_of client) quiet)
 
-  stayed : (h : History) (client : Client A) → Converses t h client → is_quiet (phase_of client) ≡ true → h.left ≡ false
+  pub stayed : (h : History) (client : Client A) → Converses t h client → is_quiet (phase_of client) ≡ true → h.left ≡ false
   stayed h client stands quiet = stands.left ∙ not_left (phase_of client) quiet
 
   -- where bytes of the server are due, a run that ends here was interrupted
-  interrupted : (h : History) (client : Client A) → Converses t h client → wants_input client ≡ true → IsInterrupted t [] h
+  pub interrupted : (h : History) (client : Client A) → Converses t h client → wants_input client ≡ true → IsInterrupted t [] h
   interrupted h client stands due =
       let quiet = quiet_where_due (phase_of client) due in
       record {
@@ -354,6 +317,31 @@ module _ {A : Type 0} (t : Terms) where
         stays = stayed h client stands quiet;
         said = quietly_said h client stands quiet;
       }
+
+  -- the next request was refused
+  pub refused_next : (h : History) (later : List (Request A)) (request : Request A) (old new : Client A) (fault : Fault) {writer out : Flow}
+      → Converses t h old → can_ask old ≡ true → AsksNot fault old new request writer out → IsRefusedRequest t (request ∷ later) h fault
+  refused_next h later request old new fault stands ready step = record {
+    request = request;
+    later = later;
+    caps = caps_of old;
+    next = refl;
+    whole = is_whole t h old stands ready;
+    noted = has_noted t h old stands;
+    refused = subst (λ (format : Format). RefusesBy (ask_checks format (caps_of old) request) fault.kind) stands.format_is step.refused;
+    at = step.at ∙ position_is t h old stands;
+  }
+
+  -- it was not asked, and nothing was written
+  pub ran_unasked : {h : History} {front : List (Request A)} {request : Request A} {old new : Client A} {fault : Fault} {counts : Counts} {unused : List ℕ}
+      {reader pack progress : Flow} {w0 w1 w2 o0 o1 o2 : Option (List ℕ)}
+      → Running false t h front old counts unused reader (flow w0 w1) (flow o0 o1) pack progress
+      → AsksNot fault old new request (flow w1 w2) (flow o1 o2) → Ran false t h front old unused reader (flow w0 w2) (flow o0 o2) pack progress
+  ran_unasked {h} {w0 = w0} {w1 = w1} {w2 = w2} {o0 = o0} {o1 = o1} {o2 = o2} r step =
+      let at = ran r in
+      let told = transcript_of h.asked h.events in
+      ran_as at at.read (subst (WrittenAs false (flow w0 w2)) (append-nil h.given) (written_then false w0 w1 w2 h.given [] at.said step.said))
+      (subst (WrittenAs false (flow o0 o2)) (append-nil told) (written_then false o0 o1 o2 told [] at.told step.told)) at.sent at.reported
 
   -- a client that waits for bytes has no fault
   due_in_time : (ended : Bool) (client : Client A) → wants_input client ≡ true → FaultsInTime client ended []
@@ -408,23 +396,23 @@ module _ {A : Type 0} (t : Terms) where
       not_gone h stays = record { left_last = λ left. absurd (cc) }
 
       -- a write failed
-      pub breaks_off : (ended : Bool) (client : Client A) (counts : Counts) (unused : List ℕ) {reader writer out pack progress : Flow}
-          → FaultsInTime client ended unused → Running true t front client counts unused reader writer out pack progress
+      pub breaks_off : {h : History} (ended : Bool) (client : Client A) (counts : Counts) (unused : List ℕ) {reader writer out pack progress : Flow}
+          → FaultsInTime client ended unused → Running true t h front client counts unused reader writer out pack progress
           → RunEnds (Err WriteFault) ended client reader writer out pack progress
-      breaks_off ended client counts unused timely r = moves (Err WriteFault) ended r.h client unused (ran r) (not_gone r.h r.stays) timely
+      breaks_off {h} ended client counts unused timely r = moves (Err WriteFault) ended h client unused (ran r) (not_gone h r.stays) timely
 
       -- a flush failed
-      pub breaks_unflushed : (ended : Bool) (client : Client A) (counts : Counts) (unused : List ℕ) {reader writer out pack progress : Flow}
-          → fault_of client ≡ None → Running false t front client counts unused reader writer out pack progress
+      pub breaks_unflushed : {h : History} (ended : Bool) (client : Client A) (counts : Counts) (unused : List ℕ) {reader writer out pack progress : Flow}
+          → fault_of client ≡ None → Running false t h front client counts unused reader writer out pack progress
           → RunEnds (Err WriteFault) ended client reader writer out pack progress
-      breaks_unflushed ended client counts unused sound r =
-          moves (Err WriteFault) ended r.h client unused (ran_in_part t (ran r)) (not_gone r.h r.stays) (in_time_where_sound client ended unused sound)
+      breaks_unflushed {h} ended client counts unused sound r =
+          moves (Err WriteFault) ended h client unused (ran_in_part t (ran r)) (not_gone h r.stays) (in_time_where_sound client ended unused sound)
 
-      -- a response was not heard to its end
-      pub hearing_stopped : (fault : RunFault) (ended : Bool) (old new : Client A) (waiting piece : List ℕ) {writer : Flow}
+      -- a response was not received to its end
+      pub hearing_stopped : {h : History} (fault : RunFault) (ended : Bool) (old new : Client A) (waiting piece : List ℕ) {writer : Flow}
           {left_before left left_after out_before out_held out_after pack_before pack_held pack_after : Option (List ℕ)}
           {progress_before progress_held progress_after : Option (List ℕ)}
-          → Running false t front old no_counts waiting (flow left_before left) writer (flow out_before out_held) (flow pack_before pack_held)
+          → Running false t h front old no_counts waiting (flow left_before left) writer (flow out_before out_held) (flow pack_before pack_held)
           (flow progress_before progress_held)
           → wants_input old ≡ true
           → HearsTo (Err fault) ended old new waiting piece (flow left left_after) (flow out_held out_after) (flow pack_held pack_after)
@@ -432,62 +420,42 @@ module _ {A : Type 0} (t : Terms) where
           → RunEnds (Err fault) ended new (flow left_before left_after) writer (flow out_before out_after) (flow pack_before pack_after)
           (flow progress_before progress_after)
       hearing_stopped ReadFault ended old new waiting piece r waits step =
-          let on = (hears_on t false front old new waiting [] r waits step.hears).0 in
-          moves (Err ReadFault) ended on.h new [] (ran on) (interrupted on.h new on.along.stands step.due) (due_in_time ended new step.due)
+          let on = hears_on t false front old new waiting [] r waits step.hears in
+          moves (Err ReadFault) ended _ new [] (ran on) (interrupted _ new on.along.stands step.due) (due_in_time ended new step.due)
       hearing_stopped WriteFault ended old new waiting piece r waits step =
-          breaks_off ended new step.hears.counts step.unused step.timely (hears_on t true front old new waiting step.unused r waits step.hears).0
+          breaks_off ended new step.hears.counts step.unused step.timely (hears_on t true front old new waiting step.unused r waits step.hears)
       hearing_stopped ReadLimit ended old new waiting piece r waits step =
-          let on = (hears_on t false front old new waiting [] r waits step.hears).0 in
-          moves (Err ReadLimit) ended on.h new [] (ran on) (interrupted on.h new on.along.stands step.due) (due_in_time ended new step.due)
+          let on = hears_on t false front old new waiting [] r waits step.hears in
+          moves (Err ReadLimit) ended _ new [] (ran on) (interrupted _ new on.along.stands step.due) (due_in_time ended new step.due)
       hearing_stopped (Refused fault) ended old new waiting piece r waits step =
-          let on = (hears_on t false front old new waiting step.unused r waits step.hears).0 in
+          let on = hears_on t false front old new waiting step.unused r waits step.hears in
           let quiet = quiet_where_failed (phase_of new) fault step.told in
-          moves (Err (Refused fault)) ended on.h new step.unused (ran on) (
-            inl (record { first = first_fault t on.h new fault on.along.stands step.told; timely = step.timely }),
-            stayed on.h new on.along.stands quiet,
-            quietly_said on.h new on.along.stands quiet,
+          moves (Err (Refused fault)) ended _ new step.unused (ran on) (
+            inl (record { first = first_fault t _ new fault on.along.stands step.told; timely = step.timely }),
+            on.stays,
+            quietly_said _ new on.along.stands quiet,
           ) (in_time_where_told new fault ended step.unused step.told step.timely)
 
     -- a request was not asked, or a write failed while it was
-    pub asking_stopped : (fault : RunFault) (ended : Bool) (front later : List (Request A)) (request : Request A) (old new : Client A)
+    pub asking_stopped : {h : History} (fault : RunFault) (ended : Bool) (front later : List (Request A)) (request : Request A) (old new : Client A)
         (counts : Counts) (unused : List ℕ) {reader pack progress : Flow}
         {writer_before writer_held writer_after out_before out_held out_after : Option (List ℕ)} → requests ≡ front ++ request ∷ later
-        → can_ask old ≡ true → Running false t front old counts unused reader (flow writer_before writer_held) (flow out_before out_held) pack progress
+        → can_ask old ≡ true → Running false t h front old counts unused reader (flow writer_before writer_held) (flow out_before out_held) pack progress
         → AsksTo (Err fault) old new request (flow writer_held writer_after) (flow out_held out_after)
         → RunEnds (Err fault) ended new reader (flow writer_before writer_after) (flow out_before out_after) pack progress
     asking_stopped ReadFault ended front later request old new counts unused split ready r step = absurd step
     asking_stopped WriteFault ended front later request old new counts unused split ready r step =
         breaks_off (front ++ request ∷ []) later (split ∙ sym (append_assoc front (request ∷ []) later)) ended new no_counts unused
-        (in_time_where_sound new ended unused step.sound) (asks_on t true front old new request counts unused r ready step).0
+        (in_time_where_sound new ended unused step.sound) (asks_on t true front old new request counts unused r ready step)
     asking_stopped ReadLimit ended front later request old new counts unused split ready r step = absurd step
-    asking_stopped (Refused fault) ended front later request old new counts unused {reader} {pack} {progress} {writer_before = w0} {writer_held = w1}
-        {writer_after = w2} {out_before = o0} {out_held = o1} {out_after = o2} split ready r step =
-        let at = ran r in
-        let told = transcript_of r.h.asked r.h.events in
-        let stands = at.stands in
-        let so : Ran false t r.h front old unused reader (flow w0 w2) (flow o0 o2) pack progress = record {
-          stands = stands;
-          in_turn = at.in_turn;
-          read = at.read;
-          said = subst (WrittenAs false (flow w0 w2)) (append-nil r.h.given) (written_then false w0 w1 w2 r.h.given [] at.said step.said);
-          told = subst (WrittenAs false (flow o0 o2)) (append-nil told) (written_then false o0 o1 o2 told [] at.told step.told);
-          sent = at.sent;
-          reported = at.reported;
-        } in
+    asking_stopped {h} (Refused fault) ended front later request old new counts unused {reader} {pack} {progress} {writer_before = w0}
+        {writer_after = w2} {out_before = o0} {out_after = o2} split ready r step =
+        let stands = r.along.stands in
         subst (λ (client : Client A). RunEnds (Err (Refused fault)) ended client reader (flow w0 w2) (flow o0 o2) pack progress) (sym step.stays)
-        (moves front (request ∷ later) split (Err (Refused fault)) ended r.h old unused so (
-          inr (record {
-            request = request;
-            later = later;
-            caps = caps_of old;
-            next = refl;
-            whole = is_whole t r.h old stands ready;
-            noted = has_noted t r.h old stands;
-            refused = subst (λ (format : Format). RefusesBy (ask_checks format (caps_of old) request) fault.kind) stands.format_is step.refused;
-            at = step.at ∙ position_is t r.h old stands;
-          }),
-          stayed r.h old stands (quiet_where_ready (phase_of old) ready),
-          quietly_said r.h old stands (quiet_where_ready (phase_of old) ready),
+        (moves front (request ∷ later) split (Err (Refused fault)) ended h old unused (ran_unasked r step) (
+          inr (refused_next h later request old new fault stands ready step),
+          r.stays,
+          quietly_said h old stands (quiet_where_ready (phase_of old) ready),
         ) (in_time_where_sound old ended unused (sound_where_ready (phase_of old) ready)))
 
     -- ---- all requests were asked, and each response is whole
@@ -507,44 +475,43 @@ module _ {A : Type 0} (t : Terms) where
           (in_time_where_sound client ended unused sound))
 
       -- each request has a connection of its own, and the client does not leave
-      pub stays_to_the_end : (result : Result (Unit {0}) RunFault) (ended : Bool) (client : Client A) (counts : Counts) (unused : List ℕ)
+      pub stays_to_the_end : {h : History} (result : Result (Unit {0}) RunFault) (ended : Bool) (client : Client A) (counts : Counts) (unused : List ℕ)
           {reader out pack progress : Flow} {before held after : Option (List ℕ)} → IfErr result (λ fault. fault ≡ WriteFault) → can_ask client ≡ true
-          → (ending_of client ≡ FlushOnly → ⊥) → Running false t front client counts unused reader (flow before held) out pack progress → Keeps held after
+          → (ending_of client ≡ FlushOnly → ⊥) → Running false t h front client counts unused reader (flow before held) out pack progress → Keeps held after
           → RunEnds result ended client reader (flow before after) out pack progress
-      stays_to_the_end result ended client counts unused named ready other r kept =
+      stays_to_the_end {h} result ended client counts unused named ready other r kept =
           let stands = r.along.stands in
-          let quiet = quiet_where_ready (phase_of client) ready in
-          finishes result ended r.h client unused named (ran r) kept (record {
+          finishes result ended h client unused named (ran r) kept (record {
             all = refl;
-            whole = is_whole t r.h client stands ready;
-            leaves = stands.left ∙ not_left (phase_of client) quiet ∙ sym (stays_last t.ending (λ last. other (stands.ending_is ∙ last)));
-            said = quietly_said r.h client stands quiet;
+            whole = is_whole t h client stands ready;
+            leaves = r.stays ∙ sym (stays_last t.ending (λ last. other (stands.ending_is ∙ last)));
+            said = quietly_said h client stands (quiet_where_ready (phase_of client) ready);
           }) (sound_where_ready (phase_of client) ready)
 
       module _ (old mid new : Client A) (counts : Counts) (unused : List ℕ) (ready : can_ask old ≡ true) (leaving : Leaves old mid) where
         -- the client left, but a write failed
-        pub leaving_stopped : (ended : Bool) {reader out pack progress : Flow} {before held after : Option (List ℕ)} → ending_of old ≡ FlushOnly
-            → Running false t front old counts unused reader (flow before held) out pack progress → Says true mid new (flow held after)
+        pub leaving_stopped : {h : History} (ended : Bool) {reader out pack progress : Flow} {before held after : Option (List ℕ)} → ending_of old ≡ FlushOnly
+            → Running false t h front old counts unused reader (flow before held) out pack progress → Says true mid new (flow held after)
             → RunEnds (Err WriteFault) ended new reader (flow before after) out pack progress
-        leaving_stopped ended last r step =
+        leaving_stopped {h} ended last r step =
             let stands = r.along.stands in
             moves front [] split (Err WriteFault) ended _ new unused (leaves_on t true front old mid new counts unused r leaving step)
-            (record { left_last = λ left. (refl, is_whole t r.h old stands ready, sym (ap leaves_last (sym last ∙ stands.ending_is))) })
+            (record { left_last = λ left. (refl, is_whole t h old stands ready, sym (ap leaves_last (sym last ∙ stands.ending_is))) })
             (in_time_where_sound new ended unused step.sound)
 
-        -- the client left, and said so
-        pub leaves_at_the_end : (result : Result (Unit {0}) RunFault) (ended : Bool) {reader out pack progress : Flow}
+        -- the client left, and sent its flush
+        pub leaves_at_the_end : {h : History} (result : Result (Unit {0}) RunFault) (ended : Bool) {reader out pack progress : Flow}
             {before held flushed after : Option (List ℕ)}
             → IfErr result (λ fault. fault ≡ WriteFault) → ending_of old ≡ FlushOnly
-            → Running false t front old counts unused reader (flow before held) out pack progress → Says false mid new (flow held flushed)
+            → Running false t h front old counts unused reader (flow before held) out pack progress → Says false mid new (flow held flushed)
             → Keeps flushed after
             → RunEnds result ended new reader (flow before after) out pack progress
-        leaves_at_the_end result ended named last r step kept =
+        leaves_at_the_end {h} result ended named last r step kept =
             let at = leaves_on t false front old mid new counts unused r leaving step in
             let stands = r.along.stands in
             finishes result ended _ new unused named at kept (record {
               all = refl;
-              whole = is_whole t r.h old stands ready;
+              whole = is_whole t h old stands ready;
               leaves = ap leaves_last (sym last ∙ stands.ending_is);
               said = has_said _ new at.stands (step.all refl);
             }) step.sound

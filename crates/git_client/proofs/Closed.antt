@@ -24,7 +24,7 @@ hearing_in phase takes = absurd (cc)
 pub is_sound : {A : Type 0} (client : Client A) → wants_input client ≡ true → reader_fault_of (reader_of client) ≡ None
 is_sound client wants = client.sound (ap fault_in (hearing_in (phase_of client) wants).1)
 
--- a reader whose stream ended: it stood between two packets, or told a fault
+-- a reader whose stream ended: it was between two packets, or reported a fault
 abbrev pub EndsBy : PacketReader → Fault → Type 0
 EndsBy reader f =
     ((reader_fault_of reader ≡ None) × (is_open reader ≡ false) × (f.kind ≡ Truncated) × (f.offset ≡ position_of reader))
@@ -55,7 +55,7 @@ closes old new reader f wants reads by keeps failed =
 
 module _ {A : Type 0} (t : Terms) (h : History) (client : Client A) (c : Converses t h client) (wants : wants_input client ≡ true)
     (given : List Given) (rest : List ℕ) (splits : Splits 0 h.used given rest) where
-  -- the reader holds what stands after the last whole packet
+  -- the reader holds what comes after the last whole packet
   rest_held : Holds (reader_of client) rest
   rest_held =
       let same = one_split 0 h.used c.given given c.rest rest c.reads.splits.spelled splits.spelled c.reads.splits.ends splits.ends in

@@ -16,7 +16,7 @@ use Rattle.git_client.specs.Opened.{IsOfRest, opened_in, unless_refused}
 use Rattle.git_client.specs.Conversation.{GivesAt, RefusesAt, GiveAll, IsStop, FirstFault, Sounds, HasEvents, HasNoted}
 use Rattle.git_client.proofs.PlaceLines.{one_line, line_or_fault, one_line_fault}
 
--- what is computed says one thing
+-- what is computed is one thing
 one_said : (says : Result (List EventValue) Kind) (events others : List EventValue) → says ≡ Ok events → says ≡ Ok others → events ≡ others
 one_said says events others h k = cc
 

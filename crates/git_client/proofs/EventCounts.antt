@@ -155,6 +155,6 @@ module _ {A : Type 0} (t : Terms) (h : History) (client : Client A) (c : Convers
   pub events_fit : length h.events ≤ length h.used
   events_fit = events_of_bytes t h.asked h.used h.events (has_events t h client c)
 
-  -- a count of events never comes to its end
+  -- a count of events never reaches its end
   pub few_events : length h.events ≤ last_position
   few_events = omega (arith, events_fit, c.reads.within)

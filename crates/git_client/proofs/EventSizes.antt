@@ -122,7 +122,7 @@ peeled_fits format (Some text) id (named, is, e) = rw (e, is.of_format) (omega (
 abbrev ref_length : Ref → ℕ
 ref_length ref = id_length ref.id + length ref.name + optional ref.target + digits_in ref.peeled
 
--- a line's first word is as long as it says
+-- a line's first word is as long as is counted for its object
 id_fits : (format : Format) (word : List ℕ) (id : Option ObjectName) → IsIdText format word id → id_length id ≡ length word
 id_fits format word None h = sym (ap length h)
 id_fits format word (Some id) h = ap digits_of h.of_format ∙ sym h.count

@@ -1,4 +1,4 @@
--- What a client has heard and said, by its history.
+-- What a client has received and sent, by its history.
 use Rattle.std.proofs.Common.{arith, ◌≡◌, ℕ, ◌-◌, true, List, [], ◌∷◌, ◌++◌, length, Option, None, inl, inr, refl, sym, ap, ◌∙◌, subst, append-nil, zero-add}
 use Rattle.git_pkt.specs.Faults.{IsOpen, StopsBy}
 use Rattle.git_pkt.specs.PacketReader.{fault_of as reader_fault_of}
@@ -34,7 +34,7 @@ module _ (t : Terms) (asked : List Asked) (clean given : List Given) (rest : Lis
   goes_in (Failed fault) e h = absurd (cc)
   goes_in phase e h = h
 
-  -- where a client can ask, all before was whole, and nothing stands after it
+  -- where a client can ask, all before was whole, and nothing comes after it
   ready_in : (phase : Phase) → is_ready phase ≡ true → StandsIn phase t asked clean given rest end question reader
       → Goes t asked clean given rest question Ready reader
   ready_in Ready e h = h

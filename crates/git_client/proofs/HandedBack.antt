@@ -1,4 +1,4 @@
--- The client that a run hands back, by what each of its steps says where it fails.
+-- The client that a run hands back, by what each of its steps states where it fails.
 use Rattle.std.proofs.Common.{◌≡◌, ◌∙◌, ℕ, Bool, true, List, Result, Ok, Err, IfErr, IsErrAnd, inl, inr, sym, ap, subst}
 use Rattle.std.proofs.lemmas.Result.{err_from_is_err_and}
 use Rattle.git_pkt.specs.Streams.{Flow}
@@ -27,7 +27,7 @@ module _ {A : Type 0} where
   back_written (Ok done) client named = tt
   back_written (Err fault) client named = back_unwritten fault client named
 
-  -- a response was not heard to its end
+  -- a response was not received to its end
   pub back_from_hearing : (fault : RunFault) (ended : Bool) (old new : Client A) (waiting piece : List ℕ) (reader out packs progress : Flow)
       → HearsTo (Err fault) ended old new waiting piece reader out packs progress → IsHandedBack (Err fault) new
   back_from_hearing ReadFault ended old new waiting piece reader out packs progress step = step.due

@@ -1,5 +1,5 @@
--- Bytes of a response that were heard, one part after another: their events, their lines, and their bytes of the pack and the progress.
-use Rattle.std.proofs.Common.{◌≡◌, ℕ, Bool, true, false, List, [], ◌++◌, Option, sym, ap, ◌∙◌, subst, append_assoc, append-nil}
+-- Bytes of a response that were received, one part after another: their events, their lines, and their bytes of the pack and the progress.
+use Rattle.std.proofs.Common.{◌≡◌, ℕ, Bool, false, List, [], ◌++◌, Option, sym, ap, ◌∙◌, subst, append_assoc, append-nil}
 use Rattle.git_pkt.specs.Streams.{Flow, flow, WrittenAs}
 use Rattle.git_client.specs.Parts.{Terms}
 use Rattle.git_client.specs.Events.{EventValue, pack_bytes, progress_bytes}
@@ -8,7 +8,7 @@ use Rattle.git_client.specs.Client.{History, Converses, HearsOn, can_ask}
 use Rattle.git_client.specs.RunSteps.{counts_with, CanCount, IsOneTurn, HearsBytes}
 use Rattle.git_client.specs.declared.client.Client.{Client}
 use Rattle.git_client.specs.declared.hearing.Counts.{Counts}
-use Rattle.git_client.proofs.Alongs.{written_nothing, written_then, written_whole, in_part}
+use Rattle.git_pkt.proofs.EngineLemmas.{written_nothing, written_then, written_whole}
 use Rattle.git_client.proofs.Counting.{counts_stay, counts_then, can_count_then, progress_bytes-append}
 use Rattle.git_client.proofs.OneTurn.{turn_then, turn_adds}
 use Rattle.git_client.proofs.Packs.{pack_bytes-append}
@@ -32,9 +32,9 @@ module _ {A : Type 0} where
       (subst (λ (all : List EventValue). After t h ((h.used ++ u) ++ v) all c) (append_assoc h.events events later)
       (second t (record h { used = h.used ++ u; events = h.events ++ events }) (first t h stands)))
 
-  -- ---- what was heard
+  -- ---- what was received
 
-  -- bytes that say nothing were heard
+  -- bytes that give no event were received
   pub heard_quietly : {broken : Bool} {old new : Client A} {used : List ℕ} {out packs progress : Flow} (counts : Counts) → HearsOn old used [] new
       → can_ask new ≡ false → WrittenAs false out [] → WrittenAs false packs [] → WrittenAs false progress []
       → HearsBytes broken old new counts counts used out packs progress
@@ -48,7 +48,7 @@ module _ {A : Type 0} where
     reported = written_whole broken progress [] reported;
   }
 
-  -- no byte was heard
+  -- no byte was received
   pub nothing_heard : (c : Client A) (counts : Counts) (told sent reported : Option (List ℕ)) → can_ask c ≡ false
       → HearsBytes false c c counts counts [] (flow told told) (flow sent sent) (flow reported reported)
   nothing_heard c counts told sent reported quiet =
@@ -57,7 +57,7 @@ module _ {A : Type 0} where
   module _ {a b c : Client A} {k l m : Counts} {u v : List ℕ}
       {told_before told told_after sent_before sent sent_after reported_before reported reported_after : Option (List ℕ)}
       (quiet : can_ask b ≡ false) (first : HearsBytes false a b k l u (flow told_before told) (flow sent_before sent) (flow reported_before reported)) where
-    -- bytes were heard, and then others
+    -- bytes were received, and then others
     pub heard_then : {broken : Bool} → HearsBytes broken b c l m v (flow told told_after) (flow sent sent_after) (flow reported reported_after)
         → HearsBytes broken a c k m (u ++ v) (flow told_before told_after) (flow sent_before sent_after) (flow reported_before reported_after)
     heard_then {broken = broken} second =
@@ -88,19 +88,6 @@ module _ {A : Type 0} where
           reported = subst (WrittenAs broken (flow reported_before reported_after)) (sym (progress_bytes-append events later))
               (written_then broken reported_before reported reported_after (progress_bytes events) (progress_bytes later) first.reported second.reported);
         }
-
-  -- what was written whole counts as written where a flush failed
-  pub heard_in_part : {a b : Client A} {k l : Counts} {u : List ℕ} {out packs progress : Flow} → HearsBytes false a b k l u out packs progress
-      → HearsBytes true a b k l u out packs progress
-  heard_in_part {k = k} {out = out} {packs = packs} {progress = progress} heard = record {
-    events = heard.events;
-    hears = heard.hears;
-    one_turn = heard.one_turn;
-    counted = heard.counted;
-    told = λ can. in_part out (transcript_from [] k.pack k.progress heard.events) (heard.told can);
-    sent = in_part packs (pack_bytes heard.events) heard.sent;
-    reported = in_part progress (progress_bytes heard.events) heard.reported;
-  }
 
   -- the transcript, the pack and the progress were flushed, as far as that went
   pub heard_flushed : {broken : Bool} {a b : Client A} {k l : Counts} {u : List ℕ}

@@ -1,4 +1,4 @@
--- The bytes of a response, heard a piece at a time: what all pieces so far come to, and what each end of a hearing says of them.
+-- The bytes of a response, received a piece at a time: what all pieces so far result in, and what each end of the receiving states of them.
 use Rattle.std.proofs.Common.{arith, ◌≡◌, ℕ, ◌+◌, ◌-◌, ◌≤◌, Bool, true, false, List, [], ◌++◌, length, take, drop, Option, Some, None}
 use Rattle.std.proofs.Common.{Result, Err, IsErrAnd, refl, sym, ap, ◌∙◌, subst, append_assoc, append-nil, length-drop, take-append-drop}
 use Rattle.std.proofs.lemmas.Grind.{common_steps}
@@ -12,14 +12,14 @@ use Rattle.git_pkt.specs.declared.fault.Kind.TheVariants.{Truncated}
 use Rattle.git_pkt.specs.declared.fault.RunFault.{RunFault}
 use Rattle.git_pkt.specs.declared.fault.RunFault.TheVariants.{ReadFault, WriteFault, ReadLimit, Refused}
 use Rattle.git_pkt.specs.Streams.{Flow, flow, WrittenAs, IsTimely}
-use Rattle.git_pkt.proofs.EngineLemmas.{timely}
+use Rattle.git_pkt.proofs.EngineLemmas.{timely, written_nothing, at_fault}
 use Rattle.git_client.specs.Client.{HearsOn, fault_of, phase_of, wants_input}
 use Rattle.git_client.specs.RunSteps.{no_counts, window_of, HearsPieceTo, HearsBytes, HearsFrom, HearsBroken, HearsFault, HearsTo}
 use Rattle.git_client.specs.declared.client.Client.{Client}
 use Rattle.git_client.specs.declared.hearing.Counts.{Counts}
 use Rattle.git_client.specs.declared.hearing.Window.{Window}
 use Rattle.git_client.proofs.Phases.{not_ready_where_due, not_ready_where_failed}
-use Rattle.git_client.proofs.Alongs.{written_nothing, at_fault, in_time_where_sound}
+use Rattle.git_client.proofs.Alongs.{in_time_where_sound}
 use Rattle.git_client.proofs.HeardBytes.{heard_flushed, heard_quietly, heard_then, nothing_heard}
 
 -- ---- the bytes of a window
@@ -55,8 +55,8 @@ shown_in_time fault ended used piece shown =
 -- ---- all pieces so far
 
 module _ {A : Type 0} where
-  -- of the bytes that waited and those that came all but the last were heard. The counts, which `HearsFrom` hides, are named here: the
-  -- next piece is heard with them.
+  -- of the bytes that waited and those that came all but the last were received. The counts, which `HearsFrom` hides, are named here: the
+  -- next piece is received with them.
   pub record HeardSoFar (broken : Bool) (old new : Client A) (counts : Counts) (waiting unused : List ℕ) (reader out packs progress : Flow) : Type 0 where
     pub came : List ℕ
     pub used : List ℕ
@@ -125,7 +125,7 @@ module _ {A : Type 0} where
     }
 
     module _ (waits : wants_input middle ≡ true) where
-      -- one more piece was heard, of what was left and what was read
+      -- one more piece was received, of what was left and what was read
       pub heard_on : {broken : Bool} {new : Client A} {counts_after : Counts} {piece rest : List ℕ}
           {left_after told_after sent_after reported_after : Option (List ℕ)} (used : ℕ) (came : List ℕ) → Consumes left left_after came
           → unused ++ came ≡ piece → drop used piece ≡ rest

@@ -1,4 +1,4 @@
--- What calls of `feed` come to over a piece: what they say was written.
+-- What calls of `feed` result in over a piece: what they give was written.
 use Rattle.std.proofs.Common.{arith, ◌≡◌, ℕ, ◌+◌, ◌-◌, ◌≤◌, ◌<◌, Bool, true, false, List, [], ◌∷◌, length, map, take, drop}
 use Rattle.std.proofs.Common.{Option, Some, None, Result, Err, refl, sym, ap, ◌∙◌, subst, length-drop}
 use Rattle.git_pkt.specs.PacketReader.{ShownByFeed}
@@ -22,12 +22,12 @@ use Rattle.git_client.specs.declared.events.HeardGot.TheVariants.{More, Event as
 use Rattle.git_client.specs.declared.hearing.Counts.{Counts}
 use Rattle.git_client.proofs.PlaceLines.{band_is}
 use Rattle.git_client.proofs.Phases.{not_ready_where_due, not_ready_where_failed, sound_where_due, sound_where_ready}
-use Rattle.git_client.proofs.Alongs.{written_nothing}
+use Rattle.git_pkt.proofs.EngineLemmas.{written_nothing}
 use Rattle.git_client.proofs.OneTurn.{quiet_turn, event_lines}
 use Rattle.git_client.proofs.HeardBytes.{heard_quietly, heard_then}
 
 module _ {A : Type 0} where
-  -- ---- what an answer says of where the client stands
+  -- ---- what an answer means for where the client is
 
   turns_quietly : (events : List EventValue) (c : Client A) → turns_of events ≡ 0 → wants_input c ≡ true → IsOneTurn events (can_ask c)
   turns_quietly events c none waits = subst (IsOneTurn events) (sym (not_ready_where_due (phase_of c) waits)) (quiet_turn events none)
@@ -135,7 +135,7 @@ module _ {A : Type 0} where
           subst (λ (f : Fault). ShownByFeed f (done + heard.used) piece) same (shown_where_failed fault is);
     }
 
-    -- an event was met, and what it says was written, or a front of it
+    -- an event was met, and what it contains was written, or a front of it
     module _ (e : Event) (is : heard.got ≡ EventGot e) where
       pub heard_event : (broken : Bool) (after : Counts) (told_after sent_after reported_after : Option (List ℕ))
           → (CanCount now (values_of e) → after ≡ counts_with now (values_of e))

@@ -1,4 +1,4 @@
--- What the judge of packets answers says what the packet gives, or why it is refused, after whatever came before.
+-- What the judge of packets answers is what the packet gives, or why it is refused, after whatever came before.
 use Rattle.std.proofs.Common.{arith, ◌≡◌, ℕ, suc, Bool, true, false, not, List, [], ◌∷◌, length, Option, Some, None, ap}
 use Rattle.std.proofs.Common.{cond, codes, refl, sym, ◌∙◌, subst}
 use Rattle.git_names.specs.declared.object_format.Format.{Format}
@@ -11,12 +11,12 @@ use Rattle.git_client.specs.Parts.{Terms, terms_of, Part, sections, closing, adv
 use Rattle.git_client.specs.Places.{version, capabilities, header, acknowledgments, size_line, sizes, place_in, place_of, place_after}
 use Rattle.git_client.specs.Events.{EventValue, Gives, Refuses, SaysLine}
 use Rattle.git_client.specs.Conversation.{GivesAt, RefusesAt}
-use Rattle.git_client.specs.Sections.{section_named, lines_of, may_begin, told_by, told_with}
+use Rattle.git_client.specs.Sections.{section_named, lines_of, may_begin, acks_in, acks_with}
 use Rattle.git_client.specs.Turns.{NotesAfter, IsTurn, events_at, place_due, due_after_line, due_after_delimiter, phase_after, phase_after_response}
 use Rattle.git_client.specs.Client.{IsDue, IsDueIn, IsInside, AreWhole, Behind, awaits_end}
 use Rattle.git_client.specs.declared.sections.Section.{Section}
 use Rattle.git_client.specs.declared.sections.Allowed.{Allowed}
-use Rattle.git_client.specs.declared.sections.Told.{Told}
+use Rattle.git_client.specs.declared.sections.Acks.{Acks}
 use Rattle.git_client.specs.declared.events.Ending.{Ending}
 use Rattle.git_client.specs.declared.events.Ending.TheVariants.{FlushOnly, ResponseEnd as WithResponseEnd}
 use Rattle.git_client.specs.declared.phase.Due.{Due}
@@ -39,7 +39,7 @@ place_where format done message Capabilities caps notes is = ap (λ (c : Caps). 
 place_where format done message References caps notes is = refl
 place_where format done message (Header allowed) caps notes (due, is) = rw due (ap (λ (a : Allowed). Some (header a)) (sym is))
 place_where format done message (Acknowledgments told) caps notes (inside, told_is, allowed_is) =
-    place_inside format done message _ inside ∙ ap (λ (t : Told). Some (acknowledgments t)) (sym told_is)
+    place_inside format done message _ inside ∙ ap (λ (t : Acks). Some (acknowledgments t)) (sym told_is)
 place_where format done message (ShallowInfo allowed) caps notes (inside, is) = place_inside format done message _ inside
 place_where format done message (WantedRefs allowed) caps notes (inside, is) = place_inside format done message _ inside
 place_where format done message Packfile caps notes inside = place_inside format done message _ inside
@@ -47,7 +47,7 @@ place_where format done message SizeLine caps notes is = ap (λ (b : Bool). cond
 place_where format done message Sizes caps notes is = ap (λ (b : Bool). cond b (Some size_line) (Some sizes)) is
 place_where format done message ResponseEnd caps notes is = refl
 
--- the packets before tell the place where something is due
+-- the packets before determine the place where something is due
 pub place_is : (t : Terms) (asked : List Asked) (before : List Pkt) (due : Due) (caps : Caps) → IsDue t asked before due
     → caps ≡ noted_of (advertisement_of before) → place_after t asked before ≡ Some (place_due caps t.format due)
 place_is t asked before due caps is notes =
@@ -73,7 +73,7 @@ line_due format ending caps done message (Header allowed) line events is gives =
     header_due done message allowed line is (header_may_begin allowed format (text_of line) events gives.says)
 line_due format ending caps done message (Acknowledgments told) line events (inside, told_is, allowed_is) gives = (
   inside_more _ message line inside,
-  ap (λ (t : Told). told_with t (text_of line)) told_is ∙ ap (λ (b : Bool). told_by (cond b [] (payload line ∷ lines_of message))) (sym inside.inside),
+  ap (λ (t : Acks). acks_with t (text_of line)) told_is ∙ ap (λ (b : Bool). acks_in (cond b [] (payload line ∷ lines_of message))) (sym inside.inside),
   allowed_stays done (payload line) message inside.inside ∙ allowed_is,
 )
 line_due format ending caps done message (ShallowInfo allowed) line events (inside, is) gives =

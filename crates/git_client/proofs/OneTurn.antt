@@ -27,7 +27,7 @@ turn_then (event ∷ events) later asks quiet one = turn_then events later asks 
 
 -- ---- what they add to a transcript
 
--- the line of the next question comes after the line of an event after which the client can ask
+-- the line of the next request comes after the line of an event after which the client can ask
 before_question : (line : List ℕ) (asked : List Asked) (more : List EventValue)
     → line ++ next_asked asked ++ transcript_from (drop 1 asked) 0 0 more
     ≡ (line ++ [] ++ []) ++ next_asked asked ++ transcript_from (drop 1 asked) 0 0 more

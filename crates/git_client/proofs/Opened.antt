@@ -58,7 +58,7 @@ by_band true second third bytes e = ap (λ (l : List EventValue). Ok l) (sym (on
 by_band false true third bytes e = ap (λ (l : List EventValue). Ok l) (sym (on_progress bytes))
 by_band false false third bytes e = absurd (cc)
 
--- a payload of the packfile section that begins with the byte of such a band says what passes of it
+-- a payload of the packfile section that begins with the byte of such a band gives what passes of it
 pub band_gives : (bytes : List ℕ) → begins_band bytes ≡ true → band_says bytes ≡ Ok (events_on (passed_in bytes))
 band_gives [] e = absurd (cc)
 band_gives (byte ∷ bytes) e = by_band (byte == 1) (byte == 2) (byte == 3) bytes e

@@ -107,7 +107,7 @@ pub no_flush : (t : Terms) (asked : List Asked) (before : List Pkt) (part : Part
     → flushes before ≡ 0
 no_flush t asked before part is early = zero_is (flushes before) ((goes_on t asked before part is (early_ends part early)).early ∙ early)
 
--- where the packets stand, by what is due after them
+-- where the packets are, by what is due after them
 pub record Stands (t : Terms) (asked : List Asked) (before : List Pkt) (due : Due) : Type 0 where
   pub done : Bool
   pub is_part : part_of t asked before ≡ Some (part_due done due)

@@ -4,6 +4,7 @@ use Rattle.git_pkt.specs.declared.fault.Fault.{Fault}
 use Rattle.git_client.specs.Turns.{takes_packets, fault_in, is_ready, has_left_in}
 use Rattle.git_client.specs.declared.phase.Phase.{Phase}
 use Rattle.git_client.specs.declared.phase.Phase.TheVariants.{Hearing, Ready, Leaving, Left, Failed}
+use Rattle.git_client.proofs.Carries.{is_quiet}
 
 pub not_ready_where_due : (phase : Phase) → takes_packets phase ≡ true → is_ready phase ≡ false
 not_ready_where_due (Hearing due) e = refl
@@ -30,3 +31,17 @@ pub sound_where_left : (phase : Phase) → has_left_in phase ≡ true → fault_
 sound_where_left Leaving e = refl
 sound_where_left Left e = refl
 sound_where_left phase e = absurd (cc)
+
+-- ---- where a client owes nothing, and has not left
+
+pub quiet_where_ready : (phase : Phase) → is_ready phase ≡ true → is_quiet phase ≡ true
+quiet_where_ready Ready e = refl
+quiet_where_ready phase e = absurd (cc)
+
+pub quiet_where_due : (phase : Phase) → takes_packets phase ≡ true → is_quiet phase ≡ true
+quiet_where_due (Hearing due) e = refl
+quiet_where_due phase e = absurd (cc)
+
+pub quiet_where_failed : (phase : Phase) (fault : Fault) → fault_in phase ≡ Some fault → is_quiet phase ≡ true
+quiet_where_failed (Failed f) fault e = refl
+quiet_where_failed phase fault e = absurd (cc)

@@ -1,4 +1,4 @@
--- What a text line at a place gives, told from the place.
+-- What a text line at a place gives, derived from the place.
 use Rattle.std.proofs.Common.{arith, ◌≡◌, ◌⊎◌, inl, inr, ℕ, Bool, true, false, ◌||◌, List, [], ◌∷◌, ◌++◌}
 use Rattle.std.proofs.Common.{Option, Ok, Err, refl, ap, sym, ◌∙◌, codes, cond, map, ◌==◌, slice_index}
 use Rattle.git_names.specs.ObjectName.{ObjectName}
@@ -16,7 +16,7 @@ use Rattle.git_msg.proofs.ReferenceLaws.{one_reference}
 use Rattle.git_msg.proofs.ReferenceFaults.{reference_or_fault, one_reference_fault}
 use Rattle.git_msg.proofs.ResponseLines.{one_ack, one_boundary, one_info, one_wanted}
 use Rattle.git_msg.proofs.ResponseFaults.{ack_or_fault, boundary_or_fault, info_or_fault, wanted_or_fault, one_boundary_fault, one_info_fault, one_wanted_fault}
-use Rattle.git_client.specs.declared.sections.Told.{Told}
+use Rattle.git_client.specs.declared.sections.Acks.{Acks}
 use Rattle.git_client.specs.Sections.{section_named, may_begin}
 use Rattle.git_client.specs.Places.{Place, version, capabilities, references, header, acknowledgments, shallow_info, wanted_refs, packfile}
 use Rattle.git_client.specs.Places.{size_line, sizes, response_end}
@@ -29,7 +29,7 @@ boundary_event (Shallow id) = shallow id
 boundary_event (Unshallow id) = unshallow id
 
 -- the line `NAK`, the line `ready` or an acknowledgment, each where it may come
-abbrev pub IsAcknowledging : Format → Told → List ℕ → List EventValue → Type 0
+abbrev pub IsAcknowledging : Format → Acks → List ℕ → List EventValue → Type 0
 IsAcknowledging format told text events =
     ((text ≡ codes "NAK") × (told.any ≡ false) × (events ≡ nak ∷ []))
     ⊎ (((text ≡ codes "ready") × (told.ready ≡ false) × (events ≡ ready ∷ []))
@@ -77,7 +77,7 @@ nak_or_ack text name h k = omega (arith, same_heads text (codes "NAK") (codes "A
 ready_or_ack : (text name : List ℕ) → text ≡ codes "ready" → text ≡ codes "ACK " ++ name → ⊥
 ready_or_ack text name h k = omega (arith, same_heads text (codes "ready") (codes "ACK " ++ name) h k)
 
-one_acknowledging : (format : Format) (told : Told) (text : List ℕ) (events others : List EventValue) → IsAcknowledging format told text events
+one_acknowledging : (format : Format) (told : Acks) (text : List ℕ) (events others : List EventValue) → IsAcknowledging format told text events
     → IsAcknowledging format told text others → events ≡ others
 one_acknowledging format told text events others (inl h) (inl k) = h.2 ∙ sym k.2
 one_acknowledging format told text events others (inl h) (inr (inl k)) = absurd (nak_or_ready text h.0 k.0)
@@ -120,12 +120,13 @@ one_line place format text events others h k =
     one_reading place format text events others (line_read place format text events h) (line_read place format text others k)
 
 -- a line of the acknowledgments is none that is not due
-due_or_not : (format : Format) (told : Told) (text : List ℕ) (events : List EventValue) → IsAcknowledging format told text events → IsNotDue told text → ⊥
+due_or_not : (format : Format) (told : Acks) (text : List ℕ) (events : List EventValue) → IsAcknowledging format told text events
+    → IsNotDue told text → ⊥
 due_or_not format told text events (inl h) not_due = let any = not_due.nak h.0 in cc
 due_or_not format told text events (inr (inl h)) not_due = let ready = not_due.ready h.0 in cc
 due_or_not format told text events (inr (inr h)) not_due = let late = not_due.ack h.1.value h.1.spelled in cc
 
-named_or_not : (format : Format) (told : Told) (text : List ℕ) (events : List EventValue) → IsAcknowledging format told text events
+named_or_not : (format : Format) (told : Acks) (text : List ℕ) (events : List EventValue) → IsAcknowledging format told text events
     → IsBadAck format told text → ⊥
 named_or_not format told text events (inl h) bad = nak_or_ack text bad.no_name.value h.0 bad.no_name.spelled
 named_or_not format told text events (inr (inl h)) bad = ready_or_ack text bad.no_name.value h.0 bad.no_name.spelled
@@ -151,7 +152,7 @@ pub line_or_fault : (place : Place) (format : Format) (text : List ℕ) (events 
     → IsLineFault place format text kind → ⊥
 line_or_fault place format text events kind h bad = read_or_refused place format text events kind (line_read place format text events h) bad
 
-not_due_or_bad : (format : Format) (told : Told) (text : List ℕ) → IsNotDue told text → IsBadAck format told text → ⊥
+not_due_or_bad : (format : Format) (told : Acks) (text : List ℕ) → IsNotDue told text → IsBadAck format told text → ⊥
 not_due_or_bad format told text not_due bad =
     let late = not_due.ack bad.no_name.value bad.no_name.spelled in let due = bad.due in cc
 

@@ -1,4 +1,4 @@
--- What a packet without a fault adds, told from its place: turns, and bytes of the pack.
+-- What a packet without a fault adds, derived from its place: turns, and bytes of the pack.
 use Rattle.std.proofs.Common.{arith, ◌≡◌, ℕ, zero, suc, ◌+◌, Bool, true, false, not, List, [], ◌∷◌}
 use Rattle.std.proofs.Common.{Option, Some, None, Result, Ok, Err, refl, ap, subst, cond, slice_get}
 use Rattle.git_names.specs.declared.object_format.Format.{Format}
@@ -18,7 +18,7 @@ use Rattle.git_client.specs.Events.{EventValue, offered, Gives, GivesLine, ended
 use Rattle.git_client.specs.Packs.{pack_in}
 use Rattle.git_client.proofs.PlaceLines.{line_is, band_is}
 
--- how many flushes stand before a place, and whether a response end is due there
+-- how many flushes come before a place, and whether a response end is due there
 abbrev pub ComesAfter : Place → ℕ → Bool → Type 0
 ComesAfter version n due = (n ≡ 0) × (due ≡ false)
 ComesAfter (capabilities spoken) n due = (n ≡ 0) × (due ≡ false)

@@ -1,4 +1,4 @@
--- What a question, and each packet of it that is said, does to all that came and went.
+-- What a request, and each packet of it that is sent, does to all that came and went.
 use Rattle.std.proofs.Common.{arith, ◌≡◌, ◌≢◌, ◌≤◌, ◌*◌, ℕ, Bool, true, false, List, [], ◌∷◌, ◌++◌, length, Option, Some, None}
 use Rattle.std.proofs.Common.{refl, sym, ap, ◌∙◌, subst, append_assoc, length-append, cond, slice_get}
 use Rattle.std.specs.Bool.{OnTrue, OnFalse}
@@ -39,7 +39,7 @@ slice_get_last : {X : Type 0} (xs : List X) (x : X) → slice_get (xs ++ x ∷ [
 slice_get_last [] x = refl
 slice_get_last (y ∷ xs) x = slice_get_last xs x
 
--- after the responses to all questions before it, a packet belongs to the answer to the last one
+-- after the responses to all requests before it, a packet belongs to the answer to the last one
 part_asked : (t : Terms) (earlier : List Asked) (last : Asked) (before : List Pkt) → AreWhole t earlier before
     → part_of t (earlier ++ last ∷ []) before ≡ answer_to (Some last)
 part_asked t earlier last [] whole = absurd (omega (arith, whole.all_flushes))
@@ -48,7 +48,7 @@ part_asked t earlier last (p ∷ before) whole =
     ap (λ (due : Bool). cond due (Some closing) (part_after asked (flushes (p ∷ before)))) whole.no_end_due
     ∙ ap (part_after asked) whole.all_flushes ∙ ap answer_to (slice_get_last earlier last)
 
--- where the last question has been said, its response is due
+-- where the last request has been sent, its response is due
 due_asked : (t : Terms) (earlier : List Asked) (last : Asked) (before : List Pkt) → AreWhole t earlier before
     → IsDue t (earlier ++ last ∷ []) before (first_due last)
 due_asked t earlier (ls_refs q) before whole =
@@ -83,7 +83,7 @@ due_said t asked before question h =
     subst (λ (l : List Asked). IsDue t l before (first_due question)) (sym h.asked_is)
     (subst (λ (q : Asked). IsDue t (h.earlier ++ h.last ∷ []) before (first_due q)) same (due_asked t h.earlier h.last before h.whole))
 
--- what is said with a question more
+-- what is sent with one request more
 said_more : (format : Format) (caps : Caps) (asked : List Asked) (question : Asked) (given : List ℕ)
     → given ++ [] ≡ spelled (said_of format caps asked false)
     → given ++ spelled (lines_written caps.agent caps.object_format format question) ≡ spelled (said_of format caps (asked ++ question ∷ []) false)
@@ -163,7 +163,7 @@ module _ {A : Type 0} where
     pub format : request_format request ≡ format_of old
     pub writes : left_to_write writer request ≡ written_of request (caps_of old)
 
-  -- where it stands then
+  -- where it is then
   stands_asking : (t : Terms) (h : History) (old new : Client A) (request : Request A) (writer : RequestWriter) (c : Converses t h old)
       → BeginsToAsk old request writer new → StandsIn (phase_of new) t (h.asked ++ asked_of request ∷ []) c.clean c.given c.rest (length h.used)
       (question_in (request_of new)) (reader_of new)
@@ -219,7 +219,7 @@ module _ {A : Type 0} where
             ∙ ap (λ (noted : Caps). spelled (said_of t.format noted asked h.left)) (sym b.terms.caps);
       }
 
-  -- the writer of the question has put its next packet into the hold
+  -- the writer of the request has put its next packet into the hold
   pub record PutsNext (old : Client A) (request : Request A) (writer next : RequestWriter) (bytes : List ℕ) (new : Client A) : Type 0 where
     pub terms : SameTerms old new
     pub was : phase_of old ≡ Asking writer
@@ -229,12 +229,12 @@ module _ {A : Type 0} where
     pub shut : is_open (reader_of new) ≡ false
     pub puts : PutsFirst (left_to_write writer request) (left_to_write next request) bytes
 
-  -- what is left to say of the question
+  -- what is left to send of the request
   left_of : (client : Client A) (request : Request A) (writer : RequestWriter) → phase_of client ≡ Asking writer → request_of client ≡ Some request
       → left_to_say client ≡ left_to_write writer request
   left_of client request writer is kept = ap (λ (phase : Phase). left_in phase (request_of client)) is ∙ ap (left_in (Asking writer)) kept
 
-  -- the packet is the next one of what is said
+  -- the packet is the next one of what is sent
   says_next : (old new : Client A) (request : Request A) (writer next : RequestWriter) (bytes : List ℕ) → PutsNext old request writer next bytes new
       → fault_in (phase_of new) ≡ None → has_left new ≡ false → left_to_say new ≡ left_to_write next request
       → ((t : Terms) (asked : List Asked) (before : List Pkt) → IsAsked t asked before (Some (asked_of request))
@@ -283,7 +283,7 @@ module _ {A : Type 0} where
     not_ready = not_ready;
   }
 
-  -- more of the question is to be said
+  -- more of the request is to be sent
   pub asks_on : (old new : Client A) (request : Request A) (writer next : RequestWriter) (bytes : List ℕ) → PutsNext old request writer next bytes new
       → phase_of new ≡ Asking next → request_of new ≡ Some request → Puts old new
   asks_on old new request writer next bytes b now keeps =
@@ -298,7 +298,7 @@ module _ {A : Type 0} where
         credit = ap (λ (n : ℕ). 56 * n) (shut_counts_none (reader_of new) b.shut);
       }
 
-  -- all of it was said
+  -- all of it was sent
   pub hears_now : (old new : Client A) (request : Request A) (writer next : RequestWriter) (bytes : List ℕ) (due : Due)
       → PutsNext old request writer next bytes new → phase_of new ≡ Hearing due → due ≡ first_due (asked_of request)
       → left_to_write next request ≡ [] → Puts old new

@@ -1,4 +1,4 @@
--- Where a conversation stands once a client has read some bytes: by whole packets, or in the packfile section by bytes that pass.
+-- Where a conversation is once a client has read some bytes: by whole packets, or in the packfile section by bytes that pass.
 use Rattle.std.proofs.Common.{◌≡◌, ◌≢◌, ℕ, Bool, true, false, cond, List, [], ◌∷◌, ◌++◌, length, Option, refl, ap, sym, ◌∙◌, subst}
 use Rattle.std.proofs.Common.{append_assoc, append-nil}
 use Rattle.git_pkt.specs.Packets.{Pkt, payload}
@@ -41,7 +41,7 @@ first_on_band : (b : Bool) (g : Given) (gs : List Given) → cond b (others gs) 
 first_on_band true g gs e = (refl, e)
 first_on_band false g gs e = absurd (cc)
 
--- all of them: they say what passed, nothing is noted, and the section goes on
+-- all of them: they give what passed, nothing is noted, and the section goes on
 bands_give : (t : Terms) (asked : List Asked) (before : List Pkt) (caps : Caps) (gs : List Given) → IsDue t asked before Packfile
     → caps ≡ noted_of (advertisement_of before) → others gs ≡ []
     → GiveAll t asked before gs (events_on (passed_by_all gs)) × (caps ≡ noted_of (advertisement_of (nearest gs before)))
@@ -63,7 +63,7 @@ bands_give t asked before caps (g ∷ gs) is notes all =
     )
 
 module _ {A : Type 0} where
-  -- packets without a fault have come, and then those told; of the open packet events were handed out as its bytes came
+  -- packets without a fault have come, and then those returned; of the open packet events were handed out as its bytes came
   pub record Reached (t : Terms) (h : History) (old : Client A) (due : Due) (u : List ℕ) (told : List Given) (parts : List EventValue)
       (reader : PacketReader) : Type 0 where
     pub clean : List Given

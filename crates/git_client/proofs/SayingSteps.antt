@@ -1,4 +1,4 @@
--- What a client that says a question comes to, one packet after another, and what asking does to its history.
+-- What comes of a client that sends a request, one packet after another, and what asking does to its history.
 use Rattle.std.proofs.Common.{◌≡◌, ◌≢◌, inl, inr, ℕ, Bool, true, false, List, [], ◌∷◌, ◌++◌, Option, None}
 use Rattle.std.proofs.Common.{Result, Ok, Err, IfErr, refl, sym, ap, ◌∙◌, subst, append_assoc, append-nil}
 use Rattle.std.proofs.KnownBytes.{Appends-kept, Appends-nil, Appends-trans}
@@ -20,12 +20,12 @@ use Rattle.git_client.specs.declared.phase.Phase.TheVariants.{Hearing, Asking, L
 use Rattle.git_client.specs.declared.client.Client.{Client}
 use Rattle.git_client.specs.declared.events.Sent.{Sent}
 use Rattle.git_client.specs.declared.events.Sent.TheVariants.{Packet, NeedInput, CanAsk, Finished, Failed as FailedSent}
-use Rattle.git_client.proofs.Alongs.{written_nothing, written_then, written_whole, in_part}
+use Rattle.git_pkt.proofs.EngineLemmas.{written_nothing, written_then, written_whole, written_flushed}
 use denote.Ref.{Bor}
 
--- ---- the phases of a client that says something
+-- ---- the phases of a client that sends something
 
--- a client that hears owes no packet
+-- a client that receives owes no packet
 hearing_owes_nothing : {A : Type 0} (phase : Phase) (request : Option (Request A)) → takes_packets phase ≡ true → left_in phase request ≡ []
 hearing_owes_nothing (Hearing due) request e = refl
 hearing_owes_nothing phase request e = absurd (cc)
@@ -43,7 +43,7 @@ sound_where_owed : {A : Type 0} (phase : Phase) (request : Option (Request A)) (
 sound_where_owed (Failed fault) request packet others owes = absurd (cc)
 sound_where_owed phase request packet others owes = refl
 
--- a client that owes no packet, can't ask, and has not left or failed hears
+-- a client that owes no packet, can't ask, and has not left or failed receives
 hears_after_all : {A : Type 0} (phase : Phase) (request : Option (Request A)) → is_ready phase ≡ false → fault_in phase ≡ None
     → has_left_in phase ≡ false → (is_asking phase ≡ true → left_in phase request ≢ []) → left_in phase request ≡ [] → takes_packets phase ≡ true
 hears_after_all (Hearing due) request not_ready sound stays owes all = refl
@@ -51,11 +51,6 @@ hears_after_all (Asking writer) request not_ready sound stays owes all = absurd 
 hears_after_all phase request not_ready sound stays owes all = absurd (cc)
 
 -- ---- what was written
-
--- what was written whole is written whole where a flush followed
-written_flushed : (broken : Bool) (before held after : Option (List ℕ)) (u : List ℕ) → WrittenAs false (flow before held) u → Keeps held after
-    → WrittenAs broken (flow before after) u
-written_flushed broken before held after u written kept = written_whole broken (flow before after) u (Appends-kept before held after u written kept)
 
 -- nothing was given
 nothing_broke : (held : Option (List ℕ)) → BreaksOff (flow held held) []
@@ -86,7 +81,7 @@ broke_then true before held after u v packet is first (front, rest, parts, appen
 }
 
 module _ {A : Type 0} where
-  -- ---- what was said
+  -- ---- what was sent
 
   -- some of the packets that were owed were given, and written
   pub record SaysSome (broken : Bool) (old new : Client A) (writer : Flow) : Type 0 where
@@ -160,7 +155,7 @@ module _ {A : Type 0} where
           not_ready = so_far.not_ready;
         })
 
-  -- a write failed, so nothing is said of what is left
+  -- a write failed, so nothing is stated of what is left
   pub says_front : (old new : Client A) (writer : Flow) → SaysSome true old new writer → Says true old new writer
   says_front old new writer some = record {
     given = some.given;
@@ -176,7 +171,7 @@ module _ {A : Type 0} where
   -- ---- what asking does to the history
 
   module _ (broken : Bool) (old middle new : Client A) (request : Request A) (writer out : Flow) (asks : Asks old request middle) where
-    -- the question was asked, its line written as far as that went, and these bytes of it given, and written as far as that went
+    -- the request was asked, its line written as far as that went, and these bytes of it given, and written as far as that went
     asks_giving : (given : List ℕ) → WrittenAs broken writer given → WrittenAs broken out (asked_line (command_asked (asked_of request)))
         → (broken ≡ true → BreaksOff writer given) → SaysOn middle given new → fault_of new ≡ None → can_ask new ≡ false
         → AsksNext broken old new request writer out
@@ -191,21 +186,21 @@ module _ {A : Type 0} where
       goes = λ t h stands. says t (record h { asked = h.asked ++ asked_of request ∷ [] }) (asks.asks t h stands);
     }
 
-  -- the question was taken, and a write of its line failed
+  -- the request was taken, and a write of its line failed
   pub asks_unsaid : (old middle : Client A) (request : Request A) (held : Option (List ℕ)) (out : Flow) → Asks old request middle
       → WrittenAs true out (asked_line (command_asked (asked_of request))) → AsksNext true old middle request (flow held held) out
   asks_unsaid old middle request held out asks told =
-      asks_giving true old middle middle request (flow held held) out asks [] (in_part (flow held held) [] (written_nothing held)) told
+      asks_giving true old middle middle request (flow held held) out asks [] (written_whole true (flow held held) [] (written_nothing held)) told
       (λ e. nothing_broke held) (says_nothing middle) (sound_where_owed middle.phase middle.request _ _ asks.owes) asks.no_more
 
-  -- all of the question was said, so its response is due
+  -- all of the request was sent, so its response is due
   pub hears_next : (old middle new : Client A) (request : Request A) (writer : Flow) → Asks old request middle → Says false middle new writer
       → wants_input new ≡ true
   hears_next old middle new request writer asks says =
       hears_after_all new.phase new.request says.not_ready says.sound
       (says.same_leaving ∙ owes_before_leaving middle.phase middle.request _ _ asks.owes) new.owes (says.all refl)
 
-  -- the question was taken, its line written, and its packets said as far as that went
+  -- the request was taken, its line written, and its packets sent as far as that went
   pub asks_said : (r : Result (Unit {0}) RunFault) (old middle new : Client A) (request : Request A) (writer out : Flow)
       → Asks old request middle → WrittenAs false out (asked_line (command_asked (asked_of request))) → Says (is_broken r) middle new writer
       → IfErr r (λ fault. fault ≡ WriteFault) → AsksTo r old new request writer out
@@ -214,11 +209,11 @@ module _ {A : Type 0} where
     hears_next old middle new request writer asks says,
   )
   asks_said (Err WriteFault) old middle new request writer out asks told says named =
-      asks_giving true old middle new request writer out asks says.given says.written (in_part out _ told) says.last says.says says.sound
+      asks_giving true old middle new request writer out asks says.given says.written (written_whole true out _ told) says.last says.says says.sound
       says.not_ready
   asks_said (Err fault) old middle new request writer out asks told says named = absurd (cc)
 
-  -- the same where all of it was said: just what was given was said
+  -- the same where all of it was sent: just what was given was sent
   pub asks_whole : (old middle new : Client A) (request : Request A) (writer out : Flow) → Asks old request middle
       → WrittenAs false out (asked_line (command_asked (asked_of request))) → (says : Says false middle new writer)
       → (step : AsksNext false old new request writer out) × (step.given ≡ says.given)

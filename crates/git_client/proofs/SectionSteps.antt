@@ -6,7 +6,7 @@ use Rattle.std.proofs.lemmas.Slice.Eq.{bytes_eq-Decides}
 use Rattle.git_pkt.specs.Packets.{Pkt, payload, text_of}
 use Rattle.git_client.specs.Parts.{sections}
 use Rattle.git_client.specs.Sections.{header_of, section_named, section_of, is_header_due, lines_of, allowed_after, allows, next_allowed, may_begin}
-use Rattle.git_client.specs.Sections.{told_by}
+use Rattle.git_client.specs.Sections.{acks_in}
 use Rattle.git_client.specs.Turns.{due_after_header, after_acknowledgments}
 use Rattle.git_client.specs.Client.{IsDueIn, IsInside}
 use Rattle.git_client.specs.declared.sections.Section.{Section}
@@ -73,7 +73,7 @@ header_more done message line (Some section) named due may = go section named ma
       → IsDueIn (sections done) (payload line ∷ message) (due_after_header (allowed_after done message) (Some section))
   go Acknowledgments named may = (
     inside Acknowledgments named,
-    ap (λ (b : Bool). told_by (cond b [] (payload line ∷ lines_of message))) (sym due),
+    ap (λ (b : Bool). acks_in (cond b [] (payload line ∷ lines_of message))) (sym due),
     sym (more Acknowledgments named) ∙ none_before done message may,
   )
   go ShallowInfo named may = (inside ShallowInfo named, more ShallowInfo named)

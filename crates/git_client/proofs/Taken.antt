@@ -47,7 +47,7 @@ use Rattle.git_client.proofs.Refusals.{TellsFault, is_own, why_refused}
 use Rattle.git_client.proofs.Reached.{Reaches, reach_bands, reach_lines}
 use Rattle.git_client.proofs.Carries.{goes_on, HearsPacket, HearsBytes, hears_packet, hears_parts, hears_refused, hears_failed}
 
--- after a packet without a fault the server is heard on, or can be asked
+-- after a packet without a fault the client receives more, or can ask
 pub goes_after : (ending : Ending) (due : Due) (p : Pkt) → goes_on (phase_after ending due p) ≡ true
 goes_after ending due (payload bytes) = refl
 goes_after ending due delim = refl
@@ -106,7 +106,7 @@ can_be_asked : (next : Phase) → one_if (is_ready next) ≡ 1 → is_ready next
 can_be_asked Ready one = refl
 can_be_asked _ one = absurd (cc)
 
--- where the client stands after what was said of a packet
+-- whether the client can ask or receives more, after a packet that contained this
 abbrev StandsOn : Said → Phase → Type 0
 StandsOn Offered next = is_ready next ≡ true
 StandsOn Ended next = is_ready next ≡ true
@@ -117,7 +117,7 @@ stands_after Offered bytes next goes turn = can_be_asked next (sym turn)
 stands_after Ended bytes next goes turn = can_be_asked next (sym turn)
 stands_after said bytes next goes turn = hears_on next goes (sym turn)
 
--- a fault of a packet is none that the reader tells
+-- a fault of a packet is none that the reader reports
 shown_by_packet : (p : Pkt) (f : Fault) (used : ℕ) (piece : List ℕ) → TellsFault p f.kind ⊎ (is_own f.kind ≡ true) → ShownByFeed f used piece
 shown_by_packet p f used piece (inl told) = record {
   not_the_end = λ e. subst (λ (k : Kind). IsMessage k told.line told.message) e told.says;
@@ -132,7 +132,7 @@ some_taken : (piece : List ℕ) (used : ℕ) → 0 < used → used ≤ length pi
 some_taken piece used some within = omega (arith, some, length-take-le used piece within)
 
 module _ {A : Type 0} where
-  -- what was said comes, with its bytes in the hold
+  -- the events of what a packet contained come, with its bytes in the hold
   comes : (said : Said) (body : List ℕ) (used : ℕ) (piece : List ℕ) (new : Client A) → said_last new ≡ said → drop 4 (held_of (reader_of new)) ≡ body
       → Fits said body → Comes (outcome_said said) (events_at said body) used piece new
   comes Nothing body used piece new is held fits = refl
@@ -181,6 +181,30 @@ module _ {A : Type 0} where
         leaves = (ap fault_in failed, shown_by_packet g.packet (record { kind = kind; offset = g.offset }) used piece why);
         fits = omega arith;
       }
+
+  -- bytes that `feed` used, with what it gave of them
+  pub fed_bytes : (old read : Client A) (due : Due) (piece : List ℕ) (fed : Fed) (got : Got) → phase_of old ≡ Hearing due → due ≢ Packfile
+      → format_of read ≡ format_of old → ending_of read ≡ ending_of old → Feeds (reader_of old) piece fed (reader_of read) → fed.got ≡ got
+      → HearsBytes old read due (take fed.used piece) (given_by got) []
+  fed_bytes old read due piece fed got hearing other format ending feeds is = record {
+    hearing = hearing;
+    reaches = reach_lines old due (take fed.used piece) (given_by got) (reader_of read) hearing other
+        (subst (λ (got : Got). ReadsOn (reader_of old) (take fed.used piece) (given_by got) (reader_of read)) is feeds.reads);
+    format = format;
+    ending = ending;
+  }
+
+  -- and that `feed_band` used
+  pub fed_bands : (old read : Client A) (piece : List ℕ) (fed : BandFed) (got : BandGot) → phase_of old ≡ Hearing Packfile
+      → format_of read ≡ format_of old → ending_of read ≡ ending_of old → FeedsBand (reader_of old) piece fed (reader_of read) → fed.got ≡ got
+      → HearsBytes old read Packfile (take fed.used piece) (told_by got) (events_on (part_of got))
+  fed_bands old read piece fed got hearing format ending feeds is = record {
+    hearing = hearing;
+    reaches = reach_bands old (take fed.used piece) (told_by got) (part_of got) (reader_of read) hearing
+        (subst (λ (got : BandGot). ReadsBandsOn (reader_of old) (take fed.used piece) (told_by got) (part_of got) (reader_of read)) is feeds.reads);
+    format = format;
+    ending = ending;
+  }
 
   -- a packet has come whole, which lies in the hold
   pub record ReadsPacket (old read : Client A) (due : Due) (u : List ℕ) (g : Given) : Type 0 where
@@ -279,7 +303,7 @@ module _ {A : Type 0} where
     fits = omega arith;
   }
 
-  -- all bytes were used, and no packet was told
+  -- all bytes were used, and no packet was returned
   pub taken_all : (old new : Client A) (due : Due) (piece : List ℕ) (used : ℕ) → HearsBytes old new due (take used piece) [] []
       → used ≡ length piece → reader_fault_of (reader_of new) ≡ None → phase_of new ≡ Hearing due → caps_of new ≡ caps_of old
       → Takes old piece (record { used = used; outcome = NothingYet }) new

@@ -1,4 +1,4 @@
--- What one event comes to: its line, its bytes of the pack and of the progress, and the counts after it.
+-- What one event results in: its line, its bytes of the pack and of the progress, and the counts after it.
 use Rattle.std.proofs.Common.{arith, ◌≡◌, ℕ, ◌+◌, min, Bool, false, List, [], ◌∷◌, length, map, Bor}
 use Rattle.std.proofs.Common.{Option, Result, Ok, Err, OnOk, OnErr, IfErr, refl, sym, ap, ◌∙◌, subst}
 use Rattle.std.specs.Io.KnownBytes.{Appends}
@@ -15,7 +15,7 @@ use Rattle.git_client.specs.declared.events.Event.TheVariants.{Pack, Progress}
 use Rattle.git_client.specs.declared.hearing.Counts.{Counts}
 use Rattle.git_client.proofs.Counting.{counts_of, same_counts}
 use Rattle.git_client.proofs.PlaceLines.{band_is}
-use Rattle.git_client.proofs.Alongs.{written_nothing, written_whole}
+use Rattle.git_pkt.proofs.EngineLemmas.{written_nothing, written_whole}
 
 -- ---- what a call wrote
 

@@ -1,73 +1,93 @@
 -- A line that is written part after part.
-use Rattle.std.proofs.Common.{Bool, true, false, ◌||◌, ◌≡◌, ℕ, ◌+◌, ◌-◌, List, [], ◌∷◌, ◌++◌, take, drop, map, Option, Result, Ok, Err}
-use Rattle.std.proofs.Common.{OnErr, refl, ap, sym, ◌∙◌, subst}
-use Rattle.std.proofs.KnownBytes.{Appends-nil, Appends-trans}
-use Rattle.std.specs.Io.KnownBytes.{Appends}
-use Rattle.git_pkt.specs.Told.{AppendsFront}
+use Rattle.std.proofs.Common.{Bool, true, false, ◌||◌, ◌≡◌, ℕ, ◌+◌, ◌-◌, ◌<◌, ◌≤◌, List, [], ◌∷◌, ◌++◌, take, drop, length, map, codes, slice_index_or, Option}
+use Rattle.std.proofs.Common.{Result, Ok, Err, IsErrAnd, refl, ap, ap₂, sym, ◌∙◌, subst, append_assoc, append-nil}
+use Rattle.std.proofs.lemmas.List.{drop_more, drop_all}
 use Rattle.git_pkt.specs.Escape.{escaped_of}
+use Rattle.git_pkt.specs.Sends.{Puts, Sends}
+use Rattle.git_pkt.specs.declared.fault.RunFault.{RunFault}
+use Rattle.git_pkt.specs.declared.told.Told.{Told}
 use Rattle.git_pkt.proofs.Escapes.{escaped-append, escaped-parts}
-use Rattle.git_pkt.proofs.EngineLemmas.{AppendsFront-after, AppendsFront-longer, take-next}
+use Rattle.git_pkt.proofs.EngineLemmas.{take-next}
+use Rattle.git_pkt.proofs.Sends.{puts_then, puts_front, sends_stopped}
 use Rattle.git_client.specs.Events.{EventValue}
 use Rattle.git_client.specs.Transcript.{line_of, lines_of}
+use Rattle.git_client.specs.LineParts.{part_shown, line_shown}
+use Rattle.git_client.specs.declared.line.Part.{Part}
 
-pub on_err : {T E P : Type 0} → (r : Result T E) → P → OnErr r P
-on_err (Ok x) p = tt
-on_err (Err e) p = p
+-- the parts before a place were put, and those of the line from there on are left
+pub record PutsSome {W : Type 0} (contents : W → Option (List ℕ)) (old : Told W) (parts : List Part) (at : ℕ) (new : Told W)
+    (waiting : List ℕ) : Type 0 where
+  pub put : List ℕ
+  pub puts : Puts {T = Unit {0}} contents old [] put (Ok tt) new waiting
+  pub left : line_shown parts ≡ put ++ line_shown (drop at parts)
 
--- what a writer holds, as far as that is known
-abbrev pub Held : Type 0
-Held = Option (List ℕ)
+module _ {W : Type 0} {contents : W → Option (List ℕ)} where
+  module _ {old mid : Told W} {parts : List Part} {at : ℕ} {waiting : List ℕ} (part : Part) (some : PutsSome contents old parts at mid waiting)
+      (within : at < length parts) (is : part ≡ slice_index_or parts at part) where
+    -- this part, and those after it
+    left_from : line_shown parts ≡ some.put ++ (part_shown part ++ line_shown (drop (at + 1) parts))
+    left_from =
+        some.left ∙ ap (λ (l : List Part). some.put ++ line_shown l) (drop_more parts at part within)
+        ∙ ap (λ (p : Part). some.put ++ (part_shown p ++ line_shown (drop (at + 1) parts))) (sym is)
 
--- a part that was written, with what the writer held after it
-abbrev pub Written : Type 0
-Written = List ℕ × Held
+    pub puts_part : {new : Told W} {after : List ℕ} → Puts {T = Unit {0}} contents mid waiting (part_shown part) (Ok tt) new after
+        → PutsSome contents old parts (at + 1) new after
+    puts_part puts = record {
+      put = some.put ++ part_shown part;
+      puts = puts_then some.puts puts;
+      left = left_from ∙ sym (append_assoc some.put (part_shown part) (line_shown (drop (at + 1) parts)));
+    }
 
--- the parts were written one after another
-abbrev pub WritesAll : Held → List Written → Type 0
-WritesAll held [] = Unit {0}
-WritesAll held (part ∷ parts) = Appends held part.1 part.0 × WritesAll part.1 parts
+    -- this part could not be put
+    pub part_stopped : {S : Type 0} {new : Told W} {after : List ℕ} {met : RunFault} {result : Result (Unit {0}) RunFault}
+        → Puts {T = S} contents mid waiting (part_shown part) (Err met) new after
+        → IsErrAnd result (λ e. e ≡ met) → Sends contents old (line_shown parts) result new
+    part_stopped {new = new} {after = after} {met = met} {result = result} stopped answered =
+        subst (λ (l : List ℕ). Sends contents old l result new) (sym left_from) (sends_stopped {S = Unit {0}} {t = after}
+        (puts_then some.puts (puts_front {T = Unit {0}} {x = after} {result = Err met} (line_shown (drop (at + 1) parts)) stopped refl)) answered)
 
--- what the writer held after them
-abbrev pub held_after : Held → List Written → Held
-held_after held [] = held
-held_after held (part ∷ parts) = held_after part.1 parts
+  -- all parts were put, and what is left is the line's end
+  pub all_put : {old new : Told W} {parts : List Part} {at : ℕ} {waiting : List ℕ} (some : PutsSome contents old parts at new waiting)
+      → length parts ≤ at → some.put ++ codes "\n" ≡ line_shown parts
+  all_put {parts = parts} some end =
+      sym (some.left ∙ ap (λ (l : List Part). some.put ++ line_shown l) (drop_all _ parts end))
 
--- the bytes so far and the parts after them
-abbrev pub line_on : List ℕ → List (List ℕ) → List ℕ
-line_on so_far [] = so_far
-line_on so_far (part ∷ parts) = line_on (so_far ++ part) parts
+-- bytes one after another, from the first and from the last
+abbrev pub after_all : List ℕ → List (List ℕ) → List ℕ
+after_all so_far [] = so_far
+after_all so_far (part ∷ parts) = after_all (so_far ++ part) parts
 
--- the bytes of the parts that were written, and of those that were not
-abbrev pub all_parts : List Written → List (List ℕ) → List (List ℕ)
-all_parts [] later = later
-all_parts (part ∷ parts) later = part.0 ∷ all_parts parts later
+abbrev pub joined : List (List ℕ) → List ℕ
+joined [] = []
+joined (part ∷ parts) = part ++ joined parts
 
--- one part more, and so all of them
-writes_on : (a b : Held) (so_far : List ℕ) (parts : List Written) → Appends a b so_far → WritesAll b parts
-    → Appends a (held_after b parts) (line_on so_far (all_parts parts []))
-writes_on a b so_far [] all none = all
-writes_on a b so_far (part ∷ parts) all (now, later) =
-    writes_on a part.1 (so_far ++ part.0) parts (Appends-trans a b part.1 so_far part.0 all now) later
+one_line : (so_far : List ℕ) (parts : List (List ℕ)) → so_far ++ joined parts ≡ after_all so_far parts
+one_line so_far [] = append-nil so_far
+one_line so_far (part ∷ parts) = sym (append_assoc so_far part (joined parts)) ∙ one_line (so_far ++ part) parts
 
--- what was written of a front of the line was written of the line
-front_on : (a b : Held) (so_far : List ℕ) (later : List (List ℕ)) → AppendsFront a b so_far → AppendsFront a b (line_on so_far later)
-front_on a b so_far [] front = front
-front_on a b so_far (part ∷ later) front = front_on a b (so_far ++ part) later (AppendsFront-longer a b so_far part front)
+-- a line of parts with these bytes
+abbrev pub line_by : List (List ℕ) → List ℕ
+line_by [] = codes "\n"
+line_by (bytes ∷ more) = bytes ++ line_by more
 
-stops_on : (a b c : Held) (so_far : List ℕ) (parts : List Written) (part : List ℕ) (later : List (List ℕ)) → Appends a b so_far → WritesAll b parts
-    → AppendsFront (held_after b parts) c part → AppendsFront a c (line_on so_far (all_parts parts (part ∷ later)))
-stops_on a b c so_far [] part later all none front = front_on a c (so_far ++ part) later (AppendsFront-after a b c so_far part all front)
-stops_on a b c so_far (one ∷ parts) part later all (now, rest) front =
-    stops_on a one.1 c (so_far ++ one.0) parts part later (Appends-trans a b one.1 so_far one.0 all now) rest front
+abbrev pub AreSame : List (List ℕ) → List (List ℕ) → Type 0
+AreSame [] [] = Unit {0}
+AreSame (bytes ∷ more) (others ∷ rest) = (bytes ≡ others) × AreSame more rest
+AreSame _ _ = ⊥
 
--- a line of which all parts were written
-pub line_written : (a : Held) (parts : List Written) → WritesAll a parts → Appends a (held_after a parts) (line_on [] (all_parts parts []))
-line_written a parts all = writes_on a a [] parts (Appends-nil a) all
+line_same : (given shown : List (List ℕ)) → AreSame given shown → line_by given ≡ line_by shown
+line_same [] [] same = refl
+line_same (bytes ∷ more) (others ∷ rest) (same, all) = ap₂ (λ (l m : List ℕ). l ++ m) same (line_same more rest all)
+line_same [] (others ∷ rest) same = absurd same
+line_same (bytes ∷ more) [] same = absurd same
 
--- a line whose writing failed at a part
-pub line_stopped : (a c : Held) (parts : List Written) (part : List ℕ) (later : List (List ℕ)) → WritesAll a parts
-    → AppendsFront (held_after a parts) c part → AppendsFront a c (line_on [] (all_parts parts (part ∷ later)))
-line_stopped a c parts part later all front = stops_on a a c [] parts part later (Appends-nil a) all front
+module _ {W T : Type 0} {contents : W → Option (List ℕ)} {a c : Told W} {result : Result T RunFault} where
+  pub sends_line : (so_far : List ℕ) (parts : List (List ℕ)) → Sends contents a (so_far ++ joined parts) result c
+      → Sends contents a (after_all so_far parts) result c
+  sends_line so_far parts sends = subst (λ (l : List ℕ). Sends contents a l result c) (one_line so_far parts) sends
+
+  pub sends_as : (given shown : List (List ℕ)) → AreSame given shown → Sends contents a (line_by given) result c → Sends contents a (line_by shown) result c
+  sends_as given shown same sends = subst (λ (l : List ℕ). Sends contents a l result c) (line_same given shown same) sends
 
 -- events of which each has no line have none
 pub no_lines : (say : ℕ → EventValue) (packed told : ℕ) → ((byte : ℕ) → line_of (say byte) packed told ≡ []) → (bytes : List ℕ)
@@ -86,16 +106,19 @@ next_escaped : (bytes : List ℕ) (done count : ℕ)
 next_escaped bytes done count =
     sym (escaped-append (take done bytes) (take (done + count - done) (drop done bytes))) ∙ ap escaped_of (sym (take-next done count bytes))
 
--- a block more
-pub block_written : (a b c : Option (List ℕ)) (bytes : List ℕ) (done count : ℕ) → Appends a b (escaped_of (take done bytes))
-    → Appends b c (escaped_of (take (done + count - done) (drop done bytes))) → Appends a c (escaped_of (take (done + count) bytes))
-block_written a b c bytes done count one two =
-    subst (λ (l : List ℕ). Appends a c l) (next_escaped bytes done count) (Appends-trans a b c _ _ one two)
+module _ {W : Type 0} {contents : W → Option (List ℕ)} (bytes : List ℕ) (done count : ℕ) {a b c : Told W} {s t x : List ℕ} where
+  -- a block more
+  pub block_put : {T : Type 0} {result : Result T RunFault} → Puts {T = Unit {0}} contents a s (escaped_of (take done bytes)) (Ok tt) b t
+      → Puts contents b t (escaped_of (take (done + count - done) (drop done bytes))) result c x
+      → Puts contents a s (escaped_of (take (done + count) bytes)) result c x
+  block_put {result = result} one two =
+      subst (λ (l : List ℕ). Puts contents a s l result c x) (next_escaped bytes done count) (puts_then one two)
 
--- a block that failed
-pub block_failed : (a b c : Option (List ℕ)) (bytes : List ℕ) (done count : ℕ) → Appends a b (escaped_of (take done bytes))
-    → AppendsFront b c (escaped_of (take (done + count - done) (drop done bytes))) → AppendsFront a c (escaped_of bytes)
-block_failed a b c bytes done count one two =
-    let front : AppendsFront a c (escaped_of (take (done + count) bytes)) =
-    subst (λ (l : List ℕ). AppendsFront a c l) (next_escaped bytes done count) (AppendsFront-after a b c _ _ one two) in
-    subst (λ (l : List ℕ). AppendsFront a c l) (escaped-parts bytes (done + count)) (AppendsFront-longer a c _ (escaped_of (drop (done + count) bytes)) front)
+  -- a block that failed
+  pub block_stopped : {S : Type 0} {met : RunFault} {result : Result (Unit {0}) RunFault}
+      → Puts {T = Unit {0}} contents a s (escaped_of (take done bytes)) (Ok tt) b t
+      → Puts {T = S} contents b t (escaped_of (take (done + count - done) (drop done bytes))) (Err met) c x → IsErrAnd result (λ e. e ≡ met)
+      → Puts contents a s (escaped_of bytes) result c x
+  block_stopped {result = result} one two answered =
+      subst (λ (l : List ℕ). Puts contents a s l result c x) (escaped-parts bytes (done + count))
+      (puts_front (escaped_of (drop (done + count) bytes)) (block_put one two) answered)

@@ -38,7 +38,7 @@ module _ {A : Type 0} where
         → fault.offset + length rest ≡ length h.used
     pub credit : credit_of (reader_of new) ≤ credit_of (reader_of old)
 
-  -- each call did to the client what the contract of its method says; `feed` alone has the counter, which the others leave as it is
+  -- each call did to the client what the contract of its method states; `feed` alone has the counter, which the others leave as it is
   abbrev pub Makes : Call A → ℕ → Client A → ℕ → Client A → Type 0
   Makes (ask request) before old after new = Asks old request new × (after ≡ before)
   Makes (ask_refused request handed_back fault) before old after new = RefusesToAsk old request handed_back fault new × (after ≡ before)
@@ -71,7 +71,7 @@ module _ {A : Type 0} where
   abbrev pub feeds_in : List (Call A) → ℕ
   feeds_in calls = sum_by feeds_by calls
 
-  -- What is promised of a client after any calls: these came to this history, so many of them were of `feed`, and the counter of steps
+  -- What is promised of a client after any calls: these resulted in this history, so many of them were of `feed`, and the counter of steps
   -- went from `before` to `after`.
   pub record Headline (t : Terms) (h : History) (feeds before after : ℕ) (client : Client A) : Type 0 where
     -- the client has no more bytes than the longest packet and the limit of the request that it asks

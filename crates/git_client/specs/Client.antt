@@ -1,4 +1,4 @@
--- What a client stands for: what it was asked to ask, the bytes that it used, the events that it handed out and the bytes
+-- What a client represents: what it was asked to ask, the bytes that it used, the events that it handed out and the bytes
 -- that it gave.
 use Rattle.std.specs.Prelude.{◌≡◌, ◌≢◌, ◌⊎◌, ℕ, suc, ◌+◌, ◌-◌, ◌<◌, ◌≤◌, Bool, true, false, List, [], ◌∷◌, ◌++◌, length, map, take, drop, flat_map, Option}
 use Rattle.std.specs.Prelude.{Some, None, Result, Ok, Err}
@@ -25,7 +25,7 @@ use Rattle.git_msg.specs.declared.offers.Caps.{Caps}
 use Rattle.git_msg.specs.declared.requests.Request.{Request}
 use Rattle.git_client.specs.Parts.{Terms, Part, opening, advertisement, listing, sections, informing, closing}
 use Rattle.git_client.specs.Parts.{nearest, advertisement_of, message_of, is_end_due, part_of}
-use Rattle.git_client.specs.Sections.{is_empty, is_header_due, section_of, lines_of, allowed_after, told_by}
+use Rattle.git_client.specs.Sections.{is_empty, is_header_due, section_of, lines_of, allowed_after, acks_in}
 use Rattle.git_client.specs.Events.{EventValue, all_parts_length}
 use Rattle.git_client.specs.Places.{place_after}
 use Rattle.git_client.specs.Opened.{events_on, opened_in}
@@ -71,7 +71,7 @@ nothing_yet = record { asked = []; left = false; used = []; events = []; given =
 abbrev pub spelled : List Pkt → List ℕ
 spelled = flat_map spelling_of
 
--- what is written of each question, where this was advertised
+-- what is written of each request, where this was advertised
 abbrev pub questions_of : Format → Caps → List Asked → List Pkt
 questions_of format caps = flat_map (lines_written caps.agent caps.object_format format)
 
@@ -80,7 +80,7 @@ abbrev pub farewell : Bool → List Pkt
 farewell true = flush ∷ []
 farewell false = []
 
--- all that a client says
+-- all that a client sends
 abbrev pub said_of : Format → Caps → List Asked → Bool → List Pkt
 said_of format caps asked left = questions_of format caps asked ++ farewell left
 
@@ -101,7 +101,7 @@ IsDueIn advertisement message Capabilities = Unit {0}
 IsDueIn listing message References = Unit {0}
 IsDueIn (sections done) message (Header allowed) = (is_header_due message ≡ true) × (allowed ≡ allowed_after done message)
 IsDueIn (sections done) message (Acknowledgments told) =
-    IsInside AcknowledgmentsSection message × (told ≡ told_by (lines_of message)) × (allowed_after done message ≡ after_acknowledgments)
+    IsInside AcknowledgmentsSection message × (told ≡ acks_in (lines_of message)) × (allowed_after done message ≡ after_acknowledgments)
 IsDueIn (sections done) message (ShallowInfo allowed) = IsInside ShallowInfoSection message × (allowed ≡ allowed_after done message)
 IsDueIn (sections done) message (WantedRefs allowed) = IsInside WantedRefsSection message × (allowed ≡ allowed_after done message)
 IsDueIn (sections done) message Packfile = IsInside PackfileSection message
@@ -118,13 +118,13 @@ pub record IsDue (t : Terms) (asked : List Asked) (before : List Pkt) (due : Due
   pub same_lines : flushes before ≡ 0 → message_of before ≡ advertisement_of before
   pub is_due : IsDueIn part (message_of before) due
 
--- the packets are a whole advertisement and a whole response to each question
+-- the packets are a whole advertisement and a whole response to each request
 pub record AreWhole (t : Terms) (asked : List Asked) (before : List Pkt) : Type 0 where
   pub all_flushes : flushes before ≡ suc (length asked)
   pub no_end_due : is_end_due t.ending before ≡ false
   pub no_message : message_of before ≡ []
 
--- the last question is being asked after the responses to all before it
+-- the last request is being asked after the responses to all before it
 pub record IsAsked (t : Terms) (asked : List Asked) (before : List Pkt) (question : Option Asked) : Type 0 where
   pub earlier : List Asked
   pub last : Asked
@@ -152,7 +152,7 @@ module _ {A : Type 0} where
   abbrev pub fault_of : Client A → Option Fault
   fault_of client = fault_in client.phase
 
-  -- the advertisement is whole, as is the response to each question, and the client has not left
+  -- the advertisement is whole, as is the response to each request, and the client has not left
   abbrev pub can_ask : Client A → Bool
   can_ask client = is_ready client.phase
 
@@ -187,7 +187,7 @@ module _ {A : Type 0} where
   abbrev pub phase_of : Client A → Phase
   phase_of client = client.phase
 
-  -- what the last packet was found to say
+  -- what the last packet was found to contain
   abbrev pub said_last : Client A → Said
   said_last client = client.said
 
@@ -234,7 +234,7 @@ module _ {A : Type 0} where
   abbrev pub limit_of : Client A → ℕ
   limit_of client = limit_in client.request
 
--- what packets, the nearest first, stand before this phase
+-- what packets, the nearest first, come before this phase
 abbrev pub Behind : Terms → List Asked → List Pkt → Option Asked → Phase → Type 0
 Behind t asked before question (Hearing due) = IsDue t asked before due
 Behind t asked before question (Asking writer) = IsAsked t asked before question
@@ -272,7 +272,7 @@ pub record Goes (t : Terms) (asked : List Asked) (clean given : List Given) (res
   pub behind : Behind t asked (nearest clean []) question phase
   pub shut : takes_packets phase ≡ false → rest ≡ []
 
--- how the conversation stands in this phase
+-- what holds of the conversation in this phase
 abbrev pub StandsIn : Phase → Terms → List Asked → List Given → List Given → List ℕ → ℕ → Option Asked → PacketReader → Type 0
 StandsIn (FailedPhase fault) t asked clean given rest end question reader =
     RefusedPacket t asked clean given rest fault reader
@@ -312,13 +312,13 @@ abbrev pub said_judged : Said → Result Turn Kind → Said
 said_judged said (Ok turn) = turn.said
 said_judged said (Err kind) = said
 
--- the server is heard on, or can be asked, after a packet that was judged well
+-- the client receives more, or can ask, after a packet that was judged well
 abbrev pub HearsNext : Result Turn Kind → Type 0
 HearsNext (Ok turn) = (is_asking turn.next ≡ false) × (fault_in turn.next ≡ None)
 HearsNext (Err kind) = Unit {0}
 
 module _ {A : Type 0} where
-  -- a client on these terms stands after this history
+  -- what holds of a client on these terms after this history
   pub record Converses (t : Terms) (h : History) (client : Client A) : Type 0 where
     pub given : List Given
     pub rest : List ℕ
@@ -334,7 +334,7 @@ module _ {A : Type 0} where
     pub left : h.left ≡ has_left client
     pub spoken : h.given ++ spelled (left_to_say client) ≡ spelled (said_of t.format (caps_of client) h.asked h.left)
 
-  -- whatever the history was, it goes on by a question
+  -- whatever the history was, it goes on by a request
   abbrev pub AsksOn : Client A → Asked → Client A → Type 0
   AsksOn old question new =
       (t : Terms) (h : History) → Converses t h old → Converses t (record h { asked = h.asked ++ question ∷ [] }) new
@@ -352,7 +352,7 @@ module _ {A : Type 0} where
   abbrev pub SaysOn : Client A → List ℕ → Client A → Type 0
   SaysOn old more new = (t : Terms) (h : History) → Converses t h old → Converses t (record h { given = h.given ++ more }) new
 
-  -- what refuses a question: its format, its command and then its arguments where they are not offered, and what is
+  -- what refuses a request: its format, its command and then its arguments where they are not offered, and what is
   -- judged at a request's end
   abbrev pub ask_checks : Format → Caps → Request A → List Check
   ask_checks format caps request =
@@ -361,7 +361,7 @@ module _ {A : Type 0} where
       ∷ check (AreOffered (noted_offer caps format) (asked_of request)) (¬ AreOffered (noted_offer caps format) (asked_of request)) NotAdvertised
       ∷ end_checks (asked_of request)
 
-  -- a question that was taken: all of it is owed
+  -- a request that was taken: all of it is owed
   pub record Asks (old : Client A) (request : Request A) (new : Client A) : Type 0 where
     pub passes : Passes (ask_checks (format_of old) (caps_of old) request)
     pub asks : AsksOn old (asked_of request) new
@@ -369,7 +369,7 @@ module _ {A : Type 0} where
     pub no_more : can_ask new ≡ false
     pub credit : credit_of (reader_of new) ≤ credit_of (reader_of old)
 
-  -- a question that was refused: it is handed back, and the client stays as it was
+  -- a request that was refused: it is handed back, and the client stays as it was
   pub record RefusesToAsk (old : Client A) (request handed_back : Request A) (fault : Fault) (new : Client A) : Type 0 where
     pub refused : RefusesBy (ask_checks (format_of old) (caps_of old) request) fault.kind
     pub at : fault.offset ≡ bytes_used old
@@ -401,14 +401,14 @@ module _ {A : Type 0} where
   EndsAt (ProgressEvent bytes) used piece new = IsPassed bytes.now used piece new
   EndsAt event used piece new = is_open (reader_of new) ≡ false
 
-  -- what each answer of `feed` says; there is something to each event
+  -- what each answer of `feed` means; there is something to each event
   abbrev pub Tells : HeardGot → ℕ → List ℕ → Client A → Client A → Type 0
   Tells More used piece old new = wants_input old ≡ true → (used ≡ length piece) × (wants_input new ≡ true)
   Tells (EventGot event) used piece old new =
       (0 < used) × EndsAt event used piece new × (values_of event ≢ []) × LeavesAfter event new
   Tells (Failed fault) used piece old new = fault_of new ≡ Some fault
 
-  -- a client that had no fault tells only what the piece shows
+  -- a client that had no fault reports only a fault that the piece shows
   abbrev pub IsNews : Client A → List ℕ → Heard → Type 0
   IsNews old piece heard = (f : Fault) → fault_of old ≡ None → heard.got ≡ Failed f → ShownByFeed f heard.used piece
 
@@ -429,7 +429,7 @@ module _ {A : Type 0} where
     pub stays : Repeats old heard new
     pub waits : Waits old heard new
 
-  -- one packet of those that were owed was given; the client hears after the last of a question, and has left after the flush
+  -- one packet of those that were owed was given; the client receives after the last of a request, and has left after the flush
   pub record GivesOne (old new : Client A) (bytes : List ℕ) : Type 0 where
     pub packet : Pkt
     pub first : left_to_say old ≡ packet ∷ left_to_say new
@@ -438,7 +438,7 @@ module _ {A : Type 0} where
     pub sound : fault_of new ≡ None
     pub not_ready : can_ask new ≡ false
 
-  -- what each answer of `pull` says
+  -- what each answer of `pull` means
   abbrev pub TellsSent : Sent → Client A → Client A → Type 0
   TellsSent (Packet bytes) old new = GivesOne old new bytes.now
   TellsSent NeedInput old new = (wants_input old ≡ true) × (new ≡ old)
@@ -458,13 +458,13 @@ module _ {A : Type 0} where
     pub gives : GivesOne old new (held_of (reader_of new))
     pub credit : credit_of (reader_of new) ≡ 0
 
--- what the server says in a payload that is refused by this name
+-- the server's message in a payload that is refused by this name
 abbrev pub IsMessage : Kind → List ℕ → List ℕ → Type 0
 IsMessage RemoteError line message = IsErrorOf (text_of line) message
 IsMessage RemoteFatal line message = line ≡ 3 ∷ message
 IsMessage kind line message = ⊥
 
--- the bytes end with a packet in which the server tells a fault, with this message
+-- the bytes end with a packet in which the server reports a fault, with this message
 pub record EndsWithMessage (t : Terms) (asked : List Asked) (bytes message : List ℕ) : Type 0 where
   pub clean : List Given
   pub bad : Given
@@ -476,14 +476,14 @@ pub record EndsWithMessage (t : Terms) (asked : List Asked) (bytes message : Lis
   pub packet : bad.packet ≡ payload line
   pub says : IsMessage kind line message
 
--- by these names the server tells its own faults
+-- by these names the server reports its own faults
 abbrev pub is_told : Kind → Bool
 is_told RemoteError = true
 is_told RemoteFatal = true
 is_told kind = false
 
 module _ {A : Type 0} where
-  -- the conversation was not ended by a fault that the server told
+  -- the conversation was not ended by a fault that the server reported
   abbrev pub EndsWithoutMessage : Client A → Type 0
   EndsWithoutMessage client = (f : Fault) → fault_of client ≡ Some f → is_told f.kind ≡ false
 
@@ -509,7 +509,7 @@ module _ {A : Type 0} where
     pub said : said_last new ≡ said_judged (said_last old) judged
     pub tells : outcome ≡ outcome_judged offset judged
 
-  -- where the client stands after what was said
+  -- whether the client can ask or receives more, after a packet that contained this
   abbrev pub StandsAfter : Said → Client A → Type 0
   StandsAfter OfferedSaid new = can_ask new ≡ true
   StandsAfter EndedSaid new = can_ask new ≡ true

@@ -33,7 +33,7 @@ GiveAll t asked before (g ∷ gs) events =
     (now : List EventValue) × (later : List EventValue) × (events ≡ now ++ later) × GivesAt t asked before g.packet now
     × GiveAll t asked (g.packet ∷ before) gs later
 
--- the first packet with a fault, which is told at its offset
+-- the first packet with a fault, which is reported at its offset
 pub record FirstFault (t : Terms) (asked : List Asked) (given : List Given) (kind : Kind) (offset : ℕ) : Type 0 where
   pub clean : List Given
   pub bad : Given
@@ -85,7 +85,7 @@ pub record MalformedPacket (t : Terms) (asked : List Asked) (bytes : List ℕ) (
   pub splits : Splits 0 bytes given rest
   pub first : FirstFault t asked given fault.kind fault.offset
 
--- no packet has a fault, more is due, and what stands after them is no packet and cannot become one
+-- no packet has a fault, more is due, and what comes after them is no packet and cannot become one
 pub record MalformedRest (t : Terms) (asked : List Asked) (bytes : List ℕ) (fault : Fault) : Type 0 where
   pub given : List Given
   pub rest : List ℕ
@@ -95,7 +95,7 @@ pub record MalformedRest (t : Terms) (asked : List Asked) (bytes : List ℕ) (fa
   pub due : HasDue t asked (nearest given [])
   pub by : StopsBy (length bytes - length rest) rest (length bytes) fault.kind fault.offset
 
--- nothing has a fault, and the input ended before what is due had come: told at the end of the last whole packet
+-- nothing has a fault, and the input ended before what is due had come: reported at the end of the last whole packet
 pub record CutShort (t : Terms) (asked : List Asked) (bytes : List ℕ) (fault : Fault) : Type 0 where
   pub given : List Given
   pub rest : List ℕ
@@ -133,7 +133,7 @@ pub record GoesOn (t : Terms) (asked : List Asked) (bytes : List ℕ) (events : 
   pub due : HasDue t asked (nearest given [])
   pub events_are : events ≡ whole ++ opened_in (place_after t asked (nearest given [])) rest
 
--- the bytes are just a whole advertisement and a whole response to each question, of which no packet has a fault, and
+-- the bytes are just a whole advertisement and a whole response to each request, of which no packet has a fault, and
 -- these are their events
 pub record IsConversation (t : Terms) (asked : List Asked) (bytes : List ℕ) (events : List EventValue) : Type 0 where
   pub given : List Given

@@ -1,4 +1,4 @@
--- What a packet gives, and what refuses it, by the place where it stands.
+-- What a packet gives, and what refuses it, by the place where it is.
 use Rattle.std.specs.Prelude.{◌≡◌, ◌≢◌, ◌⊎◌, ℕ, suc, ◌+◌, ◌==◌, ◌||◌, true, false, List, [], ◌∷◌, ◌++◌, length, sum_by, Option, Result, Ok, Err, codes, map}
 use Rattle.std.specs.Prelude.{if◌then◌else◌}
 use Rattle.std.specs.Option.{option_map_or}
@@ -17,7 +17,7 @@ use Rattle.git_msg.specs.declared.response_lines.Info.{Info}
 use Rattle.git_msg.specs.Texts.{Follows, IsErrorText}
 use Rattle.git_client.specs.declared.events.Ending.{Ending}
 use Rattle.git_client.specs.declared.events.Ending.TheVariants.{FlushOnly, ResponseEnd}
-use Rattle.git_client.specs.declared.sections.Told.{Told}
+use Rattle.git_client.specs.declared.sections.Acks.{Acks}
 use Rattle.git_client.specs.Sections.{section_named, may_begin}
 use Rattle.git_client.specs.Places.{Place, version, capabilities, references, header, acknowledgments, shallow_info, wanted_refs, packfile}
 use Rattle.git_client.specs.Places.{size_line, sizes, response_end}
@@ -44,25 +44,25 @@ SaysLine version format text [] = text ≡ codes "version 2"
 SaysLine (capabilities spoken) format text (capability key value ∷ []) = IsCapability text key value
 SaysLine references format text (reference ref ∷ []) = IsReferenceLine format text ref
 SaysLine (header allowed) format text [] = may_begin allowed (section_named text) ≡ true
-SaysLine (acknowledgments told) format text (nak ∷ []) = (text ≡ codes "NAK") × (told.any ≡ false)
-SaysLine (acknowledgments told) format text (ready ∷ []) = (text ≡ codes "ready") × (told.ready ≡ false)
-SaysLine (acknowledgments told) format text (ack id ∷ []) = IsAckLine format text id × ((told.nak || told.ready) ≡ false)
+SaysLine (acknowledgments acks) format text (nak ∷ []) = (text ≡ codes "NAK") × (acks.any ≡ false)
+SaysLine (acknowledgments acks) format text (ready ∷ []) = (text ≡ codes "ready") × (acks.ready ≡ false)
+SaysLine (acknowledgments acks) format text (ack id ∷ []) = IsAckLine format text id × ((acks.nak || acks.ready) ≡ false)
 SaysLine shallow_info format text (shallow id ∷ []) = IsBoundaryLine format text (Shallow id)
 SaysLine shallow_info format text (unshallow id ∷ []) = IsBoundaryLine format text (Unshallow id)
 SaysLine wanted_refs format text (wanted_ref wanted ∷ []) = IsWantedLine format text wanted
 SaysLine size_line format text [] = text ≡ codes "size"
-SaysLine sizes format text (info told ∷ []) = IsInfoLine format text told
+SaysLine sizes format text (info entry ∷ []) = IsInfoLine format text entry
 SaysLine _ format text _ = ⊥
 
 -- the text is no line that may come after the acknowledgments so far: `NAK` comes alone, and nothing after `ready`
-pub record IsNotDue (told : Told) (text : List ℕ) : Type 0 where
-  pub nak : text ≡ codes "NAK" → told.any ≡ true
-  pub ready : text ≡ codes "ready" → told.ready ≡ true
-  pub ack : (name : List ℕ) → text ≡ codes "ACK " ++ name → (told.nak || told.ready) ≡ true
+pub record IsNotDue (acks : Acks) (text : List ℕ) : Type 0 where
+  pub nak : text ≡ codes "NAK" → acks.any ≡ true
+  pub ready : text ≡ codes "ready" → acks.ready ≡ true
+  pub ack : (name : List ℕ) → text ≡ codes "ACK " ++ name → (acks.nak || acks.ready) ≡ true
 
 -- a line of the acknowledgments may come, and has no object name
-pub record IsBadAck (format : Format) (told : Told) (text : List ℕ) : Type 0 where
-  pub due : (told.nak || told.ready) ≡ false
+pub record IsBadAck (format : Format) (acks : Acks) (text : List ℕ) : Type 0 where
+  pub due : (acks.nak || acks.ready) ≡ false
   pub no_name : Follows (codes "ACK ") (IsNoObjectName format) text
 
 -- by which name a text at this place that is no error packet's is refused
@@ -71,8 +71,8 @@ IsLineFault version format text kind = (text ≢ codes "version 2") × (kind ≡
 IsLineFault (capabilities spoken) format text kind = IsNoCapability text × (kind ≡ BadCapability)
 IsLineFault references format text kind = IsReferenceFault format text kind
 IsLineFault (header allowed) format text kind = (may_begin allowed (section_named text) ≡ false) × (kind ≡ UnexpectedSection)
-IsLineFault (acknowledgments told) format text kind =
-    (IsNotDue told text × (kind ≡ BadLine)) ⊎ (IsBadAck format told text × (kind ≡ BadObjectName))
+IsLineFault (acknowledgments acks) format text kind =
+    (IsNotDue acks text × (kind ≡ BadLine)) ⊎ (IsBadAck format acks text × (kind ≡ BadObjectName))
 IsLineFault shallow_info format text kind = IsBoundaryFault format text kind
 IsLineFault wanted_refs format text kind = IsWantedFault format text kind
 IsLineFault size_line format text kind = (text ≢ codes "size") × (kind ≡ BadLine)
@@ -84,7 +84,7 @@ abbrev pub ended_by : Ending → List EventValue
 ended_by FlushOnly = ended ∷ []
 ended_by ResponseEnd = []
 
--- what a payload of the packfile section says: its first byte is the band of the others
+-- what a payload of the packfile section gives: its first byte is the band of the others
 abbrev pub band_says : List ℕ → Result (List EventValue) Kind
 band_says [] = Err NoBand
 band_says (band ∷ bytes) =
@@ -93,26 +93,26 @@ band_says (band ∷ bytes) =
     else if band == 3 then Err RemoteFatal
     else Err BadBand
 
--- what a flush says
+-- what a flush gives
 abbrev pub flush_says : Ending → Place → Result (List EventValue) Kind
 flush_says ending version = Err NotVersion2
 flush_says ending (capabilities spoken) = if spoken then Ok (offered ∷ []) else Err WrongFormat
 flush_says ending references = Ok (ended_by ending)
-flush_says ending (acknowledgments told) = if told.ready then Err UnexpectedPacket else Ok (ended_by ending)
+flush_says ending (acknowledgments acks) = if acks.ready then Err UnexpectedPacket else Ok (ended_by ending)
 flush_says ending packfile = Ok (ended_by ending)
 flush_says ending size_line = Ok (ended_by ending)
 flush_says ending sizes = Ok (ended_by ending)
 flush_says ending place = Err UnexpectedPacket
 
--- what a delimiter says
+-- what a delimiter gives
 abbrev pub delimiter_says : Place → Result (List EventValue) Kind
 delimiter_says version = Err NotVersion2
-delimiter_says (acknowledgments told) = if told.ready then Ok [] else Err UnexpectedPacket
+delimiter_says (acknowledgments acks) = if acks.ready then Ok [] else Err UnexpectedPacket
 delimiter_says shallow_info = Ok []
 delimiter_says wanted_refs = Ok []
 delimiter_says place = Err UnexpectedPacket
 
--- what a response end says
+-- what a response end gives
 abbrev pub response_end_says : Place → Result (List EventValue) Kind
 response_end_says version = Err NotVersion2
 response_end_says response_end = Ok (ended ∷ [])
@@ -123,7 +123,7 @@ pub record GivesLine (place : Place) (format : Format) (text : List ℕ) (events
   pub no_error : ¬ IsErrorText text
   pub says : SaysLine place format text events
 
--- a text line at this place is refused by this name: an error packet may stand wherever a text line may
+-- a text line at this place is refused by this name: an error packet may be wherever a text line may be
 abbrev pub RefusesLine : Place → Format → List ℕ → Kind → Type 0
 RefusesLine place format text kind =
     (IsErrorText text × (kind ≡ RemoteError)) ⊎ ((¬ IsErrorText text) × IsLineFault place format text kind)
@@ -146,20 +146,20 @@ Refuses format ending place flush kind = flush_says ending place ≡ Err kind
 Refuses format ending place delim kind = delimiter_says place ≡ Err kind
 Refuses format ending place resp_end kind = response_end_says place ≡ Err kind
 
--- how often the client came to where it can ask
+-- how often the client reached a point where it can ask
 abbrev pub turns_of : List EventValue → ℕ
 turns_of [] = 0
 turns_of (offered ∷ events) = suc (turns_of events)
 turns_of (ended ∷ events) = suc (turns_of events)
 turns_of (event ∷ events) = turns_of events
 
--- the bytes of the pack
+-- the bytes of the pack in these events, in order
 abbrev pub pack_bytes : List EventValue → List ℕ
 pack_bytes [] = []
 pack_bytes (pack byte ∷ events) = byte ∷ pack_bytes events
 pack_bytes (event ∷ events) = pack_bytes events
 
--- the bytes of the progress
+-- the bytes of the progress in these events, in order
 abbrev pub progress_bytes : List EventValue → List ℕ
 progress_bytes [] = []
 progress_bytes (progress byte ∷ events) = byte ∷ progress_bytes events
@@ -176,7 +176,7 @@ parts_length (unshallow id) = digits_of id.format
 parts_length (wanted_ref wanted) = digits_of wanted.id.format + length wanted.name
 parts_length (pack byte) = 1
 parts_length (progress byte) = 1
-parts_length (info told) = digits_of told.id.format
+parts_length (info entry) = digits_of entry.id.format
 parts_length event = 0
 
 -- how many bytes the parts of all of them have

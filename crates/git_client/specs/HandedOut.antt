@@ -20,7 +20,7 @@ Shows Pack bytes (PackEvent shown) = shown.now ≡ bytes
 Shows Progress bytes (ProgressEvent shown) = shown.now ≡ bytes
 Shows band bytes event = ⊥
 
--- what a step came to is handed out: of bytes that passed the last of those used of the piece
+-- what came of a step is handed out: of bytes that passed the last of those used of the piece
 abbrev pub HandsOut : Outcome → ℕ → List ℕ → HeardGot → Type 0
 HandsOut (Passed passed) used piece (EventGot event) = Shows passed.band (take (used - (used - passed.count)) (drop (used - passed.count) piece)) event
 HandsOut (Failed f) used piece (FailedGot g) = f ≡ g

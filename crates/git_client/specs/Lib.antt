@@ -9,6 +9,7 @@ pub mod Turns
 pub mod Client
 pub mod HandedOut
 pub mod Transcript
+pub mod LineParts
 pub mod Runs
 pub mod RunSteps
 pub mod Calls

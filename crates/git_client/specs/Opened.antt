@@ -8,13 +8,13 @@ use Rattle.git_pkt.specs.declared.band.Band.TheVariants.{Pack, Progress, Fatal}
 use Rattle.git_client.specs.Places.{Place, packfile}
 use Rattle.git_client.specs.Events.{EventValue, pack, progress}
 
--- what a byte on a band says: of a fatal error none says anything before the last
+-- what a byte on a band gives: of a fatal error none gives anything before the last
 abbrev pub band_event : Band → ℕ → List EventValue
 band_event Pack byte = pack byte ∷ []
 band_event Progress byte = progress byte ∷ []
 band_event Fatal byte = []
 
--- what bytes on bands say, in order
+-- what bytes on bands give, in order
 abbrev pub events_on : List OnBand → List EventValue
 events_on [] = []
 events_on (on ∷ bytes) = band_event on.band on.byte ++ events_on bytes

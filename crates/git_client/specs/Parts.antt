@@ -53,7 +53,7 @@ pub data Part : Type 0 where
   informing : Part
   closing : Part
 
--- the part that answers a question
+-- the part that answers a request
 abbrev pub answer_to : Option Asked → Option Part
 answer_to None = None
 answer_to (Some (ls_refs q)) = Some listing

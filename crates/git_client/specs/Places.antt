@@ -1,4 +1,4 @@
--- What may stand at a place of a conversation.
+-- What may be at a place of a conversation.
 use Rattle.std.specs.Prelude.{Bool, List, Option, Some, None, if◌then◌else◌}
 use Rattle.git_names.specs.declared.object_format.Format.{Format}
 use Rattle.git_pkt.specs.Packets.{Pkt}
@@ -7,19 +7,19 @@ use Rattle.git_msg.specs.Asked.{Asked}
 use Rattle.git_client.specs.declared.sections.Section.{Section}
 use Rattle.git_client.specs.declared.sections.Section.TheVariants.{Acknowledgments, ShallowInfo, WantedRefs, Packfile}
 use Rattle.git_client.specs.declared.sections.Allowed.{Allowed}
-use Rattle.git_client.specs.declared.sections.Told.{Told}
+use Rattle.git_client.specs.declared.sections.Acks.{Acks}
 use Rattle.git_client.specs.Parts.{Terms, Part, opening, advertisement, listing, sections, informing, closing, part_of, message_of}
-use Rattle.git_client.specs.Sections.{is_empty, is_header_due, section_of, lines_of, allowed_after, told_by}
+use Rattle.git_client.specs.Sections.{is_empty, is_header_due, section_of, lines_of, allowed_after, acks_in}
 
--- the places: the line that begins an advertisement, its other lines, which so far say that the format is spoken or not,
--- references, the header of a section, the lines of each section, the line that says what is told of objects, the lines that
--- tell it, and a response end
+-- the places: the line that begins an advertisement, its other lines, which so far have or have not shown that the server speaks the format,
+-- references, the header of a section, the lines of each section, the line that names what is listed of objects, the lines that
+-- list it, and a response end
 pub data Place : Type 0 where
   version : Place
   capabilities : (spoken : Bool) → Place
   references : Place
   header : Allowed → Place
-  acknowledgments : Told → Place
+  acknowledgments : Acks → Place
   shallow_info : Place
   wanted_refs : Place
   packfile : Place
@@ -30,7 +30,7 @@ pub data Place : Type 0 where
 -- the place inside a section, after its lines so far
 abbrev pub place_in : Option Section → List Pkt → Option Place
 place_in None lines = None
-place_in (Some Acknowledgments) lines = Some (acknowledgments (told_by lines))
+place_in (Some Acknowledgments) lines = Some (acknowledgments (acks_in lines))
 place_in (Some ShallowInfo) lines = Some shallow_info
 place_in (Some WantedRefs) lines = Some wanted_refs
 place_in (Some Packfile) lines = Some packfile

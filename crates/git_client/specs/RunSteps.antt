@@ -1,4 +1,4 @@
--- What the steps of a run do: a client hears the next response, and says the next question.
+-- What the steps of a run do: a client receives the next response, and sends the next request.
 use Rattle.std.specs.Prelude.{◌≡◌, ◌⊎◌, ℕ, ◌+◌, ◌-◌, ◌≤◌, ◌<◌, Bool, true, false, List, [], ◌∷◌, ◌++◌, length, take, drop, Some, None, Result, Ok, Err}
 use Rattle.std.specs.Io.KnownBytes.{Appends, Consumes}
 use Rattle.git_pkt.specs.Packets.{Pkt, spelling_of}
@@ -30,7 +30,7 @@ counts_with counts events = record {
   progress = counts.progress + length (progress_bytes events);
 }
 
--- the counts do not come to their end by these events
+-- the counts do not reach their end by these events
 pub record CanCount (counts : Counts) (events : List EventValue) : Type 0 where
   pub pack : counts.pack + length (pack_bytes events) ≤ 18446744073709551615
   pub progress : counts.progress + length (progress_bytes events) ≤ 18446744073709551615
@@ -56,7 +56,7 @@ pub record BreaksOff (stream : Flow) (given : List ℕ) : Type 0 where
   pub one_packet : (front ++ rest ≡ []) ⊎ ((packet : Pkt) × (front ++ rest ≡ spelling_of packet))
 
 module _ {A : Type 0} where
-  -- these bytes were heard: the lines of the transcript that they say were written, after what was counted of the response before, and
+  -- these bytes were received: the lines of the transcript for them were written, after what was counted of the response before, and
   -- their bytes of the pack and of the progress
   pub record HearsBytes (broken : Bool) (old new : Client A) (counts counts_after : Counts) (used : List ℕ) (out packs progress : Flow) : Type 0 where
     pub events : List EventValue
@@ -89,7 +89,7 @@ module _ {A : Type 0} where
     pub hears : HearsBytes true old new counts counts_after (take used piece) out packs progress
     pub shown : (fault : Fault) → fault_of new ≡ Some fault → ShownByFeed fault used piece
 
-  -- how a piece was heard
+  -- how a piece was received
   abbrev pub HearsPieceTo : Result ℕ RunFault → Client A → Client A → Counts → Counts → List ℕ → Flow → Flow → Flow → Type 0
   HearsPieceTo (Ok used) old new counts counts_after piece out packs progress = HearsInPiece old new counts counts_after piece used out packs progress
   HearsPieceTo (Err WriteFault) old new counts counts_after piece out packs progress = HearsPieceBroken old new counts counts_after piece out packs progress
@@ -101,7 +101,7 @@ module _ {A : Type 0} where
   abbrev pub FaultsInTime : Client A → Bool → List ℕ → Type 0
   FaultsInTime client ended unused = (fault : Fault) → fault_of client ≡ Some fault → IsTimely fault.kind ended unused
 
-  -- of the bytes that waited and those that came, all but the last were heard
+  -- of the bytes that waited and those that came, all but the last were received
   pub record HearsFrom (broken : Bool) (old new : Client A) (waiting unused : List ℕ) (reader out packs progress : Flow) : Type 0 where
     pub came : List ℕ
     pub used : List ℕ
@@ -110,14 +110,14 @@ module _ {A : Type 0} where
     pub parts : waiting ++ came ≡ used ++ unused
     pub bytes : HearsBytes broken old new no_counts counts used out packs progress
 
-  -- a response was heard whole
+  -- a response was received whole
   pub record HearsWhole (window : Window) (old new : Client A) (waiting piece : List ℕ) (reader out packs progress : Flow) : Type 0 where
     pub hears : HearsFrom false old new waiting (window_of window piece) reader out packs progress
     pub ordered : window.start ≤ window.end
     pub within : window.end ≤ length piece
     pub can_ask_on : can_ask new ≡ true
 
-  -- all bytes were heard, and more are due
+  -- all bytes were received, and more are due
   pub record HearsAll (old new : Client A) (waiting : List ℕ) (reader out packs progress : Flow) : Type 0 where
     pub hears : HearsFrom false old new waiting [] reader out packs progress
     pub due : wants_input new ≡ true
@@ -135,7 +135,7 @@ module _ {A : Type 0} where
     pub hears : HearsFrom true old new waiting unused reader out packs progress
     pub timely : FaultsInTime new ended unused
 
-  -- how a response was heard
+  -- how a response was received
   abbrev pub HearsTo : Result Window RunFault → Bool → Client A → Client A → List ℕ → List ℕ → Flow → Flow → Flow → Flow → Type 0
   HearsTo (Ok window) ended old new waiting piece reader out packs progress = HearsWhole window old new waiting piece reader out packs progress
   HearsTo (Err ReadFault) ended old new waiting piece reader out packs progress = HearsAll old new waiting reader out packs progress

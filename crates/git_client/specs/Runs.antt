@@ -1,4 +1,4 @@
--- What a run of a client over its streams comes to: what it asked and heard, what it said, the transcript, the pack and the progress.
+-- What a run of a client over its streams results in: what it asked and received, what it sent, the transcript, the pack and the progress.
 use Rattle.std.specs.Prelude.{◌≡◌, ◌⊎◌, ◌≤◌, All, Bool, true, false, ℕ, List, [], ◌∷◌, ◌++◌, length, Some, Result, Ok, Err, map}
 use Rattle.git_pkt.specs.Streams.{IsTimely}
 use Rattle.git_pkt.specs.declared.fault.Fault.{Fault}
@@ -23,18 +23,18 @@ abbrev pub leaves_last : Ending → Bool
 leaves_last FlushOnly = true
 leaves_last ResponseEnd = false
 
--- all that is due was said: what is written of each question, and after leaving the flush
+-- all that is due was sent: what is written of each request, and after leaving the flush
 pub record HasSaid (t : Terms) (h : History) : Type 0 where
   pub caps : Caps
   pub noted : HasNoted t h.asked h.used caps
   pub said : h.given ≡ spelled (said_of t.format caps h.asked h.left)
 
--- what was heard is refused for its first fault: truncated only where the input has ended, too long only where one more byte was read
+-- what was received is refused for its first fault: truncated only where the input has ended, too long only where one more byte was read
 pub record IsMalformed (t : Terms) (ended : Bool) (unused : List ℕ) (h : History) (fault : Fault) : Type 0 where
   pub first : FirstMalformed t h.asked h.used fault
   pub timely : IsTimely fault.kind ended unused
 
--- all that was read was used, nothing of it has a fault, more is due, and all that was to be said was said
+-- all that was read was used, nothing of it has a fault, more is due, and all that was to be sent was sent
 pub record IsInterrupted (t : Terms) (unused : List ℕ) (h : History) : Type 0 where
   pub all : unused ≡ []
   pub goes_on : GoesOn t h.asked h.used h.events
@@ -82,7 +82,7 @@ module _ {A : Type 0} where
   EndsAs t (Err (Refused fault)) ended unused rest h =
       (IsMalformed t ended unused h fault ⊎ IsRefusedRequest t rest h fault) × (h.left ≡ false) × HasSaid t h
 
-  -- the client that a run hands back: it waits for more, has the fault that was told, or can be asked another request than the
+  -- the client that a run hands back: it waits for more, has the fault that was reported, or can be asked another request than the
   -- refused one
   abbrev pub IsHandedBack : Result (Unit {0}) RunFault → Client A → Type 0
   IsHandedBack (Ok done) client = Unit {0}
@@ -92,7 +92,7 @@ module _ {A : Type 0} where
   IsHandedBack (Err (Refused fault)) client = (fault_of client ≡ Some fault) ⊎ (can_ask client ≡ true)
 
   -- what a client that was asked these requests has to do with the bytes of its run: it used those read but the last of them, and
-  -- the bytes given are what it said, the transcript, the pack, and the progress; a fault that it has came in time
+  -- the bytes given are what it sent, the transcript, the pack, and the progress; a fault that it has came in time
   pub record Conversed (t : Terms) (requests : List (Request A)) (result : Result (Unit {0}) RunFault) (ended : Bool) (client : Client A)
       (read given : List (List ℕ)) : Type 0 where
     pub h : History

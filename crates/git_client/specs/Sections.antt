@@ -6,7 +6,7 @@ use Rattle.git_pkt.specs.Packets.{Pkt, delim, payload, text_of}
 use Rattle.git_client.specs.declared.sections.Section.{Section}
 use Rattle.git_client.specs.declared.sections.Section.TheVariants.{Acknowledgments, ShallowInfo, WantedRefs, Packfile}
 use Rattle.git_client.specs.declared.sections.Allowed.{Allowed}
-use Rattle.git_client.specs.declared.sections.Told.{Told}
+use Rattle.git_client.specs.declared.sections.Acks.{Acks}
 
 -- the text of a section's header
 abbrev pub header_of : Section → List ℕ
@@ -86,18 +86,18 @@ next_allowed allowed ShallowInfo = record { acknowledgments = false; shallow_inf
 next_allowed allowed WantedRefs = record { acknowledgments = false; shallow_info = allowed.shallow_info; wanted_refs = false }
 next_allowed allowed Packfile = record { acknowledgments = false; shallow_info = allowed.shallow_info; wanted_refs = allowed.wanted_refs }
 
--- what lines of the acknowledgments said
-abbrev pub told_by : List Pkt → Told
-told_by lines = record {
+-- which lines of the acknowledgments are among these
+abbrev pub acks_in : List Pkt → Acks
+acks_in lines = record {
   any = not (is_empty lines);
   nak = list_any (has_text (codes "NAK")) lines;
   ready = list_any (has_text (codes "ready")) lines;
 }
 
--- what they said with one line more
-abbrev pub told_with : Told → List ℕ → Told
-told_with told text = record {
+-- the same with one line more
+abbrev pub acks_with : Acks → List ℕ → Acks
+acks_with acks text = record {
   any = true;
-  nak = bytes_eq text (codes "NAK") || told.nak;
-  ready = bytes_eq text (codes "ready") || told.ready;
+  nak = bytes_eq text (codes "NAK") || acks.nak;
+  ready = bytes_eq text (codes "ready") || acks.ready;
 }

@@ -1,4 +1,4 @@
--- The transcript of a conversation: a line for each event and for each question.
+-- The transcript of a conversation: a line for each event and for each request.
 use Rattle.std.specs.Prelude.{ℕ, suc, List, [], ◌∷◌, ◌++◌, drop, Option, Some, None, codes, decimal}
 use Rattle.git_names.specs.ObjectName.{hex_of}
 use Rattle.git_pkt.specs.Escape.{escaped_of}
@@ -8,16 +8,16 @@ use Rattle.git_msg.specs.declared.arguments.Command.{Command}
 use Rattle.git_msg.specs.References.{Ref, id_text, peeled_text}
 use Rattle.git_client.specs.Events.{EventValue, capability, offered, reference, ack, nak, ready, shallow, unshallow, wanted_ref, pack, progress, info, ended}
 
--- a text that may be there, after a word that stands before it
+-- a text that may be there, after a word that comes before it
 abbrev pub shown_after : List ℕ → Option (List ℕ) → List ℕ
 shown_after word None = []
 shown_after word (Some text) = word ++ escaped_of text
 
--- what stands after a capability's key
+-- what comes after a capability's key
 abbrev pub value_shown : Option (List ℕ) → List ℕ
 value_shown value = shown_after (codes "=") value
 
--- what stands after a reference's name
+-- what comes after a reference's name
 abbrev pub target_shown : Option (List ℕ) → List ℕ
 target_shown target = shown_after (codes " symref-target:") target
 
@@ -51,16 +51,16 @@ abbrev pub lines_of : List EventValue → ℕ → ℕ → List ℕ
 lines_of [] packed told = []
 lines_of (event ∷ events) packed told = line_of event packed told ++ lines_of events packed told
 
--- the line of a question
+-- the line of a request
 abbrev pub asked_line : Command → List ℕ
 asked_line command = codes "request " ++ name_of command ++ codes "\n"
 
--- the line of the next question, where one was asked
+-- the line of the next request, where one was asked
 abbrev pub next_asked : List Asked → List ℕ
 next_asked [] = []
 next_asked (question ∷ questions) = asked_line (command_asked question)
 
--- the lines of events and of the questions between them, after so many bytes of pack and progress of a response
+-- the lines of events and of the requests between them, after so many bytes of pack and progress of a response
 abbrev pub transcript_from : List Asked → ℕ → ℕ → List EventValue → List ℕ
 transcript_from asked packed told [] = []
 transcript_from asked packed told (pack byte ∷ events) = transcript_from asked (suc packed) told events
@@ -71,6 +71,6 @@ transcript_from asked packed told (ended ∷ events) =
     line_of ended packed told ++ next_asked asked ++ transcript_from (drop 1 asked) 0 0 events
 transcript_from asked packed told (event ∷ events) = line_of event packed told ++ transcript_from asked packed told events
 
--- the transcript of what was asked and heard
+-- the transcript of what was asked and received
 abbrev pub transcript_of : List Asked → List EventValue → List ℕ
 transcript_of asked events = transcript_from asked 0 0 events

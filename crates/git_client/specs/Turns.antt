@@ -17,7 +17,7 @@ use Rattle.git_msg.specs.WrittenRequest.{left_to_write}
 use Rattle.git_msg.specs.declared.requests.Request.{Request}
 use Rattle.git_msg.specs.declared.capabilities.Capability.{Capability}
 use Rattle.git_msg.specs.declared.offers.Caps.{Caps}
-use Rattle.git_client.specs.Sections.{section_named, next_allowed, told_with, allowed_after}
+use Rattle.git_client.specs.Sections.{section_named, next_allowed, acks_with, allowed_after}
 use Rattle.git_client.specs.Places.{Place, version, capabilities, references, header, acknowledgments, shallow_info, wanted_refs, packfile}
 use Rattle.git_client.specs.Places.{size_line, sizes, response_end}
 use Rattle.git_client.specs.Events.{EventValue, capability, offered, reference, ack, nak, ready, shallow, unshallow, wanted_ref, pack, progress, info, ended}
@@ -71,7 +71,7 @@ value_at places text = if places.has_value then Some (drop (places.key_length + 
 abbrev pub wanted_at : ObjectName → List ℕ → Wanted
 wanted_at id text = wanted_of id (drop (digits_of id.format + 1) text)
 
--- the events that a text line was found to say
+-- the events that a text line was found to give
 abbrev pub line_events : Said → List ℕ → List EventValue
 line_events Nothing text = []
 line_events (SaidCapability places) text = capability (take places.key_length text) (value_at places text) ∷ []
@@ -86,7 +86,7 @@ line_events (WantedRef id) text = wanted_ref (wanted_at id text) ∷ []
 line_events (SaidInfo told) text = info told ∷ []
 line_events Ended text = ended ∷ []
 
--- the events that a payload was found to say
+-- the events that a payload was found to give
 abbrev pub events_at : Said → List ℕ → List EventValue
 events_at said bytes = line_events said (text_of bytes)
 
@@ -95,18 +95,18 @@ pub record LiesIn (places : CapabilityPlaces) (text : List ℕ) : Type 0 where
   pub key : places.key_length ≤ length text
   pub value : places.has_value ≡ true → places.key_length < length text
 
--- what a text line was found to say lies within it
+-- what a text line was found to contain lies within it
 abbrev pub FitsLine : Said → List ℕ → Type 0
 FitsLine (SaidCapability places) text = LiesIn places text
 FitsLine (Reference places) text = FitsIn places (length text)
 FitsLine (WantedRef id) text = digits_of id.format < length text
 FitsLine said text = Unit {0}
 
--- what a payload was found to say lies within it
+-- what a payload was found to contain lies within it
 abbrev pub Fits : Said → List ℕ → Type 0
 Fits said bytes = FitsLine said (text_of bytes)
 
--- a text line at the place was found to say this
+-- a text line at the place was found to contain this
 pub record Says (place : Place) (format : Format) (text : List ℕ) (said : Said) : Type 0 where
   pub says : SaysLine place format text (line_events said text)
   pub fits : FitsLine said text
@@ -132,7 +132,7 @@ due_after_header allowed (Some section) = due_in allowed section
 abbrev pub due_after_line : Due → List ℕ → Due
 due_after_line Version text = Capabilities
 due_after_line (Header allowed) text = due_after_header allowed (section_named text)
-due_after_line (Acknowledgments told) text = Acknowledgments (told_with told text)
+due_after_line (Acknowledgments told) text = Acknowledgments (acks_with told text)
 due_after_line SizeLine text = Sizes
 due_after_line due text = due
 
@@ -147,12 +147,12 @@ due_after_delimiter (ShallowInfo allowed) = Header allowed
 due_after_delimiter (WantedRefs allowed) = Header allowed
 due_after_delimiter due = due
 
--- where a conversation stands after the flush of a response
+-- the phase of a conversation after the flush of a response
 abbrev pub phase_after_response : Ending → Phase
 phase_after_response FlushOnly = ReadyPhase
 phase_after_response WithResponseEnd = Hearing ResponseEnd
 
--- where a conversation stands after a packet that has no fault
+-- the phase of a conversation after a packet that has no fault
 abbrev pub phase_after : Ending → Due → Pkt → Phase
 phase_after ending due (payload bytes) = Hearing (due_after_line due (text_of bytes))
 phase_after ending due delim = Hearing (due_after_delimiter due)
@@ -160,7 +160,7 @@ phase_after ending Capabilities flush = ReadyPhase
 phase_after ending due flush = phase_after_response ending
 phase_after ending due resp_end = ReadyPhase
 
--- what the flush of a response says, where this is noted
+-- what the flush of a response means, where this is noted
 abbrev pub turn_after_flush : Ending → Caps → Turn
 turn_after_flush FlushOnly caps = record { said = Ended; caps = caps; next = ReadyPhase }
 turn_after_flush WithResponseEnd caps = record { said = Nothing; caps = caps; next = Hearing ResponseEnd }

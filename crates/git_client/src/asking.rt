@@ -1,4 +1,4 @@
-//! What a client says: the requests that it is handed, packet by packet, and the flush at leaving.
+//! What a client sends: the requests that it is handed, packet by packet, and the flush at leaving.
 
 ghost use Rattle.std.specs.Prelude.{◌≡◌, ◌≤◌, length, true, MatchResult};
 ghost use Rattle.std.specs.Borrow.{sem};

@@ -1,6 +1,6 @@
-//! The client: it asks, reads what a server says in pieces of any size, and hands out events.
+//! The client: it asks, reads what a server sends in pieces of any size, and hands out events.
 //!
-//! How a conversation stands, and which call moves it on; `due` is what a packet is judged by, and goes on with each:
+//! The phases of a conversation, and which call moves it on; `due` is what a packet is judged by, and goes on with each:
 //!
 //! ```text
 //!               feed: the last packet of what is due
@@ -15,7 +15,8 @@
 //!  Failed(fault)
 //! ```
 
-ghost use Rattle.std.specs.Prelude.{◌≡◌, ◌≢◌, ◌+◌, ◌-◌, ◌≤◌, ◌<◌, ◌↔◌, IsTrue, ℕ, suc, List, [], ◌∷◌, None, Err, true, false, length, take, drop, MatchOption, ◌*◌};
+ghost use Rattle.std.specs.Prelude.{◌≡◌, ◌≢◌, ◌+◌, ◌-◌, ◌≤◌, ◌<◌, ◌↔◌, IsTrue, ℕ, suc, List, [], ◌∷◌, None, Err, true, false, length, take, drop};
+ghost use Rattle.std.specs.Prelude.{MatchOption, ◌*◌};
 ghost use Rattle.std.specs.Option.{ForSome};
 ghost use Rattle.std.specs.Borrow.{sem};
 ghost use Rattle.git_msg.specs.HeldRequest.{format_of as request_format, kept_of, limit_of, stored_of};
@@ -44,12 +45,12 @@ use git_names::{Format, Oid, Steps};
 use git_pkt::{Band, BandGot, Fault, Got, Kind, PacketReader, text};
 use std::alloc::Allocator;
 
-/// What some bytes of a piece came to.
+/// What came of some bytes of a piece.
 #[derive(Clone, Copy, Debug)]
 pub(crate) enum Outcome {
     /// No event, and all bytes are used.
     More,
-    /// An event: what was said of it stands in the client, and its bytes in the reader's hold.
+    /// An event: what its packet contained is in the client, and its bytes are in the reader's hold.
     Event,
     /// Bytes on a band: the last of those used.
     Passed(Passed),
@@ -71,7 +72,7 @@ pub(crate) struct Advance {
 }
 
 impl Advance {
-    /// The answer of a call that came to this over the piece, where no event is lent of the hold.
+    /// The answer of a call with this outcome over the piece, where no event is lent of the hold.
     fn heard<'a>(self, piece: &'a [u8]) -> Heard<'a>
         requires part { HasPart self.outcome self.used }
         requires all { self.used ≤ length piece.now }
@@ -105,7 +106,7 @@ impl Passed {
 }
 
 /// The fetching side of a conversation, as gitprotocol-v2(5) has it. It gives the packets of what it is asked to ask, reads
-/// what the server says from pieces of any size, and hands out events. Its one buffer is that of its packet reader, and it
+/// what the server sends from pieces of any size, and hands out events. Its one buffer is that of its packet reader, and it
 /// takes no memory beside it: of a request it keeps what it was handed until the last packet of it was given.
 ///
 /// A program goes by [`Client::pull`]: it sends the packets, reads where input is needed, and asks or leaves where it can.
@@ -118,7 +119,7 @@ pub struct Client<A: Allocator + Copy> {
     pub(crate) caps: Caps,
     // The request whose packets are owed.
     pub(crate) request: Option<Request<A>>,
-    // What the last packet said. Events are lent of it and of the reader's hold.
+    // What the last packet contained. Events are lent of it and of the reader's hold.
     pub(crate) said: Said,
     ghost sound: { fault_in phase ≡ None → reader_fault_of reader ≡ None },
     ghost shut: { fault_in phase ≡ None → takes_packets phase ≡ false → is_open reader ≡ false },
@@ -194,7 +195,7 @@ impl<A: Allocator + Copy> Client<A> {
         self.caps
     }
 
-    /// What the server said of the fault that ended the conversation: of an error packet the text after `ERR `, of a fatal
+    /// The server's message on the fault that ended the conversation: of an error packet the text after `ERR `, of a fatal
     /// error in the packfile section the bytes after its band.
     pub fn message(&self) -> Option<&[u8]>
         ensures { (t : Terms) (h : History) → Converses t h self.now
@@ -243,7 +244,7 @@ impl<A: Allocator + Copy> Client<A> {
         }
     }
 
-    /// Tells that the input ends here, where more was due: the conversation is refused as truncated, at the end of
+    /// The input ends here, where more was due: the conversation is refused as truncated, at the end of
     /// its last whole packet.
     pub fn close(&mut self) -> Fault
         requires { wants_input self.old ≡ true }
@@ -341,7 +342,7 @@ impl<A: Allocator + Copy> Client<A> {
         }
     }
 
-    /// Uses bytes of the packfile section: those that pass are handed out as they come, and what is said stays.
+    /// Uses bytes of the packfile section: those that pass are handed out as they come, and what the last packet contained stays.
     fn take_band(&mut self, piece: &[u8], steps: &mut Steps) -> Advance
         requires hears { phase_of self.old ≡ Phase.Hearing Due.Packfile }
         ensures cost { Pays result.used steps.old steps.new (credit_of (reader_of self.old)) (credit_of (reader_of self.new)) }
@@ -420,7 +421,7 @@ impl<A: Allocator + Copy> Client<A> {
         Outcome::Failed(fault)
     }
 
-    /// The event of what the last packet said.
+    /// The event of what the last packet contained.
     fn event(&self) -> Event<'_>
         requires something { said_last self.now ≢ Said.Nothing }
         requires fits { Fits (said_last self.now) (drop 4 (held_of (reader_of self.now))) }

@@ -18,17 +18,17 @@ use git_pkt::{Output, RunFault, Told, flush};
 use std::alloc::Allocator;
 use std::io::{Read, Write};
 
-/// Runs a client that is new over a reader of what the server says and a writer to it: it hears the advertisement, asks the
-/// requests in their order, hears the response to each, and leaves after the last, unless each request has a connection of its
+/// Runs a client that is new over a reader of what the server sends and a writer to it: it receives the advertisement, sends the
+/// requests in their order, receives the response to each, and leaves after the last, unless each request has a connection of its
 /// own. The transcript is written to `out`; what came of packs, in order, to `pack`, and what came of the server's progress, on the
 /// second side band, to `progress`, as it came. The piece is where the bytes that are read go; it may not be empty.
 ///
 /// The writer is flushed before each read and at the end, and so are `out`, `pack` and `progress`.
 ///
-/// `Refused` with the first fault of what the server said, or with what [`Client::ask`] refused of a request, after the
+/// `Refused` with the first fault of what the server sent, or with what [`Client::ask`] refused of a request, after the
 /// responses to those before it; `ReadFault` where a read fails, `WriteFault` where a write or a flush does, and
 /// `ReadLimit` where a further read than the `turns` that are allowed would be needed. After `WriteFault` the client is spent, since it may
-/// have heard or given more than was written.
+/// have received or given more than was written.
 pub fn converse<R: Read, W: Write, O: Write, P: Write, E: Output, A: Allocator + Copy>(
     reader: &mut Told<R>,
     writer: &mut Told<W>,

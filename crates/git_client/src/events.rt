@@ -1,4 +1,4 @@
-//! What a client is told and what it answers.
+//! What a client hands out: events, and what is to be done next.
 
 use git_msg::Capability;
 use git_names::Oid;
@@ -13,7 +13,7 @@ pub enum Ending {
     ResponseEnd,
 }
 
-/// What the server said.
+/// What the server sent.
 #[derive(Clone, Copy, Debug)]
 pub enum Event<'a> {
     /// A line of the advertisement, whether its key is known or not.
@@ -26,14 +26,14 @@ pub enum Event<'a> {
         id: Option<&'a Oid>,
         /// Its name.
         name: &'a [u8],
-        /// For a symbolic reference, where it is told, the name of the reference that it points to.
+        /// For a symbolic reference, where it is given, the name of the reference that it points to.
         target: Option<&'a [u8]>,
-        /// For an annotated tag, where it is told, the object that it stands for.
+        /// For an annotated tag, where it is given, the object that it peels to.
         peeled: Option<&'a Oid>,
     },
     /// Both ends have this object: a line of `acknowledgments`, as all up to `Ready` are.
     Ack(&'a Oid),
-    /// None of the objects that the request says the client has is common.
+    /// None of the objects that the request lists as the client's is common.
     Nak,
     /// The server has found enough that is common: a pack follows.
     Ready,
@@ -68,7 +68,7 @@ pub enum Event<'a> {
 pub struct Heard<'a> {
     /// How many bytes of the piece were used.
     pub used: usize,
-    /// What they came to.
+    /// What came of them.
     pub got: HeardGot<'a>,
 }
 
@@ -92,7 +92,7 @@ pub enum Sent<'a> {
     NeedInput,
     /// A request can be asked.
     CanAsk,
-    /// All was said, and the last packet was given.
+    /// Nothing more is to be sent, and the last packet was given.
     Finished,
     /// The conversation was refused.
     Failed(Fault),

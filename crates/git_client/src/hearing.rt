@@ -1,4 +1,4 @@
-//! A response, heard over a reader: its transcript, its pack and its progress are written.
+//! A response, received over a reader: its transcript, its pack and its progress are written.
 
 ghost use Rattle.std.specs.Prelude.{[], ◌≡◌, ◌≤◌, ◌<◌, ◌||◌, length, true, false, IsTrue, OnOk, IfErr, is_err};
 ghost use Rattle.git_pkt.specs.Told.{inner_of, reads_of, has_failed, has_ended, has_wasted};
@@ -36,14 +36,14 @@ pub struct Counts {
     pub progress: u64,
 }
 
-/// Hears what is due, the advertisement or a response, or the rest of one, up to where the client can ask. What waits of the piece is heard
-/// first, and then what is read into it. The transcript's lines are written to `out`, the bytes of the pack to `pack`, and those of
+/// Receives what is due, the advertisement or a response, or the rest of one, up to where the client can ask. What waits of the piece is
+/// used first, and then what is read into it. The transcript's lines are written to `out`, the bytes of the pack to `pack`, and those of
 /// the server's progress to `progress`; all three are flushed before each read and at the end. The line at a response's end counts
-/// what was heard by this call. Answers what of the piece was not used.
+/// what was received by this call. Answers what of the piece was not used.
 ///
-/// `Refused` with the first fault of what was heard; `ReadFault` where a read fails, `WriteFault` where a write or a flush
+/// `Refused` with the first fault of what was received; `ReadFault` where a read fails, `WriteFault` where a write or a flush
 /// does, and `ReadLimit` where the reader has made as many reads as `turns` and needs one more. After `ReadFault` and `ReadLimit` the
-/// client waits for the rest; after `WriteFault` it is spent, since it may have heard more than was written.
+/// client waits for the rest; after `WriteFault` it is spent, since it may have received more than was written.
 pub fn hear<R: Read, O: Write, P: Output, E: Output, A: Allocator + Copy>(
     client: &mut Client<A>,
     reader: &mut Told<R>,
@@ -106,11 +106,11 @@ pub fn hear<R: Read, O: Write, P: Output, E: Output, A: Allocator + Copy>(
     Ok(left)
 }
 
-/// Hears what a piece says, up to where the client can ask, and counts on from `counts`, those of the response so far. Answers how
-/// many bytes were used. What was said before a fault is flushed.
+/// Receives what a piece contains, up to where the client can ask, and counts on from `counts`, those of the response so far. Answers how
+/// many bytes were used. What was written before a fault is flushed.
 ///
-/// `Refused` with the first fault of what was heard, and `WriteFault` where a write or a flush fails: the client is spent then, since it
-/// may have heard more than was written.
+/// `Refused` with the first fault of what was received, and `WriteFault` where a write or a flush fails: the client is spent then, since it
+/// may have received more than was written.
 pub fn hear_piece<O: Write, P: Output, E: Output, A: Allocator + Copy>(
     client: &mut Client<A>,
     counts: &mut Counts,
@@ -146,7 +146,7 @@ pub fn hear_piece<O: Write, P: Output, E: Output, A: Allocator + Copy>(
     Ok(used)
 }
 
-/// Writes what an event says: its line, which is that of the counts so far, and its bytes of the pack and of the progress. Counts its
+/// Writes what an event contains: its line, which is that of the counts so far, and its bytes of the pack and of the progress. Counts its
 /// bytes.
 fn tell<O: Write, P: Output, E: Output>(
     event: &Event<'_>,

@@ -1,6 +1,6 @@
-//! What a packet says where something is due, and what refuses it.
+//! What a packet means where something is due, and what refuses it.
 
-ghost use Rattle.std.specs.Prelude.{◌≡◌, Err, MatchResult, ◌+◌, ◌*◌, false, length};
+ghost use Rattle.std.specs.Prelude.{◌≡◌, ◌≢◌, Err, MatchResult, ◌+◌, ◌*◌, false, length};
 ghost use Rattle.git_names.specs.declared.object_format.Format.{Format};
 ghost use Rattle.git_names.specs.Steps.{TakesAtMost};
 ghost use Rattle.git_pkt.specs.Packets.{body_of, flush, delim, resp_end, payload as payload_of, seen};
@@ -23,7 +23,7 @@ use git_pkt::{Band, Kind, Packet, split_band, text};
 // The most bytes that a word has which is a line.
 const LONGEST_WORD: usize = 15;
 
-/// What the packet says where this is due, and `caps` was noted before it, or why it is refused. In the packfile section
+/// What the packet means where this is due, and `caps` was noted before it, or why it is refused. In the packfile section
 /// it is a packet of which no byte passes.
 pub(crate) fn judge(
     format: Format,
@@ -73,7 +73,7 @@ fn judge_payload(
     }
 }
 
-/// A text line that is no error packet.
+/// A text line that is no error packet. Most lines are references: for these no room is made ready for what another line has.
 fn judge_line(
     format: Format,
     due: Due,
@@ -86,6 +86,28 @@ fn judge_line(
     ensures cost { TakesAtMost (40 * (length line.now + 1)) steps.old steps.new }
 {
     match due {
+        Due::References => {
+            let said = judge_reference(format, line, steps)?;
+            Ok(heard(said, caps, due))
+        }
+        _ => judge_other_line(format, due, caps, line, steps),
+    }
+}
+
+/// A text line that is no error packet, where no references are due.
+fn judge_other_line(
+    format: Format,
+    due: Due,
+    caps: Caps,
+    line: &[u8],
+    steps: &mut Steps,
+) -> Result<Turn, Kind>
+    requires lines { TakesLines due }
+    requires no_references { due ≢ Due.References }
+    ensures turn { MatchResult result (IsLineTurn format due caps line.now) (IsLineFault (place_due caps format due) format line.now) }
+    ensures cost { TakesAtMost (40 * (length line.now + 1)) steps.old steps.new }
+{
+    match due {
         Due::Version => {
             judge_version(line)?;
             Ok(heard(Said::Nothing, caps, Due::Capabilities))
@@ -94,10 +116,7 @@ fn judge_line(
             let (places, after) = judge_capability(caps, line, steps)?;
             Ok(heard(Said::Capability(places), after, due))
         }
-        Due::References => {
-            let said = judge_reference(format, line, steps)?;
-            Ok(heard(said, caps, due))
-        }
+        Due::References => unreachable!(),
         Due::Header(allowed) => {
             let next = judge_header(allowed, line)?;
             Ok(heard(Said::Nothing, caps, next))

@@ -1,4 +1,4 @@
-//! What the text lines of a conversation say, each where it is due, and what refuses them. Error packets are judged
+//! What the text lines of a conversation mean, each where it is due, and what refuses them. Error packets are judged
 //! before.
 
 ghost use Rattle.std.specs.Prelude.{◌≡◌, ◌≢◌, Some, true, codes, MatchResult, ◌+◌, ◌*◌, length};
@@ -7,11 +7,11 @@ ghost use Rattle.git_names.specs.Steps.{TakesAtMost};
 ghost use Rattle.git_msg.specs.Capability.{IsNoCapability};
 ghost use Rattle.git_client.specs.Events.{IsLineFault};
 ghost use Rattle.git_client.specs.Places.{references, acknowledgments, header, shallow_info, sizes, wanted_refs};
-ghost use Rattle.git_client.specs.Sections.{may_begin, section_named, told_with};
+ghost use Rattle.git_client.specs.Sections.{acks_with, may_begin, section_named};
 ghost use Rattle.git_client.specs.Turns.{FindsCapability, Says, due_after_header};
 
 use crate::phase::{CapabilityPlaces, Due, Said};
-use crate::sections::{Allowed, Section, Told, read_header};
+use crate::sections::{Acks, Allowed, Section, read_header};
 use git_msg::{
     Boundary, Caps, locate_reference, read_ack, read_boundary, read_capability, read_info,
     read_wanted,
@@ -70,51 +70,51 @@ pub(crate) fn judge_header(allowed: Allowed, line: &[u8]) -> Result<Due, Kind>
     }
     let next = allowed.after(section);
     Ok(match section {
-        Section::Acknowledgments => Due::Acknowledgments(Told::NOTHING),
+        Section::Acknowledgments => Due::Acknowledgments(Acks::NOTHING),
         Section::ShallowInfo => Due::ShallowInfo(next),
         Section::WantedRefs => Due::WantedRefs(next),
         Section::Packfile => Due::Packfile,
     })
 }
 
-/// A line of the acknowledgments, with what they said so far. `NAK` comes alone, `ready` comes last.
+/// A line of the acknowledgments, with what they contained so far. `NAK` comes alone, `ready` comes last.
 pub(crate) fn judge_acknowledgment(
     format: Format,
-    told: Told,
+    acks: Acks,
     line: &[u8],
     steps: &mut Steps,
-) -> Result<(Said, Told), Kind>
-    ensures line { MatchResult result (λ turn. Says (acknowledgments told) format line.now turn.0 × (turn.1 ≡ told_with told line.now))
-        (IsLineFault (acknowledgments told) format line.now) }
+) -> Result<(Said, Acks), Kind>
+    ensures line { MatchResult result (λ turn. Says (acknowledgments acks) format line.now turn.0 × (turn.1 ≡ acks_with acks line.now))
+        (IsLineFault (acknowledgments acks) format line.now) }
     ensures cost { TakesAtMost (40 * (length line.now + 1)) steps.old steps.new }
 {
-    let after = Told { any: true, ..told };
+    let after = Acks { any: true, ..acks };
     if line == b"NAK".as_slice() {
-        if told.any {
+        if acks.any {
             return Err(Kind::BadLine);
         }
-        return Ok((Said::Nak, Told { nak: true, ..after }));
+        return Ok((Said::Nak, Acks { nak: true, ..after }));
     }
     if line == b"ready".as_slice() {
-        if told.ready {
+        if acks.ready {
             return Err(Kind::BadLine);
         }
         return Ok((
             Said::Ready,
-            Told {
+            Acks {
                 ready: true,
                 ..after
             },
         ));
     }
-    if told.nak || told.ready {
+    if acks.nak || acks.ready {
         return Err(Kind::BadLine);
     }
     let id = read_ack(format, line, steps)?;
     Ok((Said::Ack(id), after))
 }
 
-/// The line that says what is told of objects: their sizes.
+/// The line that names what is listed of objects: their sizes.
 pub(crate) fn judge_size_line(line: &[u8]) -> Result<(), Kind>
     ensures { MatchResult result (λ _. line.now ≡ codes "size") (λ kind. (line.now ≢ codes "size") × (kind ≡ Kind.BadLine)) }
 {
@@ -124,7 +124,7 @@ pub(crate) fn judge_size_line(line: &[u8]) -> Result<(), Kind>
     Ok(())
 }
 
-/// A line that tells the size of an object.
+/// A line with the size of an object.
 pub(crate) fn judge_info(format: Format, line: &[u8], steps: &mut Steps) -> Result<Said, Kind>
     ensures cost { TakesAtMost (40 * (length line.now + 1)) steps.old steps.new }
     ensures line { MatchResult result (Says sizes format line.now) (IsLineFault sizes format line.now) }

@@ -56,7 +56,7 @@ pub fn one_first_fault()
         → FirstFault t asked given kind offset → FirstFault t asked given other place → (kind ≡ other) × (offset ≡ place) }
 {}
 
-/// Bytes have one first malformed packet: beside it stand only the faults of an input that ended and of a stream that is
+/// Bytes have one first malformed packet: beside it there are only the faults of an input that ended and of a stream that is
 /// too long, each at one offset.
 pub fn one_first_malformed()
     ensures shown { (t : Terms) (asked : List Asked) (bytes : List ℕ) (fault other : Fault)
@@ -77,13 +77,13 @@ pub fn first_fault<A: Allocator + Copy>()
         → Converses t h client → fault_of client ≡ Some fault → FirstMalformed t h.asked h.used fault }
 {}
 
-/// A client that has not failed was told nothing with a fault.
+/// A client that has not failed received nothing with a fault.
 pub fn no_fault<A: Allocator + Copy>()
     ensures { (t : Terms) (h : History) (client : Client A)
         → Converses t h client → fault_of client ≡ None → GoesWell t h.asked h.used h.events }
 {}
 
-/// A client that can ask has used just one whole advertisement and one whole response to each question.
+/// A client that can ask has used just one whole advertisement and one whole response to each request.
 pub fn whole_responses<A: Allocator + Copy>()
     ensures { (t : Terms) (h : History) (client : Client A)
         → Converses t h client → can_ask client ≡ true → IsConversation t h.asked h.used h.events }
@@ -95,7 +95,7 @@ pub fn later_questions()
         → IsConversation t asked bytes events → HasEvents t (asked ++ more) bytes events }
 {}
 
-/// Where a client owes nothing, it has given just what is written of each question, and the flush where it has left.
+/// Where a client owes nothing, it has given just what is written of each request, and the flush where it has left.
 pub fn all_is_said<A: Allocator + Copy>()
     ensures { (t : Terms) (h : History) (client : Client A)
         → Converses t h client → left_to_say client ≡ [] → h.given ≡ spelled (said_of t.format (caps_of client) h.asked h.left) }

@@ -9,6 +9,7 @@ mod hearing;
 mod judge;
 mod judge_lines;
 pub mod laws;
+mod line;
 mod phase;
 mod sections;
 mod transcript;

@@ -1,11 +1,11 @@
-//! Where a conversation stands, and what a packet says there.
+//! How far a conversation has come, and what a packet means there.
 
-use crate::sections::{Allowed, Told};
+use crate::sections::{Acks, Allowed};
 use git_msg::{Caps, Info, ReferencePlaces, RequestWriter};
 use git_names::Oid;
 use git_pkt::Fault;
 
-/// Where a conversation stands.
+/// How far a conversation has come.
 #[derive(Clone, Copy, Debug)]
 pub(crate) enum Phase {
     /// Packets of the server are due.
@@ -16,7 +16,7 @@ pub(crate) enum Phase {
     Asking(RequestWriter),
     /// The flush that ends the conversation is owed.
     Leaving,
-    /// All was said.
+    /// Nothing more is to be sent.
     Left,
     /// The conversation was refused.
     Failed(Fault),
@@ -33,20 +33,20 @@ pub(crate) enum Due {
     References,
     /// The header of a section of a response to `fetch`.
     Header(Allowed),
-    Acknowledgments(Told),
+    Acknowledgments(Acks),
     /// Lines of the section, or the delimiter, after which these sections may begin.
     ShallowInfo(Allowed),
     WantedRefs(Allowed),
     Packfile,
-    /// The line that says what is told of objects, or the flush.
+    /// The line that names what is listed of objects, or the flush.
     SizeLine,
-    /// The lines that tell it, or the flush.
+    /// The lines that list it, or the flush.
     Sizes,
     /// The response-end packet after a response's flush.
     ResponseEnd,
 }
 
-/// What a packet without a fault says, and where in its payload: with this no line is read twice. Bytes of the pack and of
+/// What a packet without a fault contains, and where in its payload: with this no line is read twice. Bytes of the pack and of
 /// the progress pass without it.
 #[derive(Clone, Copy, Debug)]
 pub(crate) enum Said {
@@ -59,7 +59,7 @@ pub(crate) enum Said {
     Ready,
     Shallow(Oid),
     Unshallow(Oid),
-    /// The wanted reference that points to this object. Its name is what stands after the object's.
+    /// The wanted reference that points to this object. Its name is what comes after the object's.
     WantedRef(Oid),
     Info(Info),
     Ended,
@@ -72,8 +72,8 @@ pub(crate) struct CapabilityPlaces {
     pub(crate) has_value: bool,
 }
 
-/// A packet without a fault: what it says, what of the advertisement is noted after it, and where the conversation
-/// stands then.
+/// A packet without a fault: what it contains, what of the advertisement is noted after it, and the phase of the
+/// conversation then.
 #[derive(Clone, Copy, Debug)]
 pub(crate) struct Turn {
     pub(crate) said: Said,

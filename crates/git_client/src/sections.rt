@@ -20,20 +20,20 @@ pub(crate) struct Allowed {
     pub(crate) wanted_refs: bool,
 }
 
-/// What the acknowledgments said so far.
+/// Which lines of the acknowledgments have come so far.
 #[derive(Clone, Copy, Debug, PartialEq, Eq)]
-pub(crate) struct Told {
-    /// Some line came.
+pub(crate) struct Acks {
+    /// Some line.
     pub(crate) any: bool,
-    /// The line `NAK` came.
+    /// The line `NAK`.
     pub(crate) nak: bool,
-    /// The line `ready` came.
+    /// The line `ready`.
     pub(crate) ready: bool,
 }
 
-impl Told {
-    /// Nothing was said yet.
-    pub(crate) const NOTHING: Told = Told {
+impl Acks {
+    /// None has come yet.
+    pub(crate) const NOTHING: Acks = Acks {
         any: false,
         nak: false,
         ready: false,
@@ -71,7 +71,7 @@ impl Allowed {
         }
     }
 
-    /// Which sections may begin after this one: the acknowledgments stand first, and each section once.
+    /// Which sections may begin after this one: the acknowledgments come first, and each section once.
     pub(crate) fn after(&self, section: Section) -> Allowed
         ensures { result ≡ next_allowed self.now section }
     {

@@ -1,46 +1,37 @@
--- What texts say may stand in a request, and so may all that they ask for together.
+-- What texts contain is allowed in a request, and so is all that they ask for together.
 use Rattle.std.proofs.Common.{arith, ◌≡◌, ℕ, List, [], ◌∷◌, refl, sym, subst, length}
 use Rattle.std.specs.Prelude.{All, fold}
 use Rattle.std.proofs.lemmas.List.Elements.{All-head, All-nil, All-tail}
 use Rattle.git_names.specs.declared.object_format.Format.{Format}
 use Rattle.git_msg.specs.declared.arguments.Command.{Command}
 use Rattle.git_msg.specs.declared.arguments.Command.TheVariants.{LsRefs, Fetch, ObjectInfo}
-use Rattle.git_msg.specs.Arguments.{Arg, symrefs, peel, ref_prefix, want, have, done, thin_pack, no_progress, include_tag, ofs_delta}
-use Rattle.git_msg.specs.Arguments.{shallow, deepen, deepen_relative, deepen_since, deepen_not, want_ref, size, object_id, unborn, wait_for_done, filter_spec}
-use Rattle.git_msg.specs.Arguments.{SaysArgument, IsArgument, IsInRange, IsValue, written_text}
+use Rattle.git_msg.specs.Arguments.{Shape, flag_word, object_name, depth_number, time_number, prefix_text, kept_text, reference_name, row, MayFollow}
+use Rattle.git_msg.specs.Arguments.{Arg, Value, no_value, id_value, number_value, text_value}
+use Rattle.git_msg.specs.Arguments.{SaysValue, SaysArgument, IsArgument, IsInRange, IsValue, written_text}
 use Rattle.git_msg.specs.Asked.{Asked, HasValues, asked_by, command_asked, nothing_asked, with_argument, written_bytes}
 use Rattle.git_msg.proofs.ArgumentsInOrder.{asked_in_turn, same_command}
 use Rattle.git_msg.proofs.KeptBytes.{counted_more}
 use Rattle.git_msg.proofs.WrittenNames.{named_in}
 
--- the value that a text says is in its range: a row for each kind of argument
-says_in_range : (format : Format) (text : List ℕ) (arg : Arg) → SaysArgument format text arg → IsInRange format arg
-says_in_range format text symrefs h = tt
-says_in_range format text peel h = tt
-says_in_range format text unborn h = tt
-says_in_range format text (ref_prefix prefix) h = h.1
-says_in_range format text (want id) h = named_in format h.value id h.holds
-says_in_range format text (have id) h = named_in format h.value id h.holds
-says_in_range format text done h = tt
-says_in_range format text thin_pack h = tt
-says_in_range format text no_progress h = tt
-says_in_range format text include_tag h = tt
-says_in_range format text ofs_delta h = tt
-says_in_range format text wait_for_done h = tt
-says_in_range format text (filter_spec spec) h = h.1
-says_in_range format text (shallow id) h = named_in format h.value id h.holds
-says_in_range format text (deepen depth) h = h.holds.in_range
-says_in_range format text deepen_relative h = tt
-says_in_range format text (deepen_since time) h = h.holds.in_range
-says_in_range format text (deepen_not revision) h = h.1
-says_in_range format text (want_ref name) h = h.1
-says_in_range format text size h = tt
-says_in_range format text (object_id id) h = named_in format h.value id h.holds
+-- the value that a text contains is in its range
+value_follows : (shape : Shape) (word : List ℕ) (format : Format) (line : List ℕ) (value : Value) → SaysValue shape word format line value
+    → MayFollow shape format value
+value_follows flag_word word format line no_value h = tt
+value_follows object_name word format line (id_value id) h = named_in format h.value id h.holds
+value_follows depth_number word format line (number_value depth) h = h.holds.in_range
+value_follows time_number word format line (number_value time) h = h.holds.in_range
+value_follows prefix_text word format line (text_value prefix) h = h.1
+value_follows kept_text word format line (text_value kept) h = h.1
+value_follows reference_name word format line (text_value name) h = h.1
+value_follows shape word format line value h = h
+
+pub says_in_range : (format : Format) (text : List ℕ) (arg : Arg) → SaysArgument format text arg → IsInRange format arg
+says_in_range format text arg h = value_follows (row arg.word).shape (row arg.word).keyword format text arg.value h
 
 pub says_value : (c : Command) (format : Format) (text : List ℕ) (arg : Arg) → IsArgument c format text arg → IsValue c format arg
 says_value c format text arg h = (h.0, says_in_range format text arg h.1)
 
--- with each argument more a request has values that may stand in it
+-- with each argument more a request has values that are allowed in it
 values_in_turn : (format : Format) (asked : Asked) (args : List Arg) → HasValues format asked → All (IsValue (command_asked asked) format) args
     → HasValues format (fold with_argument asked args)
 values_in_turn format asked [] h all = h
@@ -59,8 +50,7 @@ nothing_has_values ObjectInfo format = All-nil (IsValue ObjectInfo format)
 
 command_of_nothing : (c : Command) → command_asked (nothing_asked c) ≡ c
 command_of_nothing LsRefs = refl
-command_of_nothing Fetch = refl
-command_of_nothing ObjectInfo = refl
+command_of_nothing c = refl
 
 -- so what arguments ask for together has such values
 pub asked_has_values : (c : Command) (format : Format) (args : List Arg) → All (IsValue c format) args → HasValues format (asked_by c args)

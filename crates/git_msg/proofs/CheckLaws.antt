@@ -1,4 +1,4 @@
--- What checks in order say: what passes them is not refused, and they refuse by one name.
+-- What checks in order mean: what passes them is not refused, and they refuse by one name.
 use Rattle.std.proofs.Common.{◌≡◌, List, [], ◌∷◌, sym, ◌∙◌, inl, inr}
 use Rattle.git_pkt.specs.declared.fault.Kind.{Kind}
 use Rattle.git_msg.specs.Checks.{Check, check, Refuses, Passes}

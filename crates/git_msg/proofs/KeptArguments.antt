@@ -1,6 +1,6 @@
 -- A reader of requests that keeps an argument, or does not.
 use Rattle.std.proofs.Common.{arith, ◌≡◌, ℕ, ◌+◌, ◌^◌, ◌<◌, ◌≤◌, Bool, true, Ok, Err, List, [], ◌∷◌, ◌++◌}
-use Rattle.std.proofs.Common.{refl, ap, sym, ◌∙◌, subst, length, max, inl, inr, codes, decimal, length-append}
+use Rattle.std.proofs.Common.{refl, ap, sym, ◌∙◌, subst, length, max, inl, inr, decimal, length-append}
 use Rattle.std.proofs.Common.{◌-◌, false, cond, take}
 use Rattle.std.proofs.lemmas.List.{append-nil, length-take}
 use Rattle.git_pkt.specs.Packets.{Pkt, payload, text_of}
@@ -14,9 +14,9 @@ use Rattle.git_msg.specs.declared.requests.Request.{Request}
 use Rattle.git_msg.specs.declared.reader.Part.{Part}
 use Rattle.git_msg.specs.declared.reader.Part.TheVariants.{Arguments, Waiting, Failed}
 use Rattle.git_msg.specs.declared.reader.RequestReader.{RequestReader}
-use Rattle.git_msg.specs.Arguments.{Arg, symrefs, peel, ref_prefix, want, have, done, thin_pack, no_progress, include_tag, ofs_delta}
-use Rattle.git_msg.specs.Arguments.{shallow, deepen, deepen_relative, deepen_since, deepen_not, want_ref, size, object_id, unborn, wait_for_done, filter_spec}
-use Rattle.git_msg.specs.Arguments.{SaysArgument, IsDepth, IsTime, IsNumberIn, IsArgument, IsOutOfRange, IsValueFault, written_text, TakesMemory}
+use Rattle.git_msg.specs.Arguments.{Shape, flag_word, object_name, depth_number, time_number, prefix_text, kept_text, reference_name, row}
+use Rattle.git_msg.specs.Arguments.{Arg, Value, no_value, id_value, number_value, text_value, SaysValue, written_value}
+use Rattle.git_msg.specs.Arguments.{SaysArgument, IsDepth, IsTime, IsNumberIn, IsArgument, IsValueFault, written_text, TakesMemory}
 use Rattle.git_msg.specs.Texts.{Follows}
 use Rattle.git_msg.proofs.KeptBytes.{stored_fits}
 use Rattle.git_msg.specs.Asked.{asked_by, with_argument}
@@ -27,7 +27,8 @@ use Rattle.git_msg.specs.Requests.{AreLines, FirstFault, WantsMemory, IsTold}
 use Rattle.git_msg.specs.RequestReader.{WaitsIn, WaitsBehind, InArguments, KeepsOn, limit_in, waiting_at, waiting_bytes}
 use Rattle.git_msg.proofs.ArgumentsInOrder.{asked_snoc}
 use Rattle.git_msg.proofs.DigitValues.{decimal_is_shortest}
-use Rattle.git_msg.proofs.Rows.{kept_text_or_none}
+use Rattle.git_msg.proofs.AskedValues.{says_in_range}
+use Rattle.git_msg.proofs.Values.{range_apart}
 use Rattle.git_msg.proofs.WrittenNames.{length-hex_of, named_in}
 use Rattle.git_msg.proofs.LineLists.{commands_snoc, arguments_snoc, delimiter_snoc, kept_snoc, lines_snoc, argument_is_line}
 
@@ -84,31 +85,25 @@ number_line word InRange text number small h =
       length-append word (decimal number),
     )
 
+text_line : (word line text : List ℕ) → line ≡ word ++ text → length (word ++ text) ≤ length line
+text_line word line text h = let e = ap length h in omega arith
+
 -- an argument's text is not shorter than the argument's written form
+value_as_written : (shape : Shape) (word : List ℕ) (format : Format) (line : List ℕ) (value : Value) → SaysValue shape word format line value
+    → length (word ++ written_value value) ≤ length line
+value_as_written flag_word word format line no_value h = let e = ap length (h ∙ sym (append-nil word)) in omega arith
+value_as_written object_name word format line (id_value id) h = name_line word format line id h
+value_as_written depth_number word format line (number_value depth) h =
+    let small = h.holds.in_range.1 in number_line word IsDepth line depth (omega arith) h
+value_as_written time_number word format line (number_value time) h =
+    let small = h.holds.in_range in number_line word IsTime line time (omega arith) h
+value_as_written prefix_text word format line (text_value prefix) h = text_line word line prefix h.0
+value_as_written kept_text word format line (text_value kept) h = text_line word line kept h.0
+value_as_written reference_name word format line (text_value name) h = text_line word line name h.0
+value_as_written shape word format line value h = absurd h
+
 pub as_written : (format : Format) (text : List ℕ) (arg : Arg) → SaysArgument format text arg → length (written_text arg) ≤ length text
-as_written format text symrefs h = let e = ap length h in omega arith
-as_written format text peel h = let e = ap length h in omega arith
-as_written format text unborn h = let e = ap length h in omega arith
-as_written format text (ref_prefix p) h = let e = ap length h.0 in omega arith
-as_written format text (want id) h = name_line (codes "want ") format text id h
-as_written format text (have id) h = name_line (codes "have ") format text id h
-as_written format text done h = let e = ap length h in omega arith
-as_written format text thin_pack h = let e = ap length h in omega arith
-as_written format text no_progress h = let e = ap length h in omega arith
-as_written format text include_tag h = let e = ap length h in omega arith
-as_written format text ofs_delta h = let e = ap length h in omega arith
-as_written format text wait_for_done h = let e = ap length h in omega arith
-as_written format text (shallow id) h = name_line (codes "shallow ") format text id h
-as_written format text (deepen depth) h =
-    let small = h.holds.in_range.1 in number_line (codes "deepen ") IsDepth text depth (omega arith) h
-as_written format text deepen_relative h = let e = ap length h in omega arith
-as_written format text (deepen_since time) h =
-    let small = h.holds.in_range in number_line (codes "deepen-since ") IsTime text time (omega arith) h
-as_written format text (deepen_not revision) h = let e = ap length h.0 in omega arith
-as_written format text (filter_spec spec) h = let e = ap length h.0 in omega arith
-as_written format text (want_ref name) h = let e = ap length h.0 in omega arith
-as_written format text size h = let e = ap length h in omega arith
-as_written format text (object_id id) h = name_line (codes "oid ") format text id h
+as_written format text arg h = value_as_written (row arg.word).shape (row arg.word).keyword format text arg.value h
 
 -- the text of a packet is no longer than its payload
 chosen_fits : (b : Bool) (n : ℕ) (bytes : List ℕ) → length (cond b (take n bytes) bytes) ≤ length bytes
@@ -196,23 +191,10 @@ no_memory packets offset long arg r w fits takes = record {
 same_command : (cs : List Command) (c d : Command) → cs ≡ c ∷ [] → cs ≡ d ∷ [] → c ≡ d
 same_command cs c d h k = cc
 
--- an argument that was read may stand there
-range_or_fault : (format : Format) (text : List ℕ) (arg : Arg) (kind : Kind) → SaysArgument format text arg → IsOutOfRange format arg kind → ⊥
-range_or_fault format text (ref_prefix p) kind h fault = omega (arith, h.1, fault.0)
-range_or_fault format text (want id) kind h fault = fault.0 h.holds.of_format
-range_or_fault format text (have id) kind h fault = fault.0 h.holds.of_format
-range_or_fault format text (shallow id) kind h fault = fault.0 h.holds.of_format
-range_or_fault format text (deepen depth) kind h fault = fault.0 h.holds.in_range
-range_or_fault format text (deepen_since time) kind h fault = fault.0 h.holds.in_range
-range_or_fault format text (deepen_not revision) kind h fault = kept_text_or_none revision h.1 fault.0
-range_or_fault format text (filter_spec spec) kind h fault = kept_text_or_none spec h.1 fault.0
-range_or_fault format text (want_ref name) kind h fault = fault.0 h.1
-range_or_fault format text (object_id id) kind h fault = fault.0 h.holds.of_format
-range_or_fault format text arg kind h fault = fault
-
+-- an argument that was read is allowed there
 value_or_fault : (c : Command) (format : Format) (text : List ℕ) (arg : Arg) (kind : Kind) → IsArgument c format text arg → IsValueFault c format arg kind → ⊥
 value_or_fault c format text arg kind h (inl fault) = fault.0 h.0
-value_or_fault c format text arg kind h (inr fault) = range_or_fault format text arg kind h.1 fault.1
+value_or_fault c format text arg kind h (inr fault) = range_apart format arg kind (says_in_range format text arg h.1) fault.1
 
 sound_value : {A : Type 0} (packets : List Given) (offset long : ℕ) (arg : Arg) (r : RequestReader A) (kind : Kind)
     → WaitsBehind packets offset long arg r → IsValueFault (command_of r.request) (format_of r.request) arg kind → ⊥

@@ -1,6 +1,6 @@
 -- What is kept of a request stays counted with each argument more, and what follows for its arguments in their order.
 use Rattle.std.proofs.Common.{arith, ◌≡◌, ℕ, ◌+◌, ◌<◌, ◌≤◌, ◌^◌, Bool, true, Bor, Option, Some, None, List, [], ◌∷◌, ◌++◌, refl, ap, sym, ◌∙◌, subst}
-use Rattle.std.proofs.Common.{length, map, option_map, codes, decimal, append_assoc, append-nil, length-append}
+use Rattle.std.proofs.Common.{length, map, take, option_map, append_assoc, append-nil, length-append}
 use Rattle.std.specs.Prelude.{All, IfSome, OnSome, slice_get}
 use Rattle.std.specs.Option.{option_copied}
 use Rattle.std.proofs.Math.Seq.{take-append_seam, drop-append_seam}
@@ -8,7 +8,6 @@ use Rattle.std.proofs.lemmas.List.{map-append}
 use Rattle.std.proofs.lemmas.List.Elements.{All-append, All-cons, All-take, All-drop}
 use Rattle.std.proofs.lemmas.List.Sums.{sum_by-append, sum_by-cons}
 use Rattle.std.proofs.lemmas.Option.{slice_get-map, slice_get_within, get_or_from_slice_get}
-use Rattle.git_names.specs.ObjectName.{hex_of}
 use Rattle.git_names.specs.RefName.{IsRefName}
 use Rattle.git_names.specs.declared.object_format.Format.{Format}
 use Rattle.git_pkt.specs.Packets.{longest_payload}
@@ -16,17 +15,19 @@ use Rattle.git_pkt.proofs.FaultTexts.{decimal_fits}
 use Rattle.git_msg.specs.declared.arguments.Argument.{Argument}
 use Rattle.git_msg.specs.declared.arguments.Command.{Command}
 use Rattle.git_msg.specs.declared.arguments.Command.TheVariants.{LsRefs, Fetch, ObjectInfo}
-use Rattle.git_msg.specs.Arguments.{Arg, symrefs, peel, ref_prefix, want, have, done, thin_pack, no_progress, include_tag, ofs_delta, shown, command_with}
+use Rattle.git_msg.specs.Arguments.{Word, symrefs, peel, ref_prefix, want, have, done, thin_pack, no_progress, include_tag, ofs_delta}
 use Rattle.git_msg.specs.Arguments.{shallow, deepen, deepen_relative, deepen_since, deepen_not, want_ref, size, object_id, unborn, wait_for_done, filter_spec}
-use Rattle.git_msg.specs.Arguments.{most_text, IsInRange, IsValue, stored_in, written_text}
+use Rattle.git_msg.specs.Arguments.{Shape, flag_word, object_name, depth_number, time_number, prefix_text, kept_text, reference_name, Row, row, MayFollow}
+use Rattle.git_msg.specs.Arguments.{Arg, Value, no_value, id_value, number_value, text_value, alone, with_id, with_number, with_text, shown}
+use Rattle.git_msg.specs.Arguments.{most_text, IsInRange, IsValue, stored_in, stored_value, written_text, written_value}
 use Rattle.git_msg.specs.Asked.{Asked, LsRefsAsked, FetchAsked, ObjectInfoAsked, ls_refs, fetch, object_info, command_asked, with_ls_refs}
-use Rattle.git_msg.specs.Asked.{with_fetch, with_object_info, with_argument, where_asked, where_given, pack_arguments, shallow_arguments, object_arguments}
-use Rattle.git_msg.specs.Asked.{arguments_in, bytes_of}
+use Rattle.git_msg.specs.Asked.{with_fetch, with_object_info, with_argument, where_asked, where_given, joined, flags_in, packs_in, shallows_in}
+use Rattle.git_msg.specs.Asked.{objects_in, object_arguments, arguments_in, bytes_of}
 use Rattle.git_msg.specs.Kept.{Kept, IsCounted, IsWithin}
 use Rattle.git_msg.proofs.ArgumentsInOrder.{same_command}
 use Rattle.git_msg.proofs.WrittenNames.{hex_of-at_least, hex_of-at_most}
 
--- a list with an argument more, which may stand in the place of others
+-- a list with an argument more, which may take the place of others
 record Adds (old : List Arg) (arg : Arg) (new : List Arg) : Type 0 where
   front : List Arg
   gone : List Arg
@@ -55,16 +56,16 @@ adds_before others old arg new h = record {
   is = ap (λ (l : List Arg). l ++ others) h.is ∙ append_assoc h.front (arg ∷ h.back) others;
 }
 
-adds_flag : (flag : Bool) (arg : Arg) (back : List Arg) → Adds (where_asked flag arg ++ back) arg (where_asked true arg ++ back)
-adds_flag flag arg back = record { front = []; gone = where_asked flag arg; back = back; was = refl; is = refl }
+adds_flag : (flag : Bool) (word : Word) (back : List Arg) → Adds (where_asked flag word ++ back) (alone word) (where_asked true word ++ back)
+adds_flag flag word back = record { front = []; gone = where_asked flag word; back = back; was = refl; is = refl }
 
-adds_last_flag : (flag : Bool) (arg : Arg) → Adds (where_asked flag arg) arg (where_asked true arg)
-adds_last_flag flag arg =
-    record { front = []; gone = where_asked flag arg; back = []; was = sym (append-nil (where_asked flag arg)); is = refl }
+adds_last_flag : (flag : Bool) (word : Word) → Adds (where_asked flag word) (alone word) (where_asked true word)
+adds_last_flag flag word =
+    record { front = []; gone = where_asked flag word; back = []; was = sym (append-nil (where_asked flag word)); is = refl }
 
-adds_value : {X : Type 0} (make : X → Arg) (old : Option X) (value : X) (back : List Arg)
-    → Adds (where_given make old ++ back) (make value) (where_given make (Some value) ++ back)
-adds_value make old value back = record { front = []; gone = where_given make old; back = back; was = refl; is = refl }
+adds_number : (word : Word) (old : Option ℕ) (number : ℕ) (back : List Arg)
+    → Adds (where_given word old ++ back) (with_number word number) (where_given word (Some number) ++ back)
+adds_number word old number back = record { front = []; gone = where_given word old; back = back; was = refl; is = refl }
 
 adds_last : {X : Type 0} (make : X → Arg) (values : List X) (value : X) → Adds (map make values) (make value) (map make (values ++ value ∷ []))
 adds_last make values value =
@@ -74,92 +75,58 @@ adds_to_list : {X : Type 0} (make : X → Arg) (values : List X) (value : X) (ba
     → Adds (map make values ++ back) (make value) (map make (values ++ value ∷ []) ++ back)
 adds_to_list make values value back = adds_before back _ (make value) _ (adds_last make values value)
 
--- so is the list of what is asked for with one more: a row for each kind of argument
-adds_ls_refs : (q : LsRefsAsked) (arg : Arg) → command_with arg ≡ LsRefs → Adds (arguments_in (ls_refs q)) arg (arguments_in (ls_refs (with_ls_refs q arg)))
-adds_ls_refs q peel of = adds_flag q.peel peel _
-adds_ls_refs q symrefs of = adds_after (where_asked q.peel peel) _ symrefs _ (adds_flag q.symrefs symrefs _)
-adds_ls_refs q unborn of =
-    adds_after (where_asked q.peel peel) _ unborn _ (adds_after (where_asked q.symrefs symrefs) _ unborn _ (adds_flag q.unborn unborn _))
-adds_ls_refs q (ref_prefix prefix) of =
-    adds_after (where_asked q.peel peel) _ (ref_prefix prefix) _
-    (adds_after (where_asked q.symrefs symrefs) _ (ref_prefix prefix) _
-    (adds_after (where_asked q.unborn unborn) _ (ref_prefix prefix) _ (adds_last ref_prefix q.ref_prefixes prefix)))
-adds_ls_refs q arg of = absurd (cc)
+-- an argument more after all of these
+behind : (lists : List (List Arg)) (old : List Arg) (arg : Arg) (new : List Arg) → Adds old arg new → Adds (joined lists old) arg (joined lists new)
+behind [] old arg new h = h
+behind (args ∷ lists) old arg new h = adds_after args _ arg _ (behind lists old arg new h)
 
--- other arguments of a fetch after how the pack is to be sent
-after_pack : (q : FetchAsked) (old : List Arg) (arg : Arg) (new : List Arg) → Adds old arg new → Adds (pack_arguments q old) arg (pack_arguments q new)
-after_pack q old arg new h =
-    adds_after (where_asked q.thin_pack thin_pack) _ arg _
-    (adds_after (where_asked q.no_progress no_progress) _ arg _
-    (adds_after (where_asked q.include_tag include_tag) _ arg _ (adds_after (where_asked q.ofs_delta ofs_delta) _ arg _
-    (adds_after (where_asked q.wait_for_done wait_for_done) _ arg _ (adds_after (map filter_spec q.filters) old arg new h)))))
+-- so is the list of what is asked for with one more: a row for each word
+adds_ls_refs : (q : LsRefsAsked) (format : Format) (word : Word) (value : Value) → (row word).command ≡ LsRefs → MayFollow (row word).shape format value
+    → Adds (arguments_in (ls_refs q)) (record { word = word; value = value }) (arguments_in (ls_refs (with_ls_refs q (record { word = word; value = value }))))
+adds_ls_refs q format peel no_value of fits = adds_flag q.peel peel _
+adds_ls_refs q format symrefs no_value of fits = behind (take 1 (flags_in q)) _ _ _ (adds_flag q.symrefs symrefs _)
+adds_ls_refs q format unborn no_value of fits = behind (take 2 (flags_in q)) _ _ _ (adds_flag q.unborn unborn _)
+adds_ls_refs q format ref_prefix (text_value text) of fits = behind (flags_in q) _ _ _ (adds_last (with_text ref_prefix) q.ref_prefixes text)
+adds_ls_refs q format word value of fits = absurd (first_of (assumption, cc))
 
--- and after how the history is cut off
-after_shallow : (q : FetchAsked) (old : List Arg) (arg : Arg) (new : List Arg) → Adds old arg new
-    → Adds (pack_arguments q (shallow_arguments q old)) arg (pack_arguments q (shallow_arguments q new))
-after_shallow q old arg new h =
-    after_pack q _ arg _ (adds_after (map shallow q.shallows) _ arg _
-    (adds_after (where_given deepen q.deepen) _ arg _
-    (adds_after (where_given deepen_since q.deepen_since) _ arg _
-    (adds_after (map deepen_not q.deepen_nots) _ arg _ (adds_after (where_asked q.deepen_relative deepen_relative) old arg new h)))))
+adds_fetch : (q : FetchAsked) (format : Format) (word : Word) (value : Value) → (row word).command ≡ Fetch → MayFollow (row word).shape format value
+    → Adds (arguments_in (fetch q)) (record { word = word; value = value }) (arguments_in (fetch (with_fetch q (record { word = word; value = value }))))
+adds_fetch q format thin_pack no_value of fits = adds_flag q.thin_pack thin_pack _
+adds_fetch q format no_progress no_value of fits = behind (take 1 (packs_in q)) _ _ _ (adds_flag q.no_progress no_progress _)
+adds_fetch q format include_tag no_value of fits = behind (take 2 (packs_in q)) _ _ _ (adds_flag q.include_tag include_tag _)
+adds_fetch q format ofs_delta no_value of fits = behind (take 3 (packs_in q)) _ _ _ (adds_flag q.ofs_delta ofs_delta _)
+adds_fetch q format wait_for_done no_value of fits = behind (take 4 (packs_in q)) _ _ _ (adds_flag q.wait_for_done wait_for_done _)
+adds_fetch q format filter_spec (text_value text) of fits =
+    behind (take 5 (packs_in q)) _ _ _ (adds_to_list (with_text filter_spec) q.filters text _)
+adds_fetch q format shallow (id_value id) of fits = behind (packs_in q) _ _ _ (adds_to_list (with_id shallow) q.shallows id _)
+adds_fetch q format deepen (number_value depth) of fits =
+    behind (packs_in q ++ take 1 (shallows_in q)) _ _ _ (adds_number deepen q.deepen depth _)
+adds_fetch q format deepen_since (number_value time) of fits =
+    behind (packs_in q ++ take 2 (shallows_in q)) _ _ _ (adds_number deepen_since q.deepen_since time _)
+adds_fetch q format deepen_not (text_value text) of fits =
+    behind (packs_in q ++ take 3 (shallows_in q)) _ _ _ (adds_to_list (with_text deepen_not) q.deepen_nots text _)
+adds_fetch q format deepen_relative no_value of fits =
+    behind (packs_in q ++ take 4 (shallows_in q)) _ _ _ (adds_flag q.deepen_relative deepen_relative _)
+adds_fetch q format want (id_value id) of fits = behind (packs_in q ++ shallows_in q) _ _ _ (adds_to_list (with_id want) q.wants id _)
+adds_fetch q format want_ref (text_value text) of fits =
+    behind (packs_in q ++ (shallows_in q ++ take 1 (objects_in q))) _ _ _ (adds_to_list (with_text want_ref) q.want_refs text _)
+adds_fetch q format have (id_value id) of fits =
+    behind (packs_in q ++ (shallows_in q ++ take 2 (objects_in q))) _ _ _ (adds_to_list (with_id have) q.haves id _)
+adds_fetch q format done no_value of fits = behind (packs_in q ++ (shallows_in q ++ objects_in q)) _ _ _ (adds_last_flag q.done done)
+adds_fetch q format word value of fits = absurd (first_of (assumption, cc))
 
-adds_fetch : (q : FetchAsked) (arg : Arg) → command_with arg ≡ Fetch → Adds (arguments_in (fetch q)) arg (arguments_in (fetch (with_fetch q arg)))
-adds_fetch q thin_pack of = adds_flag q.thin_pack thin_pack _
-adds_fetch q no_progress of = adds_after (where_asked q.thin_pack thin_pack) _ no_progress _ (adds_flag q.no_progress no_progress _)
-adds_fetch q include_tag of =
-    adds_after (where_asked q.thin_pack thin_pack) _ include_tag _
-    (adds_after (where_asked q.no_progress no_progress) _ include_tag _ (adds_flag q.include_tag include_tag _))
-adds_fetch q ofs_delta of =
-    adds_after (where_asked q.thin_pack thin_pack) _ ofs_delta _
-    (adds_after (where_asked q.no_progress no_progress) _ ofs_delta _
-    (adds_after (where_asked q.include_tag include_tag) _ ofs_delta _ (adds_flag q.ofs_delta ofs_delta _)))
-adds_fetch q wait_for_done of =
-    adds_after (where_asked q.thin_pack thin_pack) _ wait_for_done _
-    (adds_after (where_asked q.no_progress no_progress) _ wait_for_done _
-    (adds_after (where_asked q.include_tag include_tag) _ wait_for_done _
-    (adds_after (where_asked q.ofs_delta ofs_delta) _ wait_for_done _ (adds_flag q.wait_for_done wait_for_done _))))
-adds_fetch q (filter_spec spec) of =
-    adds_after (where_asked q.thin_pack thin_pack) _ (filter_spec spec) _
-    (adds_after (where_asked q.no_progress no_progress) _ (filter_spec spec) _
-    (adds_after (where_asked q.include_tag include_tag) _ (filter_spec spec) _
-    (adds_after (where_asked q.ofs_delta ofs_delta) _ (filter_spec spec) _
-    (adds_after (where_asked q.wait_for_done wait_for_done) _ (filter_spec spec) _ (adds_to_list filter_spec q.filters spec _)))))
-adds_fetch q (shallow id) of = after_pack q _ (shallow id) _ (adds_to_list shallow q.shallows id _)
-adds_fetch q (deepen depth) of =
-    after_pack q _ (deepen depth) _ (adds_after (map shallow q.shallows) _ (deepen depth) _ (adds_value deepen q.deepen depth _))
-adds_fetch q (deepen_since time) of =
-    after_pack q _ (deepen_since time) _ (adds_after (map shallow q.shallows) _ (deepen_since time) _
-    (adds_after (where_given deepen q.deepen) _ (deepen_since time) _ (adds_value deepen_since q.deepen_since time _)))
-adds_fetch q (deepen_not revision) of =
-    after_pack q _ (deepen_not revision) _ (adds_after (map shallow q.shallows) _ (deepen_not revision) _
-    (adds_after (where_given deepen q.deepen) _ (deepen_not revision) _
-    (adds_after (where_given deepen_since q.deepen_since) _ (deepen_not revision) _ (adds_to_list deepen_not q.deepen_nots revision _))))
-adds_fetch q deepen_relative of =
-    after_pack q _ deepen_relative _ (adds_after (map shallow q.shallows) _ deepen_relative _
-    (adds_after (where_given deepen q.deepen) _ deepen_relative _
-    (adds_after (where_given deepen_since q.deepen_since) _ deepen_relative _
-    (adds_after (map deepen_not q.deepen_nots) _ deepen_relative _ (adds_flag q.deepen_relative deepen_relative _)))))
-adds_fetch q (want id) of = after_shallow q _ (want id) _ (adds_to_list want q.wants id _)
-adds_fetch q (want_ref name) of =
-    after_shallow q _ (want_ref name) _ (adds_after (map want q.wants) _ (want_ref name) _ (adds_to_list want_ref q.want_refs name _))
-adds_fetch q (have id) of =
-    after_shallow q _ (have id) _ (adds_after (map want q.wants) _ (have id) _
-    (adds_after (map want_ref q.want_refs) _ (have id) _ (adds_to_list have q.haves id _)))
-adds_fetch q done of =
-    after_shallow q _ done _ (adds_after (map want q.wants) _ done _
-    (adds_after (map want_ref q.want_refs) _ done _ (adds_after (map have q.haves) _ done _ (adds_last_flag q.done done))))
-adds_fetch q arg of = absurd (cc)
+adds_object_info : (q : ObjectInfoAsked) (format : Format) (word : Word) (value : Value) → (row word).command ≡ ObjectInfo
+    → MayFollow (row word).shape format value → Adds (arguments_in (object_info q)) (record { word = word; value = value })
+    (arguments_in (object_info (with_object_info q (record { word = word; value = value }))))
+adds_object_info q format size no_value of fits = adds_flag q.size size _
+adds_object_info q format object_id (id_value id) of fits = adds_after (where_asked q.size size) _ _ _ (adds_last (with_id object_id) q.oids id)
+adds_object_info q format word value of fits = absurd (first_of (assumption, cc))
 
-adds_object_info : (q : ObjectInfoAsked) (arg : Arg) → command_with arg ≡ ObjectInfo
-    → Adds (arguments_in (object_info q)) arg (arguments_in (object_info (with_object_info q arg)))
-adds_object_info q size of = adds_flag q.size size (map object_id q.oids)
-adds_object_info q (object_id id) of = adds_after (where_asked q.size size) _ (object_id id) _ (adds_last object_id q.oids id)
-adds_object_info q arg of = absurd (cc)
-
-adds : (asked : Asked) (arg : Arg) → command_with arg ≡ command_asked asked → Adds (arguments_in asked) arg (arguments_in (with_argument asked arg))
-adds (ls_refs q) arg of = adds_ls_refs q arg of
-adds (fetch q) arg of = adds_fetch q arg of
-adds (object_info q) arg of = adds_object_info q arg of
+adds : (asked : Asked) (format : Format) (arg : Arg) → IsValue (command_asked asked) format arg
+    → Adds (arguments_in asked) arg (arguments_in (with_argument asked arg))
+adds (ls_refs q) format arg value = adds_ls_refs q format arg.word arg.value value.0 value.1
+adds (fetch q) format arg value = adds_fetch q format arg.word arg.value value.0 value.1
+adds (object_info q) format arg value = adds_object_info q format arg.word arg.value value.0 value.1
 
 -- then no more is written than its text
 added_bytes : (old : List Arg) (arg : Arg) (new : List Arg) → Adds old arg new → bytes_of new ≤ bytes_of old + length (written_text arg)
@@ -182,6 +149,10 @@ all_front P xs ys h = subst (All P) (take-append_seam xs ys) (All-take P (length
 pub all_back : {X : Type 0} (P : X → Type 0) (xs ys : List X) → All P (xs ++ ys) → All P ys
 all_back P xs ys h = subst (All P) (drop-append_seam xs ys) (All-drop P (length xs) (xs ++ ys) h)
 
+all_joined : (P : Arg → Type 0) (lists : List (List Arg)) (others : List Arg) → All P (joined lists others) → All P others
+all_joined P [] others h = h
+all_joined P (args ∷ lists) others h = all_joined P lists others (all_back P args (joined lists others) h)
+
 added_values : (P : Arg → Type 0) (old : List Arg) (arg : Arg) (new : List Arg) → Adds old arg new → P arg → All P old → All P new
 added_values P old arg new h p all =
     let parts : All P (h.front ++ (h.gone ++ h.back)) = subst (All P) h.was all in
@@ -192,90 +163,66 @@ added_values P old arg new h p all =
 pub counted_more : (format : Format) (asked : Asked) (arg : Arg) (kept long : ℕ) → IsCounted format asked kept
     → IsValue (command_asked asked) format arg → length (written_text arg) ≤ long → IsCounted format (with_argument asked arg) (kept + long)
 counted_more format asked arg kept long h value counted =
-    let more = adds asked arg value.0 in
+    let more = adds asked format arg value in
     record {
       values = subst (λ (c : Command). All (IsValue c format) (arguments_in (with_argument asked arg))) (sym (same_command asked arg))
           (added_values (IsValue (command_asked asked) format) (arguments_in asked) arg (arguments_in (with_argument asked arg)) more value h.values);
       written = omega (arith, h.written, counted, added_bytes (arguments_in asked) arg (arguments_in (with_argument asked arg)) more);
     }
 
+-- how long a keyword is at least, beside such a value
+abbrev least_keyword : Shape → ℕ
+least_keyword prefix_text = 6
+least_keyword kept_text = 6
+least_keyword reference_name = 6
+least_keyword _ = 1
+
+record IsKeyword (r : Row) : Type 0 where
+  long_enough : least_keyword r.shape ≤ length r.keyword
+  some_text : 1 ≤ length r.keyword
+  short : length r.keyword ≤ 15
+
+is_keyword : (word : Word) → IsKeyword (row word)
+is_keyword symrefs = record { long_enough = omega arith; some_text = omega arith; short = omega arith }
+is_keyword word = record { long_enough = omega arith; some_text = omega arith; short = omega arith }
+
+-- no more is stored of a value than is written of it and of its keyword, and it fits into a packet beside any
+record IsMeasured (shape : Shape) (value : Value) : Type 0 where
+  stored : stored_value value ≤ least_keyword shape + length (written_value value)
+  short : length (written_value value) + 16 < longest_payload
+
+measured : (shape : Shape) (format : Format) (value : Value) → MayFollow shape format value → IsMeasured shape value
+measured flag_word format no_value fits = record { stored = omega arith; short = omega arith }
+measured object_name format (id_value id) fits =
+    record { stored = omega (arith, hex_of-at_least format id fits); short = omega (arith, hex_of-at_most format id fits) }
+measured depth_number format (number_value depth) fits = record { stored = omega arith; short = omega (arith, decimal_fits depth (omega (arith, fits.1))) }
+measured time_number format (number_value time) fits = record { stored = omega arith; short = omega (arith, decimal_fits time (omega (arith, fits))) }
+measured prefix_text format (text_value prefix) fits = record { stored = omega arith; short = omega (arith, fits) }
+measured kept_text format (text_value kept) fits = record { stored = omega arith; short = omega (arith, fits.1) }
+measured reference_name format (text_value name) fits = record { stored = omega arith; short = omega (arith, fits.at_most) }
+measured shape format value fits = absurd fits
+
 -- no more is stored of an argument than its text has
 pub stored_fits : (format : Format) (arg : Arg) → IsInRange format arg → stored_in arg ≤ length (written_text arg)
-stored_fits format symrefs value = omega arith
-stored_fits format peel value = omega arith
-stored_fits format unborn value = omega arith
-stored_fits format (ref_prefix prefix) value = omega (arith, length-append (codes "ref-prefix ") prefix)
-stored_fits format (want id) value = omega (arith, hex_of-at_least format id value, length-append (codes "want ") (hex_of id))
-stored_fits format (have id) value = omega (arith, hex_of-at_least format id value, length-append (codes "have ") (hex_of id))
-stored_fits format done value = omega arith
-stored_fits format thin_pack value = omega arith
-stored_fits format no_progress value = omega arith
-stored_fits format include_tag value = omega arith
-stored_fits format ofs_delta value = omega arith
-stored_fits format wait_for_done value = omega arith
-stored_fits format (filter_spec spec) value = omega (arith, length-append (codes "filter ") spec)
-stored_fits format (shallow id) value = omega (arith, hex_of-at_least format id value, length-append (codes "shallow ") (hex_of id))
-stored_fits format (deepen depth) value = omega arith
-stored_fits format deepen_relative value = omega arith
-stored_fits format (deepen_since time) value = omega arith
-stored_fits format (deepen_not revision) value = omega (arith, length-append (codes "deepen-not ") revision)
-stored_fits format (want_ref name) value = omega (arith, length-append (codes "want-ref ") name)
-stored_fits format size value = omega arith
-stored_fits format (object_id id) value = omega (arith, hex_of-at_least format id value, length-append (codes "oid ") (hex_of id))
+stored_fits format arg value =
+    let m = measured (row arg.word).shape format arg.value value in
+    let k = is_keyword arg.word in
+    omega (arith, m.stored, k.long_enough, length-append (row arg.word).keyword (written_value arg.value))
 
 -- there are no more arguments than bytes, since each has a text
 has_text : (arg : Arg) → 1 ≤ length (written_text arg)
-has_text symrefs = omega arith
-has_text peel = omega arith
-has_text unborn = omega arith
-has_text (ref_prefix prefix) = omega (arith, length-append (codes "ref-prefix ") prefix)
-has_text (want id) = omega (arith, length-append (codes "want ") (hex_of id))
-has_text (have id) = omega (arith, length-append (codes "have ") (hex_of id))
-has_text done = omega arith
-has_text thin_pack = omega arith
-has_text no_progress = omega arith
-has_text include_tag = omega arith
-has_text ofs_delta = omega arith
-has_text wait_for_done = omega arith
-has_text (filter_spec spec) = omega (arith, length-append (codes "filter ") spec)
-has_text (shallow id) = omega (arith, length-append (codes "shallow ") (hex_of id))
-has_text (deepen depth) = omega (arith, length-append (codes "deepen ") (decimal depth))
-has_text deepen_relative = omega arith
-has_text (deepen_since time) = omega (arith, length-append (codes "deepen-since ") (decimal time))
-has_text (deepen_not revision) = omega (arith, length-append (codes "deepen-not ") revision)
-has_text (want_ref name) = omega (arith, length-append (codes "want-ref ") name)
-has_text size = omega arith
-has_text (object_id id) = omega (arith, length-append (codes "oid ") (hex_of id))
+has_text arg = let k = is_keyword arg.word in omega (arith, k.some_text, length-append (row arg.word).keyword (written_value arg.value))
 
 count_at_most : (args : List Arg) → length args ≤ bytes_of args
 count_at_most [] = omega arith
 count_at_most (arg ∷ args) = omega (arith, has_text arg, count_at_most args, sum_by-cons (λ a. length (written_text a)) arg args)
 
--- an argument that may stand in a request fits into a packet
+-- an argument that is allowed in a request fits into a packet
 pub value_fits : (format : Format) (arg : Arg) → IsInRange format arg → length (written_text arg) < longest_payload
-value_fits format symrefs value = omega arith
-value_fits format peel value = omega arith
-value_fits format unborn value = omega arith
-value_fits format (ref_prefix prefix) value = omega (arith, value, length-append (codes "ref-prefix ") prefix)
-value_fits format (want id) value = omega (arith, hex_of-at_most format id value, length-append (codes "want ") (hex_of id))
-value_fits format (have id) value = omega (arith, hex_of-at_most format id value, length-append (codes "have ") (hex_of id))
-value_fits format done value = omega arith
-value_fits format thin_pack value = omega arith
-value_fits format no_progress value = omega arith
-value_fits format include_tag value = omega arith
-value_fits format ofs_delta value = omega arith
-value_fits format wait_for_done value = omega arith
-value_fits format (filter_spec spec) value = omega (arith, value.1, length-append (codes "filter ") spec)
-value_fits format (shallow id) value = omega (arith, hex_of-at_most format id value, length-append (codes "shallow ") (hex_of id))
-value_fits format (deepen depth) value =
-    omega (arith, decimal_fits depth (omega (arith, value.1)), length-append (codes "deepen ") (decimal depth))
-value_fits format deepen_relative value = omega arith
-value_fits format (deepen_since time) value =
-    omega (arith, decimal_fits time (omega (arith, value)), length-append (codes "deepen-since ") (decimal time))
-value_fits format (deepen_not revision) value = omega (arith, value.1, length-append (codes "deepen-not ") revision)
-value_fits format (want_ref name) value = omega (arith, value.at_most, length-append (codes "want-ref ") name)
-value_fits format size value = omega arith
-value_fits format (object_id id) value = omega (arith, hex_of-at_most format id value, length-append (codes "oid ") (hex_of id))
+value_fits format arg value =
+    let m = measured (row arg.word).shape format arg.value value in
+    let k = is_keyword arg.word in
+    omega (arith, m.short, k.short, length-append (row arg.word).keyword (written_value arg.value))
 
 -- so what is kept has few arguments, and each of them fits
 pub place_bound : (q : Kept Asked) (i : ℕ) (result : Option Argument) → IsWithin q → option_map shown result ≡ slice_get (arguments_in q.asked) i
@@ -307,22 +254,10 @@ pub prefix_fits : (format : Format) (q : LsRefsAsked) (kept i : ℕ) (found : Op
 prefix_fits format q kept i None h same = tt
 prefix_fits format q kept i (Some prefix) h same =
     let P : Arg → Type 0 = IsValue LsRefs format in
-    let prefixes : List Arg = map ref_prefix q.ref_prefixes in
-    let values : All P prefixes =
-    all_back P (where_asked q.unborn unborn) prefixes (all_back P (where_asked q.symrefs symrefs) _ (all_back P (where_asked q.peel peel) _ h.values)) in
-    let value = all_at P prefixes i (ref_prefix prefix.now) values (slice_get-map ref_prefix q.ref_prefixes i ∙ ap (option_map ref_prefix) (sym same)) in
+    let make : List ℕ → Arg = with_text ref_prefix in
+    let values : All P (map make q.ref_prefixes) = all_joined P (flags_in q) _ h.values in
+    let value = all_at P (map make q.ref_prefixes) i (make prefix.now) values (slice_get-map make q.ref_prefixes i ∙ ap (option_map make) (sym same)) in
     value.1
-
-all_pack : (P : Arg → Type 0) (q : FetchAsked) (others : List Arg) → All P (pack_arguments q others) → All P others
-all_pack P q others h =
-    all_back P (map filter_spec q.filters) _ (all_back P (where_asked q.wait_for_done wait_for_done) _
-    (all_back P (where_asked q.ofs_delta ofs_delta) _ (all_back P (where_asked q.include_tag include_tag) _
-    (all_back P (where_asked q.no_progress no_progress) _ (all_back P (where_asked q.thin_pack thin_pack) _ h)))))
-
-all_shallow : (P : Arg → Type 0) (q : FetchAsked) (others : List Arg) → All P (shallow_arguments q others) → All P others
-all_shallow P q others h =
-    all_back P (where_asked q.deepen_relative deepen_relative) _ (all_back P (map deepen_not q.deepen_nots) _
-    (all_back P (where_given deepen_since q.deepen_since) _ (all_back P (where_given deepen q.deepen) _ (all_back P (map shallow q.shallows) _ h))))
 
 -- the references that are wanted have names
 pub name_fits : (format : Format) (q : FetchAsked) (kept i : ℕ) (found : Option (Bor (List ℕ))) → IsCounted format (fetch q) kept
@@ -330,7 +265,8 @@ pub name_fits : (format : Format) (q : FetchAsked) (kept i : ℕ) (found : Optio
 name_fits format q kept i None h same = tt
 name_fits format q kept i (Some name) h same =
     let P : Arg → Type 0 = IsValue Fetch format in
-    let objects : All P (object_arguments q) = all_shallow P q _ (all_pack P q _ h.values) in
-    let names : All P (map want_ref q.want_refs) = all_front P (map want_ref q.want_refs) _ (all_back P (map want q.wants) _ objects) in
-    let value = all_at P (map want_ref q.want_refs) i (want_ref name.now) names (slice_get-map want_ref q.want_refs i ∙ ap (option_map want_ref) (sym same)) in
+    let make : List ℕ → Arg = with_text want_ref in
+    let from_wants : All P (object_arguments q) = all_joined P (shallows_in q) _ (all_joined P (packs_in q) _ h.values) in
+    let names : All P (map make q.want_refs) = all_front P (map make q.want_refs) _ (all_joined P (take 1 (objects_in q)) _ from_wants) in
+    let value = all_at P (map make q.want_refs) i (make name.now) names (slice_get-map make q.want_refs i ∙ ap (option_map make) (sym same)) in
     value.1

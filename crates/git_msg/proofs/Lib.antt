@@ -37,3 +37,4 @@ pub mod TextOrder
 pub mod PrefixOrder
 mod PrunedRequests
 pub mod AskedValues
+pub mod FoundParts

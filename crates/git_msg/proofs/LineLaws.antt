@@ -185,12 +185,7 @@ one_command : (c d : Command) → name_of c ≡ name_of d → c ≡ d
 one_command LsRefs LsRefs h = refl
 one_command Fetch Fetch h = refl
 one_command ObjectInfo ObjectInfo h = refl
-one_command LsRefs Fetch h = absurd (let long = ap length h in omega arith)
-one_command LsRefs ObjectInfo h = absurd (let long = ap length h in omega arith)
-one_command Fetch LsRefs h = absurd (let long = ap length h in omega arith)
-one_command Fetch ObjectInfo h = absurd (let long = ap length h in omega arith)
-one_command ObjectInfo LsRefs h = absurd (let long = ap length h in omega arith)
-one_command ObjectInfo Fetch h = absurd (let long = ap length h in omega arith)
+one_command c d h = absurd (let long = ap length h in omega arith)
 
 named : (value : Option (List ℕ)) (c d : Command) → value ≡ Some (name_of c) → value ≡ Some (name_of d) → c ≡ d
 named value c d h k = one_command c d (let same = sym h ∙ k in cc)
@@ -206,11 +201,7 @@ one_line_of CommandKey value (command c) (command d) h k = ap command (named val
 one_line_of AgentKey value agent agent h k = refl
 one_line_of ServerOptionKey value server_option server_option h k = refl
 one_line_of ObjectFormatKey value object_format object_format h k = refl
-one_line_of CommandKey value (command c) other h k = absurd k
-one_line_of AgentKey value agent other h k = absurd k
-one_line_of ServerOptionKey value server_option other h k = absurd k
-one_line_of ObjectFormatKey value object_format other h k = absurd k
-one_line_of key value line other h k = absurd h
+one_line_of key value line other h k = absurd assumption
 
 one_capability_line : (offer : Offer) (first : Bool) (text : List ℕ) (line other : Line)
     → IsCapabilityLine offer first text line → IsCapabilityLine offer first text other → line ≡ other
@@ -226,12 +217,9 @@ pub record IsArgumentPayload (offer : Offer) (part : Bool) (before : List Line) 
   pub data_packet : packet ≡ payload bytes
   pub is_text : IsArgumentText offer before (text_of bytes) arg
 
-no_argument_of : (key : Key) (value : Option (List ℕ)) (arg : Arg) (long : ℕ) → IsLineOf key value (argument arg long) → ⊥
+pub no_argument_of : (key : Key) (value : Option (List ℕ)) (arg : Arg) (long : ℕ) → IsLineOf key value (argument arg long) → ⊥
 no_argument_of CommandKey value arg long h = h
-no_argument_of AgentKey value arg long h = h
-no_argument_of ServerOptionKey value arg long h = h
-no_argument_of ObjectFormatKey value arg long h = h
-no_argument_of OtherKey value arg long h = h
+no_argument_of key value arg long h = h
 
 argument_payload_in : (part : Bool) (offer : Offer) (limit : ℕ) (before : List Line) (packet : Pkt) (line : Line) (arg : Arg)
     → IsLineIn part offer limit before packet line → argument_in line ≡ Some arg → IsArgumentPayload offer part before packet arg

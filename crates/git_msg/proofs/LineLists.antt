@@ -16,9 +16,7 @@ use Rattle.git_msg.specs.Requests.{AreLines}
 
 or_false : (a b : Bool) → (a || (b || false)) ≡ (b || a)
 or_false true true = refl
-or_false true false = refl
-or_false false true = refl
-or_false false false = refl
+or_false a b = refl
 
 option_list : {X Y : Type 0} (h : X → Option Y) (x : X) (o : Option Y) → h x ≡ o → filter_map h (x ∷ []) ≡ option_to_list o
 option_list h x None e = rw e refl
@@ -27,7 +25,7 @@ option_list h x (Some y) e = rw e refl
 pub filter_map_snoc : {X Y : Type 0} (h : X → Option Y) (xs : List X) (x : X) → filter_map h (xs ++ x ∷ []) ≡ filter_map h xs ++ option_to_list (h x)
 filter_map_snoc h xs x = filter_map-append h xs (x ∷ []) ∙ ap (λ ys. filter_map h xs ++ ys) (option_list h x (h x) refl)
 
-list_any_snoc : {X : Type 0} (p : X → Bool) (xs : List X) (x : X) → list_any p (xs ++ x ∷ []) ≡ (p x || list_any p xs)
+pub list_any_snoc : {X : Type 0} (p : X → Bool) (xs : List X) (x : X) → list_any p (xs ++ x ∷ []) ≡ (p x || list_any p xs)
 list_any_snoc p xs x = list_any-append p xs (x ∷ []) ∙ or_false (list_any p xs) (p x)
 
 pub commands_snoc : (lines : List Line) (line : Line) → commands_of (lines ++ line ∷ []) ≡ commands_of lines ++ option_to_list (command_in line)

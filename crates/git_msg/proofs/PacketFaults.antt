@@ -8,12 +8,9 @@ use Rattle.git_pkt.specs.declared.fault.Kind.{Kind}
 use Rattle.git_pkt.specs.declared.fault.Kind.TheVariants.{NotOurs, PackSource, StreamTooLong, TooMuchKept, Truncated}
 use Rattle.git_msg.specs.declared.offers.Offer.{Offer}
 use Rattle.git_msg.specs.declared.arguments.Command.{Command}
-use Rattle.git_msg.specs.declared.arguments.Command.TheVariants.{LsRefs, Fetch, ObjectInfo}
 use Rattle.git_msg.specs.declared.capability_key.Key.{Key}
-use Rattle.git_msg.specs.declared.capability_key.Key.TheVariants.{CommandKey, AgentKey, ServerOptionKey, ObjectFormatKey, OtherKey}
-use Rattle.git_msg.specs.Arguments.{Row, of_filter, of_ref_prefix, of_want, of_have, of_shallow, of_deepen, of_deepen_since, of_deepen_not}
-use Rattle.git_msg.specs.Arguments.{of_want_ref, of_object_id}
-use Rattle.git_msg.specs.Arguments.{IsArgumentFault, IsRowFault}
+use Rattle.git_msg.specs.declared.capability_key.Key.TheVariants.{CommandKey, AgentKey}
+use Rattle.git_msg.specs.Arguments.{Word, Shape, flag_word, row, refusal_of, IsArgumentFault, IsRowFault}
 use Rattle.git_msg.specs.Asked.{Asked, ls_refs, fetch, object_info}
 use Rattle.git_msg.specs.Checks.{Check, Refuses}
 use Rattle.git_msg.specs.Lines.{Line, argument_checks, capability_checks, commands_of, end_checks, flush_checks_in, has_delimiter, has_format, by_key}
@@ -38,6 +35,11 @@ not_by_itself : (kind : Kind) → NotOfPackets kind → NotByItself kind
 not_by_itself TooMuchKept strange = tt
 not_by_itself kind strange = strange
 
+-- the names by which a value is refused are those of packets
+by_itself : (shape : Shape) → NotByItself (refusal_of shape) → ⊥
+by_itself flag_word h = h
+by_itself shape h = h
+
 -- none of the checks refuses by this name
 AllQuiet : Kind → List Check → Type 0
 AllQuiet kind [] = Unit {0}
@@ -55,9 +57,7 @@ module _ (kind : Kind) (strange : NotByItself kind) where
   quiet_keys offer first CommandKey value =
       ((λ r. subst NotByItself r.1 strange), ((λ r. subst NotByItself r.1 strange), ((λ r. subst NotByItself r.1 strange), tt)))
   quiet_keys offer first AgentKey value = tt
-  quiet_keys offer first ServerOptionKey value = ((λ r. subst NotByItself r.1 strange), tt)
-  quiet_keys offer first ObjectFormatKey value = ((λ r. subst NotByItself r.1 strange), tt)
-  quiet_keys offer first OtherKey value = ((λ r. subst NotByItself r.1 strange), tt)
+  quiet_keys offer first key value = ((λ r. subst NotByItself r.1 strange), tt)
 
   quiet_capability : (offer : Offer) (first : Bool) (text : List ℕ) → AllQuiet kind (capability_checks offer first text)
   unfolding AllQuiet
@@ -69,18 +69,8 @@ module _ (kind : Kind) (strange : NotByItself kind) where
   unfolding AllQuiet
   quiet_part offer commands said = ((λ r. subst NotByItself r.1 strange), ((λ r. subst NotByItself r.1 strange), tt))
 
-  quiet_row : (c : Command) (format : Format) (row : Row) (text : List ℕ) → IsRowFault c format row text kind → ⊥
-  quiet_row LsRefs format of_ref_prefix text fault = subst NotByItself fault.1 strange
-  quiet_row Fetch format of_want text fault = subst NotByItself fault.1 strange
-  quiet_row Fetch format of_have text fault = subst NotByItself fault.1 strange
-  quiet_row Fetch format of_shallow text fault = subst NotByItself fault.1 strange
-  quiet_row Fetch format of_deepen text fault = subst NotByItself fault.1 strange
-  quiet_row Fetch format of_deepen_since text fault = subst NotByItself fault.1 strange
-  quiet_row Fetch format of_deepen_not text fault = subst NotByItself fault.1 strange
-  quiet_row Fetch format of_filter text fault = subst NotByItself fault.1 strange
-  quiet_row Fetch format of_want_ref text fault = subst NotByItself fault.1 strange
-  quiet_row ObjectInfo format of_object_id text fault = subst NotByItself fault.1 strange
-  quiet_row c format row text fault = fault
+  quiet_row : (c : Command) (format : Format) (word : Word) (text : List ℕ) → IsRowFault c format word text kind → ⊥
+  quiet_row c format word text fault = by_itself (row word).shape (subst NotByItself fault.named strange)
 
   quiet_value : (c : Command) (offer : Offer) (text : List ℕ) → IsArgumentFault c offer text kind → ⊥
   quiet_value c offer text (inl fault) = subst NotByItself fault.1 strange

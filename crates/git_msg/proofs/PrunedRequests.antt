@@ -9,7 +9,7 @@ use Rattle.std.proofs.lemmas.List.Sums.{sum_by-append, sum_by-cons}
 use Rattle.std.proofs.lemmas.List.Filters.{All-dedup}
 use Rattle.std.proofs.lemmas.List.Sorted.{All-permutation, IsPermutation-map, sum_by-IsPermutation}
 use Rattle.git_names.specs.declared.object_format.Format.{Format}
-use Rattle.git_msg.specs.Arguments.{Arg, IsValue, peel, symrefs, unborn, ref_prefix, written_text}
+use Rattle.git_msg.specs.Arguments.{Arg, IsValue, peel, symrefs, unborn, ref_prefix, with_text, written_text}
 use Rattle.git_msg.specs.Asked.{LsRefsAsked, arguments_in, bytes_of, command_asked, ls_refs, where_asked}
 use Rattle.git_msg.specs.Kept.{IsCounted}
 use Rattle.git_msg.specs.Prefixes.{Prunes, begins}
@@ -64,7 +64,7 @@ module _ (P : Arg → Type 0) (make : List ℕ → Arg) where
   all_moved : (xs ys : List (List ℕ)) → IsPermutation xs ys → All P (map make xs) → All P (map make ys)
   all_moved xs ys moved = All-permutation P (map make xs) (map make ys) (IsPermutation-map make xs ys moved)
 
-  -- the same behind other arguments
+  -- the same after other arguments
   pub values_pruned : (front : List Arg) (xs ys : List (List ℕ)) → IsPermutation xs ys
       → All P (front ++ map make xs) → All P (front ++ map make (dedup begins ys))
   values_pruned front xs ys moved = all_behind front (map make xs) (map make (dedup begins ys)) (λ h. all_pruned ys (all_moved xs ys moved h))
@@ -78,14 +78,14 @@ module _ (P : Arg → Type 0) (make : List ℕ → Arg) where
       let less = less_pruned ys in
       omega (arith, before, after, same, less)
 
--- the prefixes of an ls-refs request stand after its flags
+-- the prefixes of an ls-refs request come after its flags
 flags : LsRefsAsked → List Arg
 flags q = where_asked q.peel peel ++ (where_asked q.symrefs symrefs ++ where_asked q.unborn unborn)
 
-after_flags : (q : LsRefsAsked) (ps : List (List ℕ)) → arguments_in (ls_refs (record q { ref_prefixes = ps })) ≡ flags q ++ map ref_prefix ps
+after_flags : (q : LsRefsAsked) (ps : List (List ℕ)) → arguments_in (ls_refs (record q { ref_prefixes = ps })) ≡ flags q ++ map (with_text ref_prefix) ps
 unfolding flags
 after_flags q ps =
-    let prefixes : List Arg = map ref_prefix ps in
+    let prefixes : List Arg = map (with_text ref_prefix) ps in
     sym (append_assoc (where_asked q.peel peel) (where_asked q.symrefs symrefs ++ where_asked q.unborn unborn) prefixes
     ∙ ap (λ (args : List Arg). where_asked q.peel peel ++ args) (append_assoc (where_asked q.symrefs symrefs) (where_asked q.unborn unborn) prefixes))
 
@@ -94,11 +94,11 @@ pub counted_pruned : (format : Format) (q : LsRefsAsked) (ps : List (List ℕ)) 
 counted_pruned format q ps kept prunes counted =
     let P : Arg → Type 0 = IsValue (command_asked (ls_refs q)) format in
     let pruned : List (List ℕ) = dedup begins prunes.moved in
-    let before : arguments_in (ls_refs q) ≡ flags q ++ map ref_prefix q.ref_prefixes = after_flags q q.ref_prefixes in
-    let after : arguments_in (ls_refs (record q { ref_prefixes = pruned })) ≡ flags q ++ map ref_prefix pruned = after_flags q pruned in
+    let before : arguments_in (ls_refs q) ≡ flags q ++ map (with_text ref_prefix) q.ref_prefixes = after_flags q q.ref_prefixes in
+    let after : arguments_in (ls_refs (record q { ref_prefixes = pruned })) ≡ flags q ++ map (with_text ref_prefix) pruned = after_flags q pruned in
     rw prunes.kept (record {
-      values = subst (All P) (sym after) (values_pruned P ref_prefix (flags q) q.ref_prefixes prunes.moved prunes.same
+      values = subst (All P) (sym after) (values_pruned P (with_text ref_prefix) (flags q) q.ref_prefixes prunes.moved prunes.same
           (subst (All P) before counted.values));
-      written = let less = bytes_pruned P ref_prefix (flags q) q.ref_prefixes prunes.moved prunes.same in
+      written = let less = bytes_pruned P (with_text ref_prefix) (flags q) q.ref_prefixes prunes.moved prunes.same in
           let written = counted.written in omega (arith, less, written, ap bytes_of before, ap bytes_of after);
     })

@@ -27,7 +27,7 @@ pub unborn_is_no_name : (format : Format) (id : ObjectName) → IsObjectName for
 unborn_is_no_name Sha1 id h = let count = h.count in omega arith
 unborn_is_no_name Sha256 id h = let count = h.count in omega arith
 
--- a word stands for one object, or for none
+-- a word is that of one object, or of none
 one_id : (format : Format) (word : List ℕ) (a b : Option ObjectName) → IsIdText format word a → IsIdText format word b → a ≡ b
 one_id format word None None h k = refl
 one_id format word (Some a) (Some b) h k = ap Some (one_object_name format word a b h k)

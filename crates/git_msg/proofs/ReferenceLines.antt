@@ -3,7 +3,6 @@ use Rattle.std.proofs.Common.{arith, ◌≡◌, ◌≢◌, ℕ, ◌+◌, ◌≤�
 use Rattle.std.proofs.Common.{◌∙◌, subst, append_assoc, length, drop, slice_index, codes, length-append, lit≤}
 use Rattle.std.specs.Prelude.{All}
 use Rattle.std.specs.List.{list_all}
-use Rattle.std.proofs.lemmas.Bool.Decides.{nat_tests}
 use Rattle.std.proofs.lemmas.List.{append-nil}
 use Rattle.std.proofs.lemmas.List.Elements.{All-append, All-cons, All-nil, All-from_get_or}
 use Rattle.std.proofs.lemmas.List.Splits.{slice_split_at, slice_split_none}
@@ -18,12 +17,10 @@ use Rattle.git_msg.proofs.WrittenNames.{digits_at_most}
 use Rattle.git_msg.specs.References.{reference_of, HasFormat, IsAttribute, IsIdText, IsReferenceLine, IsMaybeObjectName, IsWritable, values_of}
 use Rattle.git_msg.specs.References.{attribute_checks}
 use Rattle.git_msg.specs.References.{id_length, id_text, target_text, peeled_text, peeled_count, reference_text}
-
-eq_false : (c : ℕ) → c ≢ 32 → (c == 32) ≡ false
-eq_false c h = grind (arith, nat_tests)
+use Rattle.git_msg.proofs.TextParts.{another_byte}
 
 pub lacking_is_unspaced : (text : List ℕ) → Lacks text 32 → All (λ c. (c == 32) ≡ false) text
-lacking_is_unspaced text h = All-from_get_or (λ c. (c == 32) ≡ false) text 0 (λ k within. eq_false (slice_index text k) (h k within))
+lacking_is_unspaced text h = All-from_get_or (λ c. (c == 32) ≡ false) text 0 (λ k within. another_byte (slice_index text k) 32 (h k within))
 
 no_digit : (c : ℕ) → IsHexDigit c → c ≢ 32
 unfolding digit_value
@@ -113,7 +110,7 @@ tail_words name (Some t) (Some p) h targets names =
     ∙ ap (λ (ws : List (List ℕ)). (codes "symref-target:" ++ t) ∷ ws) (word_alone (codes "peeled:" ++ hex_of p)
     (unspaced_peeled p.format p (names p refl))))
 
--- what stands for the object is one word, and says it
+-- the word for the object has no space, and reads back as the object
 id_unspaced : (format : Format) (id : Option ObjectName) → IsIdText format (id_text id) id → All (λ c. (c == 32) ≡ false) (id_text id)
 id_unspaced format None h = tested (codes "unborn") refl
 id_unspaced format (Some id) h = digits_are_unspaced format (hex_of id) id h

@@ -34,7 +34,7 @@ nothing_behind word text h = go (bytes_eq (take (length word) text) word) refl w
       let same : take (length word) text ≡ word = (bytes_eq-Decides (take (length word) text) word).0 e in
       absurd (h (drop (length word) text) (sym (take-append-drop (length word) text) ∙ ap (λ (xs : List ℕ). xs ++ drop (length word) text) same))
 
--- what stands after a word
+-- what comes after a word
 pub value_spelled : (word text value : List ℕ) → value_behind word text ≡ Some value → text ≡ word ++ value
 value_spelled word text value = go (bytes_eq (take (length word) text) word) refl where
   go : (b : Bool) → bytes_eq (take (length word) text) word ≡ b → (if b then Some (drop (length word) text) else None) ≡ Some value → text ≡ word ++ value
@@ -90,7 +90,7 @@ unfolding later
 maybe_later format None last old new h k = subst (λ (o : Option ObjectName). IsMaybeObjectName format last o) (sym h) k
 maybe_later format (Some value) last old new h k = h
 
--- what ends a word that stands after some bytes of the text
+-- what ends a word that comes after some bytes of the text
 part_at_end : (text front rest word more value : List ℕ) (end : ℕ) → text ≡ front ++ rest → rest ≡ word ++ more
     → end ≡ length text - length rest + length word → (key : List ℕ) → word ≡ key ++ value
     → value ≡ take (length value) (drop (end - length value) text)
@@ -187,7 +187,7 @@ some_word (x ∷ xs) = go (x == 32) where
   go true = ([], spaced_words xs, refl)
   go false = onto_some x (spaced_words xs)
 
--- the first word stands for no object, and does not say that there is none
+-- the first word is that of no object, and is not `unborn`
 pub id_refused : (format : Format) (text id rest : List ℕ) → spaced_words text ≡ id ∷ spaced_words rest → IsNoIdText format id
     → IsReferenceFault format text BadObjectName
 id_refused format text id rest words h =

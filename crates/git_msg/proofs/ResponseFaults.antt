@@ -18,7 +18,7 @@ use Rattle.git_msg.proofs.ReferenceLines.{digits_lack_space}
 use Rattle.git_msg.proofs.ResponseLines.{BeginsWith, info_begins, not_both, wanted_begins}
 use Rattle.git_msg.proofs.TextParts.{one_parting, parted_has_byte}
 
--- after one word stands one text
+-- after one word comes one text
 same_value : (word text : List ℕ) (P Q : List ℕ → Type 0) → (h : Follows word P text) → (k : Follows word Q text) → h.value ≡ k.value
 same_value word text P Q h k = append_cancel_left word h.value k.value (sym h.spelled ∙ k.spelled)
 

@@ -16,7 +16,7 @@ use Rattle.git_msg.specs.ResponseLines.{IsInfoLine, IsSize, IsSizeText, info_tex
 use Rattle.git_msg.proofs.DigitValues.{decimal_reads_back, one_number}
 use Rattle.git_msg.proofs.WrittenNames.{hex_of-reads_back}
 
--- after a word stands one object name
+-- after a word comes one object name
 one_named : (word : List ℕ) (format : Format) (text : List ℕ) (a b : ObjectName) → IsNamed word format text a → IsNamed word format text b → a ≡ b
 one_named word format text a b h k =
     let same = append_cancel_left word h.value k.value (sym h.spelled ∙ k.spelled) in

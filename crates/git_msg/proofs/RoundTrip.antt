@@ -19,9 +19,9 @@ use Rattle.git_msg.specs.declared.arguments.Command.{Command}
 use Rattle.git_msg.specs.declared.arguments.Command.TheVariants.{LsRefs, Fetch, ObjectInfo}
 use Rattle.git_msg.specs.declared.capability_key.Key.TheVariants.{CommandKey, AgentKey, ObjectFormatKey}
 use Rattle.git_msg.specs.Texts.{Follows, IsErrorText}
-use Rattle.git_msg.specs.Arguments.{Arg, symrefs, peel, ref_prefix, want, have, done, thin_pack, no_progress, include_tag, ofs_delta}
-use Rattle.git_msg.specs.Arguments.{shallow, deepen, deepen_relative, deepen_since, deepen_not, want_ref, size, object_id, unborn, wait_for_done, filter_spec}
-use Rattle.git_msg.specs.Arguments.{SaysArgument, IsDepth, IsTime, IsNumberIn, IsInRange, IsNameIn, IsValue, is_offered, name_of, written_text}
+use Rattle.git_msg.specs.Arguments.{Shape, flag_word, object_name, depth_number, time_number, prefix_text, kept_text, reference_name, row, MayFollow}
+use Rattle.git_msg.specs.Arguments.{Word, symrefs, Arg, Value, no_value, id_value, number_value, text_value, SaysValue}
+use Rattle.git_msg.specs.Arguments.{SaysArgument, IsDepth, IsTime, IsNumberIn, IsInRange, IsNameIn, IsValue, is_offered, name_of, written_text, written_value}
 use Rattle.git_msg.specs.Capability.{is_value}
 use Rattle.git_msg.specs.Advertisement.{takes_command}
 use Rattle.git_msg.specs.Asked.{Asked, command_asked, asked_by, arguments_in, bytes_of, written_bytes, HasValues, AreOffered}
@@ -124,29 +124,13 @@ only_flush offer limit before gs h =
 not_error : (text : List ℕ) → slice_index text 0 ≢ 69 → ¬ IsErrorText text
 not_error text h e = h (ap (λ (xs : List ℕ). slice_index xs 0) e.spelled)
 
--- what is written of an argument is no error: a row for each kind of argument
+-- what is written of an argument is no error
+no_error_word : (word : Word) (rest : List ℕ) → ¬ IsErrorText ((row word).keyword ++ rest)
+no_error_word symrefs rest = not_error (codes "symrefs" ++ rest) (λ e. omega arith)
+no_error_word word rest = not_error ((row word).keyword ++ rest) (λ e. omega arith)
+
 written_clean : (arg : Arg) → ¬ IsErrorText (written_text arg)
-written_clean symrefs = not_error (codes "symrefs") (λ e. omega arith)
-written_clean peel = not_error (codes "peel") (λ e. omega arith)
-written_clean unborn = not_error (codes "unborn") (λ e. omega arith)
-written_clean (ref_prefix prefix) = not_error (codes "ref-prefix " ++ prefix) (λ e. omega arith)
-written_clean (want id) = not_error (codes "want " ++ hex_of id) (λ e. omega arith)
-written_clean (have id) = not_error (codes "have " ++ hex_of id) (λ e. omega arith)
-written_clean done = not_error (codes "done") (λ e. omega arith)
-written_clean thin_pack = not_error (codes "thin-pack") (λ e. omega arith)
-written_clean no_progress = not_error (codes "no-progress") (λ e. omega arith)
-written_clean include_tag = not_error (codes "include-tag") (λ e. omega arith)
-written_clean ofs_delta = not_error (codes "ofs-delta") (λ e. omega arith)
-written_clean wait_for_done = not_error (codes "wait-for-done") (λ e. omega arith)
-written_clean (filter_spec spec) = not_error (codes "filter " ++ spec) (λ e. omega arith)
-written_clean (shallow id) = not_error (codes "shallow " ++ hex_of id) (λ e. omega arith)
-written_clean (deepen depth) = not_error (codes "deepen " ++ decimal depth) (λ e. omega arith)
-written_clean deepen_relative = not_error (codes "deepen-relative") (λ e. omega arith)
-written_clean (deepen_since time) = not_error (codes "deepen-since " ++ decimal time) (λ e. omega arith)
-written_clean (deepen_not revision) = not_error (codes "deepen-not " ++ revision) (λ e. omega arith)
-written_clean (want_ref name) = not_error (codes "want-ref " ++ name) (λ e. omega arith)
-written_clean size = not_error (codes "size") (λ e. omega arith)
-written_clean (object_id id) = not_error (codes "oid " ++ hex_of id) (λ e. omega arith)
+written_clean arg = no_error_word arg.word (written_value arg.value)
 
 name_says : (word : List ℕ) (format : Format) (id : ObjectName) → IsNameIn format id
     → Follows word (λ name. IsObjectName format name id) (word ++ hex_of id)
@@ -157,29 +141,20 @@ number_says : (word : List ℕ) (InRange : ℕ → Type 0) (number : ℕ) → nu
 number_says word InRange number small value =
     record { value = decimal number; spelled = refl; holds = record { is_number = decimal_reads_back number small; in_range = value } }
 
--- and says that argument
-written_says : (format : Format) (arg : Arg) → IsInRange format arg → SaysArgument format (written_text arg) arg
-written_says format symrefs value = refl
-written_says format peel value = refl
-written_says format unborn value = refl
-written_says format (ref_prefix prefix) value = (refl, value)
-written_says format (want id) value = name_says (codes "want ") format id value
-written_says format (have id) value = name_says (codes "have ") format id value
-written_says format done value = refl
-written_says format thin_pack value = refl
-written_says format no_progress value = refl
-written_says format include_tag value = refl
-written_says format ofs_delta value = refl
-written_says format wait_for_done value = refl
-written_says format (filter_spec spec) value = (refl, value)
-written_says format (shallow id) value = name_says (codes "shallow ") format id value
-written_says format (deepen depth) value = number_says (codes "deepen ") IsDepth depth (omega (arith, value.1)) value
-written_says format deepen_relative value = refl
-written_says format (deepen_since time) value = number_says (codes "deepen-since ") IsTime time (omega (arith, value)) value
-written_says format (deepen_not revision) value = (refl, value)
-written_says format (want_ref name) value = (refl, value)
-written_says format size value = refl
-written_says format (object_id id) value = name_says (codes "oid ") format id value
+-- and contains that argument
+value_says : (shape : Shape) (word : List ℕ) (format : Format) (value : Value) → MayFollow shape format value
+    → SaysValue shape word format (word ++ written_value value) value
+value_says flag_word word format no_value fits = append-nil word
+value_says object_name word format (id_value id) fits = name_says word format id fits
+value_says depth_number word format (number_value depth) fits = number_says word IsDepth depth (omega (arith, fits.1)) fits
+value_says time_number word format (number_value time) fits = number_says word IsTime time (omega (arith, fits)) fits
+value_says prefix_text word format (text_value prefix) fits = (refl, fits)
+value_says kept_text word format (text_value kept) fits = (refl, fits)
+value_says reference_name word format (text_value name) fits = (refl, fits)
+value_says shape word format value fits = absurd fits
+
+pub written_says : (format : Format) (arg : Arg) → IsInRange format arg → SaysArgument format (written_text arg) arg
+written_says format arg value = value_says (row arg.word).shape (row arg.word).keyword format arg.value value
 
 argument_reads : (c : Command) (offer : Offer) (arg : Arg) → IsValue c offer.format arg → is_offered offer arg ≡ true
     → IsText c offer (written_text arg) arg
@@ -310,7 +285,7 @@ pub meant_when_said : (format : Format) → IsFormatMeant format true
 meant_when_said Sha1 = tt
 meant_when_said Sha256 = refl
 
--- a line that stands before the others where it was said
+-- a line that comes before the others where it was written
 where_said : Bool → Line → List Line → List Line
 where_said true line lines = line ∷ lines
 where_said false line lines = lines
@@ -320,7 +295,7 @@ lines_read : Bool → Bool → Command → List Arg → List Line
 lines_read says_agent says_format c args =
     command c ∷ where_said says_agent agent (where_said says_format object_format (delimiter ∷ map written_line args))
 
--- the object format, where it is said, and what follows
+-- the object format, where it is written, and what follows
 format_finish : (offer : Offer) (limit : ℕ) (c : Command) (before : List Line) (says_format : Bool) (args : List Arg) (gs : List Given)
     → InFront c before → has_format before ≡ false → IsFormatMeant offer.format says_format → AreTexts c offer args → bytes_of args ≤ limit
     → packets_of gs ≡ where_set says_format (format_line offer.format) (delim ∷ argument_lines args)
@@ -342,7 +317,7 @@ format_finish offer limit c before true args gs part unsaid meant texts fits h =
 format_finish offer limit c before false args gs part unsaid meant texts fits h =
     delimiter_finish offer limit c before args gs part (subst (IsFormatMeant offer.format) (sym unsaid) meant) texts fits h
 
--- the agent, where it is said, and what follows
+-- the agent, where it is written, and what follows
 agent_finish : (offer : Offer) (limit : ℕ) (c : Command) (says_agent says_format : Bool) (args : List Arg) (gs : List Given)
     → IsFormatMeant offer.format says_format → AreTexts c offer args → bytes_of args ≤ limit
     → packets_of gs ≡ where_set says_agent agent_line (where_set says_format (format_line offer.format) (delim ∷ argument_lines args))
@@ -371,7 +346,7 @@ lines_finish offer limit c says_agent says_format args gs meant taken texts fits
     (capability_written offer limit [] (codes "command=" ++ name_of c) (command c) refl (command_written offer c taken))
     (λ gs1 h1. agent_finish offer limit c says_agent says_format args gs1 meant texts fits h1)
 
--- what lines say
+-- what lines contain
 record Says (commands : List Command) (args : List Arg) (kept : ℕ) (delimited : Bool) (lines : List Line) : Type 0 where
   says_commands : commands_of lines ≡ commands
   says_arguments : arguments_of lines ≡ args
@@ -391,7 +366,7 @@ arguments_say (arg ∷ args) =
       is_delimited = h.is_delimited;
     }
 
--- a line that is neither a command nor an argument says nothing of them
+-- a line that is neither a command nor an argument contains nothing of them
 line_says : (line : Line) → command_in line ≡ None → argument_in line ≡ None → long_of line ≡ 0 → is_delimiter line ≡ false
     → (said : Bool) (cs : List Command) (args : List Arg) (kept : ℕ) (lines : List Line) → Says cs args kept true lines
     → Says cs args kept true (where_said said line lines)

@@ -1,8 +1,10 @@
--- The tables of keys and of arguments by their first words: a text stands in one row.
+-- The tables of keys and of arguments by their first words: a text is in one row.
 use Rattle.std.proofs.Common.{arith, ◌≡◌, ◌≢◌, ℕ, ◌≤◌, true, false, List, ◌++◌, refl, ap, sym, ◌∙◌, subst, length, drop, codes, inl, inr}
 use Rattle.std.proofs.Math.Seq.{drop-append_seam}
 use Rattle.std.proofs.lemmas.Bool.{false_from_ne_true}
 use Rattle.std.proofs.lemmas.Slice.Eq.{bytes_eq-Decides}
+use Rattle.std.specs.Prelude.{◌==◌, Option, Some, None, [], ◌∷◌, if◌then◌else◌}
+use Rattle.std.specs.List.{before_first}
 use Rattle.std.specs.Str.{bytes_eq}
 use Rattle.git_names.specs.ObjectName.{ObjectName, IsObjectName, IsNoObjectName}
 use Rattle.git_names.specs.RefName.{IsRefName}
@@ -13,31 +15,30 @@ use Rattle.git_msg.specs.declared.offers.Offer.{Offer}
 use Rattle.git_msg.specs.declared.arguments.Command.{Command}
 use Rattle.git_msg.specs.declared.arguments.Command.TheVariants.{LsRefs, Fetch, ObjectInfo}
 use Rattle.git_msg.specs.declared.capability_key.Key.{Key}
-use Rattle.git_msg.specs.declared.capability_key.Key.TheVariants.{CommandKey, AgentKey, ServerOptionKey, ObjectFormatKey, OtherKey}
-use Rattle.git_msg.specs.Arguments.{Arg, symrefs, peel, ref_prefix, want, have, done, thin_pack, no_progress, include_tag, ofs_delta, shallow, deepen}
-use Rattle.git_msg.specs.Arguments.{deepen_relative, deepen_since, deepen_not, want_ref, size, object_id, unborn, wait_for_done, filter_spec}
-use Rattle.git_msg.specs.Arguments.{Row, of_filter, of_ref_prefix, of_want, of_have, of_shallow, of_deepen, of_deepen_since, of_deepen_not}
-use Rattle.git_msg.specs.Arguments.{of_want_ref, of_object_id}
-use Rattle.git_msg.specs.Arguments.{row_of, row_in, command_with, most_text, IsDepth, IsTime, IsNumberIn, IsNoNumberIn, IsKeptText, IsNoKeptText}
+use Rattle.git_msg.specs.declared.capability_key.Key.TheVariants.{CommandKey, OtherKey}
+use Rattle.git_msg.specs.Arguments.{Word, symrefs, want, size, words}
+use Rattle.git_msg.specs.Arguments.{Shape, flag_word, object_name, depth_number, time_number, prefix_text, kept_text, reference_name, Row, row}
+use Rattle.git_msg.specs.Arguments.{Arg, Value, no_value, id_value, number_value, text_value, refusal_of, SaysValue, IsNoValue, IsNamed}
+use Rattle.git_msg.specs.Arguments.{command_with, most_text, IsDepth, IsTime, IsNumberIn, IsNoNumberIn, IsKeptText, IsNoKeptText}
 use Rattle.git_msg.specs.Arguments.{SaysArgument, IsArgument, HasName, is_offered, ReadsAs, IsNoArgument, IsUnoffered, IsArgumentFault, IsRowFault}
 use Rattle.git_msg.specs.Texts.{Follows}
 use Rattle.git_msg.specs.Lines.{IsWordOf, key_by}
 use Rattle.git_msg.proofs.DigitValues.{one_number}
 
--- what a text says has the name that it is to have
+-- what a text contains has the name that it is to have
+value_has_name : (shape : Shape) (word : List ℕ) (format : Format) (line : List ℕ) (value : Value) → SaysValue shape word format line value
+    → IsNamed shape value
+value_has_name reference_name word format line (text_value name) h = h.1
+value_has_name shape word format line value h = tt
+
 pub argument_has_name : (format : Format) (text : List ℕ) (arg : Arg) → SaysArgument format text arg → HasName arg
-argument_has_name format text (want_ref name) h = h.1
-argument_has_name format text arg h = tt
+argument_has_name format text arg h = value_has_name (row arg.word).shape (row arg.word).keyword format text arg.value h
 
 -- a text that is not the word
 other_word : (text word : List ℕ) → text ≢ word → bytes_eq text word ≡ false
 other_word text word differ = false_from_ne_true (bytes_eq text word) (λ e. differ ((bytes_eq-Decides text word).0 e))
 
 in_key : (text : List ℕ) (key : Key) → IsWordOf text key → key_by text ≡ key
-in_key text CommandKey h = ap key_by h
-in_key text AgentKey h = ap key_by h
-in_key text ServerOptionKey h = ap key_by h
-in_key text ObjectFormatKey h = ap key_by h
 in_key text OtherKey h =
     rw (
       other_word text (codes "command") h.0,
@@ -46,40 +47,71 @@ in_key text OtherKey h =
       other_word text
           (codes "object-format") h.1.1.1.0,
     ) refl
+in_key text CommandKey h = ap key_by h
+in_key text key h = ap key_by h
 
 -- a word is one key
 pub one_key : (text : List ℕ) (a b : Key) → IsWordOf text a → IsWordOf text b → a ≡ b
 one_key text a b h k = sym (in_key text a h) ∙ in_key text b k
 
--- the first word of an argument's text is that of its row
-pub in_row : (format : Format) (text : List ℕ) (a : Arg) → SaysArgument format text a → row_of text ≡ row_in a
-in_row format text symrefs h = ap row_of h
-in_row format text peel h = ap row_of h
-in_row format text unborn h = ap row_of h
-in_row format text (ref_prefix p) h = ap row_of h.0
-in_row format text (want id) h = ap row_of h.spelled
-in_row format text (have id) h = ap row_of h.spelled
-in_row format text done h = ap row_of h
-in_row format text thin_pack h = ap row_of h
-in_row format text no_progress h = ap row_of h
-in_row format text include_tag h = ap row_of h
-in_row format text ofs_delta h = ap row_of h
-in_row format text wait_for_done h = ap row_of h
-in_row format text (filter_spec spec) h = ap row_of h.0
-in_row format text (shallow id) h = ap row_of h.spelled
-in_row format text (deepen depth) h = ap row_of h.spelled
-in_row format text deepen_relative h = ap row_of h
-in_row format text (deepen_since time) h = ap row_of h.spelled
-in_row format text (deepen_not revision) h = ap row_of h.0
-in_row format text (want_ref name) h = ap row_of h.0
-in_row format text size h = ap row_of h
-in_row format text (object_id id) h = ap row_of h.spelled
+-- the row of the first word of a text
+abbrev first_word : List ℕ → List ℕ
+first_word text = before_first (λ c. c == 32) text
 
-same_row : (format : Format) (text : List ℕ) (a b : Arg) → SaysArgument format text a → SaysArgument format text b → row_in a ≡ row_in b
-same_row format text a b h k = sym (in_row format text a h) ∙ in_row format text b k
+abbrev word_among : List Word → List ℕ → Option Word
+word_among [] first = None
+word_among (word ∷ others) first = if bytes_eq first (first_word (row word).keyword) then Some word else word_among others first
 
--- after one word stands one value
-one_value : (word text a b : List ℕ) → text ≡ word ++ a → text ≡ word ++ b → a ≡ b
+abbrev word_of : List ℕ → Option Word
+word_of text = word_among words (first_word text)
+
+-- a line that has such a word at its head, and this after it
+abbrev line_of : Shape → List ℕ → List ℕ → List ℕ
+line_of flag_word word rest = word
+line_of shape word rest = word ++ rest
+
+pub record IsHeaded (r : Row) (line : List ℕ) : Type 0 where
+  pub rest : List ℕ
+  pub is : line ≡ line_of r.shape r.keyword rest
+
+word_heads : (word : Word) (rest : List ℕ) → word_of (line_of (row word).shape (row word).keyword rest) ≡ Some word
+word_heads symrefs rest = refl
+word_heads word rest = refl
+
+-- it is one word
+pub one_word : (line : List ℕ) (word other : Word) → IsHeaded (row word) line → IsHeaded (row other) line → word ≡ other
+one_word line word other h k =
+    let same : Some word ≡ Some other = sym (word_heads word h.rest) ∙ ap word_of (sym h.is ∙ k.is) ∙ word_heads other k.rest in cc
+
+-- an argument's text has its word at its head
+value_headed : (shape : Shape) (word : List ℕ) (format : Format) (line : List ℕ) (value : Value) → SaysValue shape word format line value
+    → (rest : List ℕ) × (line ≡ line_of shape word rest)
+value_headed flag_word word format line no_value h = ([], h)
+value_headed object_name word format line (id_value id) h = (h.value, h.spelled)
+value_headed depth_number word format line (number_value depth) h = (h.value, h.spelled)
+value_headed time_number word format line (number_value time) h = (h.value, h.spelled)
+value_headed prefix_text word format line (text_value prefix) h = (prefix, h.0)
+value_headed kept_text word format line (text_value kept) h = (kept, h.0)
+value_headed reference_name word format line (text_value name) h = (name, h.0)
+value_headed shape word format line value h = absurd h
+
+pub headed : (format : Format) (text : List ℕ) (arg : Arg) → SaysArgument format text arg → IsHeaded (row arg.word) text
+headed format text arg h =
+    let found = value_headed (row arg.word).shape (row arg.word).keyword format text arg.value h in record { rest = found.0; is = found.1 }
+
+-- so has one that is refused for its value
+fault_headed : (shape : Shape) (word : List ℕ) (format : Format) (line : List ℕ) → Follows word (IsNoValue shape format) line
+    → (rest : List ℕ) × (line ≡ line_of shape word rest)
+fault_headed flag_word word format line h = absurd h.holds
+fault_headed shape word format line h = (h.value, h.spelled)
+
+refused_headed : (c : Command) (format : Format) (word : Word) (text : List ℕ) (kind : Kind) → IsRowFault c format word text kind
+    → IsHeaded (row word) text
+refused_headed c format word text kind h =
+    let found = fault_headed (row word).shape (row word).keyword format text h.follows in record { rest = found.0; is = found.1 }
+
+-- after one word comes one value
+pub one_value : (word text a b : List ℕ) → text ≡ word ++ a → text ≡ word ++ b → a ≡ b
 one_value word text a b h k =
     sym (drop-append_seam word a) ∙ ap (λ (l : List ℕ). drop (length word) l) (sym h ∙ k) ∙ drop-append_seam word b
 
@@ -102,48 +134,29 @@ one_number_in word text InRange a b h k =
     let there : IsNumberIn InRange k.value a = value_holds word text _ _ h k in
     one_number k.value a b there.is_number k.holds.is_number
 
--- a text says one argument
+-- a text contains one argument
+one_value_said : (shape : Shape) (word : List ℕ) (format : Format) (line : List ℕ) (a b : Value) → SaysValue shape word format line a
+    → SaysValue shape word format line b → a ≡ b
+one_value_said flag_word word format line no_value no_value h k = refl
+one_value_said object_name word format line (id_value m) (id_value n) h k = ap id_value (one_name word format line m n h k)
+one_value_said depth_number word format line (number_value m) (number_value n) h k = ap number_value (one_number_in word line IsDepth m n h k)
+one_value_said time_number word format line (number_value m) (number_value n) h k = ap number_value (one_number_in word line IsTime m n h k)
+one_value_said prefix_text word format line (text_value p) (text_value q) h k = ap text_value (one_value word line p q h.0 k.0)
+one_value_said kept_text word format line (text_value p) (text_value q) h k = ap text_value (one_value word line p q h.0 k.0)
+one_value_said reference_name word format line (text_value p) (text_value q) h k = ap text_value (one_value word line p q h.0 k.0)
+one_value_said shape word format line a b h k = absurd assumption
+
 says_one : (format : Format) (text : List ℕ) (a b : Arg) → SaysArgument format text a → SaysArgument format text b → a ≡ b
-says_one format text symrefs symrefs h k = refl
-says_one format text peel peel h k = refl
-says_one format text unborn unborn h k = refl
-says_one format text (ref_prefix p) (ref_prefix q) h k = ap ref_prefix (one_value (codes "ref-prefix ") text p q h.0 k.0)
-says_one format text (want m) (want n) h k = ap want (one_name (codes "want ") format text m n h k)
-says_one format text (have m) (have n) h k = ap have (one_name (codes "have ") format text m n h k)
-says_one format text done done h k = refl
-says_one format text thin_pack thin_pack h k = refl
-says_one format text no_progress no_progress h k = refl
-says_one format text include_tag include_tag h k = refl
-says_one format text ofs_delta ofs_delta h k = refl
-says_one format text wait_for_done wait_for_done h k = refl
-says_one format text (filter_spec p) (filter_spec q) h k = ap filter_spec (one_value (codes "filter ") text p q h.0 k.0)
-says_one format text (shallow m) (shallow n) h k = ap shallow (one_name (codes "shallow ") format text m n h k)
-says_one format text (deepen m) (deepen n) h k = ap deepen (one_number_in (codes "deepen ") text IsDepth m n h k)
-says_one format text deepen_relative deepen_relative h k = refl
-says_one format text (deepen_since m) (deepen_since n) h k = ap deepen_since (one_number_in (codes "deepen-since ") text IsTime m n h k)
-says_one format text (deepen_not p) (deepen_not q) h k = ap deepen_not (one_value (codes "deepen-not ") text p q h.0 k.0)
-says_one format text (want_ref p) (want_ref q) h k = ap want_ref (one_value (codes "want-ref ") text p q h.0 k.0)
-says_one format text size size h k = refl
-says_one format text (object_id m) (object_id n) h k = ap object_id (one_name (codes "oid ") format text m n h k)
-says_one format text a b h k = absurd (let same = same_row format text a b h k in cc)
+says_one format text a b h k =
+    let same : a.word ≡ b.word = one_word text a.word b.word (headed format text a h) (headed format text b k) in
+    let there : SaysValue (row a.word).shape (row a.word).keyword format text b.value =
+    subst (λ (w : Word). SaysValue (row w).shape (row w).keyword format text b.value) (sym same) k in
+    let values = one_value_said (row a.word).shape (row a.word).keyword format text a.value b.value h there in
+    ap (λ (v : Value). record { word = a.word; value = v }) values ∙ ap (λ (w : Word). record { word = w; value = b.value }) same
 
 -- an argument's text is one argument
 pub one_argument : (c : Command) (format : Format) (text : List ℕ) (a b : Arg) → IsArgument c format text a → IsArgument c format text b → a ≡ b
 one_argument c format text a b h k = says_one format text a b h.1 k.1
-
--- the first word of a text that is refused for its value is that of the row
-fault_in_row : (c : Command) (format : Format) (row : Row) (text : List ℕ) (kind : Kind) → IsRowFault c format row text kind → row_of text ≡ row
-fault_in_row LsRefs format of_ref_prefix text kind h = ap row_of h.0.spelled
-fault_in_row Fetch format of_want text kind h = ap row_of h.0.spelled
-fault_in_row Fetch format of_have text kind h = ap row_of h.0.spelled
-fault_in_row Fetch format of_shallow text kind h = ap row_of h.0.spelled
-fault_in_row Fetch format of_deepen text kind h = ap row_of h.0.spelled
-fault_in_row Fetch format of_deepen_since text kind h = ap row_of h.0.spelled
-fault_in_row Fetch format of_deepen_not text kind h = ap row_of h.0.spelled
-fault_in_row Fetch format of_filter text kind h = ap row_of h.0.spelled
-fault_in_row Fetch format of_want_ref text kind h = ap row_of h.0.spelled
-fault_in_row ObjectInfo format of_object_id text kind h = ap row_of h.0.spelled
-fault_in_row c format row text kind h = absurd h
 
 -- an object name is not refused for its value
 name_or_fault : (word : List ℕ) (format : Format) (text : List ℕ) (id : ObjectName) → Follows word (λ name. IsObjectName format name id) text
@@ -161,89 +174,48 @@ kept_text_or_none text h (inl k) = omega (arith, h.0, k)
 kept_text_or_none text h (inr k) = omega (arith, h.1, k)
 
 -- nor is any argument
-row_or_fault : (c : Command) (format : Format) (text : List ℕ) (a : Arg) (kind : Kind) → SaysArgument format text a
-    → IsRowFault c format (row_in a) text kind → ⊥
-row_or_fault LsRefs format text (ref_prefix p) kind h k =
-    let there : length k.0.value ≤ most_text = text_holds (codes "ref-prefix ") text p (λ prefix. length prefix ≤ most_text) _ h k.0 in
-    omega (arith, there, k.0.holds)
-row_or_fault Fetch format text (want id) kind h k = name_or_fault (codes "want ") format text id h k.0
-row_or_fault Fetch format text (have id) kind h k = name_or_fault (codes "have ") format text id h k.0
-row_or_fault Fetch format text (shallow id) kind h k = name_or_fault (codes "shallow ") format text id h k.0
-row_or_fault Fetch format text (deepen depth) kind h k = number_or_fault (codes "deepen ") text IsDepth depth h k.0
-row_or_fault Fetch format text (deepen_since time) kind h k = number_or_fault (codes "deepen-since ") text IsTime time h k.0
-row_or_fault Fetch format text (deepen_not revision) kind h k =
-    kept_text_or_none k.0.value (text_holds (codes "deepen-not ") text revision IsKeptText _ h k.0) k.0.holds
-row_or_fault Fetch format text (filter_spec spec) kind h k =
-    kept_text_or_none k.0.value (text_holds (codes "filter ") text spec IsKeptText _ h k.0) k.0.holds
-row_or_fault Fetch format text (want_ref name) kind h k = k.0.holds (text_holds (codes "want-ref ") text name IsRefName _ h k.0)
-row_or_fault ObjectInfo format text (object_id id) kind h k = name_or_fault (codes "oid ") format text id h k.0
-row_or_fault c format text a kind h k = k
+value_or_fault : (shape : Shape) (word : List ℕ) (format : Format) (line : List ℕ) (value : Value) → SaysValue shape word format line value
+    → Follows word (IsNoValue shape format) line → ⊥
+value_or_fault object_name word format line (id_value id) h k = name_or_fault word format line id h k
+value_or_fault depth_number word format line (number_value depth) h k = number_or_fault word line IsDepth depth h k
+value_or_fault time_number word format line (number_value time) h k = number_or_fault word line IsTime time h k
+value_or_fault prefix_text word format line (text_value prefix) h k =
+    let there : length k.value ≤ most_text = text_holds word line prefix (λ text. length text ≤ most_text) _ h k in omega (arith, there, k.holds)
+value_or_fault kept_text word format line (text_value kept) h k = kept_text_or_none k.value (text_holds word line kept IsKeptText _ h k) k.holds
+value_or_fault reference_name word format line (text_value name) h k = k.holds (text_holds word line name IsRefName _ h k)
+value_or_fault flag_word word format line value h k = k.holds
+value_or_fault shape word format line value h k = h
 
-by_row : (c : Command) (format : Format) (text : List ℕ) (a : Arg) (kind : Kind) (row : Row) → SaysArgument format text a
-    → IsRowFault c format row text kind → ⊥
-by_row c format text a kind row h k =
-    row_or_fault c format text a kind h
-    (subst (λ (r : Row). IsRowFault c format r text kind) (sym (fault_in_row c format row text kind k) ∙ in_row format text a h) k)
+by_row : (c : Command) (format : Format) (text : List ℕ) (a : Arg) (kind : Kind) (word : Word) → SaysArgument format text a
+    → IsRowFault c format word text kind → ⊥
+by_row c format text a kind word h k =
+    let same : a.word ≡ word = one_word text a.word word (headed format text a h) (refused_headed c format word text kind k) in
+    let there : SaysValue (row word).shape (row word).keyword format text a.value =
+    subst (λ (w : Word). SaysValue (row w).shape (row w).keyword format text a.value) same h in
+    value_or_fault (row word).shape (row word).keyword format text a.value there k.follows
 
 -- nor is it none
+none_headed : (c : Command) (word : Word) (text : List ℕ) → IsNoArgument c text → (row word).command ≡ c → IsHeaded (row word) text → ⊥
+none_headed LsRefs symrefs text (f, k) of h = f.0 h.is
+none_headed LsRefs word text ((a, (b, (c, _))), (k, _)) of h = first_of (cc, search (h.is))
+none_headed Fetch want text (f, k) of h = k.0 h.rest h.is
+none_headed Fetch word text ((a, (b, (c, (d, (e, (f, (g, _))))))), (k, (l, (m, (n, (o, (p, (q, (r, _))))))))) of h = first_of (cc, search (h.is))
+none_headed ObjectInfo size text (f, k) of h = f.0 h.is
+none_headed ObjectInfo word text ((a, _), (k, _)) of h = first_of (cc, search (h.is))
+
 none_or_argument : (c : Command) (format : Format) (text : List ℕ) (a : Arg) → IsNoArgument c text → command_with a ≡ c → SaysArgument format text a → ⊥
-none_or_argument LsRefs format text symrefs u of h = u.0.0 h
-none_or_argument LsRefs format text peel u of h = u.0.1.0 h
-none_or_argument LsRefs format text unborn u of h = u.0.1.1.0 h
-none_or_argument LsRefs format text (ref_prefix p) u of h = u.1.0 p h.0
-none_or_argument Fetch format text done u of h = u.0.0 h
-none_or_argument Fetch format text thin_pack u of h = u.0.1.0 h
-none_or_argument Fetch format text no_progress u of h = u.0.1.1.0 h
-none_or_argument Fetch format text include_tag u of h = u.0.1.1.1.0 h
-none_or_argument Fetch format text ofs_delta u of h = u.0.1.1.1.1.0 h
-none_or_argument Fetch format text wait_for_done u of h = u.0.1.1.1.1.1.1.0 h
-none_or_argument Fetch format text deepen_relative u of h = u.0.1.1.1.1.1.0 h
-none_or_argument Fetch format text (want id) u of h = u.1.0 h.value h.spelled
-none_or_argument Fetch format text (have id) u of h = u.1.1.0 h.value h.spelled
-none_or_argument Fetch format text (shallow id) u of h = u.1.1.1.0 h.value h.spelled
-none_or_argument Fetch format text (deepen depth) u of h = u.1.1.1.1.0 h.value h.spelled
-none_or_argument Fetch format text (deepen_since time) u of h = u.1.1.1.1.1.0 h.value h.spelled
-none_or_argument Fetch format text (deepen_not revision) u of h = u.1.1.1.1.1.1.0 revision h.0
-none_or_argument Fetch format text (want_ref name) u of h = u.1.1.1.1.1.1.1.0 name h.0
-none_or_argument Fetch format text (filter_spec spec) u of h = u.1.1.1.1.1.1.1.1.0 spec h.0
-none_or_argument ObjectInfo format text size u of h = u.0.0 h
-none_or_argument ObjectInfo format text (object_id id) u of h = u.1.0 h.value h.spelled
-none_or_argument c format text a u of h = absurd (cc)
+none_or_argument c format text a u of h = none_headed c a.word text u of (headed format text a h)
 
 -- what is refused for its value is no other text
-none_or_row : (c : Command) (format : Format) (row : Row) (text : List ℕ) (kind : Kind) → IsNoArgument c text → IsRowFault c format row text kind → ⊥
-none_or_row LsRefs format of_ref_prefix text kind u h = u.1.0 h.0.value h.0.spelled
-none_or_row Fetch format of_want text kind u h = u.1.0 h.0.value h.0.spelled
-none_or_row Fetch format of_have text kind u h = u.1.1.0 h.0.value h.0.spelled
-none_or_row Fetch format of_shallow text kind u h = u.1.1.1.0 h.0.value h.0.spelled
-none_or_row Fetch format of_deepen text kind u h = u.1.1.1.1.0 h.0.value h.0.spelled
-none_or_row Fetch format of_deepen_since text kind u h = u.1.1.1.1.1.0 h.0.value h.0.spelled
-none_or_row Fetch format of_deepen_not text kind u h = u.1.1.1.1.1.1.0 h.0.value h.0.spelled
-none_or_row Fetch format of_want_ref text kind u h = u.1.1.1.1.1.1.1.0 h.0.value h.0.spelled
-none_or_row Fetch format of_filter text kind u h = u.1.1.1.1.1.1.1.1.0 h.0.value h.0.spelled
-none_or_row ObjectInfo format of_object_id text kind u h = u.1.0 h.0.value h.0.spelled
-none_or_row c format row text kind u h = h
+none_or_row : (c : Command) (format : Format) (word : Word) (text : List ℕ) (kind : Kind) → IsNoArgument c text → IsRowFault c format word text kind → ⊥
+none_or_row c format word text kind u h = none_headed c word text u h.of (refused_headed c format word text kind h)
 
--- a row refuses by one name
-one_row_fault : (c : Command) (format : Format) (row : Row) (text : List ℕ) (kind other : Kind) → IsRowFault c format row text kind
-    → IsRowFault c format row text other → kind ≡ other
-one_row_fault LsRefs format of_ref_prefix text kind other h k = h.1 ∙ sym k.1
-one_row_fault Fetch format of_want text kind other h k = h.1 ∙ sym k.1
-one_row_fault Fetch format of_have text kind other h k = h.1 ∙ sym k.1
-one_row_fault Fetch format of_shallow text kind other h k = h.1 ∙ sym k.1
-one_row_fault Fetch format of_deepen text kind other h k = h.1 ∙ sym k.1
-one_row_fault Fetch format of_deepen_since text kind other h k = h.1 ∙ sym k.1
-one_row_fault Fetch format of_deepen_not text kind other h k = h.1 ∙ sym k.1
-one_row_fault Fetch format of_filter text kind other h k = h.1 ∙ sym k.1
-one_row_fault Fetch format of_want_ref text kind other h k = h.1 ∙ sym k.1
-one_row_fault ObjectInfo format of_object_id text kind other h k = h.1 ∙ sym k.1
-one_row_fault c format row text kind other h k = absurd h
-
-rows_agree : (c : Command) (format : Format) (row next : Row) (text : List ℕ) (kind other : Kind) → IsRowFault c format row text kind
+-- a text is refused for its value by one name
+rows_agree : (c : Command) (format : Format) (word next : Word) (text : List ℕ) (kind other : Kind) → IsRowFault c format word text kind
     → IsRowFault c format next text other → kind ≡ other
-rows_agree c format row next text kind other h k =
-    one_row_fault c format row text kind other h
-    (subst (λ (r : Row). IsRowFault c format r text other) (sym (fault_in_row c format next text other k) ∙ fault_in_row c format row text kind h) k)
+rows_agree c format word next text kind other h k =
+    let same = one_word text word next (refused_headed c format word text kind h) (refused_headed c format next text other k) in
+    h.named ∙ ap (λ (w : Word). refusal_of (row w).shape) same ∙ sym k.named
 
 -- an argument whose feature is offered is not one whose feature is not
 offered_or_not : (c : Command) (offer : Offer) (text : List ℕ) (a : Arg) → ReadsAs c offer text a → IsUnoffered c offer text → ⊥
@@ -263,9 +235,9 @@ argument_or_fault c offer text a kind h (inr (inr k)) = offered_or_not c offer t
 none_or_unoffered : (c : Command) (offer : Offer) (text : List ℕ) → IsNoArgument c text → IsUnoffered c offer text → ⊥
 none_or_unoffered c offer text u k = none_or_argument c offer.format text k.arg u k.is_argument.0 k.is_argument.1
 
-row_or_unoffered : (c : Command) (offer : Offer) (row : Row) (text : List ℕ) (kind : Kind) → IsRowFault c offer.format row text kind
+row_or_unoffered : (c : Command) (offer : Offer) (word : Word) (text : List ℕ) (kind : Kind) → IsRowFault c offer.format word text kind
     → IsUnoffered c offer text → ⊥
-row_or_unoffered c offer row text kind h k = by_row c offer.format text k.arg kind row k.is_argument.1 h
+row_or_unoffered c offer word text kind h k = by_row c offer.format text k.arg kind word k.is_argument.1 h
 
 -- and one fault
 pub one_argument_fault : (c : Command) (offer : Offer) (text : List ℕ) (kind other : Kind) → IsArgumentFault c offer text kind

@@ -7,18 +7,18 @@ use Rattle.git_pkt.specs.Packets.{flush, delim, payload, text_of}
 use Rattle.git_pkt.specs.declared.fault.Kind.{Kind}
 use Rattle.git_msg.specs.declared.offers.Offer.{Offer}
 use Rattle.git_msg.specs.declared.arguments.Command.{Command}
-use Rattle.git_msg.specs.declared.arguments.Command.TheVariants.{LsRefs, Fetch, ObjectInfo}
+use Rattle.git_msg.specs.declared.arguments.Command.TheVariants.{LsRefs}
 use Rattle.git_msg.specs.declared.capability_key.Key.{Key}
-use Rattle.git_msg.specs.declared.capability_key.Key.TheVariants.{CommandKey, AgentKey, ServerOptionKey, ObjectFormatKey, OtherKey}
+use Rattle.git_msg.specs.declared.capability_key.Key.TheVariants.{CommandKey}
 use Rattle.git_msg.specs.declared.requests.Request.{Request}
 use Rattle.git_msg.specs.declared.reader.Part.{Part}
 use Rattle.git_msg.specs.declared.reader.Part.TheVariants.{Capabilities, Arguments}
 use Rattle.git_msg.specs.declared.reader.RequestReader.{RequestReader}
 use Rattle.git_msg.specs.declared.reader.Taken.TheVariants.{More, Request as TakenRequest}
-use Rattle.git_msg.specs.Arguments.{Arg}
-use Rattle.git_msg.specs.Asked.{Asked, nothing_asked, asked_by}
+use Rattle.git_msg.specs.Asked.{Asked, asked_by}
 use Rattle.git_msg.specs.Checks.{Refuses, Passes}
 use Rattle.git_msg.specs.HeldRequest.{IsBounded, IsEmpty, asked_of, command_of, limit_of}
+use Rattle.git_msg.proofs.LineLaws.{no_argument_of}
 use Rattle.git_msg.proofs.BoundedRequests.{one_bound}
 use Rattle.git_msg.specs.Lines.{Line, command, agent, server_option, object_format, delimiter, argument, is_none, commands_of, arguments_of, kept_in}
 use Rattle.git_msg.specs.Lines.{has_format, is_object_format, command_in, argument_in, long_of, is_delimiter, IsLineOf, key_checks, IsCapabilityLine}
@@ -59,42 +59,20 @@ snoc_is_some (l ∷ ls) line = refl
 -- a line of the capability part is neither a delimiter nor an argument
 no_delimiter : (key : Key) (value : Option (List ℕ)) → IsLineOf key value delimiter → ⊥
 no_delimiter CommandKey value h = h
-no_delimiter AgentKey value h = h
-no_delimiter ServerOptionKey value h = h
-no_delimiter ObjectFormatKey value h = h
-no_delimiter OtherKey value h = h
-
-no_argument : (key : Key) (value : Option (List ℕ)) (arg : Arg) (long : ℕ) → IsLineOf key value (argument arg long) → ⊥
-no_argument CommandKey value arg long h = h
-no_argument AgentKey value arg long h = h
-no_argument ServerOptionKey value arg long h = h
-no_argument ObjectFormatKey value arg long h = h
-no_argument OtherKey value arg long h = h
+no_delimiter key value h = h
 
 no_argument_in : (key : Key) (value : Option (List ℕ)) (line : Line) → IsLineOf key value line → argument_in line ≡ None
-no_argument_in key value (command c) h = refl
-no_argument_in key value agent h = refl
-no_argument_in key value server_option h = refl
-no_argument_in key value object_format h = refl
-no_argument_in key value delimiter h = refl
-no_argument_in key value (argument arg long) h = absurd (no_argument key value arg long h)
+no_argument_in key value (argument arg long) h = absurd (no_argument_of key value arg long h)
+no_argument_in key value line h = refl
 
 -- a command line is the first
 first_command : (offer : Offer) (first : Bool) (key : Key) (value : Option (List ℕ)) (c : Command)
     → Passes (key_checks offer first key value) → IsLineOf key value (command c) → first ≡ true
 first_command offer first CommandKey value c h is = h.0
-first_command offer first AgentKey value c h is = absurd is
-first_command offer first ServerOptionKey value c h is = absurd is
-first_command offer first ObjectFormatKey value c h is = absurd is
-first_command offer first OtherKey value c h is = absurd is
+first_command offer first key value c h is = absurd is
 
 stands_ready : (part : Part) → part ≡ Capabilities → (fault_in part ≡ None) × (waits_in part ≡ false)
 stands_ready part h = rw h (refl, refl)
-
-pub nothing_asked_by : (c : Command) → nothing_asked c ≡ asked_by c []
-nothing_asked_by LsRefs = refl
-nothing_asked_by Fetch = refl
-nothing_asked_by ObjectInfo = refl
 
 -- an argument's text that is refused
 text_refused : (c : Command) (offer : Offer) (limit kept : ℕ) (text : List ℕ) (kind : Kind)
@@ -141,39 +119,23 @@ module _ {A : Type 0} where
     nothing_kept = omega (arith, kept_snoc lines object_format, h.nothing_kept);
   }
   noted_in text delimiter lines r is h = absurd (no_delimiter is.key is.value is.line_is)
-  noted_in text (argument arg long) lines r is h = absurd (no_argument is.key is.value arg long is.line_is)
+  noted_in text (argument arg long) lines r is h = absurd (no_argument_of is.key is.value arg long is.line_is)
 
   with_line_part : (line : Line) (r : RequestReader A) → (with_line line r).part ≡ r.part
   with_line_part (command c) r = refl
-  with_line_part agent r = refl
-  with_line_part server_option r = refl
-  with_line_part object_format r = refl
-  with_line_part delimiter r = refl
-  with_line_part (argument arg long) r = refl
+  with_line_part line r = refl
 
   with_line_offer : (line : Line) (r : RequestReader A) → (with_line line r).offer ≡ r.offer
   with_line_offer (command c) r = refl
-  with_line_offer agent r = refl
-  with_line_offer server_option r = refl
-  with_line_offer object_format r = refl
-  with_line_offer delimiter r = refl
-  with_line_offer (argument arg long) r = refl
+  with_line_offer line r = refl
 
   with_line_kept : (line : Line) (r : RequestReader A) → kept_so_far (with_line line r) ≡ kept_so_far r
   with_line_kept (command c) r = refl
-  with_line_kept agent r = refl
-  with_line_kept server_option r = refl
-  with_line_kept object_format r = refl
-  with_line_kept delimiter r = refl
-  with_line_kept (argument arg long) r = refl
+  with_line_kept line r = refl
 
   with_line_limit : (line : Line) (r : RequestReader A) → limit_in (with_line line r) ≡ limit_in r
   with_line_limit (command c) r = refl
-  with_line_limit agent r = refl
-  with_line_limit server_option r = refl
-  with_line_limit object_format r = refl
-  with_line_limit delimiter r = refl
-  with_line_limit (argument arg long) r = refl
+  with_line_limit line r = refl
 
   in_capabilities : (lines : List Line) (r : RequestReader A) → r.part ≡ Capabilities → InLines r.part lines r → InCapabilities lines r
   in_capabilities lines r part h = subst (λ (x : Part). InLines x lines r) part h
@@ -261,7 +223,7 @@ module _ {A : Type 0} where
           in_lines = record {
             behind = delimiter_snoc lines delimiter;
             command = commands_snoc lines delimiter ∙ rw append-nil (commands_due lines r c h due) ∙ ap (λ x. x ∷ []) (sym empty.command_is);
-            asked = empty.asked ∙ nothing_asked_by c ∙ ap (λ args. asked_by c args) (sym (arguments_snoc lines delimiter ∙ rw append-nil h.no_argument))
+            asked = empty.asked ∙ ap (λ args. asked_by c args) (sym (arguments_snoc lines delimiter ∙ rw append-nil h.no_argument))
                 ∙ ap (λ x. asked_by x (arguments_of (lines ++ delimiter ∷ []))) (sym empty.command_is);
             kept = omega (arith, empty.kept, kept_snoc lines delimiter, h.nothing_kept);
             format = empty.format_is;
@@ -279,7 +241,7 @@ module _ {A : Type 0} where
   -- a request without delimiter asks for nothing
   nothing_but : (lines : List Line) (r : RequestReader A) (c : Command) (q : Request A) → InCapabilities lines r → IsEmpty c r.offer.format (limit_in r) q
       → asked_of q ≡ asked_by c (arguments_of lines)
-  nothing_but lines r c q h empty = empty.asked ∙ nothing_asked_by c ∙ ap (λ args. asked_by c args) (sym h.no_argument)
+  nothing_but lines r c q h empty = empty.asked ∙ ap (λ args. asked_by c args) (sym h.no_argument)
 
   -- that flush, refused for what the request asks for
   pub flush_refused : (r : RequestReader A) (offset : ℕ) (c : Command) (q : Request A) (kind : Kind) → r.part ≡ Capabilities → r.begun ≡ true → IsDue r c

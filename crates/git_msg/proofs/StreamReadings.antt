@@ -1,4 +1,4 @@
--- What the bytes used so far ask for, and what is left after the whole requests, by where a reader of them stands.
+-- What the bytes used so far ask for, and what is left after the whole requests, by the stage of a reader of them.
 use Rattle.std.proofs.Common.{◌≡◌, ℕ, true, false, List, [], length, Some, None, refl, subst}
 use Rattle.git_pkt.specs.Splits.{Given}
 use Rattle.git_pkt.specs.Faults.{IsOpen}
@@ -11,40 +11,32 @@ use Rattle.git_msg.specs.StreamStages.{AreBegun, fault_in, takes_bytes, stage_is
 use Rattle.git_msg.specs.RequestStreams.{AreAsked, HasRead, IsLeftIn, IsRefusedAs, fault_of, is_between, is_within_packet, limit_of, offer_of, wants_input}
 use Rattle.git_msg.specs.declared.streams.RequestStream.{RequestStream}
 use Rattle.git_msg.specs.declared.streams.Stage.{Stage}
-use Rattle.git_msg.specs.declared.streams.Stage.TheVariants.{Between, Within, Stopped, Failed}
+use Rattle.git_msg.specs.declared.streams.Stage.TheVariants.{Between, Stopped, Failed}
 use Rattle.git_msg.proofs.StreamEnds.{nothing_left}
 use Rattle.git_msg.proofs.StreamSteps.{left_begins}
 
 -- only one stage is before a request
 between_requests : (stage : Stage) → stage_is_between stage ≡ true → stage ≡ Between
 between_requests Between is = refl
-between_requests Within is = absurd (cc)
-between_requests Stopped is = absurd (cc)
-between_requests (Failed fault) is = absurd (cc)
+between_requests stage is = absurd (cc)
 
 -- in that stage it reads on
 pub reads_between : (stage : Stage) → stage_is_between stage ≡ true → takes_bytes stage ≡ true
 reads_between Between is = refl
-reads_between Within is = absurd (cc)
-reads_between Stopped is = absurd (cc)
-reads_between (Failed fault) is = absurd (cc)
+reads_between stage is = absurd (cc)
 
 -- a stage that reads no further, with no fault: what is left is a flush alone
 left_stopped : (offer : Offer) (limit : ℕ) (left : List Given) (rest : List ℕ) (end : ℕ) (stage : Stage)
     → takes_bytes stage ≡ false → fault_in stage ≡ None → IsLeftIn stage offer limit left rest end → IsStop left × (rest ≡ [])
-left_stopped offer limit left rest end Between quiet sound h = absurd (cc)
-left_stopped offer limit left rest end Within quiet sound h = absurd (cc)
 left_stopped offer limit left rest end Stopped quiet sound h = h
-left_stopped offer limit left rest end (Failed fault) quiet sound h = absurd (cc)
+left_stopped offer limit left rest end stage quiet sound h = absurd (cc)
 
 -- a stage with a fault: what is left is refused by it
 left_refused : (offer : Offer) (limit : ℕ) (left : List Given) (rest : List ℕ) (end : ℕ) (fault : Fault) (stage : Stage)
     → fault_in stage ≡ Some fault → IsLeftIn stage offer limit left rest end → IsRefusedAs offer limit left rest end fault
-left_refused offer limit left rest end fault Between told h = absurd (cc)
-left_refused offer limit left rest end fault Within told h = absurd (cc)
-left_refused offer limit left rest end fault Stopped told h = absurd (cc)
 left_refused offer limit left rest end fault (Failed other) told h =
     subst (IsRefusedAs offer limit left rest end) (let same : other ≡ fault = cc in same) h
+left_refused offer limit left rest end fault stage told h = absurd (cc)
 
 module _ {A : Type 0} {used : List ℕ} {asked : List Asked} {s : RequestStream A} (h : HasRead used asked s) where
   -- what was used is whole requests, and what is left
@@ -62,7 +54,7 @@ module _ {A : Type 0} {used : List ℕ} {asked : List Asked} {s : RequestStream 
   pub nothing_begun : is_between s ≡ true → is_within_packet s ≡ false → (h.left ≡ []) × (h.rest ≡ [])
   nothing_begun is shut = nothing_left s (between_requests s.stage is) (h.onward (reads_between s.stage is)).sound shut h
 
-  -- after a flush in the place of a request, that flush is left
+  -- after a flush instead of a request, that flush is left
   pub stopped_at : wants_input s ≡ false → fault_of s ≡ None → IsStop h.left × (h.rest ≡ [])
   stopped_at quiet sound = left_stopped (offer_of s) (limit_of s) h.left h.rest (length used) s.stage quiet sound h.left_is
 

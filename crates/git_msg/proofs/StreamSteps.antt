@@ -75,7 +75,7 @@ pub left_begins : (offer : Offer) (limit : ℕ) (left : List Given) (rest : List
 left_begins offer limit left rest end = reading (λ (s : Stage). IsLeftIn s offer limit left rest end → AreBegun offer limit left)
     (λ none. subst (AreBegun offer limit) (sym none) ([], tt)) (λ (some, begun). begun)
 
--- and the bytes behind it have no part in it
+-- and the bytes after it have no part in it
 pub left_stays : (offer : Offer) (limit : ℕ) (left : List Given) (rest later : List ℕ) (end further : ℕ) (stage : Stage)
     → takes_bytes stage ≡ true → IsLeftIn stage offer limit left rest end → IsLeftIn stage offer limit left later further
 left_stays offer limit left rest later end further =
@@ -102,10 +102,8 @@ module _ {A : Type 0} where
   taken_behind old new g (Failed fault) brings on (left, takes) = absurd (cc)
 
   within_limit : (got : ReadGot A) (new : RequestReader A) → IsWithin got new → kept_so_far new ≤ limit_in new
-  within_limit More new h = h
   within_limit (Request request) new h = omega (arith, h.2)
-  within_limit Stop new h = h
-  within_limit (Failed fault) new h = h
+  within_limit got new h = h
 
   module _ (old : RequestStream A) (new : RequestReader A) (g : Given) (got : ReadGot A) (stage : Stage)
       (wants : wants_input old ≡ true) (brings : Brings old.requests g got new) (stage_is : stage ≡ stage_brought got) where
@@ -137,7 +135,7 @@ module _ {A : Type 0} where
 
 module _ {A : Type 0} (old new : RequestStream A) (g : Given) (used : ℕ) (piece : List ℕ) (wants : wants_input old ≡ true) (some : 0 < used)
     (shut : is_open new.packets ≡ false) where
-  -- how a reader of bytes stands after a packet
+  -- how a reader of bytes is left after a packet
   pub packet_leaves : (got : ReadGot A) → Brings old.requests g got new.requests → new.stage ≡ stage_brought got → StepLeaves got used piece old new
   packet_leaves More brings is = (some, ap takes_bytes is)
   packet_leaves (Request request) brings is = (
@@ -170,7 +168,7 @@ module _ {A : Type 0} (old new : RequestStream A) (u : List ℕ) (wants : wants_
   begun_before : AreBegun (offer_of new) (limit_of new) h.left
   begun_before = left_begins (offer_of new) (limit_of new) h.left h.rest (length used) old.stage wants left_before
 
-  -- all that was read, in the stage that was come to
+  -- all that was read, in the stage that was reached
   has_read : (packets left : List Given) (rest : List ℕ) (now : List Asked) (stage : Stage) → new.stage ≡ stage
       → Reads new.packets 0 (used ++ u) packets rest → AreRequests (IsOne (offer_of new) (limit_of new)) packets now left
       → IsLeftIn stage (offer_of new) (limit_of new) left rest (length (used ++ u)) → (takes_bytes stage ≡ true → Takes left new.requests)
@@ -337,7 +335,7 @@ module _ {A : Type 0} (old mid new : RequestStream A) (piece : List ℕ) (done :
         one_more = λ too_long. omega (arith, shown.one_more too_long, ap length (left_of piece done within), length-drop done piece);
       }
 
--- how a reader stands after a step that is the last of a call
+-- how a reader is left after a step that is the last of a call
 pub leaves_further : {A : Type 0} (old mid new : RequestStream A) (piece rest : List ℕ) (done more : ℕ) (got : ReadGot A) → got ≢ More
     → StepLeaves got more rest mid new → Leaves got (done + more) piece old new
 leaves_further old mid new piece rest done more More other leaves = absurd (other refl)

@@ -21,7 +21,7 @@ use Rattle.git_msg.specs.RequestReader.{fault_in, is_waiting, waits_in, limit_in
 use Rattle.git_msg.specs.RequestReaderSteps.{InLines, Advances, Offers, Completes, Leaves, Goes, LeavesStep, StepsOn}
 use Rattle.git_msg.proofs.LineLists.{lines_snoc}
 
--- the packets are lines, after which the reader stands in its part
+-- the packets are lines, after which the reader is in its part
 record Stood {A : Type 0} (packets : List Given) (r : RequestReader A) : Type 0 where
   lines : List Line
   taken : AreLines r.offer (limit_in r) [] packets lines
@@ -160,9 +160,7 @@ some_is_not_none old f sound told = cc
 
 leaves_taken : {A : Type 0} (taken : Taken A) (new : RequestReader A) → LeavesStep (Ok taken) new → LeavesTaken (Ok taken) new
 leaves_taken More new h = h
-leaves_taken (TakenArgument a) new h = h
-leaves_taken (TakenRequest q) new h = h
-leaves_taken Stop new h = h
+leaves_taken taken new h = h
 
 -- a step that brings something
 pub takes_ok : {A : Type 0} (old new : RequestReader A) (p : Pkt) (offset : ℕ) (taken : Taken A)

@@ -1,5 +1,5 @@
 -- The parts of a text between bytes of one value.
-use Rattle.std.proofs.Common.{arith, ◌≡◌, ℕ, ◌+◌, ◌-◌, ◌<◌, ◌≤◌, ◌==◌, Bool, true, false, Some, None, List, [], ◌∷◌, ◌++◌, refl, ap, sym, ◌∙◌}
+use Rattle.std.proofs.Common.{arith, ◌≡◌, ◌≢◌, Option, ℕ, ◌+◌, ◌-◌, ◌<◌, ◌≤◌, ◌==◌, Bool, true, false, Some, None, List, [], ◌∷◌, ◌++◌, refl, ap, sym, ◌∙◌}
 use Rattle.std.proofs.Common.{length, take, drop, get_or, add-one, drop-cons, length-append, suc}
 use Rattle.std.specs.Prelude.{All, position, nat_lt, if◌then◌else◌}
 use Rattle.std.specs.List.{position_or_len}
@@ -8,12 +8,12 @@ use Rattle.std.proofs.lemmas.Bool.Decides.{nat_tests}
 use Rattle.std.proofs.Math.Seq.{get_or-append_seam}
 use Rattle.std.proofs.lemmas.List.{take-append-drop}
 use Rattle.std.proofs.lemmas.List.Elements.{All-from_get_or}
-use Rattle.std.proofs.lemmas.List.Sums.{fails_before_first}
+use Rattle.std.proofs.lemmas.List.Sums.{fails_before_first, position_or_len_is}
 use Rattle.std.proofs.lemmas.List.Quantifiers.{position-Some}
 use Rattle.std.proofs.lemmas.List.Splits.{slice_split_at, slice_split_none}
 use Rattle.git_pkt.proofs.Pieces.{left_of}
 use Rattle.git_names.specs.RefName.{Lacks}
-use Rattle.git_msg.specs.Texts.{parts_of, IsPartedAt}
+use Rattle.git_msg.specs.Texts.{parts_of, IsCutAt, IsPartedAt}
 pub use Rattle.git_msg.specs.Texts.{bytes_left}
 
 front_byte : (text : List ℕ) (at k : ℕ) → k < length (take at text) → get_or (take at text) k 0 ≡ get_or text k 0
@@ -72,7 +72,7 @@ parted_at byte text at e =
 pub no_such_byte : (byte : ℕ) (text : List ℕ) → position (λ c. c == byte) text ≡ None → Lacks text byte
 no_such_byte byte text e k within same = other_byte (get_or text k 0) byte (position_in (λ c. c == byte) text e k within) same
 
--- the byte that parts a text stands in it
+-- the byte that parts a text is in it
 pub parted_has_byte : (byte : ℕ) (text before after : List ℕ) → IsPartedAt byte text before after → Lacks text byte → ⊥
 parted_has_byte byte text before after h lacks =
     let long = ap length h.spelled ∙ length-append before (byte ∷ after) in
@@ -81,7 +81,7 @@ parted_has_byte byte text before after h lacks =
 lacks_rest : (c byte : ℕ) (text : List ℕ) → Lacks (c ∷ text) byte → Lacks text byte
 lacks_rest c byte text h k within = h (suc k) (omega arith)
 
--- two bytes of this value, each the first, stand at one place
+-- two bytes of this value, each the first, are at one place
 same_parting : (byte : ℕ) (before other after rest : List ℕ) → Lacks before byte → Lacks other byte → before ++ byte ∷ after ≡ other ++ byte ∷ rest
     → (before ≡ other) × (after ≡ rest)
 same_parting byte [] [] after rest h k e = (refl, cc)
@@ -97,3 +97,32 @@ same_parting byte (c ∷ before) (d ∷ other) after rest h k e =
 pub one_parting : (byte : ℕ) (text before other after rest : List ℕ) → IsPartedAt byte text before after → IsPartedAt byte text other rest
     → (before ≡ other) × (after ≡ rest)
 one_parting byte text before other after rest h k = same_parting byte before other after rest h.first k.first (sym h.spelled ∙ k.spelled)
+
+-- a text is cut at one place
+pub one_cut : (byte : ℕ) (text before other : List ℕ) (after rest : Option (List ℕ))
+    → IsCutAt byte text before after → IsCutAt byte text other rest → (before ≡ other) × (after ≡ rest)
+one_cut byte text before other None None h k = (h.0 ∙ sym k.0, refl)
+one_cut byte text before other None (Some rest) h k = absurd (parted_has_byte byte text other rest k h.1)
+one_cut byte text before other (Some after) None h k = absurd (parted_has_byte byte text before after h k.1)
+one_cut byte text before other (Some after) (Some rest) h k =
+    let same = one_parting byte text before other after rest h k in
+    (same.0, ap (λ (xs : List ℕ). Some xs) same.1)
+
+pub another_byte : (c byte : ℕ) → c ≢ byte → (c == byte) ≡ false
+another_byte c byte h = grind (arith, nat_tests)
+
+-- that place is the first that has the byte
+pub cut_place : (byte : ℕ) (text before : List ℕ) (after : Option (List ℕ)) → IsCutAt byte text before after
+    → position_or_len (λ c. c == byte) text ≡ length before
+cut_place byte text before None (whole, lacks) =
+    position_or_len_is (λ c. c == byte) text (length text) 0 (omega arith)
+    (λ k within. another_byte (get_or text k 0) byte (lacks k within)) (λ below. absurd (omega (arith, below)))
+    ∙ ap length (sym whole)
+cut_place byte text before (Some after) h =
+    let seam : get_or text (length before) 0 ≡ byte =
+    ap (λ (xs : List ℕ). get_or xs (length before) 0) h.spelled ∙ get_or-append_seam before byte after 0 in
+    position_or_len_is (λ c. c == byte) text (length before) 0 (omega (arith, ap length h.spelled, length-append before (byte ∷ after)))
+    (λ k within. another_byte (get_or text k 0) byte (λ same. h.first k within (sym (front_of k within) ∙ same)))
+    (λ below. rw seam (grind (arith, nat_tests))) where
+      front_of : (k : ℕ) → k < length before → get_or text k 0 ≡ get_or before k 0
+      front_of k within = ap (λ (xs : List ℕ). get_or xs k 0) h.spelled ∙ grind (arith, common_steps)

@@ -5,39 +5,28 @@ use Rattle.git_pkt.specs.declared.fault.Kind.{Kind}
 use Rattle.git_pkt.specs.declared.fault.Kind.TheVariants.{TooMuchKept}
 use Rattle.git_msg.specs.declared.arguments.Command.{Command}
 use Rattle.git_msg.specs.declared.requests.Request.{Request}
-use Rattle.git_msg.specs.Arguments.{Arg, ref_prefix, want, have, shallow, deepen, deepen_since, deepen_not, want_ref, object_id, filter_spec}
-use Rattle.git_msg.specs.Arguments.{IsInRange, IsOutOfRange}
+use Rattle.git_msg.specs.Arguments.{Shape, object_name, depth_number, time_number, prefix_text, kept_text, reference_name, row, MayFollow, MayNotFollow}
+use Rattle.git_msg.specs.Arguments.{Arg, Value, id_value, number_value, text_value, IsInRange, IsOutOfRange}
 use Rattle.git_msg.specs.Arguments.{IsValue, IsValueFault, written_text}
 use Rattle.git_msg.specs.Checks.{Passes, Refuses}
 use Rattle.git_msg.specs.HeldRequest.{add_checks, kept_of, limit_of, command_of, format_of}
 use Rattle.git_msg.proofs.CheckLaws.{AllFair, passes_or_refuses, one_name, fair_check}
 use Rattle.git_msg.proofs.Rows.{kept_text_or_none}
 
-range_apart : (format : Format) (arg : Arg) (kind : Kind) → IsInRange format arg → IsOutOfRange format arg kind → ⊥
-range_apart format (ref_prefix p) kind h fault = let over = fault.0 in omega arith
-range_apart format (want id) kind h fault = fault.0 h.of_format
-range_apart format (have id) kind h fault = fault.0 h.of_format
-range_apart format (shallow id) kind h fault = fault.0 h.of_format
-range_apart format (deepen depth) kind h fault = fault.0 h
-range_apart format (deepen_since time) kind h fault = fault.0 h
-range_apart format (deepen_not revision) kind h fault = kept_text_or_none revision h fault.0
-range_apart format (filter_spec spec) kind h fault = kept_text_or_none spec h fault.0
-range_apart format (want_ref name) kind h fault = fault.0 h
-range_apart format (object_id id) kind h fault = fault.0 h.of_format
-range_apart format arg kind h fault = fault
+follows_or_not : (shape : Shape) (format : Format) (value : Value) → MayFollow shape format value → MayNotFollow shape format value → ⊥
+follows_or_not object_name format (id_value id) h k = k h.of_format
+follows_or_not depth_number format (number_value depth) h k = k h
+follows_or_not time_number format (number_value time) h k = k h
+follows_or_not prefix_text format (text_value prefix) h k = omega arith
+follows_or_not kept_text format (text_value kept) h k = kept_text_or_none kept h k
+follows_or_not reference_name format (text_value name) h k = k h
+follows_or_not shape format value h k = k
+
+pub range_apart : (format : Format) (arg : Arg) (kind : Kind) → IsInRange format arg → IsOutOfRange format arg kind → ⊥
+range_apart format arg kind h fault = follows_or_not (row arg.word).shape format arg.value h fault.0
 
 range_single : (format : Format) (arg : Arg) (kind other : Kind) → IsOutOfRange format arg kind → IsOutOfRange format arg other → kind ≡ other
-range_single format (ref_prefix p) kind other h k = h.1 ∙ sym k.1
-range_single format (want id) kind other h k = h.1 ∙ sym k.1
-range_single format (have id) kind other h k = h.1 ∙ sym k.1
-range_single format (shallow id) kind other h k = h.1 ∙ sym k.1
-range_single format (deepen depth) kind other h k = h.1 ∙ sym k.1
-range_single format (deepen_since time) kind other h k = h.1 ∙ sym k.1
-range_single format (deepen_not revision) kind other h k = h.1 ∙ sym k.1
-range_single format (filter_spec spec) kind other h k = h.1 ∙ sym k.1
-range_single format (want_ref name) kind other h k = h.1 ∙ sym k.1
-range_single format (object_id id) kind other h k = h.1 ∙ sym k.1
-range_single format arg kind other h k = absurd h
+range_single format arg kind other h k = h.1 ∙ sym k.1
 
 value_apart : (c : Command) (format : Format) (arg : Arg) (kind : Kind) → IsValue c format arg → IsValueFault c format arg kind → ⊥
 value_apart c format arg kind h (inl fault) = fault.0 h.0

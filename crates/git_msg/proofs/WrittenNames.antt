@@ -1,4 +1,4 @@
--- How long the written forms of object names are, and what they say.
+-- How long the written forms of object names are, and what they mean.
 use Rattle.std.proofs.Common.{arith, ◌≡◌, ℕ, ◌≤◌, List, length, subst}
 use Rattle.git_names.specs.ObjectFormat.{digits_of}
 use Rattle.git_names.specs.ObjectName.{ObjectName, IsObjectName, hex_of}

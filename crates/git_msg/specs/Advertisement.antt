@@ -1,5 +1,5 @@
--- What the lines of a capability advertisement say, all of them together.
-use Rattle.std.specs.Prelude.{ℕ, ◌==◌, Bool, true, not, ◌&&◌, ◌||◌, List, [], codes}
+-- What the lines of a capability advertisement contain, all of them together.
+use Rattle.std.specs.Prelude.{ℕ, ◌==◌, Bool, true, false, not, ◌&&◌, ◌||◌, List, [], codes}
 use Rattle.std.specs.List.{list_any, before_first, after_first}
 use Rattle.std.specs.Str.{bytes_eq}
 use Rattle.git_names.specs.declared.object_format.Format.{Format}
@@ -24,35 +24,57 @@ key_of line = before_first (λ c. c == 61) line
 abbrev pub value_of : List ℕ → List ℕ
 value_of line = after_first (λ c. c == 61) line
 
--- the packet's line has this key
-abbrev pub has_key : List ℕ → Pkt → Bool
-has_key key p = bytes_eq (key_of (text_in p)) key
+-- the key of a packet's line, and its value
+abbrev pub key_in : Pkt → List ℕ
+key_in p = key_of (text_in p)
 
--- the packet's line has this key and this value
-abbrev pub has_value : List ℕ → List ℕ → Pkt → Bool
-has_value key value p = has_key key p && bytes_eq (value_of (text_in p)) value
+abbrev pub value_in : Pkt → List ℕ
+value_in p = value_of (text_in p)
 
--- the packet's line has this key, and this word in its value
-abbrev pub has_word : List ℕ → List ℕ → Pkt → Bool
-has_word key word p = has_key key p && list_any (λ w. bytes_eq w word) (spaced_words (value_of (text_in p)))
+-- A test of a capability line is one of its key, its value and the words of its value.
+
+-- the line has this key
+abbrev pub has_key : List ℕ → List ℕ → List ℕ → List (List ℕ) → Bool
+has_key wanted key value words = bytes_eq key wanted
+
+-- the line has this key and this value
+abbrev pub has_value : List ℕ → List ℕ → List ℕ → List ℕ → List (List ℕ) → Bool
+has_value of wanted key value words = bytes_eq key of && bytes_eq value wanted
+
+-- the line has this key, and this word in its value
+abbrev pub has_word : List ℕ → List ℕ → List ℕ → List ℕ → List (List ℕ) → Bool
+has_word of wanted key value words = bytes_eq key of && list_any (λ w. bytes_eq w wanted) words
+
+-- what is noted of each thing, by its flag and whether some line passes its test. This is the table of all keys, and of the
+-- features of each command
+abbrev pub noted_by : ((List ℕ → List ℕ → List (List ℕ) → Bool) → Bool) → ((Caps → Bool) → Bool → Bool) → Caps
+noted_by some_line noted = record {
+  agent = noted (λ caps. caps.agent) (some_line (has_key (codes "agent")));
+  ls_refs = noted (λ caps. caps.ls_refs) (some_line (has_key (codes "ls-refs")));
+  unborn = noted (λ caps. caps.unborn) (some_line (has_word (codes "ls-refs") (codes "unborn")));
+  fetch = noted (λ caps. caps.fetch) (some_line (has_key (codes "fetch")));
+  shallow = noted (λ caps. caps.shallow) (some_line (has_word (codes "fetch") (codes "shallow")));
+  ref_in_want = noted (λ caps. caps.ref_in_want) (some_line (has_word (codes "fetch") (codes "ref-in-want")));
+  wait_for_done = noted (λ caps. caps.wait_for_done) (some_line (has_word (codes "fetch") (codes "wait-for-done")));
+  filter = noted (λ caps. caps.filter) (some_line (has_word (codes "fetch") (codes "filter")));
+  server_option = noted (λ caps. caps.server_option) (some_line (has_key (codes "server-option")));
+  object_info = noted (λ caps. caps.object_info) (some_line (has_key (codes "object-info")));
+  object_format = noted (λ caps. caps.object_format) (some_line (has_key (codes "object-format")));
+  sha1 = noted (λ caps. caps.sha1) (some_line (has_value (codes "object-format") (codes "sha1")));
+  sha256 = noted (λ caps. caps.sha256) (some_line (has_value (codes "object-format") (codes "sha256")));
+}
 
 -- what an advertisement of these packets notes: each thing that some line of it names
 abbrev pub noted_of : List Pkt → Caps
-noted_of packets = record {
-  agent = list_any (has_key (codes "agent")) packets;
-  ls_refs = list_any (has_key (codes "ls-refs")) packets;
-  unborn = list_any (has_word (codes "ls-refs") (codes "unborn")) packets;
-  fetch = list_any (has_key (codes "fetch")) packets;
-  shallow = list_any (has_word (codes "fetch") (codes "shallow")) packets;
-  ref_in_want = list_any (has_word (codes "fetch") (codes "ref-in-want")) packets;
-  wait_for_done = list_any (has_word (codes "fetch") (codes "wait-for-done")) packets;
-  filter = list_any (has_word (codes "fetch") (codes "filter")) packets;
-  server_option = list_any (has_key (codes "server-option")) packets;
-  object_info = list_any (has_key (codes "object-info")) packets;
-  object_format = list_any (has_key (codes "object-format")) packets;
-  sha1 = list_any (has_value (codes "object-format") (codes "sha1")) packets;
-  sha256 = list_any (has_value (codes "object-format") (codes "sha256")) packets;
-}
+noted_of packets = noted_by (λ passes. list_any (λ p. passes (key_in p) (value_in p) (spaced_words (value_in p))) packets) (λ flag named. named)
+
+-- what is noted when a line comes too that has this key, this value and these words in it
+abbrev pub noted_after : Caps → List ℕ → List ℕ → List (List ℕ) → Caps
+noted_after caps key value words = noted_by (λ passes. passes key value words) (λ flag named. named || flag caps)
+
+-- what is noted when a line with this key and value comes too
+abbrev pub noted_with : Caps → List ℕ → List ℕ → Caps
+noted_with caps key value = noted_after caps key value (spaced_words value)
 
 -- object names of this format are spoken: a line names the format, or none names any and it is SHA-1
 abbrev pub is_spoken : Caps → Format → Bool
@@ -70,50 +92,27 @@ abbrev pub takes_command : Offer → Command → Bool
 takes_command offer ObjectInfo = offer.object_info
 takes_command offer command = true
 
+-- the offer of each thing whose flag, where it is noted, passes
+abbrev pub offer_where : ((Caps → Bool) → Bool) → Format → Offer
+offer_where passes format = record {
+  format = format;
+  unborn = passes (λ caps. caps.unborn);
+  shallow = passes (λ caps. caps.shallow);
+  ref_in_want = passes (λ caps. caps.ref_in_want);
+  wait_for_done = passes (λ caps. caps.wait_for_done);
+  filter = passes (λ caps. caps.filter);
+  object_info = passes (λ caps. caps.object_info);
+  server_option = passes (λ caps. caps.server_option);
+}
+
 -- what is offered by one who offers everything
 abbrev pub everything : Format → Offer
-everything format = record {
-  format = format;
-  unborn = true;
-  shallow = true;
-  ref_in_want = true;
-  wait_for_done = true;
-  filter = true;
-  object_info = true;
-  server_option = true;
-}
+everything = offer_where (λ flag. true)
+
+-- what is offered by one who offers no feature
+abbrev pub nothing : Format → Offer
+nothing = offer_where (λ flag. false)
 
 -- what is offered to a side that speaks this format
 abbrev pub noted_offer : Caps → Format → Offer
-noted_offer caps format = record {
-  format = format;
-  unborn = caps.unborn;
-  shallow = caps.shallow;
-  ref_in_want = caps.ref_in_want;
-  wait_for_done = caps.wait_for_done;
-  filter = caps.filter;
-  object_info = caps.object_info;
-  server_option = caps.server_option;
-}
-
--- a line with this key and value names the word, which is one of the key `of`
-abbrev pub names_word : List ℕ → List ℕ → List ℕ → List ℕ → Bool
-names_word of word key value = bytes_eq key of && list_any (λ w. bytes_eq w word) (spaced_words value)
-
--- what is noted when a line with this key and value comes too
-abbrev pub noted_with : Caps → List ℕ → List ℕ → Caps
-noted_with caps key value = record {
-  agent = bytes_eq key (codes "agent") || caps.agent;
-  ls_refs = bytes_eq key (codes "ls-refs") || caps.ls_refs;
-  unborn = names_word (codes "ls-refs") (codes "unborn") key value || caps.unborn;
-  fetch = bytes_eq key (codes "fetch") || caps.fetch;
-  shallow = names_word (codes "fetch") (codes "shallow") key value || caps.shallow;
-  ref_in_want = names_word (codes "fetch") (codes "ref-in-want") key value || caps.ref_in_want;
-  wait_for_done = names_word (codes "fetch") (codes "wait-for-done") key value || caps.wait_for_done;
-  filter = names_word (codes "fetch") (codes "filter") key value || caps.filter;
-  server_option = bytes_eq key (codes "server-option") || caps.server_option;
-  object_info = bytes_eq key (codes "object-info") || caps.object_info;
-  object_format = bytes_eq key (codes "object-format") || caps.object_format;
-  sha1 = bytes_eq key (codes "object-format") && bytes_eq value (codes "sha1") || caps.sha1;
-  sha256 = bytes_eq key (codes "object-format") && bytes_eq value (codes "sha256") || caps.sha256;
-}
+noted_offer caps = offer_where (λ flag. flag caps)

@@ -1,99 +1,48 @@
 -- What requests ask for: their arguments by kind, and as a list in the order in which they are written.
-use Rattle.std.specs.Prelude.{◌≡◌, ◌⊎◌, ◌<◌, ◌+◌, ℕ, Bool, true, false, not, ◌&&◌, ◌||◌, List, [], ◌∷◌, ◌++◌, Option, Some, None, All, length, map, sum_by}
+use Rattle.std.specs.Prelude.{◌≡◌, ◌⊎◌, ◌<◌, ◌+◌, ℕ, Bool, true, false, not, ◌&&◌, ◌||◌, List, [], ◌∷◌, ◌++◌, Option, Some, None, All}
+use Rattle.std.specs.Prelude.{length, map, sum_by, if◌then◌else◌}
 use Rattle.std.specs.List.{list_any, filter_map}
+use Rattle.std.specs.Str.{bytes_eq}
 use Rattle.git_names.specs.ObjectName.{ObjectName}
 use Rattle.git_names.specs.declared.object_format.Format.{Format}
 use Rattle.git_msg.specs.declared.offers.Offer.{Offer}
 use Rattle.git_msg.specs.declared.arguments.Command.{Command}
 use Rattle.git_msg.specs.declared.arguments.Command.TheVariants.{LsRefs, Fetch, ObjectInfo}
-use Rattle.git_msg.specs.Arguments.{Arg, symrefs, peel, ref_prefix, want, have, done, thin_pack, no_progress, include_tag, ofs_delta}
+use Rattle.git_msg.specs.Arguments.{Word, symrefs, peel, ref_prefix, want, have, done, thin_pack, no_progress, include_tag, ofs_delta}
 use Rattle.git_msg.specs.Arguments.{shallow, deepen, deepen_relative, deepen_since, deepen_not, want_ref, size, object_id, unborn, wait_for_done, filter_spec}
+use Rattle.git_msg.specs.Arguments.{Arg, Value, alone, with_id, with_number, with_text, id_value, number_value, text_value, row}
 use Rattle.git_msg.specs.Arguments.{IsValue, is_offered, written_text}
 use Rattle.git_msg.specs.Texts.{last_of}
 
-abbrev pub is_symrefs : Arg → Bool
-is_symrefs symrefs = true
-is_symrefs _ = false
+-- whether two words are one
+abbrev pub is_word : Word → Word → Bool
+is_word word other = bytes_eq (row word).keyword (row other).keyword
 
-abbrev pub is_peel : Arg → Bool
-is_peel peel = true
-is_peel _ = false
+-- whether the argument is of the word
+abbrev pub is_of : Word → Arg → Bool
+is_of word arg = is_word word arg.word
 
-abbrev pub is_unborn : Arg → Bool
-is_unborn unborn = true
-is_unborn _ = false
+abbrev pub id_of : Value → Option ObjectName
+id_of (id_value id) = Some id
+id_of _ = None
 
-abbrev pub prefix_in : Arg → Option (List ℕ)
-prefix_in (ref_prefix prefix) = Some prefix
-prefix_in _ = None
+abbrev pub number_of : Value → Option ℕ
+number_of (number_value number) = Some number
+number_of _ = None
 
-abbrev pub want_in : Arg → Option ObjectName
-want_in (want id) = Some id
-want_in _ = None
+abbrev pub text_of : Value → Option (List ℕ)
+text_of (text_value text) = Some text
+text_of _ = None
 
-abbrev pub have_in : Arg → Option ObjectName
-have_in (have id) = Some id
-have_in _ = None
+-- the argument's value, where it is of the word
+abbrev pub id_in : Word → Arg → Option ObjectName
+id_in word arg = if is_of word arg then id_of arg.value else None
 
-abbrev pub is_done : Arg → Bool
-is_done done = true
-is_done _ = false
+abbrev pub number_in : Word → Arg → Option ℕ
+number_in word arg = if is_of word arg then number_of arg.value else None
 
-abbrev pub is_thin_pack : Arg → Bool
-is_thin_pack thin_pack = true
-is_thin_pack _ = false
-
-abbrev pub is_no_progress : Arg → Bool
-is_no_progress no_progress = true
-is_no_progress _ = false
-
-abbrev pub is_include_tag : Arg → Bool
-is_include_tag include_tag = true
-is_include_tag _ = false
-
-abbrev pub is_ofs_delta : Arg → Bool
-is_ofs_delta ofs_delta = true
-is_ofs_delta _ = false
-
-abbrev pub is_wait_for_done : Arg → Bool
-is_wait_for_done wait_for_done = true
-is_wait_for_done _ = false
-
-abbrev pub filter_in : Arg → Option (List ℕ)
-filter_in (filter_spec spec) = Some spec
-filter_in _ = None
-
-abbrev pub shallow_in : Arg → Option ObjectName
-shallow_in (shallow id) = Some id
-shallow_in _ = None
-
-abbrev pub deepen_in : Arg → Option ℕ
-deepen_in (deepen depth) = Some depth
-deepen_in _ = None
-
-abbrev pub is_deepen_relative : Arg → Bool
-is_deepen_relative deepen_relative = true
-is_deepen_relative _ = false
-
-abbrev pub deepen_since_in : Arg → Option ℕ
-deepen_since_in (deepen_since time) = Some time
-deepen_since_in _ = None
-
-abbrev pub deepen_not_in : Arg → Option (List ℕ)
-deepen_not_in (deepen_not revision) = Some revision
-deepen_not_in _ = None
-
-abbrev pub want_ref_in : Arg → Option (List ℕ)
-want_ref_in (want_ref name) = Some name
-want_ref_in _ = None
-
-abbrev pub is_size : Arg → Bool
-is_size size = true
-is_size _ = false
-
-abbrev pub object_id_in : Arg → Option ObjectName
-object_id_in (object_id id) = Some id
-object_id_in _ = None
+abbrev pub text_in : Word → Arg → Option (List ℕ)
+text_in word arg = if is_of word arg then text_of arg.value else None
 
 -- what an ls-refs request asks for: the flags, and the prefixes in their order
 pub record LsRefsAsked : Type 0 where
@@ -137,88 +86,88 @@ command_asked (ls_refs q) = LsRefs
 command_asked (fetch q) = Fetch
 command_asked (object_info q) = ObjectInfo
 
+-- what the arguments ask for: each list is the values of its kind in their order, and a flag is set where one sets it
+abbrev pub ls_refs_by : List Arg → LsRefsAsked
+ls_refs_by args = record {
+  symrefs = list_any (is_of symrefs) args;
+  peel = list_any (is_of peel) args;
+  unborn = list_any (is_of unborn) args;
+  ref_prefixes = filter_map (text_in ref_prefix) args;
+}
+
+abbrev pub fetch_by : List Arg → FetchAsked
+fetch_by args = record {
+  wants = filter_map (id_in want) args;
+  haves = filter_map (id_in have) args;
+  done = list_any (is_of done) args;
+  thin_pack = list_any (is_of thin_pack) args;
+  no_progress = list_any (is_of no_progress) args;
+  include_tag = list_any (is_of include_tag) args;
+  ofs_delta = list_any (is_of ofs_delta) args;
+  wait_for_done = list_any (is_of wait_for_done) args;
+  filters = filter_map (text_in filter_spec) args;
+  shallows = filter_map (id_in shallow) args;
+  deepen = last_of (filter_map (number_in deepen) args);
+  deepen_relative = list_any (is_of deepen_relative) args;
+  deepen_since = last_of (filter_map (number_in deepen_since) args);
+  deepen_nots = filter_map (text_in deepen_not) args;
+  want_refs = filter_map (text_in want_ref) args;
+}
+
+abbrev pub object_info_by : List Arg → ObjectInfoAsked
+object_info_by args = record { size = list_any (is_of size) args; oids = filter_map (id_in object_id) args }
+
+abbrev pub asked_by : Command → List Arg → Asked
+asked_by LsRefs args = ls_refs (ls_refs_by args)
+asked_by Fetch args = fetch (fetch_by args)
+asked_by ObjectInfo args = object_info (object_info_by args)
+
 -- a request for nothing yet
 abbrev pub nothing_asked : Command → Asked
-nothing_asked LsRefs = ls_refs (record { symrefs = false; peel = false; unborn = false; ref_prefixes = [] })
-nothing_asked Fetch = fetch (record {
-  wants = [];
-  haves = [];
-  done = false;
-  thin_pack = false;
-  no_progress = false;
-  include_tag = false;
-  ofs_delta = false;
-  wait_for_done = false;
-  filters = [];
-  shallows = [];
-  deepen = None;
-  deepen_relative = false;
-  deepen_since = None;
-  deepen_nots = [];
-  want_refs = [];
-})
-nothing_asked ObjectInfo = object_info (record { size = false; oids = [] })
+nothing_asked command = asked_by command []
 
--- what the arguments ask for: each list is the values of its kind in their order, and a flag is set where one sets it
-abbrev pub asked_by : Command → List Arg → Asked
-asked_by LsRefs args =
-    ls_refs (record {
-      symrefs = list_any is_symrefs args;
-      peel = list_any is_peel args;
-      unborn = list_any is_unborn args;
-      ref_prefixes = filter_map prefix_in args;
-    })
-asked_by Fetch args = fetch (record {
-  wants = filter_map want_in args;
-  haves = filter_map have_in args;
-  done = list_any is_done args;
-  thin_pack = list_any is_thin_pack args;
-  no_progress = list_any is_no_progress args;
-  include_tag = list_any is_include_tag args;
-  ofs_delta = list_any is_ofs_delta args;
-  wait_for_done = list_any is_wait_for_done args;
-  filters = filter_map filter_in args;
-  shallows = filter_map shallow_in args;
-  deepen = last_of (filter_map deepen_in args);
-  deepen_relative = list_any is_deepen_relative args;
-  deepen_since = last_of (filter_map deepen_since_in args);
-  deepen_nots = filter_map deepen_not_in args;
-  want_refs = filter_map want_ref_in args;
-})
-asked_by ObjectInfo args = object_info (record { size = list_any is_size args; oids = filter_map object_id_in args })
+-- a list with a value after it, if there is one
+abbrev pub and_then : {X : Type 0} → List X → Option X → List X
+and_then xs None = xs
+and_then xs (Some x) = xs ++ x ∷ []
+
+-- of two values the later, where it is given
+abbrev pub later : {X : Type 0} → Option X → Option X → Option X
+later first None = first
+later first (Some x) = Some x
 
 -- what ls-refs is asked for with one more argument after the others; that of another command changes nothing
 abbrev pub with_ls_refs : LsRefsAsked → Arg → LsRefsAsked
-with_ls_refs q symrefs = record q { symrefs = true }
-with_ls_refs q peel = record q { peel = true }
-with_ls_refs q unborn = record q { unborn = true }
-with_ls_refs q (ref_prefix prefix) = record q { ref_prefixes = q.ref_prefixes ++ prefix ∷ [] }
-with_ls_refs q _ = q
+with_ls_refs q arg = record {
+  symrefs = is_of symrefs arg || q.symrefs;
+  peel = is_of peel arg || q.peel;
+  unborn = is_of unborn arg || q.unborn;
+  ref_prefixes = and_then q.ref_prefixes (text_in ref_prefix arg);
+}
 
 -- what fetch is asked for with one more argument after the others
 abbrev pub with_fetch : FetchAsked → Arg → FetchAsked
-with_fetch q (want id) = record q { wants = q.wants ++ id ∷ [] }
-with_fetch q (have id) = record q { haves = q.haves ++ id ∷ [] }
-with_fetch q done = record q { done = true }
-with_fetch q thin_pack = record q { thin_pack = true }
-with_fetch q no_progress = record q { no_progress = true }
-with_fetch q include_tag = record q { include_tag = true }
-with_fetch q ofs_delta = record q { ofs_delta = true }
-with_fetch q wait_for_done = record q { wait_for_done = true }
-with_fetch q (filter_spec spec) = record q { filters = q.filters ++ spec ∷ [] }
-with_fetch q (shallow id) = record q { shallows = q.shallows ++ id ∷ [] }
-with_fetch q (deepen depth) = record q { deepen = Some depth }
-with_fetch q deepen_relative = record q { deepen_relative = true }
-with_fetch q (deepen_since time) = record q { deepen_since = Some time }
-with_fetch q (deepen_not revision) = record q { deepen_nots = q.deepen_nots ++ revision ∷ [] }
-with_fetch q (want_ref name) = record q { want_refs = q.want_refs ++ name ∷ [] }
-with_fetch q _ = q
+with_fetch q arg = record {
+  wants = and_then q.wants (id_in want arg);
+  haves = and_then q.haves (id_in have arg);
+  done = is_of done arg || q.done;
+  thin_pack = is_of thin_pack arg || q.thin_pack;
+  no_progress = is_of no_progress arg || q.no_progress;
+  include_tag = is_of include_tag arg || q.include_tag;
+  ofs_delta = is_of ofs_delta arg || q.ofs_delta;
+  wait_for_done = is_of wait_for_done arg || q.wait_for_done;
+  filters = and_then q.filters (text_in filter_spec arg);
+  shallows = and_then q.shallows (id_in shallow arg);
+  deepen = later q.deepen (number_in deepen arg);
+  deepen_relative = is_of deepen_relative arg || q.deepen_relative;
+  deepen_since = later q.deepen_since (number_in deepen_since arg);
+  deepen_nots = and_then q.deepen_nots (text_in deepen_not arg);
+  want_refs = and_then q.want_refs (text_in want_ref arg);
+}
 
 -- what object-info is asked for with one more argument after the others
 abbrev pub with_object_info : ObjectInfoAsked → Arg → ObjectInfoAsked
-with_object_info q size = record q { size = true }
-with_object_info q (object_id id) = record q { oids = q.oids ++ id ∷ [] }
-with_object_info q _ = q
+with_object_info q arg = record { size = is_of size arg || q.size; oids = and_then q.oids (id_in object_id arg) }
 
 -- what is asked for with one more argument after the others
 abbrev pub with_argument : Asked → Arg → Asked
@@ -251,7 +200,7 @@ abbrev pub wants_of : Asked → List ObjectName
 wants_of (fetch q) = q.wants
 wants_of _ = []
 
--- the objects that a fetch request says the client has
+-- the objects that a client has, by the `have` lines of a fetch request
 abbrev pub haves_of : Asked → List ObjectName
 haves_of (fetch q) = q.haves
 haves_of _ = []
@@ -291,7 +240,7 @@ abbrev pub filters_of : Asked → List (List ℕ)
 filters_of (fetch q) = q.filters
 filters_of _ = []
 
--- the commits that a fetch request says are shallow at the client
+-- the commits that are shallow at the client, by the `shallow` lines of a fetch request
 abbrev pub shallows_of : Asked → List ObjectName
 shallows_of (fetch q) = q.shallows
 shallows_of _ = []
@@ -331,7 +280,7 @@ abbrev pub oids_of : Asked → List ObjectName
 oids_of (object_info q) = q.oids
 oids_of _ = []
 
--- whether a fetch request negotiates alone: it asks for no pack before it says that it is done, and does not say so
+-- whether a fetch request negotiates alone: it has `wait-for-done`, by which no pack is sent before `done`, and not `done`
 abbrev pub only_negotiates : FetchAsked → Bool
 only_negotiates q = q.wait_for_done && not q.done
 
@@ -353,37 +302,48 @@ abbrev pub has_deepen_conflict : FetchAsked → Bool
 has_deepen_conflict q = is_given q.deepen && (is_given q.deepen_since || not (is_empty q.deepen_nots))
 
 -- a flag's argument, where it is set
-abbrev pub where_asked : Bool → Arg → List Arg
-where_asked true arg = arg ∷ []
-where_asked false arg = []
+abbrev pub where_asked : Bool → Word → List Arg
+where_asked true word = alone word ∷ []
+where_asked false word = []
 
--- a value's argument, where it is given
-abbrev pub where_given : {X : Type 0} → (X → Arg) → Option X → List Arg
-where_given make None = []
-where_given make (Some x) = make x ∷ []
+-- a number's argument, where it is given
+abbrev pub where_given : Word → Option ℕ → List Arg
+where_given word None = []
+where_given word (Some number) = with_number word number ∷ []
+
+-- what comes one after the other, and then others
+abbrev pub joined : List (List Arg) → List Arg → List Arg
+joined [] others = others
+joined (args ∷ lists) others = args ++ joined lists others
 
 -- what a fetch wants and has, in the order in which it is written
+abbrev pub objects_in : FetchAsked → List (List Arg)
+objects_in q = map (with_id want) q.wants ∷ map (with_text want_ref) q.want_refs ∷ map (with_id have) q.haves ∷ []
+
 abbrev pub object_arguments : FetchAsked → List Arg
-object_arguments q = map want q.wants ++ (map want_ref q.want_refs ++ (map have q.haves ++ where_asked q.done done))
+object_arguments q = joined (objects_in q) (where_asked q.done done)
 
--- how a fetch cuts the history off, and then other arguments
-abbrev pub shallow_arguments : FetchAsked → List Arg → List Arg
-shallow_arguments q others =
-    map shallow q.shallows ++ (where_given deepen q.deepen ++ (where_given deepen_since q.deepen_since
-    ++ (map deepen_not q.deepen_nots ++ (where_asked q.deepen_relative deepen_relative ++ others))))
+-- how a fetch cuts the history off
+abbrev pub shallows_in : FetchAsked → List (List Arg)
+shallows_in q =
+    map (with_id shallow) q.shallows ∷ where_given deepen q.deepen ∷ where_given deepen_since q.deepen_since
+    ∷ map (with_text deepen_not) q.deepen_nots ∷ where_asked q.deepen_relative deepen_relative ∷ []
 
--- how the pack of a fetch is to be sent, and then other arguments
-abbrev pub pack_arguments : FetchAsked → List Arg → List Arg
-pack_arguments q others =
-    where_asked q.thin_pack thin_pack ++ (where_asked q.no_progress no_progress ++ (where_asked q.include_tag include_tag
-    ++ (where_asked q.ofs_delta ofs_delta ++ (where_asked q.wait_for_done wait_for_done ++ (map filter_spec q.filters ++ others)))))
+-- how the pack of a fetch is to be sent
+abbrev pub packs_in : FetchAsked → List (List Arg)
+packs_in q =
+    where_asked q.thin_pack thin_pack ∷ where_asked q.no_progress no_progress ∷ where_asked q.include_tag include_tag
+    ∷ where_asked q.ofs_delta ofs_delta ∷ where_asked q.wait_for_done wait_for_done ∷ map (with_text filter_spec) q.filters ∷ []
+
+-- the flags of an ls-refs request
+abbrev pub flags_in : LsRefsAsked → List (List Arg)
+flags_in q = where_asked q.peel peel ∷ where_asked q.symrefs symrefs ∷ where_asked q.unborn unborn ∷ []
 
 -- the arguments of a request, in the order in which they are written
 abbrev pub arguments_in : Asked → List Arg
-arguments_in (ls_refs q) =
-    where_asked q.peel peel ++ (where_asked q.symrefs symrefs ++ (where_asked q.unborn unborn ++ map ref_prefix q.ref_prefixes))
-arguments_in (fetch q) = pack_arguments q (shallow_arguments q (object_arguments q))
-arguments_in (object_info q) = where_asked q.size size ++ map object_id q.oids
+arguments_in (ls_refs q) = joined (flags_in q) (map (with_text ref_prefix) q.ref_prefixes)
+arguments_in (fetch q) = joined (packs_in q) (joined (shallows_in q) (object_arguments q))
+arguments_in (object_info q) = joined (where_asked q.size size ∷ []) (map (with_id object_id) q.oids)
 
 -- how many bytes the texts of the lines of these arguments have, as they are written
 abbrev pub bytes_of : List Arg → ℕ
@@ -393,7 +353,7 @@ bytes_of args = sum_by (λ arg. length (written_text arg)) args
 abbrev pub written_bytes : Asked → ℕ
 written_bytes asked = bytes_of (arguments_in asked)
 
--- each of the request's arguments may stand there, where its object names have this format
+-- each of the request's arguments is allowed there, where its object names have this format
 abbrev pub HasValues : Format → Asked → Type 0
 HasValues format asked = All (IsValue (command_asked asked) format) (arguments_in asked)
 

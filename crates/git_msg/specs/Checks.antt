@@ -1,4 +1,4 @@
--- The order of refusals, as a list of checks of which the first that fails tells.
+-- The order of refusals, as a list of checks of which the first that fails is the refusal.
 use Rattle.std.specs.Prelude.{◌≡◌, ◌⊎◌, List, [], ◌∷◌}
 use Rattle.git_pkt.specs.declared.fault.Kind.{Kind}
 

@@ -1,5 +1,8 @@
 -- The features of commands as an advertisement names them: a key, and where there are some their words after `=`, parted by single spaces.
 use Rattle.std.specs.Prelude.{ℕ, Bool, true, false, List, [], ◌∷◌, ◌++◌, Option, Some, None, codes}
+use Rattle.std.specs.List.{flat_map}
+use Rattle.git_msg.specs.declared.arguments.Command.{Command}
+use Rattle.git_msg.specs.declared.arguments.Command.TheVariants.{LsRefs, Fetch, ObjectInfo}
 use Rattle.git_msg.specs.declared.offers.Offer.{Offer}
 
 -- a word, where it is offered
@@ -7,15 +10,25 @@ abbrev pub where_offered : Bool → List ℕ → List (List ℕ)
 where_offered true word = word ∷ []
 where_offered false word = []
 
+-- of words, each with whether it is offered, those that are
+abbrev pub offered_words : List (Bool × List ℕ) → List (List ℕ)
+offered_words = flat_map (λ row. where_offered row.0 row.1)
+
+-- the features of a command, each with whether it is offered, in the order in which they are written
+abbrev pub features_of : Command → Offer → List (Bool × List ℕ)
+features_of LsRefs offer = (offer.unborn, codes "unborn") ∷ []
+features_of Fetch offer =
+    (offer.shallow, codes "shallow") ∷ (offer.ref_in_want, codes "ref-in-want") ∷ (offer.wait_for_done, codes "wait-for-done")
+    ∷ (offer.filter, codes "filter") ∷ []
+features_of ObjectInfo offer = []
+
 -- the features of `ls-refs` that are offered
 abbrev pub ls_refs_features : Offer → List (List ℕ)
-ls_refs_features offer = where_offered offer.unborn (codes "unborn")
+ls_refs_features offer = offered_words (features_of LsRefs offer)
 
--- the features of `fetch` that are offered, in the order in which they are written
+-- the features of `fetch` that are offered
 abbrev pub fetch_features : Offer → List (List ℕ)
-fetch_features offer =
-    where_offered offer.shallow (codes "shallow") ++ (where_offered offer.ref_in_want (codes "ref-in-want")
-    ++ (where_offered offer.wait_for_done (codes "wait-for-done") ++ where_offered offer.filter (codes "filter")))
+fetch_features offer = offered_words (features_of Fetch offer)
 
 -- words with a space between each two
 abbrev pub spaced : List (List ℕ) → List ℕ

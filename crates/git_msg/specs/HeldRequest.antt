@@ -70,7 +70,7 @@ keep_checks request arg long =
 abbrev pub add_checks : {A : Type 0} → Request A → Arg → List Check
 add_checks request arg = keep_checks request arg (length (written_text arg))
 
--- memory ran out, which is told where nothing refuses the argument
+-- memory ran out, which is reported where nothing refuses the argument
 pub record RanOut (checks : List Check) (arg : Arg) (kind : Kind) : Type 0 where
   pub passes : Passes checks
   pub takes_memory : TakesMemory arg

@@ -19,7 +19,7 @@ pub record Kept (Q : Type 0) : Type 0 where
 abbrev pub kept_as : {Q : Type 0} → (Q → Asked) → Kept Q → Kept Asked
 kept_as make q = record { format = q.format; asked = make q.asked; kept = q.kept; limit = q.limit; stored = q.stored }
 
--- each argument may stand in such a request, and the texts of their lines as they are written have no more bytes than are counted
+-- each argument is allowed in such a request, and the texts of their lines as they are written have no more bytes than are counted
 pub record IsCounted (format : Format) (asked : Asked) (kept : ℕ) : Type 0 where
   pub values : HasValues format asked
   pub written : written_bytes asked ≤ kept
@@ -45,7 +45,7 @@ pub record IsNew (command : Command) (format : Format) (limit : ℕ) (q : Kept A
   pub format_is : q.format ≡ format
   pub limit_is : q.limit ≡ limit
 
--- an argument came to the others, with a text of so many bytes
+-- an argument was added to the others, with a text of so many bytes
 pub record KeepsArgument (old : Kept Asked) (arg : Arg) (long : ℕ) (new : Kept Asked) : Type 0 where
   pub asked : new.asked ≡ with_argument old.asked arg
   pub kept : new.kept ≡ old.kept + long
@@ -54,7 +54,7 @@ pub record KeepsArgument (old : Kept Asked) (arg : Arg) (long : ℕ) (new : Kept
   pub format : new.format ≡ old.format
   pub limit : new.limit ≡ old.limit
 
--- the argument did not come to the others, by this name
+-- the argument was not added to the others, for a fault of this name
 abbrev pub IsUnkept : Kept Asked → Arg → ℕ → Kind → Type 0
 IsUnkept old arg long kind =
     ((old.limit < old.kept + long) × (kind ≡ TooMuchKept))

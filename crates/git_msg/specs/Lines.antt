@@ -66,7 +66,7 @@ arguments_of = filter_map argument_in
 abbrev pub kept_in : List Line → ℕ
 kept_in = sum_by long_of
 
--- a line says which object format is meant
+-- a line names the object format that is meant
 abbrev pub has_format : List Line → Bool
 has_format = list_any is_object_format
 
@@ -82,7 +82,7 @@ IsWordOf text ServerOptionKey = text ≡ codes "server-option"
 IsWordOf text ObjectFormatKey = text ≡ codes "object-format"
 IsWordOf text OtherKey = IsNoneOf (codes "command" ∷ codes "agent" ∷ codes "server-option" ∷ codes "object-format" ∷ []) text
 
--- the key that a word stands for
+-- the key of a word
 abbrev pub key_by : List ℕ → Key
 key_by word =
     if bytes_eq word (codes "command") then CommandKey
@@ -113,7 +113,7 @@ NamesTaken offer value = (c : Command) → value ≡ Some (name_of c) → takes_
 abbrev pub NamesUntaken : Offer → Option (List ℕ) → Type 0
 NamesUntaken offer value = (c : Command) × (value ≡ Some (name_of c)) × (takes_command offer c ≡ false)
 
--- what refuses a capability line, by its key; `first` says that no command line came before
+-- what refuses a capability line, by its key; `first` means that no command line came before
 abbrev pub key_checks : Offer → Bool → Key → Option (List ℕ) → List Check
 key_checks offer first CommandKey value =
     check (first ≡ true) (first ≡ false) TwoCommands ∷ check (NamesCommand value) (¬ NamesCommand value) UnknownCommand
@@ -155,7 +155,7 @@ pub record IsCapabilityLine (offer : Offer) (first : Bool) (text : List ℕ) (li
   pub allowed : Passes (key_checks offer first key value)
   pub line_is : IsLineOf key value line
 
--- without a line that says so, SHA-1 is meant
+-- without a line that names one, SHA-1 is meant
 abbrev pub IsFormatMeant : Format → Bool → Type 0
 IsFormatMeant Sha1 said = Unit {0}
 IsFormatMeant Sha256 said = said ≡ true
@@ -181,7 +181,7 @@ abbrev pub argument_checks : Offer → ℕ → Command → ℕ → List ℕ → 
 argument_checks offer limit c kept text =
     text_checks c offer text ++ check (kept + length text ≤ limit) (limit < kept + length text) TooMuchKept ∷ []
 
--- the text is this argument; whether it can be kept is another question
+-- the text is this argument; whether it can be kept is another matter
 pub record IsArgumentText (offer : Offer) (before : List Line) (text : List ℕ) (arg : Arg) : Type 0 where
   pub no_error : ¬ IsErrorText text
   pub of : Command

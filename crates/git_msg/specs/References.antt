@@ -29,17 +29,17 @@ reference_of id name target peeled = record { id = id; name = name; target = tar
 abbrev pub shown_reference : Reference → Ref
 shown_reference r = record { id = r.id; name = r.name.now; target = option_copied r.target; peeled = r.peeled }
 
--- the word that stands for the object at the head of a line
+-- the word for the object at the head of a line
 abbrev pub id_text : Option ObjectName → List ℕ
 id_text None = codes "unborn"
 id_text (Some id) = hex_of id
 
 -- how many bytes that has
 abbrev pub id_length : Option ObjectName → ℕ
-id_length None = 6
+id_length None = length (codes "unborn")
 id_length (Some id) = digits_of id.format
 
--- the word is this object name, or says that the reference is unborn
+-- the word is this object name, or is `unborn` where there is none
 abbrev pub IsIdText : Format → List ℕ → Option ObjectName → Type 0
 IsIdText format word None = word ≡ codes "unborn"
 IsIdText format word (Some id) = IsObjectName format word id
@@ -70,7 +70,7 @@ pub record FitsIn (places : ReferencePlaces) (count : ℕ) : Type 0 where
   pub name : id_length places.id + 1 + places.name_length ≤ count
   pub target : PartFits count places.target
 
--- what stands after the word, where the text begins with it
+-- what comes after the word, where the text begins with it
 abbrev pub value_behind : List ℕ → List ℕ → Option (List ℕ)
 value_behind word text = if bytes_eq (take (length word) text) word then Some (drop (length word) text) else None
 
@@ -107,7 +107,7 @@ abbrev pub IsMaybeObjectName : Format → Option (List ℕ) → Option ObjectNam
 IsMaybeObjectName format None id = id ≡ None
 IsMaybeObjectName format (Some text) id = (named : ObjectName) × IsObjectName format text named × (id ≡ Some named)
 
--- what the attributes of a line say: of one that is repeated, the last holds
+-- what the attributes of a line contain: of one that is repeated, the last holds
 pub record AreAttributes (format : Format) (attributes : List (List ℕ)) (target : Option (List ℕ)) (peeled : Option ObjectName) : Type 0 where
   pub passes : Passes (attribute_checks format attributes)
   pub target_is : target ≡ last_of (values_of (codes "symref-target:") attributes)

@@ -1,4 +1,4 @@
--- What a reader of requests stands for: the packets since the request began, as lines.
+-- What a reader of requests represents: the packets since the request began, as lines.
 use Rattle.std.specs.Prelude.{◌≡◌, ◌≢◌, ℕ, ◌≤◌, Bool, true, false, not, Option, Some, None, option_to_list, Result, Ok, Err, List, [], ◌∷◌, ◌++◌, length, max}
 use Rattle.git_pkt.specs.Packets.{payload, text_of}
 use Rattle.git_pkt.specs.Splits.{Given}
@@ -29,7 +29,7 @@ abbrev pub waits_in : Part → Bool
 waits_in (Waiting offset long) = true
 waits_in _ = false
 
--- where the argument stands that waits
+-- where the argument is that waits
 abbrev pub waiting_at : Part → ℕ
 waiting_at (Waiting offset long) = offset
 waiting_at _ = 0
@@ -110,7 +110,7 @@ module _ {A : Type 0} where
     pub is_text : IsArgumentText r.offer lines (text_of bytes) arg
     pub long_is : long ≡ length (text_of bytes)
 
-  -- the packets are lines, and the reader stands after them
+  -- the packets are lines, and the reader is after them
   pub record StandsBehind (packets : List Given) (In : List Line → RequestReader A → Type 0) (r : RequestReader A) : Type 0 where
     pub lines : List Line
     pub taken : AreLines r.offer (limit_in r) [] packets lines
@@ -135,7 +135,7 @@ module _ {A : Type 0} where
   pub record WaitsFor (packets : List Given) (arg : Arg) (r : RequestReader A) : Type 0 where
     pub waits : WaitsIn r.part packets arg r
 
-  -- what a packet brought, where the reader stood after these packets: an argument is never passed over, nor is it
+  -- what a packet brought, where the reader was after these packets: an argument is never passed over, nor is it
   -- refused for the limit before it waits
   abbrev pub Brings : List Given → Given → Result (Taken A) Fault → RequestReader A → Type 0
   Brings packets g (Ok More) new =
@@ -150,7 +150,7 @@ module _ {A : Type 0} where
       Takes (packets ++ g ∷ []) new × FirstFault (offer_of new) (limit_in new) (packets ++ g ∷ []) f.kind f.offset
       × (f.kind ≢ TooMuchKept)
 
-  -- how the reader stands after each answer of `take`
+  -- how the reader is left after each answer of `take`
   abbrev pub LeavesTaken : Result (Taken A) Fault → RequestReader A → Type 0
   LeavesTaken (Ok More) new = (fault_of new ≡ None) × (is_waiting new ≡ false)
   LeavesTaken (Ok (TakenArgument argument)) new = (fault_of new ≡ None) × (is_waiting new ≡ true)
@@ -172,7 +172,7 @@ module _ {A : Type 0} where
     pub limit : limit_in new ≡ limit_in old
     pub within : kept_so_far old ≤ limit_in old → KeepsWithin result new
 
-  -- the argument was kept, or refused where it stands
+  -- the argument was kept, or refused at its offset
   abbrev pub Settles : List Given → Result (Unit {0}) Fault → RequestReader A → Type 0
   Settles packets (Ok done) new = Takes packets new
   Settles packets (Err f) new = Takes packets new × IsTold (offer_of new) (limit_in new) packets f
@@ -194,7 +194,7 @@ module _ {A : Type 0} where
   GivesKeepable most (Ok taken) r = IsKeepable most taken r
   GivesKeepable most (Err e) r = Unit {0}
 
-  -- whether or not the argument is the one that waits, it is what is kept, or what is refused where that one stands
+  -- whether or not the argument is the one that waits, it is what is kept, or what is refused at that one's offset
   abbrev pub KeepsGiven : RequestReader A → Arg → Result (Unit {0}) Fault → RequestReader A → Type 0
   KeepsGiven old arg (Ok done) new = Keeps old.request arg (counted_as arg old) new.request
   KeepsGiven old arg (Err f) new =

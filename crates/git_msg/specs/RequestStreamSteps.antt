@@ -8,7 +8,7 @@ use Rattle.git_msg.specs.declared.streams.ReadGot.{ReadGot}
 use Rattle.git_msg.specs.declared.streams.ReadGot.TheVariants.{More}
 
 module _ {A : Type 0} where
-  -- how the reader stands after a step; where the request goes on, some bytes were used
+  -- how the reader is left after a step; where the request goes on, some bytes were used
   abbrev pub StepLeaves : ReadGot A → ℕ → List ℕ → RequestStream A → RequestStream A → Type 0
   StepLeaves More used piece old new = (0 < used) × (wants_input new ≡ true)
   StepLeaves got used piece old new = Leaves got used piece old new

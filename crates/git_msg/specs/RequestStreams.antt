@@ -1,4 +1,4 @@
--- Requests in a stream of bytes: what the bytes ask for, and what a reader of them stands for.
+-- Requests in a stream of bytes: what the bytes ask for, and what a reader of them represents.
 use Rattle.std.specs.Prelude.{◌≡◌, ◌≢◌, ◌⊎◌, ℕ, ◌+◌, ◌-◌, ◌<◌, ◌≤◌, Bool, true, false, List, [], ◌∷◌, ◌++◌, length, take, Option, Some, None, Result, Ok, Err}
 use Rattle.git_pkt.specs.Splits.{Given, Splits}
 use Rattle.git_pkt.specs.Faults.{IsOpen, StopsBy}
@@ -45,7 +45,7 @@ pub record IsRefusedRest (offer : Offer) (limit : ℕ) (left : List Given) (rest
   pub stops : StopsBy (end - length rest) rest end fault.kind fault.offset
   pub not_the_end : fault.kind ≢ Truncated
 
--- no packet is refused, and the input ended inside a request: told at the end of the last whole packet
+-- no packet is refused, and the input ended inside a request: reported at the end of the last whole packet
 pub record IsCutOff (offer : Offer) (limit : ℕ) (left : List Given) (rest : List ℕ) (end : ℕ) (fault : Fault) : Type 0 where
   pub begun : AreBegun offer limit left
   pub still_open : IsOpen rest
@@ -98,7 +98,7 @@ module _ {A : Type 0} where
   abbrev pub fault_of : RequestStream A → Option Fault
   fault_of s = fault_in s.stage
 
-  -- bytes are read on: no fault came, and no flush in the place of a request
+  -- bytes are read on: no fault came, and no flush instead of a request
   abbrev pub wants_input : RequestStream A → Bool
   wants_input s = takes_bytes s.stage
 
@@ -149,7 +149,7 @@ module _ {A : Type 0} where
   EndsWith (RequestGot request) bytes s = IsAtTheEnd bytes request s
   EndsWith got bytes s = Unit {0}
 
-  -- how the reader stands after each answer
+  -- how the reader is left after each answer
   abbrev pub Leaves : ReadGot A → ℕ → List ℕ → RequestStream A → RequestStream A → Type 0
   Leaves More used piece old new = wants_input old ≡ true → (used ≡ length piece) × (wants_input new ≡ true)
   Leaves (RequestGot request) used piece old new =
@@ -158,7 +158,7 @@ module _ {A : Type 0} where
   Leaves StopGot used piece old new = (0 < used) × (wants_input new ≡ false) × (fault_of new ≡ None)
   Leaves (FailedGot fault) used piece old new = fault_of new ≡ Some fault
 
-  -- a reader that had no fault tells no end of the input, and that the stream is too long only where the piece has a further byte
+  -- a reader that had no fault reports no end of the input, and that the stream is too long only where the piece has a further byte
   abbrev pub IsNews : RequestStream A → List ℕ → ReadRequest A → Type 0
   IsNews old piece read = (fault : Fault) → fault_of old ≡ None → read.got ≡ FailedGot fault → ShownByFeed fault read.used piece
 
@@ -181,7 +181,7 @@ module _ {A : Type 0} where
     pub offer : offer_of new ≡ offer_of old
     pub limit : limit_of new ≡ limit_of old
 
-  -- what a call of `close` says: all was whole requests, or the last was cut off
+  -- what a call of `close` means: all was whole requests, or the last was cut off
   abbrev pub Closes : Result (Unit {0}) Fault → RequestStream A → RequestStream A → Type 0
   Closes (Ok done) old new =
       (new ≡ old) × ((used : List ℕ) (asked : List Asked) → HasRead used asked old → AreAsked (offer_of old) (limit_of old) used asked [] [])

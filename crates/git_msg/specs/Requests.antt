@@ -41,7 +41,7 @@ pub record Asks (offer : Offer) (limit : ℕ) (packets : List Given) (asked : As
   pub asked_is : asked ≡ asked_by command (arguments_of lines)
   pub kept_is : kept ≡ kept_in lines
 
--- the first packet of a request that is refused, by which name, and where it stands
+-- the first packet of a request that is refused, by which name, and where it is
 pub record FirstFault (offer : Offer) (limit : ℕ) (packets : List Given) (kind : Kind) (offset : ℕ) : Type 0 where
   pub front : List Given
   pub bad : Given

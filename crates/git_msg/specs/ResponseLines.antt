@@ -39,7 +39,7 @@ IsNamedFault word format text BadLine = BeginsOtherThan word text
 IsNamedFault word format text BadObjectName = Follows word (IsNoObjectName format) text
 IsNamedFault word format text _ = ⊥
 
--- the text says that the object is common to both ends
+-- the text is the line for this object, which is common to both ends
 abbrev pub IsAckLine : Format → List ℕ → ObjectName → Type 0
 IsAckLine format text id = IsNamed (codes "ACK ") format text id
 
@@ -66,11 +66,11 @@ pub record IsWantedLine (format : Format) (text : List ℕ) (wanted : Wanted) : 
   pub id_is : IsObjectName format id wanted.id
   pub name_is : IsRefName wanted.name
 
--- what stands before the first space of the text is no object name
+-- what comes before the first space of the text is no object name
 abbrev pub BeginsWithNoName : Format → List ℕ → Type 0
 BeginsWithNoName format text = (id : List ℕ) × (rest : List ℕ) × IsPartedAt 32 text id rest × IsNoObjectName format id
 
--- what stands before the first space of the text is an object name, and what stands after that space meets P
+-- what comes before the first space of the text is an object name, and what comes after that space meets P
 abbrev pub BeginsWithName : Format → (List ℕ → Type 0) → List ℕ → Type 0
 BeginsWithName format P text =
     (id : List ℕ) × (rest : List ℕ) × IsPartedAt 32 text id rest × ((named : ObjectName) × IsObjectName format id named) × P rest

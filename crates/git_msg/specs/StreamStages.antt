@@ -1,4 +1,4 @@
--- Where a reader of requests from bytes stands, and what a packet brings to it.
+-- The stage of a reader of requests from bytes, and what a packet brings to it.
 use Rattle.std.specs.Prelude.{◌≡◌, ◌≤◌, ℕ, Bool, true, false, Option, None, Some, List, [], ◌∷◌, ◌++◌}
 use Rattle.git_pkt.specs.Splits.{Given}
 use Rattle.git_pkt.specs.declared.fault.Fault.{Fault}
@@ -38,14 +38,14 @@ module _ {A : Type 0} where
   abbrev pub HasTaken : RequestReader A → Type 0
   HasTaken r = (left : List Given) × Takes left r
 
-  -- where a reader stands after a packet that brought this
+  -- the stage of a reader after a packet that brought this
   abbrev pub stage_brought : ReadGot A → Stage
   stage_brought More = Within
   stage_brought (Request request) = Between
   stage_brought Stop = Stopped
   stage_brought (Failed fault) = FailedStage fault
 
-  -- what was brought, where the reader stood after these packets
+  -- what was brought, where the reader was after these packets
   abbrev pub IsBrought : List Given → ReadGot A → RequestReader A → Type 0
   IsBrought packets More new = Takes packets new × AreBegun (offer_of new) (limit_in new) packets
   IsBrought packets (Request request) new =

@@ -17,7 +17,7 @@ abbrev pub bytes_left : Option (List ℕ) → ℕ
 bytes_left None = 0
 bytes_left (Some text) = length text + 1
 
--- the first such byte of the text stands between these two
+-- the first such byte of the text is between these two
 pub record IsPartedAt (byte : ℕ) (text before after : List ℕ) : Type 0 where
   pub spelled : text ≡ before ++ byte ∷ after
   pub first : Lacks before byte

@@ -16,7 +16,7 @@ use Rattle.git_msg.specs.HeldRequest.{asked_of, format_of}
 abbrev pub text_line : List ℕ → Pkt
 text_line text = payload (text ++ 10 ∷ [])
 
--- a packet that stands before the others where the flag is set
+-- a packet that comes before the others where the flag is set
 abbrev pub where_set : Bool → Pkt → List Pkt → List Pkt
 where_set true p others = p ∷ others
 where_set false p others = others
@@ -33,7 +33,7 @@ format_line format = text_line (codes "object-format=" ++ format_name format)
 abbrev pub argument_lines : List Arg → List Pkt
 argument_lines args = map (λ arg. text_line (written_text arg)) args ++ flush ∷ []
 
--- the delimiter, which stands always, and all after it
+-- the delimiter, which is always there, and all after it
 abbrev pub argument_part : Asked → List Pkt
 argument_part asked = delim ∷ argument_lines (arguments_in asked)
 

@@ -1,16 +1,18 @@
 //! The argument lines of requests, gitprotocol-v2(5).
-ghost use Rattle.std.specs.Prelude.{◌≡◌, ◌+◌, ◌*◌, ◌⊎◌, MatchBool, MatchOption, MatchResult, length};
+ghost use Rattle.std.specs.Prelude.{◌≡◌, ◌+◌, ◌*◌, ◌⊎◌, IfErr, MatchBool, MatchOption, MatchResult, OnOk, length};
 ghost use Rattle.git_names.specs.ObjectName.{IsNoObjectName, IsObjectName};
 ghost use Rattle.git_names.specs.RefName.{IsRefName};
 ghost use Rattle.git_names.specs.Steps.{TakesAtMost};
 ghost use Rattle.git_names.specs.declared.object_format.Format.{Format};
 ghost use Rattle.git_msg.specs.Arguments.{IsArgument, IsArgumentFault, IsDepth, IsKeptText, IsNoKeptText, IsNoNumberIn, IsNumberIn};
-ghost use Rattle.git_msg.specs.Arguments.{IsRowFault, IsTextFault, IsTime, ReadsAs, Row};
-ghost use Rattle.git_msg.specs.Arguments.{flags_of, keywords_of, is_offered as offers, name_of, shown};
+ghost use Rattle.git_msg.specs.Arguments.{IsRowFault, IsTextFault, IsTime, ReadsAs, Word};
+ghost use Rattle.git_msg.specs.Arguments.{command_with as command_of, flags_of, keywords_of, is_offered as offers, name_of, shown};
+ghost use Rattle.git_msg.specs.Arguments.{HasName, IsValue, IsValueFault};
 ghost use Rattle.git_msg.specs.Texts.{BeginsWithNone, IsNoneOf};
 
 use crate::numbers::read_number;
 use crate::offers::Offer;
+use crate::parts::check_id;
 use crate::texts::{after, is_word};
 use git_names::{Format, Oid, RefName, Steps};
 use git_pkt::Kind;
@@ -29,11 +31,11 @@ pub enum Command {
 /// An argument of a request, whose text is lent.
 #[derive(Clone, Copy, Debug)]
 pub enum Argument<'a> {
-    /// `symrefs`: say what symbolic references point to.
+    /// `symrefs`: send what symbolic references point to.
     Symrefs,
-    /// `peel`: say what object an annotated tag stands for.
+    /// `peel`: send the object that an annotated tag peels to.
     Peel,
-    /// `unborn`: say what `HEAD` points to where that has no commit yet.
+    /// `unborn`: send what `HEAD` points to where that has no commit yet.
     Unborn,
     /// `ref-prefix`: show references whose name begins with this text, of 32,000 bytes at most.
     RefPrefix(&'a [u8]),
@@ -51,9 +53,9 @@ pub enum Argument<'a> {
     IncludeTag,
     /// `ofs-delta`: the pack may name the base of a delta by its place in the pack.
     OfsDelta,
-    /// `wait-for-done`: send no pack before the request says `done`.
+    /// `wait-for-done`: send no pack before the request contains `done`.
     WaitForDone,
-    /// `filter`: leave out the objects that this filter-spec says, whose text has 1 to 32,000 bytes.
+    /// `filter`: leave out the objects that this filter-spec excludes, whose text has 1 to 32,000 bytes.
     Filter(&'a [u8]),
     /// `shallow`: the client has this commit without its parents.
     Shallow(Oid),
@@ -68,9 +70,9 @@ pub enum Argument<'a> {
     /// `want-ref`: send the object of the reference of this name, whose text is a [`git_names::RefName`]. It is the text
     /// that is lent, since the check has no rule yet for an enum by value of an object name and a struct that borrows.
     WantRef(&'a [u8]),
-    /// `size`: say how many bytes the objects have.
+    /// `size`: send how many bytes the objects have.
     Size,
-    /// `oid`: speak of this object.
+    /// `oid`: answer for this object.
     ObjectId(Oid),
 }
 
@@ -118,7 +120,7 @@ const MOST_DEPTH: u64 = 2_147_483_647;
 const MOST_TIME: u64 = 9_223_372_036_854_775_807;
 
 impl Command {
-    /// The command's key, as it stands after `command=`.
+    /// The command's key, as it is after `command=`.
     pub fn name(self) -> &'static str
         ensures { result.now ≡ name_of self }
     {
@@ -247,7 +249,7 @@ fn read_fetch_value<'a>(
 ) -> Result<Argument<'a>, Kind>
     ensures argument { MatchResult result (λ argument. IsArgument Command.Fetch format text.now (shown argument))
         (λ kind. (BeginsWithNone (keywords_of Command.Fetch) text.now × (kind ≡ Kind.UnknownArgument))
-        ⊎ ((row : Row) × IsRowFault Command.Fetch format row text.now kind)) }
+        ⊎ ((word : Word) × IsRowFault Command.Fetch format word text.now kind)) }
     ensures cost { TakesAtMost (16 * (length text.now + 1)) steps.old steps.new }
 {
     if let Some(name) = after(text, b"want ") {
@@ -310,6 +312,44 @@ fn read_object_info<'a>(
     };
     let id = read_id(format, name, steps)?;
     Ok(Argument::ObjectId(id))
+}
+
+/// Whether the argument is allowed in a request of this command and format.
+pub(crate) fn check_value(
+    command: Command,
+    format: Format,
+    argument: &Argument<'_>,
+) -> Result<(), Kind>
+    requires { HasName (shown argument.now) }
+    ensures ok { OnOk result (IsValue command format (shown argument.now)) }
+    ensures err { IfErr result (IsValueFault command format (shown argument.now)) }
+{
+    if command_with(argument) != command {
+        return Err(Kind::UnknownArgument);
+    }
+    match argument {
+        Argument::Want(id) | Argument::Have(id) | Argument::Shallow(id) | Argument::ObjectId(id) =>
+            check_id(format, id),
+        Argument::Deepen(depth) if !is_depth(*depth) => Err(Kind::BadNumber),
+        Argument::DeepenSince(time) if !is_time(*time) => Err(Kind::BadNumber),
+        Argument::RefPrefix(prefix) if prefix.len() > MOST_TEXT => Err(Kind::BadLine),
+        Argument::DeepenNot(revision) if !is_kept_text(revision) => Err(Kind::BadLine),
+        Argument::Filter(spec) if !is_kept_text(spec) => Err(Kind::BadLine),
+        _ => Ok(()),
+    }
+}
+
+// The command that has the argument.
+fn command_with(argument: &Argument<'_>) -> Command
+    ensures { result ≡ command_of (shown argument.now) }
+{
+    match argument {
+        Argument::Symrefs | Argument::Peel | Argument::Unborn | Argument::RefPrefix(_) => {
+            Command::LsRefs
+        }
+        Argument::Size | Argument::ObjectId(_) => Command::ObjectInfo,
+        _ => Command::Fetch,
+    }
 }
 
 /// Whether the feature that the argument needs was offered.

@@ -1,12 +1,11 @@
 //! Capability lines, as gitprotocol-v2(5) has them.
 
-ghost use Rattle.std.specs.Prelude.{◌≡◌, ◌+◌, ◌*◌, ◌==◌, ◌≤◌, [], length, unwrap_or, IfErr, IfOk, MatchResult};
-ghost use Rattle.std.specs.List.{position_or_len};
+ghost use Rattle.std.specs.Prelude.{◌≡◌, ◌+◌, ◌*◌, ◌≤◌, [], length, unwrap_or, IfErr, IfOk, MatchResult};
 ghost use Rattle.std.specs.Option.{option_copied};
 ghost use Rattle.git_names.specs.Steps.{TakesAtMost};
 ghost use Rattle.git_msg.specs.Capability.{IsCapability, IsNoCapability, is_key as is_key_text, is_value as is_value_text, is_key_byte as is_key_code};
 
-use crate::texts::find_byte;
+use crate::texts::split_at_first;
 use git_names::Steps;
 use git_pkt::Kind;
 
@@ -15,7 +14,7 @@ use git_pkt::Kind;
 pub struct Capability<'a> {
     /// One or more ASCII letters, digits, `-` or `_`.
     pub key: &'a [u8],
-    /// What stands after the first `=`, where there is one: any bytes but NUL and LF, also none.
+    /// What comes after the first `=`, where there is one: any bytes but NUL and LF, also none.
     pub value: Option<&'a [u8]>,
 }
 
@@ -32,30 +31,14 @@ pub fn read_capability<'a>(text: &'a [u8], steps: &mut Steps) -> Result<Capabili
     // A search, and a look at each byte of the key and of the value.
     steps.tick(text.len() + 2);
     steps.tick(text.len() + 1);
-    let end = key_length(text);
-    let key = &text[..end];
+    let (key, value) = split_at_first(text, b'=');
     if !is_key(key) {
         return Err(Kind::BadCapability);
     }
-    if end == text.len() {
-        return Ok(Capability { key, value: None });
-    }
-    let value = &text[end + 1..];
-    if !is_value(value) {
+    if !is_value(value.unwrap_or(b"")) {
         return Err(Kind::BadCapability);
     }
-    Ok(Capability {
-        key,
-        value: Some(value),
-    })
-}
-
-/// How many bytes stand before the first `=`.
-fn key_length(text: &[u8]) -> usize
-    ensures first { result ≡ position_or_len (λ c. c == 61) text.now }
-    ensures within { result ≤ length text.now }
-{
-    find_byte(text, b'=').unwrap_or(text.len())
+    Ok(Capability { key, value })
 }
 
 fn is_key(text: &[u8]) -> bool

@@ -2,11 +2,11 @@
 ghost use Rattle.std.specs.Prelude.{◌≡◌, ◌+◌, ◌≤◌, ◌++◌, ◌^◌, ◌<◌, length, map, MatchBool, OnOk, OnErr, IfErr, IfSome, slice_get, OnSome};
 ghost use Rattle.std.specs.Option.{option_copied, option_map};
 ghost use Rattle.git_names.specs.RefName.{IsRefName};
-ghost use Rattle.git_msg.specs.Arguments.{HasName, shown, written_text};
+ghost use Rattle.git_msg.specs.Arguments.{shown, written_text};
 
-use crate::arguments::{Argument, Command, is_depth, is_kept_text, is_time};
+use crate::arguments::{Argument, Command};
 use crate::limits::{Budget, Limits};
-use crate::parts::{Texts, check_id, keep_id, number_at, past_flag};
+use crate::parts::{Texts, keep_id, number_at, past_flag};
 use git_names::{Format, Oid};
 use git_pkt::Kind;
 use std::alloc::Allocator;
@@ -48,8 +48,8 @@ impl<A: Allocator + Copy> Model for Fetch<A> {
 }
 
 impl<A: Allocator + Copy> Fetch<A> {
-    ghost use Rattle.git_msg.specs.Arguments.{done, deepen_not, deepen_relative, filter_spec, have, IsValue, IsValueFault};
-    ghost use Rattle.git_msg.specs.Asked.{HasWants, arguments_in, fetch, has_deepen_conflict, object_arguments, shallow_arguments, where_asked};
+    ghost use Rattle.git_msg.specs.Arguments.{done, deepen_not, deepen_relative, filter_spec, have, with_id, with_text, IsValue};
+    ghost use Rattle.git_msg.specs.Asked.{HasWants, arguments_in, fetch, has_deepen_conflict, joined, object_arguments, shallows_in, where_asked};
     ghost use Rattle.git_msg.specs.Kept.{IsNew, IsUnkept, IsWithin, KeepsArgument, kept_as};
 
     /// The objects that the client wants to retrieve, in the order of their lines.
@@ -66,7 +66,7 @@ impl<A: Allocator + Copy> Fetch<A> {
         &self.haves
     }
 
-    /// Whether negotiation is over, or not even to begin: the pack is to be made of what the request says.
+    /// Whether negotiation is over, or not even to begin: the pack is to be made of what the request contains.
     pub fn done(&self) -> bool
         ensures { result ≡ self.now.asked.done }
     {
@@ -145,7 +145,7 @@ impl<A: Allocator + Copy> Fetch<A> {
         self.want_refs.get(i)
     }
 
-    /// Whether no pack is to be sent before the request says `done`.
+    /// Whether no pack is to be sent before the request contains `done`.
     pub fn wait_for_done(&self) -> bool
         ensures { result ≡ self.now.asked.wait_for_done }
     {
@@ -241,10 +241,10 @@ impl<A: Allocator + Copy> Fetch<A> {
         self.filter_argument(i)
     }
 
-    // The argument at place `i` after the flags that say how the pack is to be sent.
+    // The argument at place `i` after the flags for how the pack is to be sent.
     fn filter_argument(&self, i: usize) -> Option<Argument<'_>>
-        ensures { option_map shown result ≡ slice_get (map filter_spec self.now.asked.filters
-            ++ shallow_arguments self.now.asked (object_arguments self.now.asked)) i }
+        ensures { option_map shown result ≡ slice_get (map (with_text filter_spec) self.now.asked.filters
+            ++ joined (shallows_in self.now.asked) (object_arguments self.now.asked)) i }
     {
         if let Some(spec) = self.filters.get(i) {
             return Some(Argument::Filter(spec));
@@ -252,9 +252,9 @@ impl<A: Allocator + Copy> Fetch<A> {
         self.shallow_argument(i - self.filters.len())
     }
 
-    // The argument at place `i` after those that say how the pack is to be sent.
+    // The argument at place `i` after those for how the pack is to be sent.
     fn shallow_argument(&self, i: usize) -> Option<Argument<'_>>
-        ensures { option_map shown result ≡ slice_get (shallow_arguments self.now.asked (object_arguments self.now.asked)) i }
+        ensures { option_map shown result ≡ slice_get (joined (shallows_in self.now.asked) (object_arguments self.now.asked)) i }
     {
         if let Some(id) = self.shallows.get(i) {
             return Some(Argument::Shallow(*id));
@@ -273,7 +273,7 @@ impl<A: Allocator + Copy> Fetch<A> {
 
     // The argument at place `i` after the depth and the time.
     fn revision_argument(&self, i: usize) -> Option<Argument<'_>>
-        ensures { option_map shown result ≡ slice_get (map deepen_not self.now.asked.deepen_nots
+        ensures { option_map shown result ≡ slice_get (map (with_text deepen_not) self.now.asked.deepen_nots
             ++ (where_asked self.now.asked.deepen_relative deepen_relative ++ object_arguments self.now.asked)) i }
     {
         if let Some(revision) = self.deepen_nots.get(i) {
@@ -286,7 +286,7 @@ impl<A: Allocator + Copy> Fetch<A> {
         self.object_argument(i)
     }
 
-    // The argument at place `i` among those that say what is wanted and what the client has.
+    // The argument at place `i` among those for what is wanted and what the client has.
     fn object_argument(&self, i: usize) -> Option<Argument<'_>>
         ensures { option_map shown result ≡ slice_get (object_arguments self.now.asked) i }
     {
@@ -300,9 +300,9 @@ impl<A: Allocator + Copy> Fetch<A> {
         self.have_argument(i - self.want_refs.len())
     }
 
-    // The argument at place `i` among those that say what the client has, and whether it is done.
+    // The argument at place `i` among those for what the client has, and whether it is done.
     fn have_argument(&self, i: usize) -> Option<Argument<'_>>
-        ensures { option_map shown result ≡ slice_get (map have self.now.asked.haves ++ where_asked self.now.asked.done done) i }
+        ensures { option_map shown result ≡ slice_get (map (with_id have) self.now.asked.haves ++ where_asked self.now.asked.done done) i }
     {
         if let Some(id) = self.haves.get(i) {
             return Some(Argument::Have(*id));
@@ -311,30 +311,6 @@ impl<A: Allocator + Copy> Fetch<A> {
             return Some(Argument::IsDone);
         }
         None
-    }
-
-    /// Whether the argument may stand in a request of this command and format.
-    pub(crate) fn check_value(&self, argument: &Argument<'_>) -> Result<(), Kind>
-        requires { HasName (shown argument.now) }
-        ensures ok { OnOk result (IsValue Command.Fetch self.now.format (shown argument.now)) }
-        ensures err { IfErr result (IsValueFault Command.Fetch self.now.format (shown argument.now)) }
-    {
-        match argument {
-            Argument::Want(id) | Argument::Have(id) | Argument::Shallow(id) => {
-                check_id(self.format, id)
-            }
-            Argument::Deepen(depth) if !is_depth(*depth) => Err(Kind::BadNumber),
-            Argument::DeepenSince(time) if !is_time(*time) => Err(Kind::BadNumber),
-            Argument::DeepenNot(revision) if !is_kept_text(revision) => Err(Kind::BadLine),
-            Argument::Filter(spec) if !is_kept_text(spec) => Err(Kind::BadLine),
-            Argument::Unborn => Err(Kind::UnknownArgument),
-            Argument::Symrefs => Err(Kind::UnknownArgument),
-            Argument::Peel => Err(Kind::UnknownArgument),
-            Argument::RefPrefix(_) => Err(Kind::UnknownArgument),
-            Argument::Size => Err(Kind::UnknownArgument),
-            Argument::ObjectId(_) => Err(Kind::UnknownArgument),
-            _ => Ok(()),
-        }
     }
 
     /// Keeps an argument whose line has a text of so many bytes.

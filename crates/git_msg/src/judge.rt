@@ -18,7 +18,7 @@ use git_pkt::Kind;
 // The most bytes that a key has which is known, or a value.
 const LONGEST_KEY: usize = 13;
 
-/// What a line of the capability part says.
+/// What a line of the capability part contains.
 #[derive(Clone, Copy, Debug)]
 pub(crate) enum Noted {
     Command(Command),
@@ -27,7 +27,7 @@ pub(crate) enum Noted {
     ObjectFormat,
 }
 
-/// Judges the text of a line of the capability part; `first` says that no command line came before.
+/// Judges the text of a line of the capability part; `first` means that no command line came before.
 pub(crate) fn judge_capability(
     offer: &Offer,
     first: bool,

@@ -46,12 +46,14 @@ use std::alloc::Allocator;
 // Texts of single lines.
 
 /// A text is one capability at most.
+#[tactic(auto, using(crate::proofs::Keys::one_capability))]
 pub fn one_capability()
     ensures { (text key other : List ℕ) (value other_value : Option (List ℕ)) → IsCapability text key value
         → IsCapability text other other_value → (key ≡ other) × (value ≡ other_value) }
 {}
 
 /// A text is a capability or none, never both.
+#[tactic(auto, using(crate::proofs::Keys::capability_or_none))]
 pub fn capability_or_none()
     ensures { (text key : List ℕ) (value : Option (List ℕ)) → IsCapability text key value → IsNoCapability text → ⊥ }
 {}
@@ -89,6 +91,7 @@ pub fn one_ack()
 {}
 
 /// A text is one line of the shallow boundary at most.
+#[tactic(auto, using(crate::proofs::ResponseLines::one_boundary))]
 pub fn one_boundary()
     ensures { (format : Format) (text : List ℕ) (a b : Boundary) → IsBoundaryLine format text a → IsBoundaryLine format text b → a ≡ b }
 {}
@@ -104,6 +107,7 @@ pub fn one_info()
 {}
 
 /// A text acknowledges an object or is refused, never both, and it is refused by one name at most.
+#[tactic(auto, using(crate::proofs::ResponseFaults::ack_or_fault, crate::proofs::ResponseFaults::one_ack_fault))]
 pub fn ack_or_fault()
     ensures never_both { (format : Format) (text : List ℕ) (id : ObjectName) (kind : Kind)
         → IsAckLine format text id → IsAckFault format text kind → ⊥ }
@@ -112,6 +116,7 @@ pub fn ack_or_fault()
 {}
 
 /// A text is a line of the shallow boundary or is refused, never both, and it is refused by one name at most.
+#[tactic(auto, using(crate::proofs::ResponseFaults::boundary_or_fault, crate::proofs::ResponseFaults::one_boundary_fault))]
 pub fn boundary_or_fault()
     ensures never_both { (format : Format) (text : List ℕ) (line : Boundary) (kind : Kind)
         → IsBoundaryLine format text line → IsBoundaryFault format text kind → ⊥ }
@@ -136,28 +141,33 @@ pub fn info_or_fault()
 {}
 
 /// The line that is written of a reference is that reference, where its object names have the format.
+#[tactic(auto, using(crate::proofs::ReferenceLaws::reference_reads_back))]
 pub fn written_reference_reads_back()
     ensures { (format : Format) (ref : Ref) → ((id : ObjectName) → ref.id ≡ Some id → IsNameIn format id)
         → ((peeled : ObjectName) → ref.peeled ≡ Some peeled → IsNameIn format peeled) → IsWritable ref → IsReferenceLine format (reference_text ref) ref }
 {}
 
 /// The line that is written of an acknowledgment acknowledges that object.
+#[tactic(auto, using(crate::proofs::ResponseLines::ack_reads_back))]
 pub fn written_ack_reads_back()
     ensures { (format : Format) (id : ObjectName) → IsNameIn format id → IsAckLine format (ack_text id) id }
 {}
 
 /// The line that is written of the shallow boundary is that line.
+#[tactic(auto, using(crate::proofs::ResponseLines::boundary_reads_back))]
 pub fn written_boundary_reads_back()
     ensures { (format : Format) (line : Boundary) → IsNameIn format (object_of line) → IsBoundaryLine format (boundary_text line) line }
 {}
 
 /// The line that is written of a wanted reference is that one, where its name is a reference name.
+#[tactic(auto, using(crate::proofs::ResponseLines::wanted_reads_back))]
 pub fn written_wanted_reads_back()
     ensures { (format : Format) (wanted : Wanted) → IsNameIn format wanted.id → IsRefName wanted.name
         → IsWantedLine format (wanted_text wanted) wanted }
 {}
 
 /// The line that is written of an object and its size is that of the object and the size, where that fits 64 bits.
+#[tactic(auto, using(crate::proofs::ResponseLines::info_reads_back))]
 pub fn written_info_reads_back()
     ensures { (format : Format) (info : Info) → IsNameIn format info.id → ((size : ℕ) → info.size ≡ Some size → IsSize size)
         → IsInfoLine format (info_text info) info }
@@ -166,18 +176,21 @@ pub fn written_info_reads_back()
 // Packets of requests.
 
 /// A packet of a request is no line where something refuses it.
+#[tactic(auto, using(crate::proofs::LineLaws::line_or_fault))]
 pub fn line_or_fault()
     ensures { (offer : Offer) (limit : ℕ) (before : List Line) (packet : Pkt) (line : Line) (kind : Kind)
         → IsLine offer limit before packet line → HasFault offer limit before packet kind → ⊥ }
 {}
 
 /// A packet of a request is one line at most.
+#[tactic(auto, using(crate::proofs::LineLaws::one_line))]
 pub fn one_line()
     ensures { (offer : Offer) (limit : ℕ) (before : List Line) (packet : Pkt) (line other : Line)
         → IsLine offer limit before packet line → IsLine offer limit before packet other → line ≡ other }
 {}
 
 /// A packet of a request is refused by one name at most.
+#[tactic(auto, using(crate::proofs::LineLaws::one_fault))]
 pub fn one_fault()
     ensures { (offer : Offer) (limit : ℕ) (before : List Line) (packet : Pkt) (kind other : Kind)
         → HasFault offer limit before packet kind → HasFault offer limit before packet other → kind ≡ other }
@@ -204,7 +217,7 @@ pub fn one_first_fault()
 {}
 
 /// The packets that are written of a request are a request for the same, whatever their offsets: where the format is
-/// that of the reader, each argument may stand in such a request, the reader offers the command and what the arguments need
+/// that of the reader, each argument is allowed in such a request, the reader offers the command and what the arguments need
 /// (as `shallow` for `deepen`: a reader that does not offer it refuses the line), the texts of its lines are within the limit,
 /// and nothing refuses what is asked for at its end, as a fetch without a want is. For SHA-256 the format has to be among what
 /// was advertised.
@@ -220,7 +233,8 @@ pub fn written_request_reads_back()
 // Requests that a program makes.
 
 /// An argument that a program adds passes the checks or is refused, never both, and it is refused by one name at most.
-/// Want of memory is told where it passes.
+/// Want of memory is reported where it passes.
+#[tactic(auto, using(crate::proofs::Values::added_or_refused, crate::proofs::Values::one_refusal))]
 pub fn add_passes_or_is_refused<A: Allocator + Copy>()
     ensures never_both { (request : Request A) (arg : Arg) (kind : Kind)
         → Passes (add_checks request arg) → Refuses (add_checks request arg) kind → ⊥ }
@@ -234,7 +248,8 @@ pub fn usual_limit()
 {}
 
 /// A request that was empty, and to which these arguments were added one after the other, asks for what the list of
-/// them says, and has kept as many bytes as the texts of their lines have.
+/// them contains, and has kept as many bytes as the texts of their lines have.
+#[tactic(auto, using(crate::proofs::AddedArguments::added_asked, crate::proofs::AddedArguments::added_kept, crate::proofs::AddedArguments::added_stored))]
 pub fn added_arguments_are_asked_for<A: Allocator + Copy>()
     ensures asked { (command : Command) (format : Format) (limit : ℕ) (args : List Arg) (empty request : Request A)
         → IsEmpty command format limit empty → AddsAll empty args request → asked_of request ≡ asked_by command args }
@@ -269,6 +284,7 @@ pub fn request_stream_holds_within_its_limit<A: Allocator + Copy>()
 {}
 
 /// The arguments of a request, in the order in which they are written, ask for just what the request asks.
+#[tactic(auto, using(crate::proofs::ArgumentsInOrder::arguments_in_order))]
 pub fn arguments_in_order()
     ensures { (asked : Asked) → asked_by (command_asked asked) (arguments_in asked) ≡ asked }
 {}

@@ -61,7 +61,7 @@ impl<A: Allocator + Copy> Listing<A> {
         self.request.symrefs()
     }
 
-    /// Whether annotated tags are to be shown with what they stand for.
+    /// Whether annotated tags are to be shown with what they peel to.
     pub fn peel(&self) -> bool
         ensures { result ≡ self.now.asked.peel }
     {

@@ -3,7 +3,7 @@ ghost use Rattle.std.specs.Prelude.{◌≡◌, ◌+◌, ◌^◌, ◌≤◌, ◌<
 ghost use Rattle.std.specs.Option.{option_copied, option_map};
 ghost use Rattle.git_msg.specs.Arguments.{shown, written_text};
 
-use crate::arguments::{Argument, Command, MOST_TEXT};
+use crate::arguments::{Argument, Command};
 use crate::limits::{Budget, Limits};
 use crate::parts::{Texts, past_flag};
 use git_names::Format;
@@ -36,7 +36,7 @@ impl<A: Allocator + Copy> Model for LsRefs<A> {
 }
 
 impl<A: Allocator + Copy> LsRefs<A> {
-    ghost use Rattle.git_msg.specs.Arguments.{IsValue, IsValueFault, most_text};
+    ghost use Rattle.git_msg.specs.Arguments.{IsValue, most_text};
     ghost use Rattle.git_msg.specs.Asked.{arguments_in, ls_refs};
     ghost use Rattle.git_msg.specs.Kept.{IsNew, IsUnkept, IsWithin, KeepsArgument, kept_as};
     ghost use Rattle.git_msg.specs.Prefixes.{IsOrdered, OrdersPrefixes, SplitsAt, is_shown};
@@ -48,7 +48,7 @@ impl<A: Allocator + Copy> LsRefs<A> {
         self.symrefs
     }
 
-    /// Whether annotated tags are to be shown with what they stand for.
+    /// Whether annotated tags are to be shown with what they peel to.
     pub fn peel(&self) -> bool
         ensures { result ≡ self.now.asked.peel }
     {
@@ -120,21 +120,6 @@ impl<A: Allocator + Copy> LsRefs<A> {
         match self.ref_prefix(i) {
             Some(prefix) => Some(Argument::RefPrefix(prefix)),
             None => None,
-        }
-    }
-
-    /// Whether the argument may stand in a request of this command.
-    pub(crate) fn check_value(&self, argument: &Argument<'_>) -> Result<(), Kind>
-        ensures ok { OnOk result (IsValue Command.LsRefs self.now.format (shown argument.now)) }
-        ensures err { IfErr result (IsValueFault Command.LsRefs self.now.format (shown argument.now)) }
-    {
-        match argument {
-            Argument::Symrefs => Ok(()),
-            Argument::Peel => Ok(()),
-            Argument::Unborn => Ok(()),
-            Argument::RefPrefix(prefix) if prefix.len() > MOST_TEXT => Err(Kind::BadLine),
-            Argument::RefPrefix(_) => Ok(()),
-            _ => Err(Kind::UnknownArgument),
         }
     }
 

@@ -5,7 +5,7 @@ ghost use Rattle.git_msg.specs.Arguments.{shown, written_text};
 
 use crate::arguments::{Argument, Command};
 use crate::limits::{Budget, Limits};
-use crate::parts::{check_id, keep_id, past_flag};
+use crate::parts::{keep_id, past_flag};
 use git_names::{Format, Oid};
 use git_pkt::Kind;
 use std::alloc::Allocator;
@@ -34,7 +34,7 @@ impl<A: Allocator + Copy> Model for ObjectInfo<A> {
 }
 
 impl<A: Allocator + Copy> ObjectInfo<A> {
-    ghost use Rattle.git_msg.specs.Arguments.{IsValue, IsValueFault};
+    ghost use Rattle.git_msg.specs.Arguments.{IsValue};
     ghost use Rattle.git_msg.specs.Asked.{arguments_in, object_info};
     ghost use Rattle.git_msg.specs.Kept.{IsNew, IsUnkept, IsWithin, KeepsArgument, kept_as};
 
@@ -93,18 +93,6 @@ impl<A: Allocator + Copy> ObjectInfo<A> {
         match self.oids.get(i) {
             Some(id) => Some(Argument::ObjectId(*id)),
             None => None,
-        }
-    }
-
-    /// Whether the argument may stand in a request of this command and format.
-    pub(crate) fn check_value(&self, argument: &Argument<'_>) -> Result<(), Kind>
-        ensures ok { OnOk result (IsValue Command.ObjectInfo self.now.format (shown argument.now)) }
-        ensures err { IfErr result (IsValueFault Command.ObjectInfo self.now.format (shown argument.now)) }
-    {
-        match argument {
-            Argument::Size => Ok(()),
-            Argument::ObjectId(id) => check_id(self.format, id),
-            _ => Err(Kind::UnknownArgument),
         }
     }
 

@@ -2,13 +2,12 @@
 
 ghost use Rattle.std.specs.Prelude.{◌≡◌, ℕ, ◌+◌, ◌*◌, List, [], ◌∷◌, codes, length, unwrap_or};
 ghost use Rattle.std.specs.Option.{option_copied};
-ghost use Rattle.std.specs.List.{list_any};
-ghost use Rattle.std.specs.Str.{bytes_eq};
 ghost use Rattle.git_names.specs.Steps.{TakesAtMost};
 ghost use Rattle.git_pkt.specs.Packets.{Pkt, payload, text_of};
 ghost use Rattle.git_msg.specs.Capability.{IsCapability};
-ghost use Rattle.git_msg.specs.Advertisement.{everything, noted_of, noted_offer, noted_with, is_spoken, offers_command, takes_command};
-ghost use Rattle.git_msg.specs.Texts.{spaced_words};
+ghost use Rattle.git_msg.specs.Advertisement.{everything, noted_after, noted_of, noted_offer, noted_with, nothing};
+ghost use Rattle.git_msg.specs.Advertisement.{is_spoken, offers_command, takes_command};
+ghost use Rattle.git_msg.specs.Arguments.{name_of};
 
 use crate::arguments::Command;
 use crate::capabilities::Capability;
@@ -21,10 +20,13 @@ const LONGEST_KEY: usize = 13;
 // The most bytes that the name of an object format has.
 const LONGEST_FORMAT: usize = 6;
 
+// The most bytes that the word of a feature of `fetch` has.
+const LONGEST_FEATURE: usize = 13;
+
 /// What a server offers to a client, beside `agent` and the commands `ls-refs` and `fetch`, which are in every offer.
 #[derive(Clone, Copy, Debug, PartialEq, Eq)]
 pub struct Offer {
-    /// The format of the object names that are spoken of.
+    /// The format of the object names in requests and answers.
     pub format: Format,
     /// The feature `unborn` of `ls-refs`.
     pub unborn: bool,
@@ -59,6 +61,13 @@ impl Offer {
         }
     }
 
+    /// An offer of nothing that may be left out, for object names of this format.
+    pub fn nothing(format: Format) -> Offer
+        ensures { result ≡ nothing format }
+    {
+        Caps::new().offer(format)
+    }
+
     /// Whether requests of this command are taken.
     pub(crate) fn takes(&self, command: Command) -> bool
         ensures { result ≡ takes_command self.now command }
@@ -73,7 +82,7 @@ impl Offer {
 
 /// What the lines of an advertisement had, of all that this project knows. Keys and words beside these are
 /// passed over, and repeated lines add up.
-#[derive(Clone, Copy, Debug, PartialEq, Eq)]
+#[derive(Clone, Copy, Debug, Default, PartialEq, Eq)]
 pub struct Caps {
     /// The key `agent`.
     pub agent: bool,
@@ -108,21 +117,7 @@ impl Caps {
     pub fn new() -> Caps
         ensures { result ≡ noted_of [] }
     {
-        Caps {
-            agent: false,
-            ls_refs: false,
-            unborn: false,
-            fetch: false,
-            shallow: false,
-            ref_in_want: false,
-            wait_for_done: false,
-            filter: false,
-            server_option: false,
-            object_info: false,
-            object_format: false,
-            sha1: false,
-            sha256: false,
-        }
+        Caps::default()
     }
 
     /// What is noted when this line comes too.
@@ -145,60 +140,72 @@ impl Caps {
     {
         // Six keys.
         steps.tick(6 * (key.len().min(LONGEST_KEY) + 1));
-        if is_word(key, b"agent") {
-            return Caps {
-                agent: true,
-                ..self
-            };
-        }
         if is_word(key, b"ls-refs") {
-            return self.with_ls_refs(value, steps);
+            return self.with_words(Command::LsRefs, value, steps);
         }
         if is_word(key, b"fetch") {
-            return self.with_fetch(value, steps);
-        }
-        if is_word(key, b"server-option") {
-            return Caps {
-                server_option: true,
-                ..self
-            };
-        }
-        if is_word(key, b"object-info") {
-            return Caps {
-                object_info: true,
-                ..self
-            };
+            return self.with_words(Command::Fetch, value, steps);
         }
         if is_word(key, b"object-format") {
             return self.with_format(value, steps);
         }
-        self
-    }
-
-    // What is noted when a line `ls-refs` with these features comes too.
-    fn with_ls_refs(self, features: &[u8], steps: &mut Steps) -> Caps
-        ensures exact { result ≡ noted_with self (codes "ls-refs") features.now }
-        ensures cost { TakesAtMost (4 * (length features.now + 1)) steps.old steps.new }
-    {
         Caps {
-            ls_refs: true,
-            unborn: has_word(features, b"unborn", steps) | self.unborn,
+            agent: is_word(key, b"agent") | self.agent,
+            server_option: is_word(key, b"server-option") | self.server_option,
+            object_info: is_word(key, b"object-info") | self.object_info,
             ..self
         }
     }
 
-    // What is noted when a line `fetch` with these features comes too.
-    fn with_fetch(self, features: &[u8], steps: &mut Steps) -> Caps
-        ensures exact { result ≡ noted_with self (codes "fetch") features.now }
-        ensures cost { TakesAtMost (16 * (length features.now + 1)) steps.old steps.new }
+    // What is noted when a line of this command with this value comes too.
+    fn with_words(self, command: Command, value: &[u8], steps: &mut Steps) -> Caps
+        ensures exact { result ≡ noted_with self (name_of command) value.now }
+        ensures cost { TakesAtMost (7 * (length value.now + 1)) steps.old steps.new }
     {
-        Caps {
-            fetch: true,
-            shallow: has_word(features, b"shallow", steps) | self.shallow,
-            ref_in_want: has_word(features, b"ref-in-want", steps) | self.ref_in_want,
-            wait_for_done: has_word(features, b"wait-for-done", steps) | self.wait_for_done,
-            filter: has_word(features, b"filter", steps) | self.filter,
-            ..self
+        let mut noted = self;
+        let mut left = value;
+        'words: loop {
+            let (word, next) = split_at_first(left, b' ');
+            // A turn and a search.
+            steps.tick(word.len() + 3);
+            noted = noted.with_word(command, word, steps);
+            match next {
+                Some(rest) => left = rest,
+                None => return noted,
+            }
+        }
+    }
+
+    // What is noted when a line of this command has this word in its value: the features of each command, with their flags.
+    fn with_word(self, command: Command, word: &[u8], steps: &mut Steps) -> Caps
+        ensures exact { (value : List ℕ) → result ≡ noted_after self (name_of command) value (word.now ∷ []) }
+        ensures cost { TakesAtMost (4 * (length word.now + 1)) steps.old steps.new }
+    {
+        match command {
+            Command::LsRefs => {
+                steps.tick(word.len().min(b"unborn".len()) + 1);
+                Caps {
+                    ls_refs: true,
+                    unborn: is_word(word, b"unborn") | self.unborn,
+                    ..self
+                }
+            }
+            Command::Fetch => {
+                // Four words.
+                steps.tick(4 * (word.len().min(LONGEST_FEATURE) + 1));
+                Caps {
+                    fetch: true,
+                    shallow: is_word(word, b"shallow") | self.shallow,
+                    ref_in_want: is_word(word, b"ref-in-want") | self.ref_in_want,
+                    wait_for_done: is_word(word, b"wait-for-done") | self.wait_for_done,
+                    filter: is_word(word, b"filter") | self.filter,
+                    ..self
+                }
+            }
+            Command::ObjectInfo => Caps {
+                object_info: true,
+                ..self
+            },
         }
     }
 
@@ -253,22 +260,4 @@ impl Caps {
             server_option: self.server_option,
         }
     }
-}
-
-/// Whether single spaces part the value so that one part is the word.
-fn has_word(value: &[u8], word: &[u8], steps: &mut Steps) -> bool
-    ensures word { result ≡ list_any (λ w. bytes_eq w word.now) (spaced_words value.now) }
-    ensures cost { TakesAtMost (4 * (length value.now + 1)) steps.old steps.new }
-{
-    let mut left = Some(value);
-    'words: while let Some(rest) = left {
-        let (part, next) = split_at_first(rest, b' ');
-        steps.tick(part.len() + 3);
-        steps.tick(part.len().min(word.len()) + 1);
-        if is_word(part, word) {
-            return true;
-        }
-        left = next;
-    }
-    false
 }

@@ -1,8 +1,9 @@
 //! What kept requests are made of: texts, and the places of their arguments.
-ghost use Rattle.std.specs.Prelude.{◌≡◌, ◌≢◌, ◌+◌, ◌*◌, ◌^◌, ◌<◌, ◌≤◌, [], ◌∷◌, ◌++◌, ℕ, List, Some, None, OnOk, OnSome, OnErr, IfErr, MatchOption, MatchResult};
+ghost use Rattle.std.specs.Prelude.{◌≡◌, ◌≢◌, ◌+◌, ◌*◌, ◌^◌, ◌<◌, ◌≤◌, [], ◌∷◌, ◌++◌, ℕ, List, Some, None, OnOk, OnSome, OnErr, IfErr, MatchOption};
+ghost use Rattle.std.specs.Prelude.{MatchResult};
 ghost use Rattle.std.specs.Prelude.{true, false, length, map, slice_get, slice_index, All};
 ghost use Rattle.std.specs.Option.{option_copied};
-ghost use Rattle.git_msg.specs.Arguments.{Arg, IsNameIn};
+ghost use Rattle.git_msg.specs.Arguments.{Arg, IsNameIn, Word, alone, with_number};
 ghost use Rattle.git_msg.specs.Asked.{where_asked, where_given};
 ghost use Rattle.std.proofs.Props.{props};
 ghost use Rattle.std.specs.List.{dedup};
@@ -17,7 +18,7 @@ use std::alloc::{AllocError, Allocator};
 use std::cmp::Ordering;
 
 /// Byte strings in one vector, each followed by its length in two bytes, with the place where each ends: so that a text is found
-/// from its end alone, and the ends may stand in any order.
+/// from its end alone, and the ends may be in any order.
 #[derive(Drop)]
 pub(crate) struct Texts<A: Allocator + Copy> {
     bytes: Vec<u8, A>,
@@ -213,8 +214,8 @@ pub(crate) fn check_id(format: Format, id: &Oid) -> Result<(), Kind>
 /// The place after a flag's argument, if that is among the arguments; none where the place is its own.
 pub(crate) fn past_flag(set: bool, i: usize) -> Option<usize>
     ensures { MatchOption result
-        ((flag : Arg) (others : List Arg) → slice_get (where_asked set flag ++ others) i ≡ Some flag)
-        (λ next. (flag : Arg) (others : List Arg) → slice_get (where_asked set flag ++ others) i ≡ slice_get others next) }
+        ((word : Word) (others : List Arg) → slice_get (where_asked set word ++ others) i ≡ Some (alone word))
+        (λ next. (word : Word) (others : List Arg) → slice_get (where_asked set word ++ others) i ≡ slice_get others next) }
 {
     if !set {
         return Some(i);
@@ -228,8 +229,8 @@ pub(crate) fn past_flag(set: bool, i: usize) -> Option<usize>
 /// The number whose argument has this place, if one was given; otherwise the place after it.
 pub(crate) fn number_at(number: Option<u64>, i: usize) -> Result<u64, usize>
     ensures { MatchResult result
-        (λ own. (make : ℕ → Arg) (others : List Arg) → slice_get (where_given make number ++ others) i ≡ Some (make own))
-        (λ next. (make : ℕ → Arg) (others : List Arg) → slice_get (where_given make number ++ others) i ≡ slice_get others next) }
+        (λ own. (word : Word) (others : List Arg) → slice_get (where_given word number ++ others) i ≡ Some (with_number word own))
+        (λ next. (word : Word) (others : List Arg) → slice_get (where_given word number ++ others) i ≡ slice_get others next) }
 {
     match number {
         None => Err(i),

@@ -80,7 +80,7 @@ impl<A: Allocator + Copy> RequestReader<A> {
         }
     }
 
-    /// Takes the next packet, which stands at `offset`. No argument may wait for [`RequestReader::keep`]. A packet that
+    /// Takes the next packet, which is at `offset`. No argument may wait for [`RequestReader::keep`]. A packet that
     /// is refused ends the reading: from then on each call answers that fault.
     pub fn take<'p>(
         &mut self,
@@ -127,7 +127,7 @@ impl<A: Allocator + Copy> RequestReader<A> {
         let Part::Waiting(offset, length) = self.part else {
             unreachable!()
         };
-        // Nothing here says that the argument is the one that waits, and a request counts no text by less than it is
+        // Nothing here shows that the argument is the one that waits, and a request counts no text by less than it is
         // written. For the one that waits this is the length of its text as it came, which is never less.
         let length = length.max(written_length(argument));
         // What is pushed has fewer bytes than the text, its end among them, and so has a number that is written.

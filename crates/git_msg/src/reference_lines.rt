@@ -36,7 +36,7 @@ pub fn read_reference<'a>(
     Ok(places.reference(text))
 }
 
-/// Reads the text of a reference line as [`read_reference`] does, and says where its parts lie.
+/// Reads the text of a reference line as [`read_reference`] does, and returns where its parts are.
 pub fn locate_reference(
     format: Format,
     text: &[u8],
@@ -62,7 +62,7 @@ pub fn locate_reference(
     })
 }
 
-/// The object that the first word of a line names: none where the word says that the reference is unborn.
+/// The object that the first word of a line names: none where the word is `unborn`.
 fn read_id(format: Format, word: &[u8], steps: &mut Steps) -> Result<Option<Oid>, Kind>
     ensures id { MatchResult result (IsIdText format word.now) (λ kind. IsNoIdText format word.now × (kind ≡ Kind.BadObjectName)) }
     ensures cost { TakesAtMost (17 * (length word.now + 1)) steps.old steps.new }
@@ -77,7 +77,7 @@ fn read_id(format: Format, word: &[u8], steps: &mut Steps) -> Result<Option<Oid>
     }
 }
 
-/// The reference name that the text begins with, and what stands after the space that ends it, where there is one. Most
+/// The reference name that the text begins with, and what comes after the space that ends it, where there is one. Most
 /// texts are the name alone: as a name has no space, they need no search for one.
 fn split_name<'a>(
     text: &'a [u8],
@@ -129,7 +129,7 @@ fn read_attributes(
     Ok(found)
 }
 
-/// What was found, with what one more attribute says, which ends at this place of the line.
+/// What was found, with what one more attribute contains, which ends at this place of the line.
 fn read_attribute(
     format: Format,
     word: &[u8],

@@ -21,15 +21,15 @@ impl Part {
     }
 }
 
-/// What a reference line says of objects, and where the names lie in its text: a reference that lends nothing.
+/// What a reference line contains of objects, and where the names lie in its text: a reference that lends nothing.
 #[derive(Clone, Copy, Debug)]
 pub struct ReferencePlaces {
     /// The object that the reference points to: none where it is unborn.
     pub id: Option<Oid>,
-    // The name begins after what stands for the object and one space.
+    // The name begins after the word for the object and one space.
     pub(crate) name_length: usize,
     pub(crate) target: Option<Part>,
-    /// For an annotated tag, where it is told, the object that it stands for.
+    /// For an annotated tag, where it is given, the object that it peels to.
     pub peeled: Option<Oid>,
 }
 

@@ -19,9 +19,9 @@ pub struct Reference<'a> {
     pub id: Option<Oid>,
     /// Its name.
     pub name: &'a [u8],
-    /// For a symbolic reference, where it is told, the name of the reference that it points to.
+    /// For a symbolic reference, where it is given, the name of the reference that it points to.
     pub target: Option<&'a [u8]>,
-    /// For an annotated tag, where it is told, the object that it stands for.
+    /// For an annotated tag, where it is given, the object that it peels to.
     pub peeled: Option<Oid>,
 }
 
@@ -71,7 +71,7 @@ fn put_parts(
     append(hold, b"\n");
 }
 
-/// How many bytes the word has that stands for the object at the head of a line.
+/// How many bytes the word for the object at the head of a line has.
 pub(crate) fn id_text_length(id: &Option<Oid>) -> usize
     ensures { result ≡ id_length id.now }
 {
@@ -81,7 +81,7 @@ pub(crate) fn id_text_length(id: &Option<Oid>) -> usize
     }
 }
 
-/// Appends the word that stands for the object at the head of a line: its digits, or `unborn`.
+/// Appends the word for the object at the head of a line: its digits, or `unborn`.
 fn append_id_text(hold: &mut Hold, id: &Option<Oid>)
     requires { array_vec_len hold.old + id_length id.now ≤ 65520 }
     ensures appended { hold.new.items ≡ hold.old.items ++ id_text id.now }

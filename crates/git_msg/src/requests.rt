@@ -6,7 +6,7 @@ ghost use Rattle.git_names.specs.RefName.{IsRefName};
 ghost use Rattle.git_pkt.specs.Packets.{longest_payload};
 ghost use Rattle.git_msg.specs.Arguments.{HasName, most_text, shown, written_text};
 
-use crate::arguments::{Argument, Command, is_offered, is_ref_name, put_together};
+use crate::arguments::{Argument, Command, check_value, is_offered, is_ref_name, put_together};
 use crate::fetch::Fetch;
 use crate::limits::Limits;
 use crate::ls_refs::LsRefs;
@@ -29,14 +29,15 @@ pub enum Request<A: Allocator + Copy> {
 }
 
 impl<A: Allocator + Copy> Request<A> {
-    ghost use Rattle.git_msg.specs.Arguments.{IsValue, IsValueFault};
+    ghost use Rattle.git_msg.specs.Arguments.{IsValueFault};
     ghost use Rattle.git_msg.specs.Asked.{arguments_in, symrefs_of, peel_of, unborn_of, ref_prefixes_of, wants_of, haves_of, done_of, thin_pack_of};
     ghost use Rattle.git_msg.specs.Asked.{no_progress_of, include_tag_of, ofs_delta_of, written_bytes, HasValues};
     ghost use Rattle.git_msg.specs.Asked.{AreOffered, shallows_of, deepen_of, deepen_relative_of, deepen_since_of, deepen_nots_of, want_refs_of};
     ghost use Rattle.git_msg.specs.Asked.{size_of, oids_of, wait_for_done_of, filters_of};
     ghost use Rattle.git_msg.specs.Checks.{Passes, Refuses};
     ghost use Rattle.git_msg.specs.Lines.{end_checks};
-    ghost use Rattle.git_msg.specs.HeldRequest.{IsEmpty, asked_of, command_of, format_of, kept_of, limit_of, stored_of, Keeps, add_checks, keep_checks, IsRefused};
+    ghost use Rattle.git_msg.specs.HeldRequest.{IsEmpty, asked_of, command_of, format_of, kept_of, limit_of, stored_of, Keeps, add_checks, keep_checks};
+    ghost use Rattle.git_msg.specs.HeldRequest.{IsRefused};
 
     /// A request without arguments. Later calls take memory from `alloc`, and only where an argument with a text or an
     /// object name is kept.
@@ -51,7 +52,7 @@ impl<A: Allocator + Copy> Request<A> {
     }
 
     /// Adds an argument after the others. Refused in this order: `UnknownArgument` for an argument of another command, a
-    /// value that may not stand there (`BadObjectName` for an object name of another format, `BadNumber` for a number out of
+    /// value that is not allowed there (`BadObjectName` for an object name of another format, `BadNumber` for a number out of
     /// its range, `BadRefName` for a `want-ref` of what is no reference name, `BadLine` for a text of more than 32,000 bytes
     /// or an empty `deepen-not`), `TooMuchKept` where the texts of all lines, as they are written, would pass the limit, and
     /// `OutOfMemory`. Then the request stays as it was.
@@ -149,7 +150,7 @@ impl<A: Allocator + Copy> Request<A> {
         // No more is stored of their values: 33 bytes of an object name, and of a text its own and six.
         ensures stored { stored_of self.now ≤ kept_of self.now }
 
-        // The lines as they are written have no more, and each argument may stand there.
+        // The lines as they are written have no more, and each argument is allowed there.
         ensures written { written_bytes (asked_of self.now) ≤ kept_of self.now }
         ensures values { HasValues (format_of self.now) (asked_of self.now) }
     {
@@ -175,30 +176,21 @@ impl<A: Allocator + Copy> Request<A> {
     pub fn symrefs(&self) -> bool
         ensures { result ≡ symrefs_of (asked_of self.now) }
     {
-        match self {
-            Request::LsRefs(request) => request.symrefs(),
-            Request::Fetch(_) | Request::ObjectInfo(_) => false,
-        }
+        matches!(self, Request::LsRefs(request) if request.symrefs())
     }
 
     /// The flag `peel` of `ls-refs`.
     pub fn peel(&self) -> bool
         ensures { result ≡ peel_of (asked_of self.now) }
     {
-        match self {
-            Request::LsRefs(request) => request.peel(),
-            Request::Fetch(_) | Request::ObjectInfo(_) => false,
-        }
+        matches!(self, Request::LsRefs(request) if request.peel())
     }
 
     /// The flag `unborn` of `ls-refs`.
     pub fn unborn(&self) -> bool
         ensures { result ≡ unborn_of (asked_of self.now) }
     {
-        match self {
-            Request::LsRefs(request) => request.unborn(),
-            Request::Fetch(_) | Request::ObjectInfo(_) => false,
-        }
+        matches!(self, Request::LsRefs(request) if request.unborn())
     }
 
     /// The text of the `ref-prefix` line at place `i` of `ls-refs`.
@@ -237,60 +229,42 @@ impl<A: Allocator + Copy> Request<A> {
     pub fn done(&self) -> bool
         ensures { result ≡ done_of (asked_of self.now) }
     {
-        match self {
-            Request::LsRefs(_) | Request::ObjectInfo(_) => false,
-            Request::Fetch(request) => request.done(),
-        }
+        matches!(self, Request::Fetch(request) if request.done())
     }
 
     /// The flag `thin-pack` of `fetch`.
     pub fn thin_pack(&self) -> bool
         ensures { result ≡ thin_pack_of (asked_of self.now) }
     {
-        match self {
-            Request::LsRefs(_) | Request::ObjectInfo(_) => false,
-            Request::Fetch(request) => request.thin_pack(),
-        }
+        matches!(self, Request::Fetch(request) if request.thin_pack())
     }
 
     /// The flag `no-progress` of `fetch`.
     pub fn no_progress(&self) -> bool
         ensures { result ≡ no_progress_of (asked_of self.now) }
     {
-        match self {
-            Request::LsRefs(_) | Request::ObjectInfo(_) => false,
-            Request::Fetch(request) => request.no_progress(),
-        }
+        matches!(self, Request::Fetch(request) if request.no_progress())
     }
 
     /// The flag `include-tag` of `fetch`.
     pub fn include_tag(&self) -> bool
         ensures { result ≡ include_tag_of (asked_of self.now) }
     {
-        match self {
-            Request::LsRefs(_) | Request::ObjectInfo(_) => false,
-            Request::Fetch(request) => request.include_tag(),
-        }
+        matches!(self, Request::Fetch(request) if request.include_tag())
     }
 
     /// The flag `ofs-delta` of `fetch`.
     pub fn ofs_delta(&self) -> bool
         ensures { result ≡ ofs_delta_of (asked_of self.now) }
     {
-        match self {
-            Request::LsRefs(_) | Request::ObjectInfo(_) => false,
-            Request::Fetch(request) => request.ofs_delta(),
-        }
+        matches!(self, Request::Fetch(request) if request.ofs_delta())
     }
 
     /// The flag `wait-for-done` of `fetch`.
     pub fn wait_for_done(&self) -> bool
         ensures { result ≡ wait_for_done_of (asked_of self.now) }
     {
-        match self {
-            Request::LsRefs(_) | Request::ObjectInfo(_) => false,
-            Request::Fetch(request) => request.wait_for_done(),
-        }
+        matches!(self, Request::Fetch(request) if request.wait_for_done())
     }
 
     /// The filter-spec of the `filter` line of `fetch` at place `i`, as it came.
@@ -327,10 +301,7 @@ impl<A: Allocator + Copy> Request<A> {
     pub fn deepen_relative(&self) -> bool
         ensures { result ≡ deepen_relative_of (asked_of self.now) }
     {
-        match self {
-            Request::LsRefs(_) | Request::ObjectInfo(_) => false,
-            Request::Fetch(request) => request.deepen_relative(),
-        }
+        matches!(self, Request::Fetch(request) if request.deepen_relative())
     }
 
     /// Since when the history is wanted, in seconds since 1970: the number of the last `deepen-since` line of `fetch`.
@@ -369,10 +340,7 @@ impl<A: Allocator + Copy> Request<A> {
     pub fn size(&self) -> bool
         ensures { result ≡ size_of (asked_of self.now) }
     {
-        match self {
-            Request::LsRefs(_) | Request::Fetch(_) => false,
-            Request::ObjectInfo(request) => request.size(),
-        }
+        matches!(self, Request::ObjectInfo(request) if request.size())
     }
 
     /// The objects of the `oid` lines of `object-info`, in their order.
@@ -407,7 +375,7 @@ impl<A: Allocator + Copy> Request<A> {
         ensures unchanged { OnErr result (self.new ≡ self.old) }
         ensures refused { IfErr result (IsRefused (keep_checks self.old (shown argument.now) text_length) (shown argument.now)) }
     {
-        self.check_value(argument)?;
+        check_value(self.command(), self.format(), argument)?;
         match self {
             Request::LsRefs(request) => request.keep(argument, text_length),
             Request::Fetch(request) => request.keep(argument, text_length),
@@ -432,19 +400,6 @@ impl<A: Allocator + Copy> Request<A> {
                 }
             }
             _ => Ok(()),
-        }
-    }
-
-    // Whether the argument may stand in this request.
-    fn check_value(&self, argument: &Argument<'_>) -> Result<(), Kind>
-        requires { HasName (shown argument.now) }
-        ensures ok { OnOk result (IsValue (command_of self.now) (format_of self.now) (shown argument.now)) }
-        ensures err { IfErr result (IsValueFault (command_of self.now) (format_of self.now) (shown argument.now)) }
-    {
-        match self {
-            Request::LsRefs(request) => request.check_value(argument),
-            Request::Fetch(request) => request.check_value(argument),
-            Request::ObjectInfo(request) => request.check_value(argument),
         }
     }
 }

@@ -44,7 +44,7 @@ pub struct Info {
     pub size: Option<u64>,
 }
 
-/// Makes the hold the packet of the line that says of an object that both ends have it, with an LF at its end:
+/// Makes the hold the packet of the line for an object that both ends have, with an LF at its end:
 /// gitprotocol-v2(5), the section `acknowledgments`.
 pub fn put_ack(hold: &mut Hold, id: &Oid)
     ensures written { hold.new.items ≡ spelling_of (text_line (ack_text id.now)) }
@@ -76,7 +76,7 @@ pub fn put_wanted(hold: &mut Hold, wanted: WantedRef<'_>)
     ensures fits { length (wanted_text (shown_wanted wanted.entry)) < longest_payload }
 {
     let WantedRef { id, name } = wanted;
-    // The line is that of a reference of which no more is told.
+    // The line is that of a reference of which no more is given.
     let reference = Reference {
         id: Some(id),
         name,
@@ -86,7 +86,7 @@ pub fn put_wanted(hold: &mut Hold, wanted: WantedRef<'_>)
     put_reference(hold, reference);
 }
 
-/// Makes the hold the packet of the line that says what is known of an object, with an LF at its end: gitprotocol-v2(5), the
+/// Makes the hold the packet of the line with what is known of an object, with an LF at its end: gitprotocol-v2(5), the
 /// response to object-info.
 pub fn put_info(hold: &mut Hold, info: &Info)
     ensures written { hold.new.items ≡ spelling_of (text_line (info_text info.now)) }
@@ -105,7 +105,7 @@ pub fn put_info(hold: &mut Hold, info: &Info)
     append(hold, b"\n");
 }
 
-/// Reads the text of a line that says of an object that both ends have it. A text that does not begin with `ACK ` is
+/// Reads the text of a line for an object that both ends have. A text that does not begin with `ACK ` is
 /// `BadLine`, and else one without an object name after that is `BadObjectName`.
 pub fn read_ack(format: Format, text: &[u8], steps: &mut Steps) -> Result<Oid, Kind>
     ensures line { MatchResult result (IsAckLine format text.now) (IsAckFault format text.now) }

@@ -14,7 +14,7 @@ use git_names::Steps;
 use git_pkt::{Fault, Got, Kind, Packet, PacketReader};
 use std::alloc::Allocator;
 
-/// Where a reader of requests stands.
+/// How far a reader of requests has come.
 #[derive(Clone, Copy, Debug)]
 enum Stage {
     /// Before the first packet of a request.
@@ -26,7 +26,7 @@ enum Stage {
     Failed(Fault),
 }
 
-/// What some bytes of a piece came to.
+/// What came of some bytes of a piece.
 #[derive(Drop)]
 pub struct ReadRequest<A: Allocator + Copy> {
     /// How many bytes of the piece were used.
@@ -88,7 +88,7 @@ impl<A: Allocator + Copy> RequestStream<A> {
         self.packets.position()
     }
 
-    /// Reads on. It returns after a whole request, at a flush in the place of one, with the whole piece used, or at the first
+    /// Reads on. It returns after a whole request, at a flush instead of one, with the whole piece used, or at the first
     /// fault. Call it again with the bytes that it did not use.
     pub fn feed(&mut self, piece: &[u8]) -> ReadRequest<A>
         ensures used { result.used ≤ length piece.now }
@@ -115,14 +115,14 @@ impl<A: Allocator + Copy> RequestStream<A> {
         }
     }
 
-    /// Whether bytes are read on: no fault came, and no flush in the place of a request.
+    /// Whether bytes are read on: no fault came, and no flush instead of a request.
     pub fn wants_input(&self) -> bool
         ensures { result ≡ wants_input self.now }
     {
         matches!(self.stage, Stage::Between | Stage::Within)
     }
 
-    /// Tells that the input ends here, where more could come. Between two requests that is well; inside one it is refused as
+    /// The input ends here, where more could come. Between two requests that is well; inside one it is refused as
     /// truncated, at the end of the last whole packet.
     pub fn close(&mut self) -> Result<(), Fault>
         requires { wants_input self.old ≡ true }
@@ -199,7 +199,7 @@ fn take_packet<A: Allocator + Copy>(
     }
 }
 
-/// Where the reader stands after a packet that brought this.
+/// The stage of the reader after a packet that brought this.
 fn stage_after<A: Allocator + Copy>(got: &ReadGot<A>) -> Stage
     ensures { result ≡ stage_brought got.now }
 {

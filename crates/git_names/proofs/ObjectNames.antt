@@ -143,7 +143,7 @@ write_fits format out bytes d w count wide room size =
     let part = length-take-le w bytes (omega arith) in
     omega arith
 
--- the written digits stand at the front
+-- the written digits are at the front
 pub written : (format : Format) (bytes new rest : List ℕ) (d w : ℕ) → d ≡ digits_of format → w ≡ width_of format → length bytes ≡ 32
     → new ≡ hex_text (take w bytes) → take d (new ++ rest) ≡ hex_text (take (width_of format) bytes)
 written format bytes new rest d w count wide size is =

@@ -65,7 +65,7 @@ unfolding encode_with hex_text lower_digit
 encode_lower-text [] = refl
 encode_lower-text (byte ∷ bytes) = rw (encode_lower-text bytes) refl
 
--- what an answer says where it is Ok
+-- what holds of an answer that is Ok
 pub at_ok : (r : Result Unit FromHexError) (P : Type 0) → IsOk r → OnOk r P → P
 at_ok (Ok t) P ok h = h
 at_ok (Err e) P ok h = absurd (cc ok)

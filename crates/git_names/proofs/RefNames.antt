@@ -1,4 +1,4 @@
--- The rules of reference names, as what may stand after what.
+-- The rules of reference names, as which byte may follow which bytes.
 use Rattle.std.proofs.Common.{◌≡◌, ℕ, ◌+◌, ◌-◌, ◌<◌, ◌≤◌, List, [], ◌∷◌, ◌++◌, ◌≢◌, length, slice_index, take, refl, sym, ap, ◌∙◌, inl, inr, arith, codes}
 use Rattle.std.proofs.lemmas.Bool.{cases_lt}
 use Rattle.std.proofs.lemmas.List.{get_or_append_left, get_or-take, length-append, length-take-le}
@@ -31,7 +31,7 @@ occurs_longer text part c k lt is h =
       ];
     }
 
--- where a part with a byte after it stands, the byte stands after the part
+-- where a part with a byte after it occurs, the byte is there in the text and what is before it ends with the part
 ends_before : (text part : List ℕ) (c j : ℕ) → OccursAt text (part ++ c ∷ []) j
     → (j + length part < length text) × (slice_index text (j + length part) ≡ c) × EndsWith (take (j + length part) text) part
 ends_before text part c j h =
@@ -77,7 +77,7 @@ follows_in_name text h k lt = record {
   no_at_brace = λ is ends. h.no_at_brace (_, occurs_longer text (codes "@") 123 k lt is ends);
 }
 
--- a slash may stand after a whole component
+-- a slash may follow a whole component
 pub slash_follows : (front : List ℕ) → ¬ EndsWith front (codes "/") → ¬ EndsWith front (codes ".lock") → MayFollow front 47
 slash_follows front no_slash no_lock = record {
   allowed = record {
@@ -103,11 +103,11 @@ slash_follows front no_slash no_lock = record {
 pub slash_follows_name : (text : List ℕ) → IsRefName text → MayFollow text 47
 slash_follows_name text h = slash_follows text h.no_slash_at_end h.no_lock_at_end
 
--- each byte may stand after those before it
+-- each byte may follow those before it
 abbrev pub AllFollow : List ℕ → Type 0
 AllFollow text = (k : ℕ) → k < length text → MayFollow (take k text) (slice_index text k)
 
--- a part with a byte after it does not stand where the byte may not follow the part
+-- a part with a byte after it does not occur where the byte may not follow the part
 lacks_part : (text part : List ℕ) (c : ℕ) → AllFollow text
     → ((front : List ℕ) (byte : ℕ) → MayFollow front byte → byte ≡ c → ¬ EndsWith front part)
     → (j : ℕ) → ¬ OccursAt text (part ++ c ∷ []) j

@@ -50,7 +50,7 @@ hex_text-lower (high ∷ low ∷ text) (byte ∷ bytes) h lower =
 pub hex_of-lower : (format : Format) (text : List ℕ) (id : ObjectName) → IsObjectName format text id → AllPass is_lower_digit text → text ≡ hex_of id
 hex_of-lower format text id h lower = hex_text-lower text (name_bytes id) h.pairs lower
 
--- the number of digits tells the format
+-- the number of digits determines the format
 format_of_digits : (a b : Format) → digits_of a ≡ digits_of b → a ≡ b
 format_of_digits Sha1 Sha1 h = refl
 format_of_digits Sha1 Sha256 h = absurd (omega arith)

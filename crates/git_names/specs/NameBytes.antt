@@ -2,6 +2,6 @@
 use Rattle.std.specs.Prelude.{ℕ, List}
 use Rattle.git_names.specs.declared.reference.RefName.{RefName}
 
--- the bytes of the name
+-- its text
 abbrev pub name_bytes : RefName → List ℕ
 name_bytes name = name.text.now

@@ -1,4 +1,4 @@
--- Which byte may stand after which bytes in a reference name.
+-- Which byte may follow which bytes in a reference name.
 use Rattle.std.specs.Prelude.{◌≡◌, ◌≢◌, ℕ, ◌≤◌, List, codes}
 use Rattle.git_names.specs.RefName.{EndsWith}
 
@@ -15,14 +15,14 @@ pub record IsAllowed (byte : ℕ) : Type 0 where
   pub no_tilde : byte ≢ 126
   pub no_delete : byte ≢ 127
 
--- no rule speaks of the byte
+-- no rule is about the byte
 pub record IsPlain (byte : ℕ) : Type 0 where
   pub allowed : IsAllowed byte
   pub no_slash : byte ≢ 47
   pub no_dot : byte ≢ 46
   pub no_brace : byte ≢ 123
 
--- the byte may stand after these
+-- the byte may follow these
 pub record MayFollow (front : List ℕ) (byte : ℕ) : Type 0 where
   pub allowed : IsAllowed byte
   pub no_empty_component : byte ≡ 47 → ¬ EndsWith front (codes "/")

@@ -3,7 +3,7 @@ use Rattle.std.specs.Prelude.{◌≢◌, ℕ, List, codes}
 use Rattle.git_names.specs.declared.object_format.Format.{Format}
 use Rattle.git_names.specs.declared.object_format.Format.TheVariants.{Sha1, Sha256}
 
--- how many bytes an object name stands for
+-- how many bytes an object name of this format has
 abbrev pub width_of : Format → ℕ
 width_of Sha1 = 20
 width_of Sha256 = 32

@@ -9,7 +9,7 @@ pub record ObjectName : Type 0 where
   pub format : Format
   pub bytes : List ℕ
 
--- the bytes that an object name stands for
+-- the bytes of an object name: as many of those it keeps as its format has
 abbrev pub name_bytes : ObjectName → List ℕ
 name_bytes id = take (width_of id.format) id.bytes
 

@@ -11,7 +11,7 @@ BeginsWith text part = OccursAt text part 0
 abbrev pub EndsWith : List ℕ → List ℕ → Type 0
 EndsWith text part = (length part ≤ length text) × OccursAt text part (length text - length part)
 
--- the byte stands nowhere in the text
+-- the byte is nowhere in the text
 abbrev pub Lacks : List ℕ → ℕ → Type 0
 Lacks text byte = (k : ℕ) → k < length text → slice_index text k ≢ byte
 

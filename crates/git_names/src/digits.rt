@@ -8,7 +8,7 @@ use crate::counter::Steps;
 use std::simd::prelude::*;
 
 // The value of each byte as a digit of either case, and 16 where it is none; a row has 16 bytes.
-// Each packet begins with digits and object names stand in nearly every line; a table has no branch for the
+// Each packet begins with digits and object names are in nearly every line; a table has no branch for the
 // processor to guess.
 static DIGIT_VALUES: [u8; 256] = *b"\
     \x10\x10\x10\x10\x10\x10\x10\x10\x10\x10\x10\x10\x10\x10\x10\x10\

@@ -1,6 +1,6 @@
 //! Names in Git's protocol: object formats, object names and reference names, read from the bytes
 //! of a stranger and written back, the hexadecimal digits of the protocol, and the counter of steps that contracts
-//! speak of.
+//! cite.
 #![tactic(auto)]
 
 mod counter;

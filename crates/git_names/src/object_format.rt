@@ -45,7 +45,7 @@ impl Format {
         }
     }
 
-    /// The number of bytes that an object name of this format stands for.
+    /// The number of bytes of an object name in this format.
     pub(crate) fn width(self) -> usize
         ensures { result ≡ width_of self }
     {

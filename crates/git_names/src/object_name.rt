@@ -16,7 +16,7 @@ use std::marker::Model;
 #[derive(Clone, Copy, Debug, Hash, PartialEq, Eq, PartialOrd, Ord)]
 pub struct Oid {
     format: Format,
-    // Behind the format's width these are zero.
+    // After the format's width these are zero.
     bytes: [u8; 32],
 }
 
@@ -49,7 +49,7 @@ impl Oid {
         Ok(Oid { format, bytes })
     }
 
-    /// Writes the name in lower case digits to the front of `out`, and says how many there are.
+    /// Writes the name in lower case digits to the front of `out`, and returns how many there are.
     /// The bytes of `out` after them stay as they were.
     pub fn write(&self, out: &mut [u8; 64]) -> usize
         ensures count { result ≡ digits_of self.now.format }

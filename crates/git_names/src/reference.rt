@@ -20,8 +20,8 @@ pub struct RefName<'a> {
 // The most bytes that a reference name may have.
 const MOST_BYTES: usize = 32_000;
 
-// A dot stands in the place of each byte that some rule speaks of. At the others is the byte
-// itself, or an x for those from 0x80 on.
+// A dot marks each byte that some rule is about. The place of any other has the byte itself,
+// or an x for those from 0x80 on.
 static PLAIN_BYTES: [u8; 256] = *b"\
     ................................\
     .!\"#$%&'().+,-..0123456789.;<=>.\
@@ -90,7 +90,7 @@ fn begins_well(text: &[u8], steps: &mut Steps) -> bool
     text.starts_with_str(b"refs/")
 }
 
-// Whether each byte may stand after those before it.
+// Whether each byte may follow those before it.
 fn follows_well(text: &[u8], steps: &mut Steps) -> bool
     ensures follows { IsTrue result ↔ ((k : ℕ) → k < length text.now → MayFollow (take k text.now) (slice_index text.now k)) }
     ensures cost { TakesAtMost (9 * length text.now) steps.old steps.new }
@@ -104,7 +104,7 @@ fn follows_well(text: &[u8], steps: &mut Steps) -> bool
     true
 }
 
-// Whether the rules let the byte stand after `front`.
+// Whether the rules let the byte follow `front`.
 fn may_follow(front: &[u8], byte: u8, steps: &mut Steps) -> bool
     ensures follows { IsTrue result ↔ MayFollow front.now byte }
     ensures cost { TakesAtMost 8 steps.old steps.new }
@@ -119,7 +119,7 @@ fn may_follow(front: &[u8], byte: u8, steps: &mut Steps) -> bool
     }
 }
 
-// Whether the byte may stand after any other, as most bytes of a name may.
+// Whether the byte may follow any other, as most bytes of a name may.
 fn is_plain(byte: u8) -> bool
     ensures plain { IsTrue result → IsPlain byte }
 {

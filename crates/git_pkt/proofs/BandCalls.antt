@@ -22,7 +22,7 @@ one_is_none : (g : Given) (b : Bool) → cond b [] (g ∷ []) ≡ g ∷ [] → b
 one_is_none g false e = refl
 one_is_none g true e = absurd (cc)
 
--- of packets that are told nothing passes
+-- of packets that are returned nothing passes
 told_passes : (got : BandGot) → others (told_by got) ≡ told_by got → passed_by_all (told_by got) ≡ []
 told_passes More e = refl
 told_passes (Part band bytes) e = refl

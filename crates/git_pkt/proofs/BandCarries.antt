@@ -1,4 +1,4 @@
--- A step of the reader in a section of side bands carries what it stands for.
+-- A step of the reader in a section of side bands carries what it represents.
 use Rattle.std.proofs.Common.{arith, ◌≡◌, ◌≢◌, ℕ, ◌+◌, ◌<◌, ◌≤◌, ◌==◌, Bool, true, false, cond, List, [], ◌∷◌, ◌++◌, length, take, drop, map}
 use Rattle.std.proofs.Common.{Option, Some, None, is_some, ap, sym, ◌∙◌, refl, subst, append_assoc}
 use Rattle.std.proofs.lemmas.List.{append-nil, length-take-le, take-append-drop}
@@ -155,7 +155,8 @@ joined_to_nothing : (front back : List OnBand) → front ≡ [] → back ≡ [] 
 joined_to_nothing front back e f = e ∙ sym (ap (λ (l : List OnBand). l ++ []) f)
 
 -- gathered bytes, of which nothing passes
-pub bands_open : (old new : PacketReader) (u : List ℕ) → bytes_held new ≤ 65520 → fault_of old ≡ None → passes_of old ≡ false → passed_by_rest (rest_of old) ≡ []
+pub bands_open : (old new : PacketReader) (u : List ℕ) → bytes_held new ≤ 65520 → fault_of old ≡ None → passes_of old ≡ false
+    → passed_by_rest (rest_of old) ≡ []
     → passed_by_rest (rest_of old ++ u) ≡ [] → Moves old u Open new → ReadsBandsOn old u [] [] new
 bands_open old new u fits sound gathers none none_after m start bytes given rest r =
     let was = was_held old start bytes given rest sound gathers r in
@@ -170,7 +171,8 @@ bands_open old new u fits sound gathers none none_after m start bytes given rest
       held = λ g is. absurd (cc);
     }
 
-pub bands_failed : (old new : PacketReader) (u : List ℕ) (f : Fault) → bytes_held new ≤ 65520 → fault_of old ≡ None → passes_of old ≡ false → passed_by_rest (rest_of old) ≡ []
+pub bands_failed : (old new : PacketReader) (u : List ℕ) (f : Fault) → bytes_held new ≤ 65520 → fault_of old ≡ None → passes_of old ≡ false
+    → passed_by_rest (rest_of old) ≡ []
     → passed_by_rest (rest_of old ++ u) ≡ [] → Moves old u (Failed f) new → ReadsBandsOn old u [] [] new
 bands_failed old new u f fits sound gathers none none_after m start bytes given rest r =
     let was = was_held old start bytes given rest sound gathers r in
@@ -191,7 +193,7 @@ told_unbanded g e = ap (λ (b : Bool). cond b [] (g ∷ [])) e
 pub not_told_banded : (g : Given) → is_on_band g.packet ≡ true → others (g ∷ []) ≡ []
 not_told_banded g e = ap (λ (b : Bool). cond b [] (g ∷ [])) e
 
--- a packet that lies in the hold: it is told, where nothing passes of any of its kind
+-- a packet that lies in the hold: it is returned, where nothing passes of any of its kind
 pub bands_whole : (old new : PacketReader) (u : List ℕ) (g : Given) → bytes_held new ≤ 65520 → fault_of old ≡ None → passes_of old ≡ false
     → passed_by_rest (rest_of old) ≡ [] → Moves old u Whole new → Spells g.packet (held_of new)
     → g.offset + length (held_of new) ≡ position_of new → is_on_band g.packet ≡ false → ReadsBandsOn old u (g ∷ []) [] new
@@ -230,7 +232,7 @@ bands_empty old new u g fits sound gathers none m spells at banded none_by start
       held = λ _ is. absurd (cc);
     }
 
--- what a packet that lies in the hold says of its band
+-- a packet in the hold is on a band exactly where its payload begins as that of a band
 pub banded_body : (p : Pkt) (s : List ℕ) → Spells p s → is_on_band p ≡ begins_band (drop 4 s)
 banded_body flush s h = sym (ap begins_band h.body)
 banded_body delim s h = sym (ap begins_band h.body)

@@ -1,4 +1,4 @@
--- Bytes that pass carry what the reader stands for.
+-- Bytes that pass carry what the reader represents.
 use Rattle.std.proofs.Common.{arith, ◌≡◌, ℕ, ◌+◌, ◌-◌, ◌<◌, ◌≤◌, true, false, List, [], ◌∷◌, ◌++◌, length, take, drop, map}
 use Rattle.std.proofs.Common.{Option, Some, None, is_some, ap, sym, ◌∙◌, refl, subst, append_assoc, length-append, length-drop}
 use Rattle.std.proofs.lemmas.List.{append-nil, length-take-le, map-append, take-append-drop, take_all}
@@ -120,7 +120,7 @@ bands_pass_open old new left n u band b now some sum start bytes given rest r =
       joins = passes_more (held_of old) p.passed u rest band kept.five b.band_is p.all;
     }
 
--- four digits of a payload's number and as many bytes as it says
+-- the four digits of a payload, and as many bytes in all as their number, spell it
 pub payload_spells : (s : List ℕ) (field : ℕ) → IsWhole s field → 4 ≤ field → Spells (payload (drop 4 s)) s
 payload_spells s field h four = record {
   digits = h.digits;

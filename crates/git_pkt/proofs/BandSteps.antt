@@ -1,4 +1,4 @@
--- What a step comes to in a section of side bands, from what its parts do.
+-- What comes of a step in a section of side bands, from what its parts do.
 use Rattle.std.proofs.Common.{arith, ◌≡◌, inl, inr, ℕ, ◌+◌, ◌-◌, ◌<◌, ◌≤◌, true, false, List, [], ◌∷◌, ◌++◌, length, take, drop, map}
 use Rattle.std.proofs.Common.{None, is_some, ap, sym, ◌∙◌, refl, subst, append_assoc, length-append}
 use Rattle.std.proofs.lemmas.Bool.{cases_lt}
@@ -116,7 +116,7 @@ first_five l u e few = elim (cases_lt 5 (length l + length u)) [
 unbanded_longer : (l u : List ℕ) → 5 ≤ length l → begins_band (drop 4 l) ≡ false → begins_band (drop 4 (l ++ u)) ≡ false
 unbanded_longer l u five e = ap is_some (band_longer l u five) ∙ e
 
--- a packet that has come whole is told, or passed over
+-- a packet that has come whole is returned, or passed over
 module _ (old new : PacketReader) (u : List ℕ) (fits : bytes_held new ≤ 65520) (sound : fault_of old ≡ None) (gathers : passes_of old ≡ false)
     (unbanded : begins_band (drop 4 (rest_of old)) ≡ false) where
   none_before : passed_by_rest (rest_of old) ≡ []

@@ -11,7 +11,8 @@ use Rattle.git_pkt.specs.Faults.{IsOpen, IsRefused}
 use Rattle.git_pkt.specs.HeldPacket.{IsWhole, IsLengthField}
 use Rattle.git_pkt.specs.declared.fault.Kind.{Kind}
 use Rattle.git_pkt.specs.declared.fault.Kind.TheVariants.{BadDigit, BadLength, TooLong}
-use Rattle.git_pkt.proofs.Spelling.{no_bytes, digits_value-append, HasDigits-append, none_begins_bad, none_begins_refused, none_begins_partial, none_begins_short}
+use Rattle.git_pkt.proofs.Spelling.{no_bytes, digits_value-append, HasDigits-append, none_begins_bad, none_begins_refused, none_begins_partial}
+use Rattle.git_pkt.proofs.Spelling.{none_begins_short}
 use Rattle.git_pkt.proofs.Gathered.{begun_whole}
 use Rattle.git_pkt.proofs.Rests.{open_or_faulty}
 
@@ -22,7 +23,7 @@ pub record Begins (rest : List ℕ) : Type 0 where
   pub is : rest ≡ spelling ++ more
   pub spells : Spells packet spelling
 
--- four digits and as many bytes as they say are a packet
+-- four digits and as many bytes as they call for are a packet
 pub whole_spells : (s : List ℕ) (field : ℕ) → IsWhole s field → (p : Pkt) × Spells p s
 whole_spells s zero h = (flush, record { digits = h.digits; field = h.number; body = no_bytes _ (omega (arith, length-drop 4 s, h.long)); fits = omega arith })
 whole_spells s (suc zero) h =

@@ -16,13 +16,13 @@ pub same_split : (r s : PacketReader) (start : ℕ) (bytes : List ℕ) (given ot
 same_split r s start bytes given others rest other_rest h k =
     one_split start bytes given others rest other_rest h.splits.spelled k.splits.spelled h.splits.ends k.splits.ends
 
--- the fault that a reader tells stands in its stream
+-- the fault that a reader reports is in its stream
 pub stopped : (r : PacketReader) (f : Fault) (start : ℕ) (bytes : List ℕ) (given : List Given) (rest : List ℕ)
     → Reads r start bytes given rest → fault_of r ≡ Some f → StopsBy (start + length bytes - length rest) rest (start + length bytes) f.kind f.offset
 stopped r f start bytes given rest h told =
     (subst (λ (o : Option Fault). StandsAt o (start + length bytes - length rest) (start + length bytes) rest r) told h.state).1
 
--- a fault by one name stands at one offset
+-- a fault by one name is at one offset
 pub one_offset : (p : ℕ) (rest : List ℕ) (end : ℕ) (kind : Kind) (m n : ℕ) → StopsBy p rest end kind m → StopsBy p rest end kind n → m ≡ n
 one_offset p rest end Truncated m n a b = a.2 ∙ sym b.2
 one_offset p rest end StreamTooLong m n a b = a.2 ∙ sym b.2
@@ -65,7 +65,7 @@ told_by s f (Some g) p end rest h stands =
     let same = told_again_at p end rest f g.kind g.offset h stands.1 in
     ap (λ (x : Fault). Some x) (sym (same_fault f g same.0 same.1))
 
--- a fault that the bytes show is told by each reader of them
+-- a fault that the bytes show is reported by each reader of them
 pub told_by_all : (r s : PacketReader) (f : Fault) (start : ℕ) (bytes : List ℕ) (given others : List Given) (rest other_rest : List ℕ)
     → Reads r start bytes given rest → Reads s start bytes others other_rest
     → fault_of r ≡ Some f → f.kind ≢ Truncated → f.kind ≢ StreamTooLong → fault_of s ≡ Some f

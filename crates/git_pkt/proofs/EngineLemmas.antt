@@ -50,7 +50,7 @@ written_flushed broken before held after u written kept = written_whole broken (
 
 -- ---- a run over one reader and one writer
 
--- so far these bytes came and those were given, and so the run stands to them
+-- so far these bytes came and those were given, and the run's relation holds of both
 pub record Moved (broken : Bool) (P : List ℕ → List ℕ → Type 0) (reader writer : Flow) : Type 0 where
   pub came : List ℕ
   pub given : List ℕ
@@ -102,7 +102,7 @@ module _ {P : List ℕ → List ℕ → Type 0} where
         stands = carries so_far.came so_far.given so_far.stands;
       }
 
-  -- what the run comes to
+  -- what the run results in
   pub moves : {S : StreamRelation} {broken : Bool} {reader writer : Flow} → ((came given : List ℕ) → P came given → S (came ∷ []) (given ∷ []))
       → Moved broken P reader writer → Moves broken S (reader ∷ []) (writer ∷ [])
   moves says so_far =

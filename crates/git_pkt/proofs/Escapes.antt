@@ -1,4 +1,4 @@
--- The table of escapes, and what a block of bytes comes to.
+-- The table of escapes, and the escape of a block of bytes.
 use Rattle.std.proofs.Common.{append_assoc, ◌≡◌, ℕ, ◌+◌, ◌<◌, ◌≤◌, Bool, true, false, IsTrue, ◌↔◌, ◌&&◌, ◌||◌, not, nat_eq, nat_le, List, [], ◌∷◌}
 use Rattle.std.proofs.Common.{◌++◌, length, take, drop, slice_index, refl, sym, ◌∙◌, ap, arith, length-append}
 use Rattle.std.proofs.lemmas.List.{take_more, take-append-drop, take-append-le, length-take-le, append-nil}
@@ -13,12 +13,12 @@ escaped_more block i below =
     ap escaped_of (take_more block i 0 below) ∙ flat_map-append escape_of (take i block) (slice_index block i ∷ [])
     ∙ ap (λ (l : List ℕ). escaped_of (take i block) ++ l) (append-nil (escape_of (slice_index block i)))
 
--- a byte that stands for itself
+-- a byte that is its own escape
 pub escape_of_plain : (b : ℕ) → ((nat_le 32 b && nat_le b 126) && not (nat_eq b 92)) ≡ true → escape_of b ≡ b ∷ []
 unfolding escape_of
 escape_of_plain b h = grind (arith, common_steps)
 
--- one more byte that stands for itself
+-- one more byte that is its own escape
 pub plain_more : (block : List ℕ) (i : ℕ) (other : Bool) → i < length block → (other ≡ false → escaped_of (take i block) ≡ take i block)
     → (other || not ((nat_le 32 (slice_index block i) && nat_le (slice_index block i) 126) && not (nat_eq (slice_index block i) 92))) ≡ false
     → escaped_of (take (i + 1) block) ≡ take (i + 1) block
@@ -31,7 +31,7 @@ plain_more block i false below so_far h =
     not_false true h = refl
     not_false false h = absurd (cc)
 
--- a byte's escape is never empty, and longer than the byte where the byte does not stand for itself
+-- a byte's escape is never empty, and longer than the byte where it is not the byte itself
 pub escape_of_some : (b : ℕ) → 1 ≤ length (escape_of b)
 unfolding escape_of
 escape_of_some b = grind (arith, common_steps)
@@ -40,7 +40,7 @@ pub escape_of_other : (b : ℕ) → ((nat_le 32 b && nat_le b 126) && not (nat_e
 unfolding escape_of
 escape_of_other b h = grind (arith, common_steps)
 
--- of the bytes before this one, the escapes have as many or more; more where one does not stand for itself
+-- of the bytes before this one, the escapes have as many or more; more where one is not the byte itself
 pub record AreLong (block : List ℕ) (i : ℕ) (other : Bool) : Type 0 where
   pub least : i ≤ length (escaped_of (take i block))
   pub more : other ≡ true → i < length (escaped_of (take i block))
@@ -76,7 +76,7 @@ plain_exactly block i false at plain long =
       λ same. refl,
     )
 
--- what stands after bytes that are written stays
+-- what is after bytes that are written stays
 pub others_stay : (out four : List ℕ) (at from : ℕ) → at + length four ≤ from → at ≤ length out
     → drop from (take at out ++ four ++ drop (at + length four) out) ≡ drop from out
 others_stay out four at from after within =
@@ -94,7 +94,7 @@ overwritten out four escaped escape at n within fits e f =
     ∙ ap (λ (k : ℕ). take (k + n) (take at out ++ four)) (sym long) ∙ take-append-add (take at out) four n
     ∙ ap (λ (l : List ℕ). l ++ take n four) e ∙ ap (λ (l : List ℕ). escaped ++ l) f
 
--- one more byte is escaped after what stands before
+-- one more byte is escaped after what is there
 pub escaped_on : (bytes out four front : List ℕ) (i end n : ℕ)
     → i < length bytes → end ≤ length out → n ≤ length four
     → take end out ≡ front ++ escaped_of (take i bytes) → take n four ≡ escape_of (slice_index bytes i)

@@ -19,7 +19,7 @@ same_number bytes s p spells starts =
 long_as_told : (p : Pkt) (s : List ℕ) → Spells p s → length s ≡ max (digits_value s) 4
 long_as_told p s spells = omega (arith, field_length p s spells)
 
--- it is as long as the digits say
+-- it is as long as its digits' number, and four bytes where that is less
 pub front_is : (bytes s : List ℕ) (p : Pkt) (field : ℕ) → digits_value bytes ≡ field → Spells p s → StartsWith bytes s
     → take (max field 4) bytes ≡ s
 front_is bytes s p field number spells starts =

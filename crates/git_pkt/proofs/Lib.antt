@@ -20,6 +20,7 @@ pub mod Written
 pub mod Fronts
 pub mod Escapes
 pub mod EngineLemmas
+pub mod Sends
 pub mod Rests
 pub mod Texts
 pub mod Completions

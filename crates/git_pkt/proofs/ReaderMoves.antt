@@ -1,4 +1,4 @@
--- What a step of the reader comes to, from what its parts do.
+-- What a step of the reader results in, from what its parts do.
 use Rattle.std.proofs.Common.{take, arith, ◌≡◌, ℕ, ◌+◌, ◌-◌, ◌≤◌, ◌<◌, List, [], ◌∷◌, ◌++◌, length, false}
 use Rattle.std.proofs.Common.{ap, sym, ◌∙◌, refl, subst, append_assoc, length-append}
 use Rattle.std.proofs.lemmas.List.{append-nil, length-take, take_all}

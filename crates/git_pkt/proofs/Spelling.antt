@@ -107,14 +107,14 @@ pub none_begins_short : (rest : List ℕ) → length rest < 4 → NoneBegins res
 none_begins_short rest short q s more e h =
     omega (arith, h.digits.four, ap length e, length-append s more)
 
--- a number says how many bytes a packet has in all: four for the short ones
+-- a packet has as many bytes in all as its number: four for the short ones
 pub field_length : (p : Pkt) (s : List ℕ) → Spells p s → length s ≡ max 4 (digits_value s)
 field_length flush s h = omega (arith, h.field, spelled_length flush s h)
 field_length delim s h = omega (arith, h.field, spelled_length delim s h)
 field_length resp_end s h = omega (arith, h.field, spelled_length resp_end s h)
 field_length (payload x) s h = omega (arith, h.field, spelled_length (payload x) s h)
 
--- fewer bytes than the number says are no whole packet
+-- fewer bytes than the number are no whole packet
 pub none_begins_partial : (rest : List ℕ) → 4 ≤ length rest → length rest < digits_value rest → NoneBegins rest
 none_begins_partial rest four less q s more e h =
     let number : digits_value rest ≡ digits_value s = ap digits_value e ∙ digits_value-append s more h.digits.four in

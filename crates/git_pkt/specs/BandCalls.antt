@@ -17,7 +17,7 @@ abbrev pub used_by : List BandCall → List ℕ
 used_by [] = []
 used_by (call ∷ calls) = take call.fed.used call.piece ++ used_by calls
 
--- the packets that they told
+-- the packets that they returned
 abbrev pub told_by_all : List BandCall → List Given
 told_by_all [] = []
 told_by_all (call ∷ calls) = told_by call.fed.got ++ told_by_all calls
@@ -32,7 +32,7 @@ abbrev pub AreFed : PacketReader → List BandCall → PacketReader → Type 0
 AreFed old [] new = old ≡ new
 AreFed old (call ∷ calls) new = (mid : PacketReader) × FeedsBand old call.piece call.fed mid × AreFed mid calls new
 
--- of the bytes used more packets and a rest came: those packets of which nothing passes were told, and all parts, joined, are
+-- of the bytes used more packets and a rest came: those packets of which nothing passes were returned, and all parts, joined, are
 -- what passes of the packets and of the rest
 pub record AllGoes (start : ℕ) (bytes : List ℕ) (given : List Given) (rest : List ℕ) (calls : List BandCall) (new : PacketReader) : Type 0 where
   pub more : List Given

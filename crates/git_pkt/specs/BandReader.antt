@@ -21,7 +21,7 @@ use Rattle.git_pkt.specs.declared.progress.BandProgress.TheVariants.{Failed as F
 abbrev pub MayPass : PacketReader → Type 0
 MayPass r = passes_of r ≡ false → begins_band (drop 4 (rest_of r)) ≡ false
 
--- a stream of these bytes goes on by those used: packets of which bytes pass have become whole, and then what is told, and the
+-- a stream of these bytes goes on by those used: packets of which bytes pass have become whole, and then those returned, and the
 -- parts join to what passes of them
 pub record GoesByBands (start : ℕ) (bytes : List ℕ) (given : List Given) (rest used : List ℕ) (told : List Given) (parts : List OnBand)
     (new : PacketReader) : Type 0 where
@@ -64,7 +64,7 @@ pub record IsPart (bytes : List ℕ) (used : ℕ) (piece : List ℕ) (new : Pack
   pub all : is_open new ≡ true → (used ≡ length piece) ⊎ (position_of new ≡ last_position)
   pub few : length (held_of new) ≤ 5
 
--- what each answer says of the reader: no packet is told whose bytes pass, and of a fatal error none do
+-- what each answer means for the reader: no packet is returned whose bytes pass, and of a fatal error none do
 abbrev pub TellsBand : BandGot → ℕ → List ℕ → PacketReader → Type 0
 TellsBand More used piece new = (used ≡ length piece) × (fault_of new ≡ None)
 TellsBand (Part band bytes) used piece new = (band ≢ Fatal) × IsPart bytes.now used piece new
@@ -73,7 +73,7 @@ TellsBand (Packet p offset) used piece new =
     × (offset + length (held_of new) ≡ position_of new) × (is_on_band (seen p) ≡ false)
 TellsBand (Failed f) used piece new = fault_of new ≡ Some f
 
--- a reader that had no fault tells only what the piece shows
+-- a reader that had no fault reports only a fault that the piece shows
 abbrev pub IsBandNews : PacketReader → List ℕ → BandFed → Type 0
 IsBandNews old piece fed = (f : Fault) → fault_of old ≡ None → fed.got ≡ Failed f → ShownByFeed f fed.used piece
 
@@ -86,7 +86,7 @@ abbrev pub HoldsFew : PacketReader → Type 0
 HoldsFew new = (rest : List ℕ) → Holds new rest → begins_band (drop 4 rest) ≡ true → length (held_of new) ≤ 5
 
 -- how many bytes of the open packet have come after a call: no more than before it and those used, and fewer where packets that
--- give nothing came whole; of a packet that is told all had come
+-- give nothing came whole; of a packet that is returned all had come
 abbrev pub CountsBand : PacketReader → ℕ → BandGot → PacketReader → Type 0
 CountsBand old used More new = open_length new ≤ open_length old + used
 CountsBand old used (Part band bytes) new = open_length new ≤ open_length old + used
@@ -104,7 +104,7 @@ pub record FeedsBand (old : PacketReader) (piece : List ℕ) (fed : BandFed) (ne
   pub passes : MayPass new
   pub few : HoldsFew new
 
--- no packet is told: all of the piece is used
+-- no packet is returned: all of the piece is used
 pub record StaysOpen (old : PacketReader) (piece : List ℕ) (used : ℕ) (new : PacketReader) : Type 0 where
   pub all : used ≡ length piece
   pub no_fault : fault_of new ≡ None
@@ -142,7 +142,7 @@ pub record StopsReading (f : Fault) (old : PacketReader) (piece : List ℕ) (use
   pub shown : ShownByFeed f used piece
   pub goes : ReadsBandsOn old (take used piece) [] [] new
 
--- what a step comes to
+-- what a step results in
 abbrev pub Comes : BandProgress → PacketReader → List ℕ → ℕ → PacketReader → Type 0
 Comes OpenYet old piece used new = StaysOpen old piece used new
 Comes EmptyPacket old piece used new = PassesOver old piece used new

@@ -17,7 +17,7 @@ pub record ArePaid (used feeds before after credit left : ℕ) : Type 0 where
   pub rises : before ≤ after
   pub within : after + left ≤ before + credit + 64 * (used + feeds)
 
--- the calls of a machine were made one after the other: `Makes` says of each what it does to the counter and to the machine
+-- the calls of a machine were made one after the other: `Makes` states of each what it does to the counter and to the machine
 abbrev pub MakesAll : {C M : Type 0} → (C → ℕ → M → ℕ → M → Type 0) → List C → ℕ → M → ℕ → M → Type 0
 MakesAll Makes [] before old after new = (after ≡ before) × (new ≡ old)
 MakesAll {M = M} Makes (call ∷ calls) before old after new =

@@ -5,7 +5,7 @@ use Rattle.git_pkt.specs.declared.fault.RunFault.{RunFault}
 use Rattle.git_pkt.specs.declared.fault.RunFault.TheVariants.{ReadFault, WriteFault, ReadLimit, Refused}
 use Rattle.git_pkt.specs.Told.{reads_of, has_ended}
 
--- which of a run's streams failed, by its answer: the one that it tells, and else none
+-- which of a run's streams failed, by its answer: the one that it reports, and else none
 abbrev pub FailsAs : {T : Type 0} → Result T RunFault → Bool → Bool → Type 0
 FailsAs (Ok outcome) read_failed write_failed = (read_failed ≡ false) × (write_failed ≡ false)
 FailsAs (Err ReadFault) read_failed write_failed = (read_failed ≡ true) × (write_failed ≡ false)

@@ -19,6 +19,7 @@ pub mod Escape
 pub mod FaultNames
 pub mod NameFaults
 pub mod Told
+pub mod Sends
 pub mod Stops
 pub mod Retries
 pub mod Engine

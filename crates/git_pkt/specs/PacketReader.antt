@@ -1,4 +1,4 @@
--- What a packet reader stands for: the stream so far, its packets, and the rest.
+-- What a packet reader represents: the stream so far, its packets, and the rest.
 use Rattle.std.specs.Prelude.{◌≡◌, ◌≢◌, ℕ, ◌+◌, ◌-◌, ◌<◌, ◌≤◌, Bool, false, List, [], ◌∷◌, ◌++◌, length, take, Option, Some, None}
 use Rattle.git_pkt.specs.Packets.{Spells, body_of, seen}
 use Rattle.git_pkt.specs.Splits.{Given, Splits}
@@ -67,7 +67,7 @@ HoldsAll r = length (rest_of r) ≡ open_length r
 abbrev pub fault_of : PacketReader → Option Fault
 fault_of r = fault_in r.state
 
--- how the rest of the stream, at p, stands: open, or with the fault that was told
+-- the rest of the stream, at p: it is open, or has the fault that was reported
 abbrev pub StandsAt : Option Fault → ℕ → ℕ → List ℕ → PacketReader → Type 0
 StandsAt None p end rest r = Holds r rest × IsOpen rest
 StandsAt (Some f) p end rest r = (is_open r ≡ false) × StopsBy p rest end f.kind f.offset
@@ -92,7 +92,7 @@ ReadsOn old used more new =
     (start : ℕ) (bytes : List ℕ) (given : List Given) (rest : List ℕ) → Reads old start bytes given rest
     → (later : List ℕ) × Reads new start (bytes ++ used) (given ++ more) later
 
--- what each answer of `feed` says of the reader
+-- what each answer of `feed` means for the reader
 abbrev pub Tells : Got → ℕ → List ℕ → PacketReader → Type 0
 Tells More used piece new = (used ≡ length piece) × (fault_of new ≡ None)
 Tells (Packet p offset) used piece new =
@@ -105,7 +105,7 @@ pub record ShownByFeed (f : Fault) (used : ℕ) (piece : List ℕ) : Type 0 wher
   pub not_the_end : f.kind ≢ Truncated
   pub one_more : f.kind ≡ StreamTooLong → used < length piece
 
--- a reader that had no fault tells only what the piece shows
+-- a reader that had no fault reports only a fault that the piece shows
 abbrev pub IsNews : PacketReader → List ℕ → Fed → Type 0
 IsNews old piece fed = (f : Fault) → fault_of old ≡ None → fed.got ≡ Failed f → ShownByFeed f fed.used piece
 

@@ -1,4 +1,4 @@
--- How a reader stands, by its state, its hold and the number of its packet.
+-- What each state of a reader means, of its hold and of the number of its packet.
 use Rattle.std.specs.Prelude.{◌≡◌, ℕ, ◌+◌, ◌-◌, ◌<◌, ◌≤◌, Bool, true, false, List, length, take, drop, Option, Some, None}
 use Rattle.git_pkt.specs.HeldPacket.{IsGathering}
 use Rattle.git_pkt.specs.Passed.{begins_band}
@@ -59,7 +59,7 @@ passes_in (Gathering count) = false
 passes_in (Passing left) = true
 passes_in (Failed fault) = false
 
--- so many bytes of the open packet have come, and they stand at the hold's front
+-- so many bytes of the open packet have come, and they are at the hold's front
 pub record IsGathered (count : ℕ) (held : List ℕ) (field position : ℕ) : Type 0 where
   pub within : count ≤ length held
   pub gathering : IsGathering (take count held) field

@@ -1,4 +1,4 @@
-//! The side bands of a packfile section, gitprotocol-v2(5): the first byte of a payload says what the others are.
+//! The side bands of a packfile section, gitprotocol-v2(5): the first byte of a payload is the band of the others.
 
 ghost use Rattle.std.specs.Prelude.{◌≡◌, ◌+◌, ◌≤◌, ◌<◌, ◌∷◌, MatchResult, drop, length, take};
 ghost use Rattle.std.specs.Io.{StartsWith};
@@ -10,7 +10,7 @@ use crate::fault::Kind;
 use crate::hold::{Hold, LONGEST_PACKET, append, overwrite};
 use crate::packet::{begin, digits};
 
-/// How many bytes of a packet stand before those on its band: its four digits, and the band's byte.
+/// How many bytes of a packet come before those on its band: its four digits, and the band's byte.
 pub const BAND_HEAD: usize = 5;
 
 /// By how many blank bytes a hold is made longer at a time.
@@ -50,7 +50,7 @@ pub fn put_band(hold: &mut Hold, band: Band, bytes: &[u8])
     append(hold, bytes);
 }
 
-/// Makes room in the hold for a packet on a band: 65,515 bytes behind the place of its first [`BAND_HEAD`], to be written over
+/// Makes room in the hold for a packet on a band: 65,515 bytes after the place of its first [`BAND_HEAD`], to be written over
 /// before [`close_band`]. A hold that is as long as the longest packet stays as it is.
 pub fn open_band(hold: &mut Hold)
     ensures long { array_vec_len hold.new ≡ 65520 }
@@ -62,7 +62,7 @@ pub fn open_band(hold: &mut Hold)
     }
 }
 
-/// Makes the hold's front the packet on a band of so many of the bytes that stand behind the place of its first [`BAND_HEAD`].
+/// Makes the hold's front the packet on a band of so many of the bytes after the place of its first [`BAND_HEAD`].
 /// None of these is moved, and the hold stays as long as it is.
 pub fn close_band(hold: &mut Hold, band: Band, count: usize)
     requires within { count + 5 ≤ array_vec_len hold.old }

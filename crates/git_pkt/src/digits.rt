@@ -5,7 +5,7 @@ ghost use Rattle.git_pkt.specs.TellsDigits.{TellsDigits};
 
 use git_names::digit_value;
 
-/// What four bytes say.
+/// What four bytes are, read as digits.
 #[derive(Clone, Copy, Debug)]
 pub(crate) enum Digits {
     /// They are digits, of this number.

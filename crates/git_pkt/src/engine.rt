@@ -1,8 +1,9 @@
 //! What every run over a reader and a writer does: receive, send, flush, each with its one fault.
-ghost use Rattle.std.specs.Prelude.{◌≡◌, ◌+◌, ◌==◌, min, ◌||◌, OnOk, OnErr, IfErr, is_err, length};
+ghost use Rattle.std.specs.Prelude.{◌≡◌, ◌+◌, ◌==◌, min, ◌||◌, IfErr, is_err, length};
 ghost use Rattle.std.specs.Io.{ReadsAtMost};
-ghost use Rattle.std.specs.Io.KnownBytes.{Appends, Keeps, ReadConsumes};
-ghost use Rattle.git_pkt.specs.Told.{inner_of, reads_of, has_failed, has_ended, has_wasted, gave_nothing, ReadsNothing, AppendsFront};
+ghost use Rattle.std.specs.Io.KnownBytes.{Keeps, ReadConsumes};
+ghost use Rattle.git_pkt.specs.Sends.{Sends};
+ghost use Rattle.git_pkt.specs.Told.{inner_of, reads_of, has_failed, has_ended, has_wasted, gave_nothing, ReadsNothing};
 
 use crate::fault::RunFault;
 use crate::told::Told;
@@ -28,12 +29,7 @@ pub fn receive<R: Read>(reader: &mut Told<R>, piece: &mut [u8]) -> Result<usize,
 ///
 /// The fault is `WriteFault`, exactly where the writing fails; a front of the bytes was written then.
 pub fn send<W: Write>(writer: &mut Told<W>, bytes: &[u8]) -> Result<(), RunFault>
-    ensures ok { OnOk result (Appends (W.contents (inner_of writer.old)) (W.contents (inner_of writer.new)) bytes.now) }
-    ensures err { OnErr result (AppendsFront (W.contents (inner_of writer.old)) (W.contents (inner_of writer.new)) bytes.now) }
-    ensures fault { IfErr result (λ fault. fault ≡ RunFault.WriteFault) }
-
-    ensures failed { has_failed writer.new ≡ (has_failed writer.old || is_err result) }
-    ensures reads { ReadsNothing writer.old writer.new }
+    ensures { Sends W.contents writer.old bytes.now result writer.new }
 {
     writer.write_all(bytes).map_err(|_| RunFault::WriteFault)
 }

@@ -73,8 +73,8 @@ fn look_up(byte: u8) -> Escaped
     }
 }
 
-/// Writes the escape of each byte: LF is `\n`, a backslash is two, bytes from 0x20 to 0x7e stand for
-/// themselves and others are `\x` and two digits. They are put at a place of `out`, over what stands there; the
+/// Writes the escape of each byte: LF is `\n`, a backslash is two, other bytes from 0x20 to 0x7e stay as
+/// they are and the rest are `\x` and two digits. They are put at a place of `out`, over what is there; the
 /// answer is where they end. Of the four bytes of room that each byte has, those after the end mean nothing; the
 /// bytes after that room stay.
 pub fn escape_into(bytes: &[u8], out: &mut [u8], at: usize) -> usize
@@ -92,7 +92,7 @@ pub fn escape_into(bytes: &[u8], out: &mut [u8], at: usize) -> usize
     end
 }
 
-/// Whether each byte stands for itself.
+/// Whether each byte is its own escape.
 pub fn is_plain(bytes: &[u8]) -> bool
     ensures { IsTrue result ↔ (escaped_of bytes.now ≡ bytes.now) }
 {

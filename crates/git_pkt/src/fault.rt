@@ -47,7 +47,7 @@ pub enum Kind {
     BadRefName,
     /// A text that has to be a number is none, or the number is out of range.
     BadNumber,
-    /// `deepen` stands beside `deepen-since` or `deepen-not`.
+    /// `deepen` is given beside `deepen-since` or `deepen-not`.
     DeepenConflict,
     /// A fetch asks for no object and no reference, and does not negotiate alone.
     NoWants,
@@ -59,7 +59,7 @@ pub enum Kind {
     UnknownArgument,
     /// The request's arguments pass the limit on what is kept.
     TooMuchKept,
-    /// A packet of this kind may not stand here.
+    /// A packet of this kind is not allowed here.
     UnexpectedPacket,
     /// The other end sent an error packet.
     RemoteError,
@@ -73,7 +73,7 @@ pub enum Kind {
     NotVersion2,
     /// A section of a response is unknown, repeated, or out of order.
     UnexpectedSection,
-    /// A line is none that may stand in its section.
+    /// A line is none that its section may have.
     BadLine,
     /// Memory ran out while an argument was kept.
     OutOfMemory,
@@ -88,7 +88,7 @@ pub enum Kind {
 }
 
 impl Kind {
-    /// The name that users see, as `BadDigit`: also what an error packet says.
+    /// The name that users see, as `BadDigit`: an error packet contains it too.
     pub fn name(self) -> &'static str
         ensures { result.now ≡ kind_name self }
     {

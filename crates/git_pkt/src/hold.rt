@@ -22,7 +22,7 @@ pub fn append(hold: &mut Hold, bytes: &[u8])
     let _ = hold.try_extend_from_slice(bytes);
 }
 
-/// Puts bytes at a place of the hold, over what stands there. The hold grows where they end after it; it is
+/// Puts bytes at a place of the hold, over what is there. The hold grows where they end after it; it is
 /// never emptied first, since that would fill it with zeros. Each byte counts twice: once for its copy, and once for being cut
 /// off later.
 pub(crate) fn place(hold: &mut Hold, at: usize, bytes: &[u8], steps: &mut Steps)

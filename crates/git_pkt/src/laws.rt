@@ -5,7 +5,8 @@ ghost use Rattle.git_pkt.specs.Bands.{IsNoBand, byte_of};
 ghost use Rattle.git_pkt.specs.Packets.{Pkt, Spells, body_of, spelling_of, text_of, longest_payload};
 ghost use Rattle.git_pkt.specs.Splits.{Given, NoneBegins, Splits};
 ghost use Rattle.git_pkt.specs.Faults.{IsOpen, RestFault, ShowsAtEnd};
-ghost use Rattle.git_pkt.specs.PacketReader.{Holds, HoldsAll, Reads, bytes_held, bytes_held_by_fields, fault_of, is_open, open_length, passes_of, position_of, rest_of};
+ghost use Rattle.git_pkt.specs.PacketReader.{Holds, HoldsAll, Reads, bytes_held, bytes_held_by_fields, fault_of, is_open, open_length, passes_of};
+ghost use Rattle.git_pkt.specs.PacketReader.{position_of, rest_of};
 ghost use Rattle.git_pkt.specs.BandCalls.{AllGoes, AreFed, BandCall};
 ghost use Rattle.git_pkt.specs.declared.band.Band.{Band};
 ghost use Rattle.git_pkt.specs.declared.fault.Fault.{Fault};
@@ -85,7 +86,7 @@ pub fn all_fields_are_counted()
 {}
 
 /// Whatever calls of `feed_band` there were since: the parts that they handed out, joined, are what passes of the packets that have
-/// become whole and of the rest, and they told the packets of which nothing passes. From the start of a stream, or from between two
+/// become whole and of the rest, and they returned the packets of which nothing passes. From the start of a stream, or from between two
 /// packets, where the rest was empty, these are all parts so far.
 pub fn parts_join_to_what_passes()
     ensures { (calls : List BandCall) (old new : PacketReader) (start : ℕ) (bytes : List ℕ) (given : List Given) (rest : List ℕ)
@@ -106,8 +107,8 @@ pub fn one_answer_however_cut()
         → fault_of r ≡ None → fault_of s ≡ None → HoldsAll r → HoldsAll s → rest_of r ≡ rest_of s }
 {}
 
-/// A fault that the bytes show is told by every reader of them; the two others, for the end of the input and of
-/// the stream's positions, each stand at one offset.
+/// A fault that the bytes show is reported by every reader of them; the two others, for the end of the input and of
+/// the stream's positions, are each at one offset.
 pub fn one_fault_however_cut()
     ensures told_by_all { (r s : PacketReader) (start : ℕ) (bytes : List ℕ) (given others : List Given) (rest other_rest : List ℕ) (fault : Fault)
         → Reads r start bytes given rest → Reads s start bytes others other_rest

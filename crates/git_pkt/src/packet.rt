@@ -54,7 +54,7 @@ pub fn begin(hold: &mut Hold, length: usize)
     spell(hold, length + 4, b"");
 }
 
-/// The packet at the hold's front, its four digits among its bytes. What stands after them is no part of it.
+/// The packet at the hold's front, its four digits among its bytes. What is after them is no part of it.
 pub fn front_packet(hold: &Hold) -> &[u8]
     requires begins { HasFront hold.now.items }
     ensures front { (packet : Pkt) (bytes : List ℕ) → Spells packet bytes → StartsWith hold.now.items bytes → result.now ≡ bytes }

@@ -49,7 +49,7 @@ pub(crate) struct BandStep {
 }
 
 impl BandStep {
-    /// The answer of a call that came to this over the piece, where no packet lies in the hold.
+    /// The answer of a call that made this progress over the piece, where no packet is in the hold.
     pub(crate) fn fed<'a>(self, piece: &'a [u8]) -> BandFed<'a>
         requires part { HasPart self.progress self.used }
         requires all { self.used ≤ length piece.now }

@@ -1,6 +1,6 @@
 //! Packets out of pieces of any size.
 //!
-//! How a reader stands, and what moves it on. `feed` goes up and down on the left alone; `feed_band` passes the bytes of a packet on
+//! The states of a reader, and what moves it on. `feed` goes up and down on the left alone; `feed_band` passes the bytes of a packet on
 //! the right, once its fifth byte has named a band whose bytes pass.
 //!
 //! ```text
@@ -11,12 +11,13 @@
 //!     |                                   a fault, or the end          |
 //!     +---------------------------- the last byte ---------------------+
 //!
-//!  The hold:  Between           the last packet that was told, or what a writer put there
-//!             Gathering(count)  so many bytes of the open packet, and behind them some of an earlier one
+//!  The hold:  Between           the last packet that was returned, or what a writer put there
+//!             Gathering(count)  so many bytes of the open packet, and after them some of an earlier one
 //!             Passing(left)     the first five bytes of the open packet
 //! ```
 
-ghost use Rattle.std.specs.Prelude.{◌≡◌, ◌≢◌, ◌+◌, ◌-◌, ◌*◌, ◌≤◌, ◌<◌, ◌∷◌, [], drop, length, take, true, false, Some, None, Err, IfErr, IfSome, MatchOption, OnOk, IsTrue, ◌↔◌, ℕ, List};
+ghost use Rattle.std.specs.Prelude.{◌≡◌, ◌≢◌, ◌+◌, ◌-◌, ◌*◌, ◌≤◌, ◌<◌, ◌∷◌, [], drop, length, take, true, false, Some, None, Err, IfErr, IfSome, MatchOption};
+ghost use Rattle.std.specs.Prelude.{OnOk, IsTrue, ◌↔◌, ℕ, List};
 ghost use Rattle.std.specs.Borrow.{sem};
 ghost use Rattle.std.specs.Io.BufRead.{Rests};
 ghost use Rattle.git_names.specs.Steps.{TakesAtMost};
@@ -45,7 +46,7 @@ const LAST_POSITION: u64 = 9_223_372_036_854_775_807;
 pub struct Fed<'a> {
     /// How many bytes of the piece were used.
     pub used: usize,
-    /// What they came to.
+    /// What came of them.
     pub got: Got<'a>,
 }
 
@@ -65,7 +66,7 @@ pub enum Got<'a> {
 pub struct BandFed<'a> {
     /// How many bytes of the piece were used.
     pub used: usize,
-    /// What they came to.
+    /// What came of them.
     pub got: BandGot<'a>,
 }
 
@@ -83,12 +84,12 @@ pub enum BandGot<'a> {
     Failed(Fault),
 }
 
-/// How a reader stands.
+/// What a reader has of the packet that comes, or the fault that stopped it.
 #[derive(Clone, Copy, Debug)]
 pub(crate) enum State {
     /// No packet is open.
     Between,
-    /// So many bytes of the open packet have come, and all of them stand at the hold's front. What stands after them is
+    /// So many bytes of the open packet have come, and all of them are at the hold's front. What is after them is
     /// of an earlier packet.
     Gathering(usize),
     /// A packet is open whose bytes pass: its first five bytes are the hold, those that came after them were handed out,
@@ -153,7 +154,7 @@ impl PacketReader {
         self.position
     }
 
-    /// Reads on. It returns after one packet, or with the whole piece used, or at the first fault, which is told
+    /// Reads on. It returns after one packet, or with the whole piece used, or at the first fault, which is reported
     /// with the byte that shows it. Call it again with the bytes that it did not use.
     pub fn feed<'a>(&'a mut self, piece: &'a [u8], steps: &mut Steps) -> Fed<'a>
         requires gathers { passes_of self.old ≡ false }
@@ -216,7 +217,7 @@ impl PacketReader {
         }
     }
 
-    /// Tells that the stream ends here. Between packets that is well, and changes nothing; where a packet is open
+    /// The stream ends here. Between packets that is well, and changes nothing; where a packet is open
     /// the stream is refused as truncated, at the end of its last whole packet.
     pub fn close(&mut self) -> Result<(), Fault>
         ensures carries { ReadsOn self.old [] [] self.new }
@@ -369,7 +370,7 @@ impl PacketReader {
     }
 
     /// One packet, or bytes of one that pass, or all of the piece, or all of it up to the stream's last position. Of a packet
-    /// that begins the first five bytes are gathered, which tell whether its bytes pass.
+    /// that begins the first five bytes are gathered, which show whether its bytes pass.
     fn band_step(&mut self, piece: &[u8], steps: &mut Steps) -> BandStep
         requires sound { fault_of self.old ≡ None }
         requires passes { MayPass self.old }

@@ -1,4 +1,4 @@
-//! Readers and writers that tell what became of the calls made through them.
+//! Readers and writers that report what became of the calls made through them.
 ghost use Rattle.std.specs.Prelude.{◌≡◌, ◌+◌, ◌==◌, min, ◌||◌, OnOk, OnErr, is_err, length};
 ghost use Rattle.std.specs.Io.{ReadsAtMost, WritesAtMost};
 ghost use Rattle.std.specs.Io.KnownBytes.{Appends, Keeps, ReadConsumes, WriteAppends};
@@ -132,7 +132,7 @@ impl<W: Write> Write for Told<W> {
     }
 }
 
-// Unlike the trait's own `write_all`, it says what was written where it fails.
+// Unlike that of the trait's own `write_all`, its contract covers what was written where it fails.
 fn write_whole<W: Write>(writer: &mut W, bytes: &[u8]) -> io::Result<()>
     ensures ok { OnOk result (Appends (W.contents writer.old) (W.contents writer.new) bytes.now) }
     ensures err { OnErr result (AppendsFront (W.contents writer.old) (W.contents writer.new) bytes.now) }

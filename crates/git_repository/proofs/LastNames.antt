@@ -43,11 +43,11 @@ after_head None name false before is answer = absurd (cc)
 after_head (Some target) name true before is answer = absurd (cc)
 after_head (Some target) name false before is answer = (λ yes d below. sym answer ∙ yes, λ h. answer ∙ h [] (omega arith))
 
-pub after_unborn : (lists : Lists) (name : List ℕ) (before : Bool) → lists.refs ≡ [] → is_some lists.unborn ≡ true
+pub after_unborn : (lists : Lists) (name : List ℕ) (before : Bool) → lists.refs ≡ [] → is_some lists.unborn_head ≡ true
     → before ≡ comes_before (codes "HEAD") name → IsTrue before ↔ ComesLast (names_of lists) name
 after_unborn lists name before empty some answer =
-    subst (λ (refs : List Entry). IsTrue before ↔ ComesLast (head_names (is_some lists.unborn) ++ map (λ (r : Entry). r.name) refs) name) (sym empty)
-    (after_head lists.unborn name false before some answer)
+    subst (λ (refs : List Entry). IsTrue before ↔ ComesLast (head_names (is_some lists.unborn_head) ++ map (λ (r : Entry). r.name) refs) name) (sym empty)
+    (after_head lists.unborn_head name false before some answer)
 
 -- a name that comes after all of them comes after those of the references
 pub after_those_of_refs : (heads : List (List ℕ)) (refs : List Entry) (name : List ℕ) → ComesLast (heads ++ map (λ (r : Entry). r.name) refs) name
@@ -83,7 +83,7 @@ head_comes_alone head (ref ∷ refs) named last =
     absurd (none_before_head (get_or (ref ∷ refs) (length (ref ∷ refs) - 1) ref).name
     (named (length (ref ∷ refs) - 1) ref (omega arith)).by_name before)
 
--- what an unborn `HEAD` points to, where it is the first that is told
+-- what an unborn `HEAD` points to, where it is the first one
 pub unborn_told : (refs : List Entry) (target copied : List ℕ) → refs ≡ [] → copied ≡ target → IsRefName target → ForSome (Some copied) (IsUnbornHead refs)
 unborn_told refs target copied empty same named other is =
     let told : target ≡ other = let found : copied ≡ other = cc in sym same ∙ found in

@@ -30,13 +30,13 @@ pub begun_behind : (progress : Progress) (held : List ℕ) (lines all : List (Li
     → Stands progress held all
 begun_behind progress held lines all h is = record { ended = lines; begun = held; whole = is; read = h; is_begun = begun_self progress held }
 
--- a line was read, and the rest is behind it
+-- a line was read, and the rest is after it
 pub stand_behind : (progress : Progress) (held : List ℕ) (lines : List (List ℕ)) (line text rest : List ℕ) → parts_of 10 text ≡ line ∷ parts_of 10 rest
     → Stands progress held ((lines ++ line ∷ []) ++ parts_of 10 rest) → Stands progress held (lines ++ parts_of 10 text)
 stand_behind progress held lines line text rest parts h =
     subst (Stands progress held) (append_assoc lines (line ∷ []) (parts_of 10 rest) ∙ ap (λ (ls : List (List ℕ)). lines ++ ls) (sym parts)) h
 
--- behind a fault all else is passed over
+-- after a fault all else is passed over
 failed_behind : (fault : TextFault) (held : List ℕ) (lines : List (List ℕ)) (first : List ℕ) (others all : List (List ℕ)) → IsLinesFault lines fault
     → all ≡ lines ++ first ∷ others → Stands (Failed fault) held all
 failed_behind fault held lines first others all h is =
@@ -100,7 +100,7 @@ end_at_start text held h =
       | by_line_end is empty ↦ absurd (some_lines text (is ∙ none))
     ]
 
--- the end of a text behind a line end
+-- the end of a text after a line end
 pub end_behind : (draft : Draft) (text held : List ℕ) → held ≡ [] → Stands (Lines draft) held (parts_of 10 text) → AreTold (lines_of text) (drafted draft)
 end_behind draft text held empty h =
     let line : held ≡ h.begun = h.is_begun in
@@ -121,7 +121,7 @@ end_within draft text held some h =
       | by_line_end is none ↦ absurd (some (line ∙ none))
     ]
 
--- the end of a text behind a fault
+-- the end of a text after a fault
 pub end_failed : (fault : TextFault) (text held : List ℕ) → Stands (Failed fault) held (parts_of 10 text) → IsLinesFault (lines_of text) fault
 end_failed fault text held h =
     let read : IsLinesFault h.ended fault = h.read in
@@ -130,7 +130,7 @@ end_failed fault text held h =
       | by_line_end is none ↦ subst (λ (ls : List (List ℕ)). IsLinesFault ls fault) (sym is) read
     ]
 
--- further lines of a text were read, and behind them stand this line and what is left
+-- further lines of a text were read, and after them come this line and what is left
 pub record ReadsOn (text : List ℕ) (lines : List (List ℕ)) (line : List ℕ) (rest : Option (List ℕ)) (lists : Lists) : Type 0 where
   pub more : List (List ℕ)
   pub whole : parts_of 10 text ≡ more ++ line ∷ parts_left 10 rest

@@ -15,9 +15,10 @@ use Rattle.git_repository.specs.RepositoryProgress.{IsLinesFault}
 use Rattle.git_repository.specs.RepositoryFaults.{IsTextFault}
 use Rattle.git_repository.specs.declared.text_faults.TextFault.{TextFault}
 use Rattle.git_repository.specs.declared.text_faults.TextFault.TheVariants.{Bad, OutOfMemory as OutOfMemoryOfText}
-use Rattle.git_repository.specs.Drafts.{Adds, Holds, IsLineFault, empty_lists, head_names, with_packs}
+use Rattle.git_repository.specs.Drafts.{Holds, IsLineFault, MayFollow, empty_lists, head_names, with_packs, with_said}
 use Rattle.git_repository.specs.declared.text_faults.LineFault.TheVariants.{Refused, OutOfMemory}
-use Rattle.git_repository.proofs.Saying.{one_said}
+use Rattle.git_repository.proofs.Drafting.{follows, holds_more, same_format, stands_more}
+use Rattle.git_repository.proofs.Saying.{fit_of_says, one_said}
 
 nothing_stands : MayStand []
 nothing_stands = record {
@@ -31,6 +32,7 @@ nothing_holds format = record {
   lists_are = refl;
   names_are = refl;
   may_stand = nothing_stands;
+  named = All-nil _;
   of_format = record { by_refs = All-nil _; by_objects = All-nil _; by_boundaries = All-nil _ };
 }
 
@@ -51,20 +53,20 @@ say_more format [] (s ∷ ss) line next h is = absurd h
 say_more format (l ∷ ls) [] line next h is = absurd h
 
 pub stepped : (lines : List (List ℕ)) (old new : Lists) (line : List ℕ) (says : Said) → AreTold lines old → Says old.format line says
-    → Adds old says new → AreTold (lines ++ line ∷ []) new
-stepped lines old new line says h is adds =
-    let held = adds.holds h.said h.holds in
+    → (new ≡ with_said old says) × MayFollow old says → AreTold (lines ++ line ∷ []) new
+stepped lines old new line says h is kept =
+    let held = holds_more h.said old h.holds says (fit_of_says old.format line says is) kept.1 in
     let begins : Begins old.format (lines ++ line ∷ []) (h.said ++ says ∷ []) = record {
       others = h.begins.others ++ line ∷ [];
       spelled = ap (λ (ls : List (List ℕ)). ls ++ line ∷ []) h.begins.spelled;
       say_all = say_more old.format h.begins.others h.said line says h.begins.say_all is;
       may_stand = held.may_stand;
     } in
-    record {
+    subst (AreTold (lines ++ line ∷ [])) (sym kept.0) (record {
       said = h.said ++ says ∷ [];
-      begins = subst (λ (f : Format). Begins f (lines ++ line ∷ []) (h.said ++ says ∷ [])) (sym adds.same_format) begins;
+      begins = subst (λ (f : Format). Begins f (lines ++ line ∷ []) (h.said ++ says ∷ [])) (sym (same_format h.said old h.holds says)) begins;
       holds = held;
-    }
+    })
 
 length_all : (format : Format) (lines : List (List ℕ)) (said : List Said) → SayAll format lines said → length lines ≡ length said
 length_all format [] [] h = refl
@@ -107,8 +109,8 @@ said_behind said lists h =
       length_counts (counts_in said) h.may_stand.one_count,
       length_names said,
       ap length h.names_are,
-      length-append (head_names (is_some lists.unborn)) refs,
-      length_head lists.unborn,
+      length-append (head_names (is_some lists.unborn_head)) refs,
+      length_head lists.unborn_head,
       length-map lists.refs (λ (entry : Entry). entry.name),
       ap (λ (l : Lists). length l.refs) h.lists_are,
       ap (λ (l : Lists). length l.objects) h.lists_are,
@@ -116,7 +118,7 @@ said_behind said lists h =
       ap (λ (l : Lists). ready_lines l.ready_after) h.lists_are,
     )
 
--- the lists tell how many lines say them
+-- the lists show how many lines contain them
 told_lines : (lines : List (List ℕ)) (lists : Lists) → AreTold lines lists → lines_behind lists ≡ length lines
 told_lines lines lists h =
     let whole = ap length h.begins.spelled in
@@ -145,7 +147,8 @@ says_nothing_at lines lists line number is nothing h = refused_at lines lists li
 pub may_not_stand_at : (lines : List (List ℕ)) (lists : Lists) (line : List ℕ) (number : ℕ) (says : Said) → number ≡ lines_behind lists + 1
     → Says lists.format line says → IsLineFault lists says Refused → AreTold lines lists → IsLinesFault (lines ++ line ∷ []) (Bad number)
 may_not_stand_at lines lists line number says at is fault h = refused_at lines lists line number h at
-    (λ more also may. fault h.said h.holds (subst (λ (s : Said). MayStand (h.said ++ s ∷ [])) (one_said lists.format line more says also is) may))
+    (λ more also may. fault (follows h.said lists h.holds says
+    (subst (λ (s : Said). MayStand (h.said ++ s ∷ [])) (one_said lists.format line more says also is) may)))
 
 pub memory_ran_out_at : (lines : List (List ℕ)) (lists : Lists) (line : List ℕ) (says : Said)
     → Says lists.format line says → IsLineFault lists says OutOfMemory → AreTold lines lists → WantsMemory (lines ++ line ∷ [])
@@ -159,11 +162,11 @@ memory_ran_out_at lines lists line says is fault h = record {
   begins = h.begins;
   next = says;
   says = is;
-  may_stand = fault.1 h.said h.holds;
-  takes_memory = fault.0;
+  may_stand = stands_more h.said lists h.holds says fault.0;
+  takes_memory = fault.1;
 }
 
--- a fault stays the first with the lines behind it
+-- a fault stays the first with the lines after it
 pub fault_stays : (lines more : List (List ℕ)) (fault : TextFault) → IsLinesFault lines fault → IsLinesFault (lines ++ more) fault
 fault_stays lines more (Bad number) (inl h) = inl (record {
   at_first = h.at_first;

@@ -1,4 +1,4 @@
--- What lines say: one thing at the most.
+-- What lines contain: one thing at the most.
 use Rattle.std.proofs.Common.{arith, ◌≡◌, ℕ, ◌+◌, ◌*◌, Option, Some, None, List, [], ◌∷◌, ◌++◌, refl, ap, sym, ◌∙◌, subst}
 use Rattle.std.proofs.Common.{get_or, length, codes, unwrap_or, MatchOption}
 use Rattle.git_names.proofs.ObjectNames.{one_object_name}
@@ -40,7 +40,7 @@ no_reference format line text e none (ready count) is = let h = byte_at 2 _ _ (s
 no_reference format line text e none (boundary (Shallow id)) is = let h = byte_at 0 _ _ (sym is.spelled ∙ e) in omega (arith, h)
 no_reference format line text e none (boundary (Unshallow id)) is = let h = byte_at 0 _ _ (sym is.spelled ∙ e) in omega (arith, h)
 
--- what a reference line says is said by its line
+-- what a reference line contains is contained in the line of the text that has it
 pub reference_says : (format : Format) (line text : List ℕ) (said : Said) → line ≡ codes "ref " ++ text → SaysReference format text said → Says format line said
 reference_says format line text (reference entry) e is = record { value = text; spelled = e; holds = is }
 reference_says format line text (unborn target) e is = record { value = text; spelled = e; holds = is }
@@ -48,14 +48,14 @@ reference_says format line text (object id size) e is = absurd is
 reference_says format line text (ready count) e is = absurd is
 reference_says format line text (boundary other) e is = absurd is
 
--- so what is read of it is what the line says
+-- so what is read of it is what the line contains
 pub line_read : (format : Format) (line text : List ℕ) (read : Option Item) → line ≡ codes "ref " ++ text
     → MatchOption read ((said : Said) → SaysReference format text said → ⊥) (λ item. SaysReference format text (shown item))
     → MatchOption read (SaysNothing format line) (λ item. Says format line (shown item))
 line_read format line text None e none = no_reference format line text e none
 line_read format line text (Some item) e says = reference_says format line text (shown item) e says
 
--- a text that is refused says neither
+-- a text that is refused contains neither
 pub refused_says_none : (format : Format) (text : List ℕ) (kind : Kind) → IsReferenceFault format text kind → (said : Said) → SaysReference format text said → ⊥
 refused_says_none format text kind fault (reference entry) is = reference_or_fault format text (ref_of entry) kind is fault
 refused_says_none format text kind fault (unborn target) is = reference_or_fault format text (unborn_ref target) kind is fault
@@ -63,7 +63,7 @@ refused_says_none format text kind fault (object id size) is = is
 refused_says_none format text kind fault (ready count) is = is
 refused_says_none format text kind fault (boundary line) is = is
 
--- a line of a reference without an object tells none with one
+-- a line of a reference without an object is not that of one with an object
 pub without_object : (format : Format) (text : List ℕ) (ref : Ref) → ref.id ≡ None → IsReferenceLine format text ref
     → (entry : Entry) → IsReferenceLine format text (ref_of entry) → ⊥
 without_object format text ref none is entry also =
@@ -173,7 +173,7 @@ one_line format line a b h k =
 some_same : (a b : List ℕ) → Some a ≡ Some b → a ≡ b
 some_same a b e = cc
 
--- a line says one thing at the most
+-- a line contains one thing at the most
 one_of_mark : (format : Format) (line : List ℕ) (a b : Said) → mark a ≡ mark b → Says format line a → Says format line b → a ≡ b
 unfolding mark
 one_of_mark format line (reference a) (reference b) e h k =
@@ -235,7 +235,7 @@ maybe_format : (format : Format) (text : Option (List ℕ)) (id : Option ObjectN
 maybe_format format None id h x e = absurd (cc)
 maybe_format format (Some text) id h x e = let same : h.0 ≡ x = cc in subst (λ (o : ObjectName). o.format ≡ format) same h.1.of_format
 
--- what a line says is of the format
+-- what a line contains is of the format
 pub fit_of_says : (format : Format) (line : List ℕ) (said : Said) → Says format line said → IsFit format said
 fit_of_says format line (reference entry) is =
     let parts = is.holds.attributes_are in (

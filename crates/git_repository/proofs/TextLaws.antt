@@ -59,7 +59,7 @@ module _ {X : Type 0} where
       subst (λ (y : X). R y (get_or (xs ++ ys) (k + 1) d)) (front_of xs ys k d (omega (arith, below))) h in
       subst (λ (y : X). R (get_or xs k d) y) (front_of xs ys (k + 1) d below) there
 
--- the first of lines that may stand may stand
+-- the first of lines that may be in one text may be in one
 stand_front : (a b : List Said) → MayStand (a ++ b) → MayStand a
 stand_front a b h =
     let count : length (counts_in a ++ counts_in b) ≤ 1 = subst (λ (xs : List ℕ). length xs ≤ 1) (filter_map-append count_in a b) h.one_count in
@@ -71,7 +71,7 @@ stand_front a b h =
       one_count = omega (arith, count, long);
     }
 
--- what lines say, cut at one of them
+-- what lines contain, cut at one of them
 record Cut (format : Format) (before : List (List ℕ)) (line : List ℕ) (said : List Said) : Type 0 where
   front : List Said
   next : Said

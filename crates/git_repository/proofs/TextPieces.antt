@@ -95,7 +95,7 @@ parts_joined [] b ended begun first others h k =
 parts_joined (c ∷ a) b ended begun first others h k =
     byte_joined c a b first others (λ ends line is. parts_joined a b ends line first others is k) ended begun h
 
--- where the last line of the first text is empty, the second text's lines stand behind the others
+-- where the last line of the first text is empty, the second text's lines come after the others
 pub parts_behind : (a b : List ℕ) (ended : List (List ℕ)) → parts_of 10 a ≡ ended ++ [] ∷ [] → parts_of 10 (a ++ b) ≡ ended ++ parts_of 10 b
 parts_behind a b ended h =
     let some = first_part b in
@@ -115,7 +115,7 @@ join_end l [] = refl
 join_end l (m ∷ ls) =
     ap (λ (t : List ℕ). l ++ 10 ∷ t) (join_end m ls) ∙ sym (append_assoc l (10 ∷ join_with_byte 10 (m ∷ ls)) (10 ∷ []))
 
--- a text without a line end has no empty last line behind others
+-- a text without a line end has no empty last line after others
 no_line_end : (text : List ℕ) (ended : List (List ℕ)) → text_of text ≡ text → parts_of 10 text ≡ ended ++ [] ∷ [] → ended ≡ []
 no_line_end text [] same h = refl
 no_line_end text (l ∷ ls) same h =
@@ -125,7 +125,7 @@ no_line_end text (l ∷ ls) same h =
     let long = ap length is ∙ length-append (join_with_byte 10 (l ∷ ls)) (10 ∷ []) in
     absurd (omega (arith, short, long))
 
--- the lines of a text: its parts, but for an empty last one behind others
+-- the lines of a text: its parts, but for an empty last one after others
 pub data Ends (text : List ℕ) (ended : List (List ℕ)) (begun : List ℕ) : Type 0 where
   by_line : lines_of text ≡ ended ++ begun ∷ [] → (begun ≡ [] → ended ≡ []) → Ends text ended begun
   by_line_end : lines_of text ≡ ended → begun ≡ [] → Ends text ended begun

@@ -1,6 +1,5 @@
 -- The packs of a repository that is read from a text.
 use Rattle.std.specs.Prelude.{ℕ, List, [], Option, None}
-use Rattle.git_server.specs.Lists.{Lists}
 use Rattle.git_server.specs.Repository.{bytes_of}
 use Rattle.git_repository.specs.declared.packs.Packs.{Packs}
 
@@ -12,10 +11,6 @@ pub record PackBytes : Type 0 where
 -- the bytes of these packs
 abbrev pub packs_of : Packs → PackBytes
 packs_of packs = record { pack = packs.pack.items; filtered = bytes_of packs.filtered }
-
--- the packs of lists
-abbrev pub packs_in : Lists → PackBytes
-packs_in lists = record { pack = lists.pack; filtered = lists.filtered }
 
 -- an empty pack for each request
 abbrev pub no_packs : PackBytes

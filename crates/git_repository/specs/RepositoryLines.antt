@@ -1,4 +1,4 @@
--- The lines of a repository's text, and what each says.
+-- The lines of a repository's text, and what each contains.
 use Rattle.std.specs.Prelude.{◌≡◌, ℕ, ◌<◌, ◌≤◌, ◌^◌, Option, Some, None, List, ◌∷◌, ◌++◌, codes}
 use Rattle.std.specs.Option.{option_copied}
 use Rattle.git_names.specs.declared.object_format.Format.{Format}
@@ -15,7 +15,7 @@ use Rattle.git_repository.specs.declared.repository_lines.LineEntry.{LineEntry}
 use Rattle.git_repository.specs.declared.repository_lines.Item.{Item}
 use Rattle.git_repository.specs.declared.repository_lines.Item.TheVariants.{Reference, Unborn, Object, ReadyAfter, BoundaryLine}
 
--- what a line says of a repository: a reference, what an unborn `HEAD` points to, an object with its size, after how many common objects it is ready,
+-- what a line contains of a repository: a reference, what an unborn `HEAD` points to, an object with its size, after how many common objects it is ready,
 -- a line of its shallow boundary
 pub data Said : Type 0 where
   reference : Entry → Said
@@ -58,11 +58,11 @@ pub record IsCount (count : ℕ) (text : List ℕ) : Type 0 where
   pub from_one : 0 < count
   pub at_most : count ≤ 2147483647
 
--- the reference whose line tells an entry: it has an object
+-- the reference whose line contains an entry: it has an object
 abbrev pub ref_of : Entry → Ref
 ref_of entry = reference_of (Some entry.id) entry.name entry.target entry.peeled
 
--- the reference whose line tells an unborn `HEAD`
+-- the reference whose line contains an unborn `HEAD`
 abbrev pub unborn_ref : List ℕ → Ref
 unborn_ref target = reference_of None (codes "HEAD") (Some target) None
 
@@ -72,13 +72,13 @@ pub record IsUnbornHeadOf (name : List ℕ) (target : Option (List ℕ)) (peeled
   pub points : target ≡ Some head
   pub no_peeled : peeled ≡ None
 
--- what a reference line says
+-- what a reference line contains
 abbrev pub SaysReference : Format → List ℕ → Said → Type 0
 SaysReference format text (reference entry) = IsReferenceLine format text (ref_of entry)
 SaysReference format text (unborn target) = IsReferenceLine format text (unborn_ref target)
 SaysReference format text _ = ⊥
 
--- what a line after the first says
+-- what a line after the first contains
 abbrev pub Says : Format → List ℕ → Said → Type 0
 Says format line (reference entry) = Follows (codes "ref ") (λ text. IsReferenceLine format text (ref_of entry)) line
 Says format line (unborn target) = Follows (codes "ref ") (λ text. IsReferenceLine format text (unborn_ref target)) line
@@ -87,6 +87,6 @@ Says format line (ready count) = Follows (codes "ready ") (IsCount count) line
 Says format line (boundary (Shallow id)) = Follows (codes "shallow ") (λ text. IsObjectName format text id) line
 Says format line (boundary (Unshallow id)) = Follows (codes "unshallow ") (λ text. IsObjectName format text id) line
 
--- the line says nothing of a repository of this format
+-- the line contains nothing of a repository of this format
 abbrev pub SaysNothing : Format → List ℕ → Type 0
 SaysNothing format line = (said : Said) → ¬ Says format line said

@@ -1,4 +1,4 @@
--- What the lines of a repository's text that have ended said, and what has begun behind them.
+-- What the lines of a repository's text that have ended contain, and what has begun after them.
 use Rattle.std.specs.Prelude.{◌≡◌, ◌⊎◌, ℕ, List, [], ◌∷◌, ◌++◌}
 use Rattle.git_repository.specs.RepositoryText.{HasBadLine, HasNoFormat, WantsMemory}
 use Rattle.git_repository.specs.DraftLists.{drafted}

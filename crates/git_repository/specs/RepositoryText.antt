@@ -1,4 +1,4 @@
--- What the text of a repository says, and which of its lines is refused.
+-- What the text of a repository contains, and which of its lines is refused.
 use Rattle.std.specs.Prelude.{◌≡◌, ◌≢◌, ◌⊎◌, ℕ, ◌+◌, ◌≤◌, true, List, [], ◌∷◌, ◌++◌, Option, Some, None, codes, length}
 use Rattle.std.specs.List.{AllAdjacentBelow, filter_map}
 use Rattle.git_names.specs.declared.object_format.Format.{Format}
@@ -10,13 +10,13 @@ use Rattle.git_server.specs.Lists.{Lists}
 use Rattle.git_repository.specs.Packs.{PackBytes}
 use Rattle.git_repository.specs.RepositoryLines.{Said, reference, unborn, object, ready, boundary, Says, format_line, lines_of}
 
--- each line says what stands at its place
+-- each line contains what is at its place
 abbrev pub SayAll : Format → List (List ℕ) → List Said → Type 0
 SayAll format [] [] = Unit {0}
 SayAll format (line ∷ lines) (said ∷ more) = Says format line said × SayAll format lines more
 SayAll format _ _ = ⊥
 
--- the reference that a line says, and those of all lines, in order
+-- the reference that a line contains, and those of all lines, in order
 abbrev pub ref_in : Said → Option Entry
 ref_in (reference entry) = Some entry
 ref_in said = None
@@ -41,7 +41,7 @@ name_in said = None
 abbrev pub names_in : List Said → List (List ℕ)
 names_in = filter_map name_in
 
--- the names stand in their order, and none comes twice
+-- the names are in their order, and none comes twice
 abbrev pub NamesRise : List (List ℕ) → Type 0
 NamesRise names = AllAdjacentBelow (λ a b. comes_before a b ≡ true) names (length names)
 
@@ -73,14 +73,14 @@ abbrev pub first_of : {X : Type 0} → List X → Option X
 first_of [] = None
 first_of (x ∷ xs) = Some x
 
--- lines that say this may stand in one text: references, with an unborn `HEAD` among them, and objects rise strictly, and one ready
+-- lines that contain this may be in one text: references, with an unborn `HEAD` among them, and objects rise strictly, and one ready
 -- line at the most
 pub record MayStand (said : List Said) : Type 0 where
   pub rising_names : NamesRise (names_in said)
   pub rising_objects : AreRising (objects_in said)
   pub one_count : length (counts_in said) ≤ 1
 
--- the repository that they say, with these packs
+-- the repository that they contain, with these packs
 abbrev pub lists_said : Format → List Said → PackBytes → Lists
 lists_said format said packs = record {
   format = format;
@@ -89,11 +89,11 @@ lists_said format said packs = record {
   ready_after = first_of (counts_in said);
   boundaries = boundaries_in said;
   pack = packs.pack;
-  unborn = first_of (unborn_in said);
+  unborn_head = first_of (unborn_in said);
   filtered = packs.filtered;
 }
 
--- lines that begin a text: a format, and what the others say
+-- lines that begin a text: a format, and what the others contain
 pub record Begins (format : Format) (lines : List (List ℕ)) (said : List Said) : Type 0 where
   pub others : List (List ℕ)
   pub spelled : lines ≡ format_line format ∷ others
@@ -107,7 +107,7 @@ pub record IsRepositoryText (text : List ℕ) (packs : PackBytes) (lists : Lists
   pub begins : Begins format (lines_of text) said
   pub lists_are : lists ≡ lists_said format said packs
 
--- the first line tells no format
+-- the first line names no format
 pub record HasNoFormat (lines : List (List ℕ)) (number : ℕ) : Type 0 where
   pub at_first : number ≡ 1
   pub first : List ℕ
@@ -131,7 +131,7 @@ pub record HasBadLine (lines : List (List ℕ)) (number : ℕ) : Type 0 where
 abbrev pub IsFirstBad : List ℕ → ℕ → Type 0
 IsFirstBad text number = HasNoFormat (lines_of text) number ⊎ HasBadLine (lines_of text) number
 
--- what a line says is kept in memory
+-- what a line contains is kept in memory
 abbrev pub TakesMemory : Said → Type 0
 TakesMemory (reference entry) = Unit {0}
 TakesMemory (unborn target) = Unit {0}
@@ -139,7 +139,7 @@ TakesMemory (object id size) = Unit {0}
 TakesMemory (ready count) = ⊥
 TakesMemory (boundary line) = Unit {0}
 
--- memory ran out at a line: with it the lines before it begin a text, and what it says takes memory
+-- memory ran out at a line: with it the lines before it begin a text, and what it contains takes memory
 pub record WantsMemory (lines : List (List ℕ)) : Type 0 where
   pub format : Format
   pub before : List (List ℕ)

@@ -1,39 +1,29 @@
-//! What the lines of a repository's text said so far.
+//! What the lines of a repository's text contain so far.
 
 ghost use Rattle.std.specs.Prelude.{◌≡◌, ◌↔◌, ◌+◌, ◌++◌, ◌∷◌, [], ℕ, List, All, IsTrue, IfOk, MatchResult};
 ghost use Rattle.git_server.specs.ListRepo.{lists_of};
-ghost use Rattle.git_server.specs.Objects.{AreRising, object_of};
-ghost use Rattle.git_server.specs.Repository.{IsNamed, IsOfFormat, IsRising, IsUnbornHead, bytes_of};
-ghost use Rattle.std.specs.Option.{option_copied, ForSome};
+ghost use Rattle.git_server.specs.Lists.{IsRepository, lists_in};
+ghost use Rattle.git_server.specs.Objects.{object_of};
+ghost use Rattle.git_server.specs.Repository.{IsNamed, IsOfFormat};
+ghost use Rattle.std.specs.Option.{option_copied};
 ghost use Rattle.git_names.specs.RefName.{IsRefName};
-ghost use Rattle.git_repository.specs.RepositoryLines.{shown, shown_entry};
-ghost use Rattle.git_repository.specs.Drafts.{AddsBoundary, AddsCount, AddsObject, AddsReference, AddsSaid, AddsUnborn, names_of};
-ghost use Rattle.git_repository.specs.Drafts.{ComesLast, ComesLastObject, IsFit, empty_lists, with_packs};
+ghost use Rattle.git_repository.specs.RepositoryLines.{boundary as boundary_line, object, ready, reference, unborn, shown, shown_entry};
+ghost use Rattle.git_repository.specs.Drafts.{ComesLast, ComesLastObject, IsFit, Keeps, empty_lists, names_of, with_packs};
 
 use crate::packs::Packs;
 use crate::repository_lines::{Item, LineEntry, read_item};
 use crate::text_faults::{LineFault, TextFault};
 use git_msg::Boundary;
 use git_names::{Format, Oid};
-use git_server::{ListRepo, RefEntry};
+use git_server::{ListRepo, RefEntry, RepoLists};
 use std::alloc::{AllocError, Global};
 
-/// What the lines said so far. With packs it makes a repository at each moment.
+/// What the lines so far contain. With packs it makes a repository at each moment.
 #[derive(Drop)]
 pub(crate) struct Draft {
-    format: Format,
-    refs: Vec<RefEntry>,
-    objects: Vec<(Oid, u64)>,
-    ready_after: Option<u32>,
-    boundaries: Vec<Boundary>,
-    unborn: Option<Vec<u8>>,
-    ghost rising: { IsRising refs.items },
-    ghost rising_objects: { AreRising objects.items },
-    ghost named: { All (λ ref. IsNamed ref.name ref.target) refs.items },
-    ghost of_format: { All (IsOfFormat format) refs.items },
-    ghost of_objects: { All (λ object. object.0.format ≡ format) objects.items },
-    ghost of_boundaries: { All (λ boundary. (object_of boundary).format ≡ format) boundaries.items },
-    ghost unborn_head: { ForSome (bytes_of unborn) (IsUnbornHead refs.items) },
+    lists: RepoLists,
+    ghost fit: { IsRepository (lists_in lists) },
+    ghost named: { All (λ ref. IsNamed ref.name ref.target) lists.refs.items },
 }
 
 impl Draft {
@@ -47,40 +37,44 @@ impl Draft {
         ensures { drafted result ≡ empty_lists format }
     {
         Draft {
-            format,
-            refs: Vec::new(alloc),
-            objects: Vec::new(alloc),
-            ready_after: None,
-            boundaries: Vec::new(alloc),
-            unborn: None,
+            lists: RepoLists {
+                format,
+                refs: Vec::new(alloc),
+                objects: Vec::new(alloc),
+                ready_after: None,
+                boundaries: Vec::new(alloc),
+                pack: Vec::new(alloc),
+                unborn_head: None,
+                filtered: None,
+            },
         }
     }
 
-    /// The number of the next line: of those that said this, the first told the format.
+    /// The number of the next line: the first of those before it was that of the format.
     fn next_line(&self) -> u64
         ensures { result ≡ lines_behind (drafted self.now) + 1 }
     {
-        let ready: u64 = match self.ready_after {
+        let ready: u64 = match self.lists.ready_after {
             Some(_) => 1,
             None => 0,
         };
-        let refs = self.refs.as_slice().len() as u64;
-        let objects = self.objects.as_slice().len() as u64;
-        let boundaries = self.boundaries.as_slice().len() as u64;
-        let unborn: u64 = match self.unborn {
+        let refs = self.lists.refs.as_slice().len() as u64;
+        let objects = self.lists.objects.as_slice().len() as u64;
+        let boundaries = self.lists.boundaries.as_slice().len() as u64;
+        let unborn: u64 = match self.lists.unborn_head {
             Some(_) => 1,
             None => 0,
         };
         refs + objects + boundaries + ready + unborn + 2
     }
 
-    /// Keeps what a further line says, or tells why it is the first that is refused.
+    /// Keeps what a further line contains, or returns why it is the first that is refused.
     pub(crate) fn read(&mut self, alloc: Global, line: &[u8]) -> Result<(), TextFault>
         ensures { (lines : List (List ℕ)) → AreTold lines (drafted self.old)
             → MatchResult result (λ _. AreTold (lines ++ line.now ∷ []) (drafted self.new)) (IsLinesFault (lines ++ line.now ∷ [])) }
     {
         let line_number = self.next_line();
-        let Some(item) = read_item(self.format, line) else {
+        let Some(item) = read_item(self.lists.format, line) else {
             return Err(TextFault::Bad { line: line_number });
         };
         match self.keep(alloc, &item) {
@@ -90,10 +84,10 @@ impl Draft {
         }
     }
 
-    /// Keeps what a line says, or answers that it may not stand after the lines before it.
+    /// Keeps what a line contains, or returns why not: it may not come after the lines before it, or memory ran out.
     pub(crate) fn keep(&mut self, alloc: Global, item: &Item<'_>) -> Result<(), LineFault>
         requires { IsFit (drafted self.old).format (shown item.now) }
-        ensures { AddsSaid (drafted self.old) (shown item.now) (drafted self.new) result }
+        ensures { Keeps (drafted self.old) (shown item.now) (drafted self.new) result }
     {
         match item {
             Item::Reference(entry) => self.keep_reference(alloc, entry),
@@ -108,16 +102,17 @@ impl Draft {
     fn comes_last(&self, name: &[u8]) -> bool
         ensures { IsTrue result ↔ ComesLast (names_of (drafted self.now)) name.now }
     {
-        if self.refs.is_empty() {
-            return self.unborn.is_none() || b"HEAD".as_slice().cmp(name).is_lt();
+        let refs = &self.lists.refs;
+        if refs.is_empty() {
+            return self.lists.unborn_head.is_none() || b"HEAD".as_slice().cmp(name).is_lt();
         }
-        self.refs[self.refs.len() - 1].name().cmp(name).is_lt()
+        refs[refs.len() - 1].name().cmp(name).is_lt()
     }
 
     fn keep_reference(&mut self, alloc: Global, entry: &LineEntry<'_>) -> Result<(), LineFault>
         requires named { IsNamed entry.now.name.now (option_copied entry.now.target) }
         requires of_format { IsOfFormat (drafted self.old).format (shown_entry entry.now) }
-        ensures { AddsReference (drafted self.old) (shown_entry entry.now) (drafted self.new) result }
+        ensures { Keeps (drafted self.old) (reference (shown_entry entry.now)) (drafted self.new) result }
     {
         if !self.comes_last(entry.name) {
             return Err(LineFault::Refused);
@@ -125,7 +120,7 @@ impl Draft {
         let Ok(made) = make_entry(alloc, entry) else {
             return Err(LineFault::OutOfMemory);
         };
-        match self.refs.push(made) {
+        match self.lists.refs.push(made) {
             Ok(()) => Ok(()),
             Err(_) => Err(LineFault::OutOfMemory),
         }
@@ -133,14 +128,14 @@ impl Draft {
 
     fn keep_unborn(&mut self, alloc: Global, target: &[u8]) -> Result<(), LineFault>
         requires { IsRefName target.now }
-        ensures { AddsUnborn (drafted self.old) target.now (drafted self.new) result }
+        ensures { Keeps (drafted self.old) (unborn target.now) (drafted self.new) result }
     {
         if !self.comes_last(b"HEAD") {
             return Err(LineFault::Refused);
         }
         match Vec::from_slice(alloc, target) {
             Ok(copy) => {
-                self.unborn = Some(copy);
+                self.lists.unborn_head = Some(copy);
                 Ok(())
             }
             Err(_) => Err(LineFault::OutOfMemory),
@@ -149,60 +144,47 @@ impl Draft {
 
     fn keep_object(&mut self, id: Oid, size: u64) -> Result<(), LineFault>
         requires { id.format ≡ (drafted self.old).format }
-        ensures { AddsObject (drafted self.old) (id, size) (drafted self.new) result }
+        ensures { Keeps (drafted self.old) (object id size) (drafted self.new) result }
     {
-        if !comes_last_object(&self.objects, &id) {
+        if !comes_last_object(&self.lists.objects, &id) {
             return Err(LineFault::Refused);
         }
-        match self.objects.push((id, size)) {
+        match self.lists.objects.push((id, size)) {
             Ok(()) => Ok(()),
             Err(_) => Err(LineFault::OutOfMemory),
         }
     }
 
     fn keep_count(&mut self, count: u32) -> Result<(), LineFault>
-        ensures { AddsCount (drafted self.old) count (drafted self.new) result }
+        ensures { Keeps (drafted self.old) (ready count) (drafted self.new) result }
     {
-        if self.ready_after.is_some() {
+        if self.lists.ready_after.is_some() {
             return Err(LineFault::Refused);
         }
-        self.ready_after = Some(count);
+        self.lists.ready_after = Some(count);
         Ok(())
     }
 
     fn keep_boundary(&mut self, boundary: Boundary) -> Result<(), LineFault>
         requires { (object_of boundary).format ≡ (drafted self.old).format }
-        ensures { AddsBoundary (drafted self.old) boundary (drafted self.new) result }
+        ensures { Keeps (drafted self.old) (boundary_line boundary) (drafted self.new) result }
     {
-        match self.boundaries.push(boundary) {
+        match self.lists.boundaries.push(boundary) {
             Ok(()) => Ok(()),
             Err(_) => Err(LineFault::OutOfMemory),
         }
     }
 
-    /// The repository that the lines said, with these packs.
+    /// The repository that the lines contain, with these packs.
     pub(crate) fn finish(self, packs: Packs) -> ListRepo
         ensures { lists_of result ≡ with_packs (drafted self) (packs_of packs) }
     {
-        let Draft {
-            format,
-            refs,
-            objects,
-            ready_after,
-            boundaries,
-            unborn,
-        } = self;
         let Packs { pack, filtered } = packs;
-        ListRepo::of_lists(
-            format,
-            refs,
-            objects,
-            ready_after,
-            boundaries,
+        ListRepo::of_lists(RepoLists {
             pack,
-            unborn,
             filtered,
-        )
+            ..self.lists
+        })
     }
 }
 

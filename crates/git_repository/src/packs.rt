@@ -1,6 +1,6 @@
 //! The packs of a repository that is read from a text.
 
-/// The packs that a repository gives to requests: no line of its text tells them.
+/// The packs that a repository gives to requests: no line of its text contains them.
 #[derive(Debug, Drop)]
 pub struct Packs {
     /// The pack for each request, but for those that get `filtered`.

@@ -13,7 +13,7 @@ use git_names::{Format, Oid, Steps};
 /// The most common objects that a repository may want before it is ready.
 const MOST_COMMON: u64 = 2_147_483_647;
 
-/// A reference of the repository, as its line tells it, whose texts are lent.
+/// A reference of the repository, as its line has it, whose texts are lent.
 #[derive(Clone, Copy, Debug)]
 pub(crate) struct LineEntry<'a> {
     pub(crate) id: Oid,
@@ -22,7 +22,7 @@ pub(crate) struct LineEntry<'a> {
     pub(crate) peeled: Option<Oid>,
 }
 
-/// What a line says of the repository.
+/// What a line contains of the repository.
 #[derive(Clone, Copy, Debug)]
 pub(crate) enum Item<'a> {
     /// It has this reference.
@@ -37,14 +37,14 @@ pub(crate) enum Item<'a> {
     BoundaryLine(Boundary),
 }
 
-/// The format that the first line tells.
+/// The format that the first line names.
 pub(crate) fn read_format(line: &[u8]) -> Option<Format>
     ensures { MatchOption result ((format : Format) → line.now ≢ format_line format) (λ format. line.now ≡ format_line format) }
 {
     Format::read(after(line, b"format ")?)
 }
 
-/// What a further line says.
+/// What a further line contains.
 pub(crate) fn read_item(format: Format, line: &[u8]) -> Option<Item<'_>>
     ensures { MatchOption result (SaysNothing format line.now) (λ item. Says format line.now (shown item)) }
 {

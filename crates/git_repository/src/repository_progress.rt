@@ -14,7 +14,7 @@ use git_msg::split_at_first;
 use git_server::ListRepo;
 use std::alloc::Global;
 
-/// What the lines that have ended said.
+/// What the lines that have ended contain.
 #[derive(Drop)]
 pub(crate) enum Progress {
     /// None has ended.
@@ -95,7 +95,7 @@ impl Progress {
         (Progress::Lines(draft), line)
     }
 
-    /// After a piece of the text, behind the open line. What it leaves open is the open line then.
+    /// The progress after a piece of the text, which goes on with the open line. What the piece leaves open is the open line then.
     pub(crate) fn with_piece(self, alloc: Global, begun: &mut Vec<u8>, piece: &[u8]) -> Progress
         requires { length begun.old.items + length piece.now ≤ vec_capacity begun.old }
         ensures { (text : List ℕ) (lines : List (List ℕ)) → parts_of 10 text ≡ lines ++ begun.old.items ∷ [] → HasRead self lines

@@ -13,7 +13,7 @@ use std::mem;
 
 /// Reads the text of a repository in pieces, however it is cut: what [`crate::read_repo`] reads from a whole one.
 ///
-/// It keeps what the lines said, and of the text no more than the line that a piece left open, or the one that was refused.
+/// It keeps what the lines contain, and of the text no more than the line that a piece left open, or the one that was refused.
 #[derive(Drop)]
 pub struct RepositoryReader {
     alloc: Global,

@@ -12,11 +12,11 @@ use std::alloc::Global;
 
 /// Reads the text of a repository, which has these packs.
 ///
-/// The first line is `format sha1` or `format sha256`. The others say, in any order of kinds: `ref`, a space and a
+/// The first line is `format sha1` or `format sha256`. The others have, in any order of kinds: `ref`, a space and a
 /// reference line of ls-refs, gitprotocol-v2(5), which may be that of an unborn `HEAD` with what it points to;
 /// `object`, an object name and a size in bytes; `ready` and the number of common objects, once at the most; `shallow`
 /// or `unshallow` and an object name. Lines are parted by LF, which the last may lack. References rise strictly by
-/// their names, and objects by theirs. The first line that is none of these, or may not stand after those before it, is
+/// their names, and objects by theirs. The first line that is none of these, or may not come after those before it, is
 /// `Bad`.
 pub fn read_repo(alloc: Global, text: &[u8], packs: Packs) -> Result<ListRepo, TextFault>
     ensures { MatchResult result (IsWholeText text.now (packs_of packs)) (IsTextFault text.now) }

@@ -5,7 +5,7 @@ use thiserror::Error;
 /// Why a text could not be read.
 #[derive(Clone, Copy, Debug, PartialEq, Eq, Error)]
 pub enum TextFault {
-    /// A line may not stand where it does.
+    /// A line is not allowed where it is.
     #[error("bad line {line}")]
     Bad {
         /// Which line, counted from 1.
@@ -19,7 +19,7 @@ pub enum TextFault {
 /// Why a line is not kept. With the line's number it is a [`TextFault`].
 #[derive(Clone, Copy, Debug, PartialEq, Eq)]
 pub enum LineFault {
-    /// It may not stand after the lines before it.
+    /// It may not come after the lines before it.
     Refused,
     /// Memory ran out.
     OutOfMemory,

@@ -1,8 +1,7 @@
 -- What follows of packets of which the repository refuses the last, or does not.
 use Rattle.std.proofs.Common.{◌≡◌, ◌≢◌, ℕ, Bool, true, false, if◌then◌else◌, All, IfSome, Option, Some, None, option_to_list, List, [], ◌∷◌, ◌++◌}
 use Rattle.std.proofs.Common.{refl, sym, ap, ◌∙◌, subst, inl, inr}
-use Rattle.std.specs.List.{filter_map}
-use Rattle.std.proofs.lemmas.List.Elements.{All-nil, All-cons, All-head, All-tail, All-append, All-pop}
+use Rattle.std.proofs.lemmas.List.Elements.{All-nil, All-cons, All-append, All-pop, All-weaker}
 use Rattle.git_names.specs.ObjectName.{ObjectName}
 use Rattle.git_pkt.specs.Packets.{Pkt, flush, payload, text_of}
 use Rattle.git_pkt.specs.Splits.{Given}
@@ -12,17 +11,18 @@ use Rattle.git_pkt.specs.declared.fault.Kind.TheVariants.{NotOurs, TooMuchKept, 
 use Rattle.git_msg.specs.declared.offers.Offer.{Offer}
 use Rattle.git_msg.specs.declared.arguments.Command.{Command}
 use Rattle.git_msg.specs.declared.arguments.Command.TheVariants.{LsRefs, Fetch, ObjectInfo}
-use Rattle.git_msg.specs.Arguments.{Arg, want, want_ref}
-use Rattle.git_msg.specs.Asked.{Asked, asked_by, want_in, want_ref_in}
+use Rattle.git_msg.specs.Arguments.{Arg, Value, Word, id_value, text_value, want, want_ref}
+use Rattle.git_msg.specs.Asked.{Asked, asked_by, id_in, text_in}
 use Rattle.git_msg.specs.Lines.{Line, argument_in, arguments_of, HasFault, HasFaultIn, IsArgumentText, IsLine, IsLineIn}
 use Rattle.git_msg.specs.Requests.{AreLines, Asks, FirstFault, IsPlainLine}
 use Rattle.git_msg.proofs.FaultLaws.{fault_at_last}
+use Rattle.git_msg.proofs.FoundParts.{All-filter_map}
 use Rattle.git_msg.proofs.LineLaws.{argument_payload, fronts_same, one_argument_text, one_list_of_lines, payload_argument, refused_for_limit}
 use Rattle.git_msg.proofs.LineLists.{arguments_snoc, last_line}
 use Rattle.git_msg.proofs.PacketFaults.{NotOfPackets, told_of_packets}
 use Rattle.git_msg.proofs.WholeRequests.{last_same}
 use Rattle.git_server.specs.Repository.{Repository, found_ref}
-use Rattle.git_server.specs.Admission.{barred, barred_ref, IsAdmitted, AreAdmitted, HasAsked, IsBarred, IsBarredAtLast, IsToldFor, IsUnbarred}
+use Rattle.git_server.specs.Admission.{barred, barred_ref, barred_value, IsAdmitted, AreAdmitted, HasAsked, IsBarred, IsBarredAtLast, IsToldFor, IsUnbarred}
 
 had_by : (b : Bool) → (if b then None else Some NotOurs) ≡ None → b ≡ true
 had_by true h = refl
@@ -45,31 +45,35 @@ unfound_by : (found : Option ObjectName) (kind : Kind) → NotOfRepository kind 
 unfound_by (Some id) kind other h = cc
 unfound_by None kind other h = other.not_unknown (cc)
 
+value_not_barred : (repo : Repository) (word : Word) (value : Value) (kind : Kind) → NotOfRepository kind → barred_value repo word value ≡ Some kind → ⊥
+value_not_barred repo want (id_value id) kind other h = barred_by (repo.has id) kind other h
+value_not_barred repo want_ref (text_value name) kind other h = unfound_by (found_ref repo.refs name) kind other h
+value_not_barred repo word value kind other h = absurd (cc)
+
 not_barred : (repo : Repository) (arg : Arg) (kind : Kind) → NotOfRepository kind → barred repo arg ≡ Some kind → ⊥
-not_barred repo (want id) kind other h = barred_by (repo.has id) kind other h
-not_barred repo (want_ref name) kind other h = unfound_by (found_ref repo.refs name) kind other h
-not_barred repo arg kind other h = absurd (cc)
+not_barred repo arg kind other h = value_not_barred repo arg.word arg.value kind other h
 
-wants_had : (repo : Repository) (args : List Arg) → All (IsAdmitted repo) args → All (λ id. repo.has id ≡ true) (filter_map want_in args)
-wants_had repo [] h = All-nil (λ id. repo.has id ≡ true)
-wants_had repo (want id ∷ args) h =
-    let had = had_by (repo.has id) (All-head (IsAdmitted repo) (want id) args h) in
-    All-cons (λ id. repo.has id ≡ true) id (filter_map want_in args) had (wants_had repo args (All-tail (IsAdmitted repo) (want id) args h))
-wants_had repo (arg ∷ args) h = wants_had repo args (All-tail (IsAdmitted repo) arg args h)
+want_had : (repo : Repository) (word : Word) (value : Value) → barred_value repo word value ≡ None
+    → IfSome (id_in want (record { word = word; value = value })) (λ id. repo.has id ≡ true)
+want_had repo want (id_value id) h = had_by (repo.has id) h
+want_had repo word value h = tt
 
-refs_found : (repo : Repository) (args : List Arg) → All (IsAdmitted repo) args → All (λ name. found_ref repo.refs name ≢ None) (filter_map want_ref_in args)
-refs_found repo [] h = All-nil (λ name. found_ref repo.refs name ≢ None)
-refs_found repo (want_ref name ∷ args) h =
-    let found = found_by (found_ref repo.refs name) (All-head (IsAdmitted repo) (want_ref name) args h) in
-    All-cons (λ n. found_ref repo.refs n ≢ None) name (filter_map want_ref_in args) found
-    (refs_found repo args (All-tail (IsAdmitted repo) (want_ref name) args h))
-refs_found repo (arg ∷ args) h = refs_found repo args (All-tail (IsAdmitted repo) arg args h)
+ref_found : (repo : Repository) (word : Word) (value : Value) → barred_value repo word value ≡ None
+    → IfSome (text_in want_ref (record { word = word; value = value })) (λ name. found_ref repo.refs name ≢ None)
+ref_found repo want_ref (text_value name) h = found_by (found_ref repo.refs name) h
+ref_found repo word value h = tt
 
 -- a request of admitted arguments asks for objects and references that the repository has
 asked_had : (repo : Repository) (c : Command) (args : List Arg) → All (IsAdmitted repo) args → HasAsked repo (asked_by c args)
 asked_had repo LsRefs args h = tt
 asked_had repo ObjectInfo args h = tt
-asked_had repo Fetch args h = (wants_had repo args h, refs_found repo args h)
+asked_had repo Fetch args h = (
+  All-filter_map (λ id. repo.has id ≡ true) (id_in want) args
+      (All-weaker (IsAdmitted repo) (λ arg. IfSome (id_in want arg) (λ id. repo.has id ≡ true)) (λ arg. want_had repo arg.word arg.value) args h),
+  All-filter_map (λ name. found_ref repo.refs name ≢ None) (text_in want_ref) args
+      (All-weaker (IsAdmitted repo) (λ arg. IfSome (text_in want_ref arg) (λ name. found_ref repo.refs name ≢ None))
+      (λ arg. ref_found repo arg.word arg.value) args h),
+)
 
 module _ (offer : Offer) (limit : ℕ) (repo : Repository) where
   -- what is barred is the argument of its line

@@ -1,4 +1,4 @@
--- A server to which whole requests were said, and which gave as many messages as they are: it used all of them, owes nothing, and waits.
+-- A server to which whole requests were sent, and which gave as many messages as they are: it used all of them, owes nothing, and waits.
 use Rattle.std.proofs.Common.{arith, ◌≡◌, ◌≢◌, ℕ, ◌+◌, ◌/◌, ◌≤◌, ◌<◌, true, false, length, map, List, [], ◌∷◌, ◌++◌, Option, Some, None, refl, sym, ap, ◌∙◌}
 use Rattle.std.proofs.Common.{append_assoc, append-nil, subst, length-append, slice_index, inl, inr}
 use Rattle.std.proofs.lemmas.List.{get_or_append_left, get_or_past, map-append}
@@ -61,7 +61,7 @@ fits_where_begun p q s x y h e =
     ∙ digits_value-digits_of (length_field q) (body_of q ++ y) small in
     few_bytes q (omega (arith, value, (allowed_field p s h).1))
 
--- the packets, wherever they stand
+-- the packets, wherever they are
 abbrev pub packets_of : List Given → List Pkt
 packets_of gs = map (λ g. g.packet) gs
 
@@ -90,7 +90,7 @@ front_of p used unused rest (g ∷ gs) (q ∷ qs) (s, later, parts, at, spells, 
 
 -- ---- how many flushes there are
 
--- nothing without a flush stands at the end
+-- nothing without a flush is at the end
 abbrev pub EndsWithFlush : List Pkt → Type 0
 EndsWithFlush qs = (front back : List Pkt) → qs ≡ front ++ back → flushes back ≡ 0 → back ≡ []
 
@@ -147,13 +147,13 @@ module _ (s : Setting) where
   tail_flushes left Closed tail h = ap flushes (sym h)
   tail_flushes left (Refused fault) tail h = told_flushes fault.kind left fault tail h
 
--- ---- what was said, and used of it
+-- ---- what was sent, and used of it
 
 no_packets : (gs : List Given) → packets_of gs ≡ [] → gs ≡ []
 no_packets [] e = refl
 no_packets (g ∷ gs) e = absurd (cc)
 
--- all of what was said was used, and nothing is left of it
+-- all of what was sent was used, and nothing is left of it
 pub record IsAllUsed (unused : List ℕ) (left : List Given) (rest : List ℕ) : Type 0 where
   pub none_unused : unused ≡ []
   pub none_left : left ≡ []
@@ -165,7 +165,7 @@ both_nothing (x ∷ xs) ys e = absurd (cc)
 
 module _ (s : Setting) (qs : List Pkt) (used unused : List ℕ) (said : spelled qs ≡ used ++ unused) (ends : EndsWithFlush qs)
     (asked : List Asked) (left : List Given) (rest : List ℕ) (stream : Stream s used asked left rest) where
-  -- no more requests came than were said
+  -- no more requests came than were sent
   pub few_asked : (length asked ≤ flushes qs)
   few_asked =
       let front = front_of 0 used unused rest stream.packets qs stream.splits.spelled (sym said) in

@@ -1,4 +1,4 @@
--- The lines of the shallow boundary that are told for a request, and how many objects are enough.
+-- The lines of the shallow boundary that are sent for a request, and how many objects are enough.
 use Rattle.std.proofs.Common.{◌≡◌, ℕ, ◌<◌, ◌==◌, Bool, true, false, List, [], length, take, refl, ◌∙◌, arith, if◌then◌else◌}
 use Rattle.std.specs.Prelude.{nat_le}
 use Rattle.std.proofs.lemmas.Bool.Decides.{nat_tests}
@@ -12,7 +12,7 @@ chosen : (deepened : Bool) (lines : List Boundary) → deepened ≡ true → (if
 chosen true lines is = refl
 chosen false lines is = cc
 
--- where the request cuts the history off, the lines are told
+-- where the request cuts the history off, the lines are sent
 pub told_for : (lines boundary : List Boundary) (q : FetchAsked) (shallows : List ObjectName)
     → is_deepened q ≡ true → lines ≡ boundary → shallows ≡ q.shallows → boundary_for boundary q ≡ told_lines lines shallows
 told_for lines boundary q shallows is same also = chosen (is_deepened q) (told_lines boundary q.shallows) is ∙ cc
@@ -21,7 +21,7 @@ some_chosen : (deepened : Bool) (lines : List Boundary) (i : ℕ) → i < length
 some_chosen true lines i within = refl
 some_chosen false lines i within = absurd (omega arith)
 
--- where there is a line at a place, it is one of those that are told
+-- where there is a line at a place, it is one of those that are sent
 pub told_where_some : (lines boundary : List Boundary) (q : FetchAsked) (shallows : List ObjectName) (i : ℕ)
     → lines ≡ boundary → shallows ≡ q.shallows → i < length (boundary_for boundary q) → boundary_for boundary q ≡ told_lines lines shallows
 told_where_some lines boundary q shallows i same also within =

@@ -54,7 +54,7 @@ module _ {R A : Type 0} (state : R → RepoState) where
       subst (λ (u : List ℕ). Running state s u over (d ++ (e ++ f)) server) (append_assoc a b c)
       (subst (λ (w : List ℕ). Running state s ((a ++ b) ++ c) over w server) (append_assoc d e f) r)
 
-  -- the calls go on from what stood before them
+  -- the calls go on from what held before them
   goes_by : (s : Setting) (calls : List Call) (before : ℕ) (old : Server R A) (after : ℕ) (new : Server R A) → MakesAll (Makes state) calls before old after new
       → (so_far : List ℕ) (over : Bool) (given : List ℕ) → Running state s so_far over given old
       → Running state s (so_far ++ used_in calls) (ended over calls) (given ++ given_in calls) new

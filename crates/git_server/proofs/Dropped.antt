@@ -6,7 +6,7 @@ use Rattle.std.proofs.lemmas.List.{drop_all, get_or_default}
 use Rattle.std.proofs.lemmas.Option.{slice_get_within, slice_get_cases, get_or_from_slice_get}
 
 module _ {X : Type 0} (xs : List X) (at : ℕ) where
-  -- what stands there, and what comes after it
+  -- what is there, and what comes after it
   pub dropped_at : (x : X) → at < length xs → drop at xs ≡ get_or xs at x ∷ drop (at + 1) xs
   dropped_at x within = rw (add-one, drop-cons xs at x) refl
 
@@ -14,7 +14,7 @@ module _ {X : Type 0} (xs : List X) (at : ℕ) where
   dropped x here =
       dropped_at x (slice_get_within xs at x here) ∙ ap (λ (y : X). y ∷ drop (at + 1) xs) (get_or_from_slice_get xs at x x here)
 
-  -- nothing, where nothing stands there
+  -- nothing, where nothing is there
   pub none_dropped : slice_get xs at ≡ None → drop at xs ≡ []
   none_dropped none =
       elim (slice_get_cases xs at).1 [

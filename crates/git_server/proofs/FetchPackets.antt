@@ -18,13 +18,13 @@ use Rattle.git_server.specs.FetchAnswers.{wanted_packet}
 use Rattle.git_server.specs.FetchAnswers.{wanted_refs}
 use Rattle.git_server.specs.FetchPlaces.{IsFetchFrom, acknowledgments_from, acks_by, boundary_from}
 use Rattle.git_server.specs.FetchPlaces.{most_fetch, most_packets, place_by, wanted_from}
-use Rattle.git_server.specs.declared.acknowledging.AcknowledgmentsPlace.{AcknowledgmentsPlace}
-use Rattle.git_server.specs.declared.acknowledging.AcknowledgmentsPlace.TheVariants.{Header as AcknowledgmentsHeader, Have, Through}
+use Rattle.git_server.specs.declared.acknowledgments.AcknowledgmentsPlace.{AcknowledgmentsPlace}
+use Rattle.git_server.specs.declared.acknowledgments.AcknowledgmentsPlace.TheVariants.{Header as AcknowledgmentsHeader, Have, Through}
 use Rattle.git_server.specs.declared.answer.Answered.TheVariants.{Part}
 use Rattle.git_server.specs.declared.fetching.FetchPlace.{FetchPlace}
 use Rattle.git_server.specs.declared.fetching.FetchPlace.TheVariants.{Acknowledgments, Delimiter, ShallowInfo, WantedRefs, Packfile}
-use Rattle.git_server.specs.declared.packing.PackPlace.{PackPlace}
-use Rattle.git_server.specs.declared.packing.PackPlace.TheVariants.{Header as PackHeader, Pack}
+use Rattle.git_server.specs.declared.packfile.PackPlace.{PackPlace}
+use Rattle.git_server.specs.declared.packfile.PackPlace.TheVariants.{Header as PackHeader, Pack}
 use Rattle.git_server.specs.declared.sections.SectionPlace.{SectionPlace}
 use Rattle.git_server.specs.declared.sections.SectionPlace.TheVariants.{Header, Line}
 use Rattle.git_server.proofs.Flushes.{flushes-append}
@@ -57,7 +57,7 @@ negotiates_on false whole repo q xs ys packet later one h =
     ap (λ (l : List Pkt). packet ∷ l) h ∙ ap (λ (l : List Pkt). l ++ flush ∷ []) (sym one)
 negotiates_on false broken repo q xs ys packet later one h = absurd h
 
--- the line that says that the repository is ready
+-- the `ready` line
 negotiates_ready : (ready : Bool) (manner : Manner) (repo : Repository) (q : FetchAsked) (xs : List Pkt) (later : List Pkt)
     → xs ≡ [] → ready ≡ true → IsAfter (delim ∷ []) (EndsWithBoundary manner repo q) later
     → IsNegotiated ready xs manner repo q (text_line (codes "ready") ∷ later)

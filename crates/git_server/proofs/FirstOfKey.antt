@@ -1,4 +1,4 @@
--- What is told of the first element of a key is told of the only one, since the keys rise strictly.
+-- A search for the first element of a key finds the only one, since the keys rise strictly.
 use Rattle.std.proofs.Common.{◌≡◌, ◌≢◌, ◌↔◌, ℕ, suc, zero, ◌+◌, ◌<◌, Bool, true, Option, Some, None, List, [], ◌∷◌, All, Any, length, slice_index_or}
 use Rattle.std.proofs.Common.{refl, sym, ap, ◌∙◌, arith, inl, inr, if◌then◌else◌}
 use Rattle.std.specs.Prelude.{MatchOption}
@@ -17,7 +17,7 @@ is_less Less h = refl
 is_less Equal h = cc
 is_less Greater h = cc
 
--- first: what is told of the first element of the key n, which the test finds
+-- first: what is found of the first element of the key n, which the test finds
 module _ {X K V : Type 0} {R : K → K → Ordering} (total : IsTotalOrder R) (key : X → K) (told : X → V) (n : K)
     (test : X → Bool) (tells : (x : X) → test x ≡ true ↔ key x ≡ n)
     (first : List X → Option V) (ends : first [] ≡ None) (steps : (x : X) (xs : List X) → first (x ∷ xs) ≡ (if test x then Some (told x) else first xs)) where

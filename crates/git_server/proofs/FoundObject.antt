@@ -14,14 +14,14 @@ module _ (objects : List (ObjectName × ℕ)) (id : ObjectName) where
   abbrev test : ObjectName × ℕ → Bool
   test object = is_eq (object_cmp object.0 id)
 
-  -- the test finds the name just where it stands
+  -- the test is true just where the list has the name
   pub has_means : has_object objects id ≡ true ↔ Any (λ object. object.0 ≡ id) objects
   has_means = (
     (λ h. let at = Any-from_list_any test objects h in (at.0, at.1, at.2, at.3, (is_same _ id).0 at.4)),
     (λ at. list_any-from_Any test objects (at.0, at.1, at.2, at.3, (is_same _ id).1 at.4)),
   )
 
-  -- so it tells whether a search found it
+  -- so it shows whether a search found it
   pub has_found : (found : Option ℕ)
       → MatchOption found (All (λ object. object.0 ≢ id) objects) (λ at. (at < length objects) × HoldsAt (λ object. object.0 ≡ id) objects at)
       → is_some found ≡ has_object objects id

@@ -17,10 +17,10 @@ use Rattle.git_server.specs.declared.outcome.Outcome.{Outcome}
 use Rattle.git_server.specs.declared.server.Phase.{Phase}
 use Rattle.git_server.specs.declared.server.Phase.TheVariants.{Advertising, Between, Within, Answering, Refusing, Ended}
 use Rattle.git_server.specs.declared.server.Turn.TheVariants.{Finished}
-use Rattle.git_server.specs.declared.packing.PackPlace.{PackPlace}
-use Rattle.git_server.specs.declared.packing.PackPlace.TheVariants.{Header, Pack}
-use Rattle.git_server.specs.declared.packing.PartRead.{PartRead}
-use Rattle.git_server.specs.declared.packing.PartRead.TheVariants.{Bytes, End, Failed}
+use Rattle.git_server.specs.declared.packfile.PackPlace.{PackPlace}
+use Rattle.git_server.specs.declared.packfile.PackPlace.TheVariants.{Header, Pack}
+use Rattle.git_server.specs.declared.packfile.PartRead.{PartRead}
+use Rattle.git_server.specs.declared.packfile.PartRead.TheVariants.{Bytes, End, Failed}
 
 full_part : (gives : ℕ → ℕ → Type 0) (pack room : List ℕ) (offset : ℕ) (part : PartRead) → IsPartRead pack offset room part → IsGiven gives part
     → IsFullPart gives (part_packet room part)
@@ -44,7 +44,7 @@ written_full gives pack offset place was repo_old old part repo_new new h =
       full = full_part (gives offset) pack h.room offset part h.is_read h.given;
     })
 
--- what such a packet is may be said by other words
+-- what such a packet is may be stated in other words
 module _ (Is Also : Pkt → Type 0) (then : (packet : Pkt) → length (body_of packet) ≤ longest_payload → Is packet → Also packet) where
   part_so : (gives : ℕ → ℕ → ℕ → Type 0) (place : PackPlace) → FillsPart gives place Is → FillsPart gives place Also
   part_so gives Header h = tt

@@ -156,7 +156,7 @@ one_more : {X : Type 0} (xs : List X) (x : X) → xs ++ x ∷ [] ≢ []
 one_more [] x e = cc
 one_more (y ∷ ys) x e = cc
 
--- a packet of a request is not told as what neither a packet nor a repository is refused for
+-- no packet of a request is refused by a kind of fault that is neither a packet's nor a repository's
 not_told : {A : Type 0} (kind : Kind) (strange : NotOfPackets kind) → NotOfRepository kind → (offset : ℕ) (packets : List Given) (brought : Brought A)
     (requests : RequestReader A) (repo : Repository) → IsBrought repo packets brought requests
     → (fault : Fault) → outcome_in (phase_after offset brought) ≡ Some (Refused fault) → fault.kind ≡ kind → ⊥
@@ -181,13 +181,13 @@ no_pack_in_bytes p rest end kind offset h is =
     let stops : StopsBy p rest end PackSource offset = subst (λ (k : Kind). StopsBy p rest end k offset) is h in
     stops.0
 
--- what a server without an outcome stands for
+-- what a server without an outcome represents
 pub goes_on : {R A : Type 0} (state : R → RepoState) (server : Server R A) (s : Setting) (used : List ℕ) (over : Bool) (given : List ℕ)
     → outcome_of server ≡ None → Running state s used over given server → (over ≡ false) × Serves s used given server
 goes_on state server s used over given none r = subst (λ (o : Option Outcome). StandsBy o s used over given server) none r.stands
 
 module _ {R A : Type 0} (state : R → RepoState) (old new : Server R A) (u : List ℕ) where
-  -- what a server that waits for bytes stands for
+  -- what a server that waits for bytes represents
   stands_of : (s : Setting) (so_far : List ℕ) (over : Bool) (before : List ℕ)
       → wants_input old ≡ true → Running state s so_far over before old → (over ≡ false) × Serves s so_far before old
   stands_of s so_far over before wants r = goes_on state old s so_far over before (no_outcome old.phase wants) r
@@ -269,7 +269,7 @@ module _ {R A : Type 0} (state : R → RepoState) (old new : Server R A) (u : Li
   no_rest bytes packets rest sound shut stream =
       none_between new.reader rest (sound_rest new.reader 0 bytes packets rest sound stream).0 shut
 
-  -- what is owed, in the phase that was come to
+  -- what is owed, in the phase that was reached
   pub owes_at : (s : Setting) (phase : Phase A) (owed : List Pkt) → new.phase ≡ phase → Owes new.offer s.repo new.phase owed → Owes new.offer s.repo phase owed
   owes_at s phase owed is owes = subst (λ (p : Phase A). Owes new.offer s.repo p owed) is owes
 
@@ -307,7 +307,7 @@ module _ {R A : Type 0} (state : R → RepoState) (old new : Server R A) (u : Li
         fit = fit;
       }
 
-  -- how a server stands after a packet, by what the packet brought
+  -- what a server represents after a packet, by what the packet brought
   packet_stands : (s : Setting) (so_far : List ℕ) (over : Bool) (before : List ℕ) (g : Given) (brought : Brought A)
       → wants_input old ≡ true → over ≡ false → (h : Serves s so_far before old) → (rest : List ℕ) → Reads new.reader 0 (so_far ++ u) (h.packets ++ g ∷ []) rest
       → fault_of new.reader ≡ None → is_open new.reader ≡ false → offer_of new.requests ≡ s.offer → limit_in new.requests ≡ s.limit

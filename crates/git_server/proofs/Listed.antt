@@ -10,7 +10,7 @@ use Rattle.git_server.specs.AnsweredRequest.{AreReferencesFrom, IsAnswerFrom, Is
 use Rattle.git_server.specs.declared.answer.Answer.{Answer}
 use Rattle.git_server.specs.declared.answer.Answer.TheVariants.{References}
 use Rattle.git_server.specs.declared.answer.Answered.TheVariants.{Part}
-use Rattle.git_server.specs.declared.answer.ReferencesPlace.{ReferencesPlace}
+use Rattle.git_server.specs.declared.ls_refs.ReferencesPlace.{ReferencesPlace}
 use Rattle.git_server.proofs.Skipped.{alike_answers}
 
 module _ (repo : Repository) (old new : Kept LsRefsAsked) (place after : ReferencesPlace) (packet : Pkt) (orders : OrdersPrefixes old new)

@@ -29,7 +29,7 @@ not_nothing : (xs more : List Given) (g : Given) → xs ++ g ∷ more ≡ [] →
 not_nothing [] more g e = cc
 not_nothing (x ∷ xs) more g e = cc
 
--- before the only packet stands none
+-- before the only packet there is none
 alone : (xs more : List Given) (l m : Given) → xs ++ l ∷ more ≡ m ∷ [] → (xs ≡ []) × (l ≡ m)
 alone [] more l m e = (refl, cc)
 alone (x ∷ xs) more l m e = absurd (not_nothing xs more l (let tails : xs ++ l ∷ more ≡ [] = cc in tails))

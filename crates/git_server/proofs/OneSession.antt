@@ -27,10 +27,10 @@ use Rattle.git_server.specs.Phases.{outcome_in, Owes, reads_in}
 use Rattle.git_server.specs.Server.{Running, outcome_of, wants_input}
 use Rattle.git_server.specs.declared.advertisement.AdvertisementLine.{AdvertisementLine}
 use Rattle.git_server.specs.declared.answer.Answer.TheVariants.{References, Fetching, Sizes}
-use Rattle.git_server.specs.declared.answer.ReferencesPlace.{ReferencesPlace}
-use Rattle.git_server.specs.declared.answer.ReferencesPlace.TheVariants.{First, Entry as EntryPlace}
-use Rattle.git_server.specs.declared.informing.SizesPlace.{SizesPlace}
-use Rattle.git_server.specs.declared.informing.SizesPlace.TheVariants.{Header as SizesHeader, Object}
+use Rattle.git_server.specs.declared.ls_refs.ReferencesPlace.{ReferencesPlace}
+use Rattle.git_server.specs.declared.ls_refs.ReferencesPlace.TheVariants.{First, Entry as EntryPlace}
+use Rattle.git_server.specs.declared.object_info.SizesPlace.{SizesPlace}
+use Rattle.git_server.specs.declared.object_info.SizesPlace.TheVariants.{Header as SizesHeader, Object}
 use Rattle.git_server.specs.declared.server.Phase.{Phase}
 use Rattle.git_server.specs.declared.server.Phase.TheVariants.{Advertising, Between, Within, Answering, Refusing, Ended}
 use Rattle.git_server.specs.declared.server.Server.{Server}

@@ -31,7 +31,7 @@ not_both fault other same name too_long =
     let kinds : PackSource ≡ StreamTooLong = sym name ∙ ap (λ (f : Fault). f.kind) one ∙ too_long in
     cc
 
--- no pull tells a stream that is too long
+-- no pull reports a stream that is too long
 pub too_long_before : (old now : Option Outcome) (fault : Fault) → IsAfterPull old now → now ≡ Some (Refused fault) → fault.kind ≡ StreamTooLong
     → old ≡ Some (Refused fault)
 too_long_before (Some outcome) now fault after told too_long = sym after ∙ told

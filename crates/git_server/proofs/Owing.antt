@@ -15,8 +15,8 @@ use Rattle.git_server.specs.declared.advertisement.AdvertisementLine.{Advertisem
 use Rattle.git_server.specs.declared.advertisement.AdvertisementLine.TheVariants.{Version, Agent, LsRefs, Fetch, ServerOption, ObjectFormat, ObjectInfo, End}
 use Rattle.git_server.specs.declared.answer.Answer.{Answer}
 use Rattle.git_server.specs.declared.answer.Answer.TheVariants.{References, Fetching, Sizes}
-use Rattle.git_server.specs.declared.answer.ReferencesPlace.TheVariants.{First, Entry}
-use Rattle.git_server.specs.declared.informing.SizesPlace.TheVariants.{Header as SizesHeader, Object}
+use Rattle.git_server.specs.declared.ls_refs.ReferencesPlace.TheVariants.{First, Entry}
+use Rattle.git_server.specs.declared.object_info.SizesPlace.TheVariants.{Header as SizesHeader, Object}
 use Rattle.git_server.specs.declared.answer.Answered.TheVariants.{Part}
 use Rattle.git_server.specs.declared.outcome.Outcome.TheVariants.{Refused}
 use Rattle.git_server.specs.declared.server.Phase.{Phase}

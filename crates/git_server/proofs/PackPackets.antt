@@ -12,10 +12,10 @@ use Rattle.git_server.specs.FetchPlaces.{IsPackfileFrom, most_packets}
 use Rattle.git_server.specs.PackParts.{IsPartRead, WritesPart, answered_by, part_packet}
 use Rattle.git_server.specs.Repository.{RepoState}
 use Rattle.git_server.specs.Packs.{Manner, whole, broken, IsPackPart, EndsPack, EndsWhole, IsPackfile, pack_source_packet, packfile_header}
-use Rattle.git_server.specs.declared.packing.PackPlace.{PackPlace}
-use Rattle.git_server.specs.declared.packing.PackPlace.TheVariants.{Header, Pack}
-use Rattle.git_server.specs.declared.packing.PartRead.{PartRead}
-use Rattle.git_server.specs.declared.packing.PartRead.TheVariants.{Bytes, End, Failed}
+use Rattle.git_server.specs.declared.packfile.PackPlace.{PackPlace}
+use Rattle.git_server.specs.declared.packfile.PackPlace.TheVariants.{Header, Pack}
+use Rattle.git_server.specs.declared.packfile.PartRead.{PartRead}
+use Rattle.git_server.specs.declared.packfile.PartRead.TheVariants.{Bytes, End, Failed}
 use Rattle.git_server.proofs.Flushes.{flushes-append}
 
 taken_off : (bytes : List ℕ) (offset count : ℕ) → drop offset bytes ≡ take count (drop offset bytes) ++ drop (offset + count) bytes

@@ -165,7 +165,7 @@ keeps_same None = tt
 keeps_same (Some bytes) = refl
 
 module _ {R A : Type 0} (state : R → RepoState) (s : Setting) (used_before given_before : List ℕ) where
-  -- the server stands to the bytes used and given, those of the run after those before it
+  -- the server represents the bytes used and given, those of the run after those before it
   abbrev Stands : Bool → Server R A → List ℕ → List ℕ → Type 0
   Stands over server used given = Running state s (used_before ++ used) over (given_before ++ given) server
 

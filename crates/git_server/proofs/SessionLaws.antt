@@ -126,7 +126,7 @@ turn_ends (Answering answer offset) outcome h = absurd (cc)
 turn_ends (Refusing fault) outcome h = absurd (cc)
 turn_ends (Ended o) outcome h = let same : o ≡ outcome = cc in ap Ended same
 
--- what `pull` says at the end
+-- what `pull` returns at the end
 pub ends_now : {R A : Type 0} (state : R → RepoState) (server : Server R A) (outcome : Outcome) → turn_in server.phase ≡ Finished outcome
     → Pulls state server (FinishedNow outcome) server
 ends_now {A = A} state server outcome turn =

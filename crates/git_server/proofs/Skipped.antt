@@ -16,13 +16,13 @@ use Rattle.git_msg.specs.Prefixes.{IsOrdered, OrdersPrefixes, SplitsAt, ShowAlik
 use Rattle.git_server.specs.Repository.{Entry, Repository, IsRising, comes_before}
 use Rattle.git_server.specs.AnsweredRequest.{references_from}
 use Rattle.git_server.specs.Answers.{reference_packets, shown_refs, unborn_packets}
-use Rattle.git_server.specs.declared.answer.ReferencesPlace.{ReferencesPlace}
-use Rattle.git_server.specs.declared.answer.ReferencesPlace.TheVariants.{First, Entry as EntryPlace}
+use Rattle.git_server.specs.declared.ls_refs.ReferencesPlace.{ReferencesPlace}
+use Rattle.git_server.specs.declared.ls_refs.ReferencesPlace.TheVariants.{First, Entry as EntryPlace}
 use Rattle.git_pkt.specs.Packets.{Pkt}
 use Rattle.git_msg.proofs.TextOrder.{between, le_itself, le_from_no_lt, no_le_from_lt, no_lt_back, lt_from_le_lt, lt_from_lt_le}
 use Rattle.git_msg.proofs.PrefixOrder.{no_begin}
 
--- a reference does not come after one that stands after it
+-- a reference's name does not come after that of a later one
 pub names_rise : (refs : List Entry) → IsRising refs → (i j : ℕ) (d : Entry) → i ≤ j → j < length refs
     → goes_before (slice_index_or refs i d).name (slice_index_or refs j d).name ≡ true
 names_rise refs rising i j d low below =

@@ -1,4 +1,4 @@
--- What a packet brings, by what the repository says of its argument.
+-- What a packet brings, by what the repository answers for its argument.
 use Rattle.std.proofs.Common.{◌≡◌, ℕ, Some, None, Ok, Err, List, [], ◌∷◌, ◌++◌, sym, ap, ◌∙◌, subst, inl, inr}
 use Rattle.git_pkt.specs.Splits.{Given}
 use Rattle.git_pkt.specs.declared.fault.Fault.{Fault}

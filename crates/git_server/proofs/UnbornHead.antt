@@ -51,7 +51,7 @@ unborn_is_writable target named = record {
   one_format = (Sha1, record { by_id = λ id is. absurd cc; by_peeled = λ id is. absurd cc });
 }
 
--- what a repository tells of it is a reference name
+-- what a repository gives for it is a reference name
 pub asked_named : (refs : List Entry) (head : Option (List ℕ)) (found : Option (Bor (List ℕ))) → ForSome head (IsUnbornHead refs)
     → option_copied found ≡ head → IfSome found (λ target. IsRefName target.now)
 asked_named refs head None sound is = tt

@@ -20,8 +20,8 @@ use Rattle.git_server.specs.PackParts.{part_packet}
 use Rattle.git_server.specs.Repository.{RepoState}
 use Rattle.git_server.specs.ServerCalls.{Gives, Goes, Pulls}
 use Rattle.git_server.specs.WrittenPackets.{Writes}
-use Rattle.git_server.specs.declared.packing.PartRead.{PartRead}
-use Rattle.git_server.specs.declared.packing.PartRead.TheVariants.{Bytes, End, Failed}
+use Rattle.git_server.specs.declared.packfile.PartRead.{PartRead}
+use Rattle.git_server.specs.declared.packfile.PartRead.TheVariants.{Bytes, End, Failed}
 use Rattle.git_server.specs.declared.server.Pulled.TheVariants.{Packet}
 use Rattle.git_server.specs.declared.server.Server.{Server}
 

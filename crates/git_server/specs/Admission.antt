@@ -7,7 +7,7 @@ use Rattle.git_pkt.specs.declared.fault.Fault.{Fault}
 use Rattle.git_pkt.specs.declared.fault.Kind.{Kind}
 use Rattle.git_pkt.specs.declared.fault.Kind.TheVariants.{NotOurs, UnknownRef}
 use Rattle.git_msg.specs.declared.offers.Offer.{Offer}
-use Rattle.git_msg.specs.Arguments.{Arg, want, want_ref}
+use Rattle.git_msg.specs.Arguments.{Arg, Value, Word, id_value, text_value, want, want_ref}
 use Rattle.git_msg.specs.Asked.{Asked, ls_refs, fetch, object_info}
 use Rattle.git_msg.specs.Lines.{Line, arguments_of, has_delimiter, IsArgumentText}
 use Rattle.git_msg.specs.Requests.{AreLines, IsTold}
@@ -18,11 +18,15 @@ abbrev pub barred_ref : Option ObjectName → Option Kind
 barred_ref (Some id) = None
 barred_ref None = Some UnknownRef
 
--- by which name the repository refuses an argument
+-- by which name the repository refuses the value of a word
+abbrev pub barred_value : Repository → Word → Value → Option Kind
+barred_value repo want (id_value id) = if repo.has id then None else Some NotOurs
+barred_value repo want_ref (text_value name) = barred_ref (found_ref repo.refs name)
+barred_value repo _ _ = None
+
+-- by which name it refuses an argument
 abbrev pub barred : Repository → Arg → Option Kind
-barred repo (want id) = if repo.has id then None else Some NotOurs
-barred repo (want_ref name) = barred_ref (found_ref repo.refs name)
-barred repo _ = None
+barred repo arg = barred_value repo arg.word arg.value
 
 -- it refuses the argument by none
 abbrev pub IsAdmitted : Repository → Arg → Type 0
@@ -62,7 +66,7 @@ abbrev pub IsUnbarred : Offer → ℕ → Repository → List Given → Type 0
 IsUnbarred offer limit repo packets = (kind : Kind) (offset : ℕ) → ¬ IsBarredAtLast offer limit repo packets kind offset
 
 -- a fault of these packets: what the repository refuses the last for, which comes before the limit and before want of
--- memory, or else what a reader of requests tells
+-- memory, or else what a reader of requests reports
 abbrev pub IsToldFor : Offer → ℕ → Repository → List Given → Fault → Type 0
 IsToldFor offer limit repo packets fault =
     IsBarredAtLast offer limit repo packets fault.kind fault.offset

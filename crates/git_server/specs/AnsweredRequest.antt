@@ -9,17 +9,17 @@ use Rattle.git_server.specs.Repository.{Repository, RepoState}
 use Rattle.git_server.specs.Answers.{info_packet, ls_refs_answer, object_info_answer, reference_packets}
 use Rattle.git_server.specs.Packs.{Manner, whole, broken}
 use Rattle.git_server.specs.WrittenPackets.{Writes}
-use Rattle.git_server.specs.declared.packing.PackPlace.{PackPlace}
+use Rattle.git_server.specs.declared.packfile.PackPlace.{PackPlace}
 use Rattle.git_server.specs.declared.fetching.FetchPlace.{FetchPlace}
 use Rattle.git_server.specs.FetchPlaces.{IsFetchFrom, IsPackfileFrom, first_place, most_fetch, most_packets}
 use Rattle.git_server.specs.declared.answer.Answered.{Answered}
 use Rattle.git_server.specs.declared.answer.Answered.TheVariants.{Part, Whole, Broken}
 use Rattle.git_server.specs.declared.answer.Answer.{Answer}
 use Rattle.git_server.specs.declared.answer.Answer.TheVariants.{References, Fetching, Sizes}
-use Rattle.git_server.specs.declared.answer.ReferencesPlace.{ReferencesPlace}
-use Rattle.git_server.specs.declared.answer.ReferencesPlace.TheVariants.{First, Entry}
-use Rattle.git_server.specs.declared.informing.SizesPlace.{SizesPlace}
-use Rattle.git_server.specs.declared.informing.SizesPlace.TheVariants.{Header as SizesHeader, Object}
+use Rattle.git_server.specs.declared.ls_refs.ReferencesPlace.{ReferencesPlace}
+use Rattle.git_server.specs.declared.ls_refs.ReferencesPlace.TheVariants.{First, Entry}
+use Rattle.git_server.specs.declared.object_info.SizesPlace.{SizesPlace}
+use Rattle.git_server.specs.declared.object_info.SizesPlace.TheVariants.{Header as SizesHeader, Object}
 
 -- the packets of an answer for references, from this place on
 abbrev pub references_from : LsRefsAsked → Repository → ReferencesPlace → List Pkt

@@ -35,11 +35,11 @@ offered_line offered text = if offered then text_line text ∷ [] else []
 abbrev pub ls_refs_line : Offer → Pkt
 ls_refs_line offer = text_line (capability_text (codes "ls-refs") (ls_refs_features offer))
 
--- the line for fetch
+-- the line that offers `fetch`, with its features
 abbrev pub fetch_line : Offer → Pkt
 fetch_line offer = text_line (capability_text (codes "fetch") (fetch_features offer))
 
--- what a server says first
+-- what a server sends first
 abbrev pub advertisement_of : Offer → List Pkt
 advertisement_of offer =
     text_line (codes "version 2") ∷ agent_line ∷ ls_refs_line offer ∷ fetch_line offer
@@ -59,7 +59,7 @@ shown_line symrefs peel entry = record {
   peeled = if peel then entry.peeled else None;
 }
 
--- the packet of a reference
+-- the line of a reference, with its target and its peeled object where these are asked for
 abbrev pub reference_packet : (symrefs peel : Bool) → Entry → Pkt
 reference_packet symrefs peel entry = text_line (reference_text (shown_line symrefs peel entry))
 
@@ -89,7 +89,7 @@ abbrev pub IsReferencesAnswer : Manner → LsRefsAsked → Repository → List P
 IsReferencesAnswer whole q repo packets = packets ≡ ls_refs_answer q repo
 IsReferencesAnswer broken q repo packets = ⊥
 
--- the packet that tells the size of an object, or that it is not there
+-- the packet that reports the size of an object, or that it is not there
 abbrev pub info_packet : Repository → ObjectName → Pkt
 info_packet repo id = text_line (info_text (record { id = id; size = repo.object_size id }))
 
@@ -112,11 +112,11 @@ IsAnswerAs manner repo (object_info q) packets = IsObjectInfoAnswer manner q rep
 abbrev pub IsAnswer : Repository → Asked → List Pkt → Type 0
 IsAnswer = IsAnswerAs whole
 
--- the error packet that tells a fault by its name and offset
+-- the error packet that reports a fault by its name and offset
 abbrev pub error_packet : Fault → Pkt
 error_packet fault = text_line (codes "ERR " ++ fault_text fault)
 
--- an error packet is not answered; any other fault is told by an error packet
+-- an error packet is not answered; any other fault is reported by an error packet
 abbrev pub refusal_by : Kind → Fault → List Pkt
 refusal_by RemoteError fault = []
 refusal_by _ fault = error_packet fault ∷ []

@@ -11,7 +11,7 @@ use Rattle.git_server.specs.declared.requests.Brought.{Brought}
 use Rattle.git_server.specs.declared.requests.Brought.TheVariants.{Part, Whole, Stop, Refused}
 
 module _ {A : Type 0} where
-  -- what was brought, where the reader stood after these packets
+  -- what was brought, where the reader is after these packets
   abbrev pub IsBrought : Repository → List Given → Brought A → RequestReader A → Type 0
   IsBrought repo packets Part new = Takes packets new × IsUnbarred (offer_of new) (limit_in new) repo packets
   IsBrought repo packets (Whole request) new =

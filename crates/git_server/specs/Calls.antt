@@ -69,7 +69,7 @@ module _ {R A : Type 0} (state : R → RepoState) where
     pub closes : Closes state old new
     pub credit : credit_of (reader_of new) ≤ credit_of (reader_of old)
 
-  -- what the contract of the call says of the counter and the server, before it and after it
+  -- what the contract of the call states of the counter and the server, before it and after it
   abbrev pub Makes : Call → ℕ → Server R A → ℕ → Server R A → Type 0
   Makes (feed piece used) before old after new = Feeds piece used before old after new
   Makes (pull answer) before old after new = Pulls state old answer new × (after ≡ before)

@@ -4,7 +4,7 @@ use Rattle.git_server.specs.declared.faulty.Faulty.{Faulty}
 use Rattle.git_server.specs.Repository.{RepoState}
 
 module _ {R : Type 0} where
-  -- the repository that it stands before
+  -- the repository that it passes calls on to
   abbrev pub inner_of : Faulty R → R
   inner_of faulty = faulty.inner
 

@@ -11,7 +11,7 @@ use Rattle.git_msg.specs.WrittenRequest.{text_line}
 use Rattle.git_server.specs.Repository.{Repository, found_ref}
 use Rattle.git_server.specs.Packs.{Manner, whole, broken, IsPackfile}
 
--- whether the request negotiates: it says what the client has, or that no pack is to come yet, and not that it is done
+-- whether the request negotiates: it has `have` lines or `wait-for-done`, and not `done`
 abbrev pub negotiates : FetchAsked → Bool
 negotiates q = (not (is_empty q.haves) || q.wait_for_done) && not q.done
 
@@ -27,7 +27,7 @@ common has haves = filter has haves
 abbrev pub ack_packet : ObjectName → Pkt
 ack_packet id = text_line (ack_text id)
 
--- a line for each of them, or one that says that there is none
+-- a line for each of them, or `NAK` where there is none
 abbrev pub nak_or_acks : List ObjectName → List Pkt
 nak_or_acks [] = text_line (codes "NAK") ∷ []
 nak_or_acks (id ∷ ids) = map ack_packet (id ∷ ids)

@@ -1,4 +1,4 @@
--- What is owed of the answer to a fetch, by the place that it has come to.
+-- What is owed of the answer to a fetch, by the place that it has reached.
 use Rattle.std.specs.Prelude.{◌≡◌, ℕ, ◌+◌, ◌-◌, ◌<◌, Bool, true, false, Option, MatchOption, List, [], ◌∷◌, ◌++◌, drop, length, slice_index_or, codes, map}
 use Rattle.std.specs.List.{filter_map}
 use Rattle.git_names.specs.ObjectName.{ObjectName}
@@ -10,12 +10,12 @@ use Rattle.git_msg.specs.WrittenRequest.{text_line}
 use Rattle.git_server.specs.Repository.{Repository}
 use Rattle.git_server.specs.Packs.{Manner, EndsPack, IsPackfile}
 use Rattle.git_server.specs.WrittenPackets.{Writes, WritesFirst}
-use Rattle.git_server.specs.declared.packing.PackPlace.{PackPlace}
-use Rattle.git_server.specs.declared.packing.PackPlace.TheVariants.{Header as PackHeader, Pack}
-use Rattle.git_server.specs.declared.acknowledging.AcknowledgmentsPlace.{AcknowledgmentsPlace}
-use Rattle.git_server.specs.declared.acknowledging.AcknowledgmentsPlace.TheVariants.{Header as AcknowledgmentsHeader, Have, Through}
-use Rattle.git_server.specs.declared.acknowledging.Acknowledged.{Acknowledged}
-use Rattle.git_server.specs.declared.acknowledging.Acknowledged.TheVariants.{Part, Ready, Whole}
+use Rattle.git_server.specs.declared.packfile.PackPlace.{PackPlace}
+use Rattle.git_server.specs.declared.packfile.PackPlace.TheVariants.{Header as PackHeader, Pack}
+use Rattle.git_server.specs.declared.acknowledgments.AcknowledgmentsPlace.{AcknowledgmentsPlace}
+use Rattle.git_server.specs.declared.acknowledgments.AcknowledgmentsPlace.TheVariants.{Header as AcknowledgmentsHeader, Have, Through}
+use Rattle.git_server.specs.declared.acknowledgments.Acknowledged.{Acknowledged}
+use Rattle.git_server.specs.declared.acknowledgments.Acknowledged.TheVariants.{Part, Ready, Whole}
 use Rattle.git_server.specs.declared.sections.SectionPlace.{SectionPlace}
 use Rattle.git_server.specs.declared.sections.SectionPlace.TheVariants.{Header, Line}
 use Rattle.git_server.specs.declared.sections.SectionPart.{SectionPart}
@@ -27,7 +27,7 @@ use Rattle.git_server.specs.FetchAnswers.{common, is_ready_for, nak_or_acks, neg
 
 -- Acknowledgments.
 
--- the lines of these common objects, where some were told before them or none was
+-- the lines of these common objects, where some were sent before them or none was
 abbrev pub acks_by : Bool → List ObjectName → List Pkt
 acks_by true ids = map ack_packet ids
 acks_by false ids = nak_or_acks ids
@@ -38,7 +38,7 @@ acknowledgments_from repo q AcknowledgmentsHeader = acknowledgments repo q
 acknowledgments_from repo q (Have next told) = acks_by told (common repo.has (drop next q.haves))
 acknowledgments_from repo q Through = []
 
--- the packet is the next one of the section, or its end: by this it says whether the pack follows
+-- the packet is the next one of the section, or its end: what came of it shows whether the pack follows
 abbrev pub IsNextAcknowledgment : Repository → FetchAsked → AcknowledgmentsPlace → Acknowledged → Pkt → Type 0
 IsNextAcknowledgment repo q place (Part next) packet = acknowledgments_from repo q place ≡ packet ∷ acknowledgments_from repo q next
 IsNextAcknowledgment repo q place Ready packet =
@@ -52,7 +52,7 @@ pub record Acknowledges (repo : Repository) (q : FetchAsked) (place : Acknowledg
   pub is_next : IsNextAcknowledgment repo q place came packet
   pub writes : Writes old packet new
 
--- the first common object of those from a place on stands at `at`
+-- the first common object of those from a place on is at `at`
 pub record IsNextCommon (has : ObjectName → Bool) (haves : List ObjectName) (from at : ℕ) : Type 0 where
   pub within : at < length haves
   pub first : (d : ObjectName) → common has (drop from haves) ≡ slice_index_or haves at d ∷ common has (drop (at + 1) haves)

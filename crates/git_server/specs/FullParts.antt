@@ -5,8 +5,8 @@ use Rattle.git_pkt.specs.Bands.{band_packet}
 use Rattle.git_pkt.specs.declared.band.Band.TheVariants.{Pack as PackBand}
 use Rattle.git_msg.specs.Asked.{FetchAsked}
 use Rattle.git_server.specs.Packs.{pack_source_packet}
-use Rattle.git_server.specs.declared.packing.PackPlace.{PackPlace}
-use Rattle.git_server.specs.declared.packing.PackPlace.TheVariants.{Header, Pack}
+use Rattle.git_server.specs.declared.packfile.PackPlace.{PackPlace}
+use Rattle.git_server.specs.declared.packfile.PackPlace.TheVariants.{Header, Pack}
 use Rattle.git_server.specs.declared.fetching.FetchPlace.{FetchPlace}
 use Rattle.git_server.specs.declared.fetching.FetchPlace.TheVariants.{Acknowledgments, Delimiter, ShallowInfo, WantedRefs, Packfile}
 use Rattle.git_server.specs.declared.answer.Answer.{Answer}
@@ -14,7 +14,7 @@ use Rattle.git_server.specs.declared.answer.Answer.TheVariants.{References, Fetc
 use Rattle.git_server.specs.declared.server.Phase.{Phase}
 use Rattle.git_server.specs.declared.server.Phase.TheVariants.{Advertising, Between, Within, Answering, Refusing, Ended}
 
--- the packet has as many bytes of the pack as a read into all the room of a packet may come to, or it ends the section
+-- the packet has as many bytes of the pack as a read into all the room of a packet may give, or it ends the section
 abbrev pub IsFullPart : (ℕ → ℕ → Type 0) → Pkt → Type 0
 IsFullPart gives packet =
     ((part : List ℕ) × (packet ≡ band_packet PackBand part) × gives 65515 (length part)) ⊎ (packet ≡ flush) ⊎ (packet ≡ pack_source_packet)

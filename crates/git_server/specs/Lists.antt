@@ -1,12 +1,13 @@
 -- What a repository that is a few lists is made of, and what it is refused for.
-use Rattle.std.specs.Prelude.{◌≡◌, ℕ, List, Option, All, codes, unwrap_or, if◌then◌else◌}
+use Rattle.std.specs.Prelude.{◌≡◌, ◌⊎◌, ℕ, List, [], ◌∷◌, Option, All, Vec, codes, unwrap_or, if◌then◌else◌}
 use Rattle.std.specs.Option.{ForSome}
 use Rattle.git_names.specs.declared.object_format.Format.{Format}
 use Rattle.git_names.specs.ObjectName.{ObjectName}
 use Rattle.git_msg.specs.declared.Boundary.{Boundary}
 use Rattle.git_msg.specs.Asked.{FetchAsked, is_empty}
-use Rattle.git_server.specs.Repository.{Entry, IsRising, IsOfFormat, IsUnbornHead}
+use Rattle.git_server.specs.Repository.{Entry, IsRising, IsOfFormat, IsUnbornHead, bytes_of}
 use Rattle.git_server.specs.Objects.{AreRising, object_of}
+use Rattle.git_server.specs.declared.list_repo.RepoLists.{RepoLists}
 use Rattle.git_server.specs.declared.list_repo.RepoFault.{RepoFault}
 use Rattle.git_server.specs.declared.list_repo.RepoFault.TheVariants.{UnsortedRefs, UnsortedObjects, MixedFormats, UnbornHead}
 
@@ -20,8 +21,26 @@ pub record Lists : Type 0 where
   pub ready_after : Option ℕ
   pub boundaries : List Boundary
   pub pack : List ℕ
-  pub unborn : Option (List ℕ)
+  pub unborn_head : Option (List ℕ)
   pub filtered : Option (List ℕ)
+
+module _ {A : Type 0} where
+  -- those that vectors have
+  abbrev pub lists_from : Format → Vec Entry A → Vec (ObjectName × ℕ) A → Option ℕ → Vec Boundary A → Vec ℕ A → Option (Vec ℕ A)
+      → Option (Vec ℕ A) → Lists
+  lists_from format refs objects ready_after boundaries pack unborn_head filtered = record {
+    format = format;
+    refs = refs.items;
+    objects = objects.items;
+    ready_after = ready_after;
+    boundaries = boundaries.items;
+    pack = pack.items;
+    unborn_head = bytes_of unborn_head;
+    filtered = bytes_of filtered;
+  }
+
+abbrev pub lists_in : RepoLists → Lists
+lists_in l = lists_from l.format l.refs l.objects l.ready_after l.boundaries l.pack l.unborn_head l.filtered
 
 -- the pack for a request: the filtered one where the request has a filter and there is one, else the pack
 abbrev pub pack_for : Lists → FetchAsked → List ℕ
@@ -38,7 +57,7 @@ pub record IsRepository (lists : Lists) : Type 0 where
   pub rising_refs : IsRising lists.refs
   pub rising_objects : AreRising lists.objects
   pub of_format : AreOfFormat lists
-  pub unborn_head : ForSome lists.unborn (IsUnbornHead lists.refs)
+  pub unborn_head : ForSome lists.unborn_head (IsUnbornHead lists.refs)
 
 -- the name that users see
 abbrev pub repo_fault_name : RepoFault → List ℕ
@@ -47,10 +66,18 @@ repo_fault_name UnsortedObjects = codes "UnsortedObjects"
 repo_fault_name MixedFormats = codes "MixedFormats"
 repo_fault_name UnbornHead = codes "UnbornHead"
 
--- why they make none: the first of these that is so
+-- what is asked of the lists, each rule by the fault of those that break it
+abbrev pub Meets : Lists → RepoFault → Type 0
+Meets lists UnsortedRefs = IsRising lists.refs
+Meets lists UnsortedObjects = AreRising lists.objects
+Meets lists MixedFormats = AreOfFormat lists
+Meets lists UnbornHead = ForSome lists.unborn_head (IsUnbornHead lists.refs)
+
+-- of these rules this is the first that is broken
+abbrev pub IsFirstBroken : (RepoFault → Type 0) → List RepoFault → RepoFault → Type 0
+IsFirstBroken Met [] fault = ⊥
+IsFirstBroken Met (rule ∷ rules) fault = ((fault ≡ rule) × ¬ Met rule) ⊎ (Met rule × IsFirstBroken Met rules fault)
+
+-- why they make none: the first of the rules, in this order, that they break
 abbrev pub IsUnfit : RepoFault → Lists → Type 0
-IsUnfit UnsortedRefs lists = ¬ IsRising lists.refs
-IsUnfit UnsortedObjects lists = IsRising lists.refs × ¬ AreRising lists.objects
-IsUnfit MixedFormats lists = IsRising lists.refs × AreRising lists.objects × ¬ AreOfFormat lists
-IsUnfit UnbornHead lists =
-    IsRising lists.refs × AreRising lists.objects × AreOfFormat lists × ¬ ForSome lists.unborn (IsUnbornHead lists.refs)
+IsUnfit fault lists = IsFirstBroken (Meets lists) (UnsortedRefs ∷ UnsortedObjects ∷ MixedFormats ∷ UnbornHead ∷ []) fault

@@ -1,4 +1,4 @@
--- A part of a pack: what a read of it came to, and the packet that tells it.
+-- A part of a pack: what a read of it gave, and the packet that reports it.
 use Rattle.std.specs.Prelude.{◌≡◌, ◌<◌, ◌≤◌, ℕ, List, length, take}
 use Rattle.std.specs.Io.{StartsWith}
 use Rattle.git_pkt.specs.Packets.{Pkt, flush, spelling_of}
@@ -11,8 +11,8 @@ use Rattle.git_server.specs.Repository.{RepoState}
 use Rattle.git_server.specs.WrittenPackets.{Writes}
 use Rattle.git_server.specs.declared.answer.Answered.{Answered}
 use Rattle.git_server.specs.declared.answer.Answered.TheVariants.{Part, Whole, Broken}
-use Rattle.git_server.specs.declared.packing.PartRead.{PartRead}
-use Rattle.git_server.specs.declared.packing.PartRead.TheVariants.{Bytes, End, Failed}
+use Rattle.git_server.specs.declared.packfile.PartRead.{PartRead}
+use Rattle.git_server.specs.declared.packfile.PartRead.TheVariants.{Bytes, End, Failed}
 
 -- how far an answer came with it
 abbrev pub answered_by : PartRead → Answered
@@ -20,7 +20,7 @@ answered_by (Bytes count) = Part
 answered_by End = Whole
 answered_by Failed = Broken
 
--- the packet that tells it: the bytes that were put in front of the room, or that there are no more, or that the source failed
+-- the packet that reports it: the bytes that were put in front of the room, or that there are no more, or that the source failed
 abbrev pub part_packet : List ℕ → PartRead → Pkt
 part_packet room (Bytes count) = band_packet PackBand (take count room)
 part_packet room End = flush
@@ -38,7 +38,7 @@ IsPartRead pack offset room (Bytes count) = (0 < count) × IsPackPart pack offse
 IsPartRead pack offset room End = length pack ≤ offset
 IsPartRead pack offset room Failed = Unit {0}
 
--- it is what a read into all of the room may come to
+-- it is what a read into all of the room may give
 abbrev pub IsGiven : (ℕ → ℕ → Type 0) → PartRead → Type 0
 IsGiven gives (Bytes count) = gives 65515 count
 IsGiven gives End = Unit {0}

@@ -23,11 +23,11 @@ pub record EndsWhole (bytes : List ℕ) (packets : List Pkt) : Type 0 where
   pub are_bands : AreBands Pack bytes bands
   pub packets_are : packets ≡ bands ++ flush ∷ []
 
--- the packet that tells that the pack's source failed
+-- the packet that reports that the pack's source failed
 abbrev pub pack_source_packet : Pkt
 pack_source_packet = band_packet Fatal (codes "PackSource")
 
--- a front of the bytes comes, and then the failure is told, with no flush after it
+-- a front of the bytes comes, and then the failure is reported, with no flush after it
 pub record EndsBroken (bytes : List ℕ) (packets : List Pkt) : Type 0 where
   pub front : List ℕ
   pub back : List ℕ

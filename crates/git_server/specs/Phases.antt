@@ -1,4 +1,4 @@
--- Where a server stands in its session.
+-- How far a server has come in its session.
 use Rattle.std.specs.Prelude.{◌≡◌, ◌≢◌, ℕ, Bool, true, false, Option, Some, None, List, [], ◌∷◌, length}
 use Rattle.git_pkt.specs.Packets.{Pkt}
 use Rattle.git_pkt.specs.Splits.{Given}
@@ -95,7 +95,7 @@ module _ {A : Type 0} where
   FlushIsAt (Answering answer offset) packets = IsLastAt offset packets
   FlushIsAt _ packets = Unit {0}
 
-  -- an error packet ends the session at once; any other fault is told to the other end
+  -- an error packet ends the session at once; any other fault is reported to the other end
   abbrev pub refused_by : Kind → Fault → Phase A
   refused_by RemoteError fault = Ended (Refused fault)
   refused_by _ fault = Refusing fault

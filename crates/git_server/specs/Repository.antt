@@ -34,7 +34,7 @@ pub record IsNamed (name : List ℕ) (target : Option (List ℕ)) : Type 0 where
 abbrev pub comes_before : List ℕ → List ℕ → Bool
 comes_before a b = is_lt (slice_cmp nat_cmp a b)
 
--- the names stand in their order, and none comes twice
+-- the names are in their order, and none comes twice
 abbrev pub IsRising : List Entry → Type 0
 IsRising refs = AllAdjacentBelow (λ a b. comes_before a.name b.name ≡ true) refs (length refs)
 
@@ -64,7 +64,7 @@ pub record Repository : Type 0 where
   pub boundaries : FetchAsked → List Boundary
   pub pack : FetchAsked → List ℕ
 
--- the line says of no commit that it is no longer shallow, or of one of these
+-- the line is no `unshallow` line, or that of one of these commits
 abbrev pub IsUnshallowOf : List ObjectName → Boundary → Type 0
 IsUnshallowOf shallows (Shallow id) = Unit {0}
 IsUnshallowOf shallows (Unshallow id) = Any (λ shallow. shallow ≡ id) shallows

@@ -1,4 +1,4 @@
--- What a run of a server over a reader and a writer comes to: what it used, and what it gave for that.
+-- What a run of a server over a reader and a writer results in: what it used, and what it gave for that.
 use Rattle.std.specs.Prelude.{◌≡◌, ◌≢◌, ◌⊎◌, ℕ, ◌≤◌, Bool, true, false, List, [], ◌∷◌, ◌++◌, length, Option, Some, None, Result, Ok, Err}
 use Rattle.git_pkt.specs.Faults.{last_position}
 use Rattle.git_pkt.specs.Streams.{Flow, WrittenAs}
@@ -71,7 +71,7 @@ EndsRun s (Err WriteFault) turns before used unused over given = IsRunning s (be
 EndsRun s (Err (RefusedRun fault)) turns before used unused over given = ⊥
 
 -- what a server that had used and given these bytes has to do with those of its run: of those read it used a front, and it gave just
--- what its session gives for that. Where the session ended with the input, all was used, and the reader told its end.
+-- what its session gives for that. Where the session ended with the input, all was used, and the reader reported its end.
 pub record Served {R A : Type 0} (state : R → RepoState) (s : Setting) (used_before given_before : List ℕ) (result : Result Outcome RunFault)
     (ended : Bool) (turns : ℕ) (server : Server R A) (read given : List (List ℕ)) : Type 0 where
   pub used : List ℕ

@@ -1,4 +1,4 @@
--- What a server stands for: the bytes that it used, and those that it gave.
+-- What a server represents: the bytes that it used, and those that it gave.
 use Rattle.std.specs.Prelude.{◌≡◌, ◌<◌, ◌≤◌, ◌+◌, ℕ, Bool, false, Option, Some, None, List, []}
 use Rattle.git_pkt.specs.Packets.{Pkt}
 use Rattle.git_pkt.specs.Splits.{Given}

@@ -40,7 +40,7 @@ abbrev pub IsPulled : Pulled → Pkt → Type 0
 IsPulled pulled packet = given_by pulled ≡ spelling_of packet
 
 module _ {R A : Type 0} where
-  -- the call used and gave these bytes: what stood before stands with them
+  -- the call used and gave these bytes: what held before holds with them
   abbrev pub Goes : (R → RepoState) → List ℕ → List ℕ → Server R A → Server R A → Type 0
   Goes state used given old new =
       (s : Setting) (so_far : List ℕ) (over : Bool) (before : List ℕ) → Running state s so_far over before old
@@ -90,7 +90,7 @@ module _ {R A : Type 0} where
   EndsAs state server outcome =
       (s : Setting) (used : List ℕ) (over : Bool) (given : List ℕ) → Running state s used over given server → IsSession s used over given outcome
 
-  -- what each answer of `pull` says
+  -- what each answer of `pull` means
   abbrev pub TellsPulled : (R → RepoState) → Server R A → Pulled → Server R A → Type 0
   TellsPulled state old (Packet bytes) new =
       (packet : Pkt) × ComesFirst state packet old new × (bytes.now ≡ spelling_of packet) × (most_left state new < most_left state old)

@@ -1,4 +1,4 @@
--- Sessions: what a server gives for the bytes that it used. No machine is spoken of.
+-- Sessions: what a server gives for the bytes that it used. It names no machine.
 use Rattle.std.specs.Prelude.{◌≡◌, ◌≢◌, ◌⊎◌, ℕ, ◌+◌, ◌-◌, Bool, true, false, if◌then◌else◌, List, [], ◌∷◌, ◌++◌, length}
 use Rattle.git_pkt.specs.Packets.{Pkt}
 use Rattle.git_pkt.specs.Splits.{Given, Splits}
@@ -54,7 +54,7 @@ pub record Begins (s : Setting) (left : List Given) : Type 0 where
   pub admitted : AreAdmitted s.repo lines
 
 -- one of the packets is refused, or memory ran out while its argument was kept; of those before the last none is
--- refused, and no byte stands after the last
+-- refused, and no byte comes after the last
 pub record IsRefusedAtPacket (s : Setting) (left : List Given) (rest : List ℕ) (fault : Fault) : Type 0 where
   pub front : List Given
   pub last : Given
@@ -70,7 +70,7 @@ pub record IsRefusedAtByte (s : Setting) (over : Bool) (left : List Given) (rest
   pub stops : StopsBy (end - length rest) rest end fault.kind fault.offset
   pub not_the_end : fault.kind ≢ Truncated
 
--- the input ended inside a request, which was not refused so far; told at the end of the last whole packet
+-- the input ended inside a request, which was not refused so far; reported at the end of the last whole packet
 pub record IsCutShort (s : Setting) (over : Bool) (left : List Given) (rest : List ℕ) (end : ℕ) (fault : Fault) : Type 0 where
   pub ended : over ≡ true
   pub begins : Begins s left
@@ -83,7 +83,7 @@ pub record IsCutShort (s : Setting) (over : Bool) (left : List Given) (rest : Li
 abbrev pub IsLastAt : ℕ → List Given → Type 0
 IsLastAt offset packets = (front : List Given) × (last : Given) × (packets ≡ front ++ last ∷ []) × (last.offset ≡ offset)
 
--- the packets are a whole request, and the source of its pack failed; told at the request's flush
+-- the packets are a whole request, and the source of its pack failed; reported at the request's flush
 pub record IsWithoutPack (s : Setting) (over : Bool) (left : List Given) (rest : List ℕ) (fault : Fault) : Type 0 where
   pub goes_on : over ≡ false
   pub asked : Asked
@@ -212,7 +212,7 @@ pub record IsEnding (s : Setting) (used : List ℕ) (over : Bool) (given : List 
   pub given_is : given ≡ spelled (advertised s ++ answers ++ sent)
   pub fit : AllFit (advertised s ++ answers ++ sent)
 
--- what stands at every moment between the bytes used and those given. A session goes on only while its input does.
+-- what holds at every moment between the bytes used and those given. A session goes on only while its input does.
 abbrev pub IsRunning : Setting → List ℕ → Bool → List ℕ → Type 0
 IsRunning s used over given =
     ((over ≡ false) × GoesOn s used given) ⊎ ((outcome : Outcome) × (owed : List Pkt) × IsEnding s used over given outcome owed)

@@ -1,4 +1,4 @@
--- What a repository that is a few lists tells of its shallow boundary, and when it is ready to send a pack.
+-- What a repository that is a few lists sends of its shallow boundary, and when it is ready to send a pack.
 use Rattle.std.specs.Prelude.{ℕ, Bool, true, false, not, ◌||◌, Option, Some, None, List, [], ◌++◌, filter, is_some, nat_le, if◌then◌else◌}
 use Rattle.std.specs.List.{list_any}
 use Rattle.std.specs.Ordering.{is_eq}
@@ -17,17 +17,17 @@ is_enough (Some least) count = nat_le least count
 abbrev pub is_deepened : FetchAsked → Bool
 is_deepened q = is_some q.deepen || (is_some q.deepen_since || not (is_empty q.deepen_nots))
 
--- whether the line says that a commit is shallow
+-- whether this is a `shallow` line
 abbrev pub says_shallow : Boundary → Bool
 says_shallow (Shallow id) = true
 says_shallow (Unshallow id) = false
 
--- whether the line says that one of these commits is no longer shallow
+-- whether this is the `unshallow` line of one of these commits
 abbrev pub says_unshallow : List ObjectName → Boundary → Bool
 says_unshallow shallows (Shallow id) = false
 says_unshallow shallows (Unshallow id) = list_any (λ shallow. is_eq (object_cmp shallow id)) shallows
 
--- the lines that a client hears that has these commits without their parents: the shallow commits in their order, and then
+-- the lines that a client receives that has these commits without their parents: the shallow commits in their order, and then
 -- those of its own that are no longer shallow
 abbrev pub told_lines : List Boundary → List ObjectName → List Boundary
 told_lines lines shallows = filter says_shallow lines ++ filter (says_unshallow shallows) lines

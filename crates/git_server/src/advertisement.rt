@@ -94,21 +94,15 @@ impl AdvertisementLine {
             AdvertisementLine::Version => Some(AdvertisementLine::Agent),
             AdvertisementLine::Agent => Some(AdvertisementLine::LsRefs),
             AdvertisementLine::LsRefs => Some(AdvertisementLine::Fetch),
-            AdvertisementLine::Fetch => {
-                if offer.server_option {
-                    Some(AdvertisementLine::ServerOption)
-                } else {
-                    Some(AdvertisementLine::ObjectFormat)
-                }
+            AdvertisementLine::Fetch if offer.server_option => {
+                Some(AdvertisementLine::ServerOption)
             }
+            AdvertisementLine::Fetch => Some(AdvertisementLine::ObjectFormat),
             AdvertisementLine::ServerOption => Some(AdvertisementLine::ObjectFormat),
-            AdvertisementLine::ObjectFormat => {
-                if offer.object_info {
-                    Some(AdvertisementLine::ObjectInfo)
-                } else {
-                    Some(AdvertisementLine::End)
-                }
+            AdvertisementLine::ObjectFormat if offer.object_info => {
+                Some(AdvertisementLine::ObjectInfo)
             }
+            AdvertisementLine::ObjectFormat => Some(AdvertisementLine::End),
             AdvertisementLine::ObjectInfo => Some(AdvertisementLine::End),
             AdvertisementLine::End => None,
         }
@@ -163,7 +157,7 @@ impl FeaturesLine {
     }
 }
 
-// What stands before one more feature.
+// What comes before one more feature.
 fn separator(has_features: bool) -> &'static str
     ensures text { result.now ≡ separator_after has_features }
     ensures count { length result.now ≡ 1 }
@@ -180,7 +174,7 @@ fn ls_refs_line(offer: &Offer) -> ArrayString<LONGEST_LINE>
     line.end()
 }
 
-// The line for `fetch`.
+// The line that offers `fetch`, with its features.
 fn fetch_line(offer: &Offer) -> ArrayString<LONGEST_LINE>
     ensures { result.bytes ≡ capability_text (codes "fetch") (fetch_features offer.now) ++ 10 ∷ [] }
 {

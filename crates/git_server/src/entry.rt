@@ -99,7 +99,7 @@ impl RefEntry {
         self.id
     }
 
-    /// The reference that a symbolic reference stands for.
+    /// The reference that a symbolic reference points to.
     pub fn target(&self) -> Option<&[u8]>
         ensures value { option_copied result ≡ self.now.target }
         ensures name { ForSome self.now.target IsRefName }

@@ -7,14 +7,14 @@ ghost use Rattle.git_server.specs.FetchPlaces.{first_place};
 ghost use Rattle.git_server.specs.FullParts.{FillsFetch, FillsPart};
 ghost use Rattle.git_server.specs.WrittenPackets.{IsAtFront};
 
-use crate::acknowledging::{Acknowledged, AcknowledgmentsPlace, write_acknowledgments};
+use crate::acknowledgments::{Acknowledged, AcknowledgmentsPlace, write_acknowledgments};
 use crate::answer::Answered;
-use crate::bounding::write_shallow_info;
 use crate::packets::write_packet;
-use crate::packing::{PackPlace, write_pack};
+use crate::packfile::{PackPlace, write_pack};
 use crate::repo::Repo;
 use crate::sections::{SectionPart, SectionPlace};
-use crate::wanting::write_wanted_refs;
+use crate::shallow_info::write_shallow_info;
+use crate::wanted_refs::write_wanted_refs;
 use git_msg::Fetch;
 use git_pkt::{Packet, PacketReader};
 use std::alloc::Allocator;

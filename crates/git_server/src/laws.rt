@@ -1,4 +1,4 @@
-//! What a server's contract says of the bytes alone: each function does nothing, and its contract is the law.
+//! What a server's contract means for the bytes alone: each function does nothing, and its contract is the law.
 
 ghost use Rattle.std.specs.Prelude.{◌≡◌, ◌+◌, ◌<◌, ◌≤◌, ◌↔◌, ℕ, Bool, true, false, None, Some, List, []};
 ghost use Rattle.git_pkt.specs.Credit.{MakesAll, credit_of};
@@ -13,7 +13,7 @@ use crate::repo::Repo;
 use crate::server::Server;
 use std::alloc::Allocator;
 
-/// At every moment what a server has given stands to what it has used as a session has it: without an outcome the session goes on,
+/// At every moment what a server has used and given is that of a session: without an outcome the session goes on,
 /// and with one it ended so. The argument lines that it keeps are within its limit.
 pub fn server_keeps_to_its_session<R: Repo, A: Allocator + Copy>(server: &Server<R, A>)
     ensures within { (s : Setting) (used : List ℕ) (over : Bool) (given : List ℕ) →
@@ -38,7 +38,7 @@ pub fn server_holds_within_its_limit<R: Repo, A: Allocator + Copy>(server: &Serv
         Running R.state s used over given server.now → bytes_held server.now ≤ 65520 + s.limit }
 {}
 
-/// A server waits for input exactly where no outcome stands, and the advertisement and the answer to each whole request
+/// A server waits for input exactly where it has no outcome, and the advertisement and the answer to each whole request
 /// were given whole.
 pub fn server_waits_where_all_is_given<R: Repo, A: Allocator + Copy>(server: &Server<R, A>)
     ensures { (s : Setting) (used : List ℕ) (over : Bool) (given : List ℕ) → Running R.state s used over given server.now
@@ -65,7 +65,7 @@ pub fn all_fields_are_counted<R: Repo, A: Allocator + Copy>()
 {}
 
 /// However the input is cut, after any calls of a server that was new before them it holds at most 65,520 buffered bytes and its limit
-/// of kept arguments, and has taken at most 64 steps for each byte used and each call of `feed`; its output stands in the answer
+/// of kept arguments, and has taken at most 64 steps for each byte used and each call of `feed`; its output is in the answer
 /// relation to its whole input, and the first malformed packet is refused at its offset by name.
 pub fn headline<R: Repo, A: Allocator + Copy>(server: &Server<R, A>)
     ensures { (s : Setting) (calls : List Call) (before after : ℕ) (first : Server R A) → Running R.state s [] false [] first

@@ -2,33 +2,33 @@
 //! machine that reads requests and gives answers.
 #![tactic(auto)]
 
-mod acknowledging;
+mod acknowledgments;
 mod advertisement;
 mod answer;
-mod bounding;
 mod entry;
 mod faulty;
 mod fetching;
-mod informing;
 pub mod laws;
 mod list_repo;
+mod ls_refs;
+mod object_info;
 mod outcome;
 mod packets;
-mod packing;
+mod packfile;
 mod refusal;
 mod repo;
 mod requests;
 mod run;
 mod sections;
 mod server;
+mod shallow_info;
 mod shared_repo;
-mod shown;
-mod wanting;
+mod wanted_refs;
 
 pub use advertisement::put_advertisement;
 pub use entry::RefEntry;
 pub use faulty::Faulty;
-pub use list_repo::{ListRepo, RepoFault};
+pub use list_repo::{ListRepo, RepoFault, RepoLists};
 pub use outcome::Outcome;
 pub use repo::{PackFault, Repo};
 pub use run::serve;

@@ -7,7 +7,7 @@ ghost use Rattle.std.specs.List.{HoldsAt};
 ghost use Rattle.std.specs.Option.{ForSome};
 ghost use Rattle.std.specs.Ordering.{nat_cmp};
 ghost use Rattle.std.specs.Cmp.Lexicographic.{slice_cmp};
-ghost use Rattle.git_server.specs.Lists.{repo_fault_name};
+ghost use Rattle.git_server.specs.Lists.{IsRepository, lists_in, repo_fault_name};
 ghost use Rattle.git_server.specs.Objects.{object_cmp, object_of, has_object, precedes, AreRising};
 ghost use Rattle.git_server.specs.Packs.{IsPackPart};
 ghost use Rattle.git_server.specs.Repository.{IsNamed, IsOfFormat, IsRising, IsUnbornHead, bytes_of, comes_before};
@@ -50,35 +50,45 @@ impl fmt::Display for RepoFault {
 
 impl Error for RepoFault {}
 
+/// The lists that a repository is made of, before they are judged.
+#[derive(Drop)]
+pub struct RepoLists {
+    /// The format of the object names.
+    pub format: Format,
+    /// The references.
+    pub refs: Vec<RefEntry>,
+    /// The objects, with their sizes in bytes.
+    pub objects: Vec<(Oid, u64)>,
+    /// After how many common objects it is ready to send a pack, or never.
+    pub ready_after: Option<u32>,
+    /// The shallow boundary.
+    pub boundaries: Vec<Boundary>,
+    /// The pack for each request.
+    pub pack: Vec<u8>,
+    /// What an unborn `HEAD` points to.
+    pub unborn_head: Option<Vec<u8>>,
+    /// The pack for each request that has a filter, where that is another.
+    pub filtered: Option<Vec<u8>>,
+}
+
 /// A repository that is a few lists, kept in memory.
 #[derive(Drop)]
 pub struct ListRepo {
-    format: Format,
-    refs: Vec<RefEntry>,
-    objects: Vec<(Oid, u64)>,
-    ready_after: Option<u32>,
-    boundaries: Vec<Boundary>,
-    pack: Vec<u8>,
-    unborn: Option<Vec<u8>>,
-    filtered: Option<Vec<u8>>,
-    ghost rising: { IsRising refs.items },
-    ghost rising_objects: { AreRising objects.items },
-    ghost named: { All (λ ref. IsNamed ref.name ref.target) refs.items },
-    ghost of_format: { All (IsOfFormat format) refs.items },
-    ghost of_boundaries: { All (λ boundary. (object_of boundary).format ≡ format) boundaries.items },
-    ghost short: { length pack.items < 9223372036854775808 },
-    ghost short_filtered: { ForSome (bytes_of filtered) (λ bytes. length bytes < 9223372036854775808) },
-    ghost unborn_head: { ForSome (bytes_of unborn) (IsUnbornHead refs.items) },
+    lists: RepoLists,
+    ghost fit: { IsRepository (lists_in lists) },
+    ghost named: { All (λ ref. IsNamed ref.name ref.target) lists.refs.items },
+    ghost short: { length lists.pack.items < 9223372036854775808 },
+    ghost short_filtered: { ForSome (bytes_of lists.filtered) (λ bytes. length bytes < 9223372036854775808) },
 }
 
 impl ListRepo {
-    ghost use Rattle.git_server.specs.Lists.{IsRepository, IsUnfit, Lists, pack_for};
-    ghost use Rattle.git_server.specs.ListRepo.{lists_from, lists_of};
+    ghost use Rattle.git_server.specs.Lists.{IsUnfit, Lists, lists_from, pack_for};
+    ghost use Rattle.git_server.specs.ListRepo.{lists_of};
 
     /// The repository with these references, these objects with their sizes in bytes, this shallow boundary and
     /// this pack for each request, or where `filtered` is there, that for each request that has a filter. It is ready
-    /// to send a pack after so many common objects, or never. A request that cuts the history off hears of the
-    /// boundary the shallow commits in their order, and then those that it called shallow itself and that are no
+    /// to send a pack after so many common objects, or never. The answer to a request that cuts the history off has the
+    /// boundary's shallow commits in their order, and then those that the request called shallow itself and that are no
     /// longer.
     ///
     /// The references have to rise strictly by their names (`UnsortedRefs`), the objects by theirs
@@ -112,43 +122,25 @@ impl ListRepo {
         if !is_unborn_head(&refs, &unborn) {
             return Err(RepoFault::UnbornHead);
         }
-        Ok(ListRepo::of_lists(
+        Ok(ListRepo::of_lists(RepoLists {
             format,
             refs,
             objects,
             ready_after,
             boundaries,
             pack,
-            unborn,
+            unborn_head: unborn,
             filtered,
-        ))
+        }))
     }
 
     /// The same repository, where the lists are known to make one, as those that were taken item after item are.
-    pub fn of_lists(
-        format: Format,
-        refs: Vec<RefEntry>,
-        objects: Vec<(Oid, u64)>,
-        ready_after: Option<u32>,
-        boundaries: Vec<Boundary>,
-        pack: Vec<u8>,
-        unborn: Option<Vec<u8>>,
-        filtered: Option<Vec<u8>>,
-    ) -> ListRepo
-        requires fit { IsRepository (lists_from format refs objects ready_after boundaries pack unborn filtered) }
-        requires named { All (λ ref. IsNamed ref.name ref.target) refs.items }
-        ensures { lists_of result ≡ lists_from format refs objects ready_after boundaries pack unborn filtered }
+    pub fn of_lists(lists: RepoLists) -> ListRepo
+        requires fit { IsRepository (lists_in lists) }
+        requires named { All (λ ref. IsNamed ref.name ref.target) lists.refs.items }
+        ensures { lists_of result ≡ lists_in lists }
     {
-        ListRepo {
-            format,
-            refs,
-            objects,
-            ready_after,
-            boundaries,
-            pack,
-            unborn,
-            filtered,
-        }
+        ListRepo { lists }
     }
 
     // The pack for a request: the filtered one where the request has a filter and there is one.
@@ -156,11 +148,11 @@ impl ListRepo {
         ensures { result.now ≡ pack_for (lists_of self.now) request.now.asked }
     {
         if request.filter(0).is_none() {
-            return &self.pack;
+            return &self.lists.pack;
         }
-        match &self.filtered {
+        match &self.lists.filtered {
             Some(filtered) => filtered,
-            None => &self.pack,
+            None => &self.lists.pack,
         }
     }
 
@@ -197,27 +189,27 @@ impl Repo for ListRepo {
     ghost short = { is_short };
 
     fn format(&self) -> Format {
-        self.format
+        self.lists.format
     }
 
     fn refs(&self) -> &[RefEntry] {
-        &self.refs
+        &self.lists.refs
     }
 
     fn find(&self, name: &[u8]) -> Option<Oid> {
-        let at = find_name(&self.refs, name)?;
-        Some(self.refs[at].id())
+        let at = find_name(&self.lists.refs, name)?;
+        Some(self.lists.refs[at].id())
     }
 
     fn unborn_head(&self) -> Option<&[u8]> {
-        self.unborn.as_deref()
+        self.lists.unborn_head.as_deref()
     }
 
     fn has(&self, id: &Oid) -> bool
         ensures answer { result ≡ (state_of self.now).answers.has id.now }
         ensures among { IsTrue result ↔ Any (λ object. object.0 ≡ id.now) (lists_of self.now).objects }
     {
-        stands_among(&self.objects, id)
+        stands_among(&self.lists.objects, id)
     }
 
     fn object_size(&self, id: &Oid) -> Option<u64>
@@ -225,27 +217,27 @@ impl Repo for ListRepo {
         ensures listed { MatchOption result (All (λ object. object.0 ≢ id.now) (lists_of self.now).objects)
             (λ size. Any (λ object. object ≡ (id.now, size)) (lists_of self.now).objects) }
     {
-        let at = find_object(&self.objects, id)?;
-        Some(self.objects[at].1)
+        let at = find_object(&self.lists.objects, id)?;
+        Some(self.lists.objects[at].1)
     }
 
     fn is_ready<A: Allocator + Copy>(&self, request: &Fetch<A>) -> bool {
-        match self.ready_after {
-            Some(least) => are_common(&self.objects, request.haves(), least as usize),
+        match self.lists.ready_after {
+            Some(least) => are_common(&self.lists.objects, request.haves(), least as usize),
             None => false,
         }
     }
 
     fn boundaries<A: Allocator + Copy>(&self, request: &Fetch<A>) -> usize {
         if deepens(request) {
-            count_told(&self.boundaries, request.shallows())
+            count_told(&self.lists.boundaries, request.shallows())
         } else {
             0
         }
     }
 
     fn boundary<A: Allocator + Copy>(&self, request: &Fetch<A>, i: usize) -> Boundary {
-        match told_at(&self.boundaries, request.shallows(), i) {
+        match told_at(&self.lists.boundaries, request.shallows(), i) {
             Some(line) => line,
             None => unreachable!(),
         }
@@ -335,7 +327,7 @@ fn is_unborn_head(refs: &[RefEntry], unborn: &Option<Vec<u8>>) -> bool
     find_name(refs, b"HEAD").is_none()
 }
 
-// Where the reference of this name stands.
+// The place of the reference of this name.
 fn find_name(refs: &[RefEntry], name: &[u8]) -> Option<usize>
     requires { IsRising refs.now }
     ensures { MatchOption result (All (λ entry. entry.name ≢ name.now) refs.now)
@@ -352,7 +344,7 @@ fn find_name(refs: &[RefEntry], name: &[u8]) -> Option<usize>
     }
 }
 
-// Where the object of this name stands.
+// The place of the object of this name.
 fn find_object(objects: &[(Oid, u64)], id: &Oid) -> Option<usize>
     requires { AreRising objects.now }
     ensures { MatchOption result (All (λ object. object.0 ≢ id.now) objects.now)
@@ -401,14 +393,14 @@ fn deepens<A: Allocator + Copy>(request: &Fetch<A>) -> bool
         || request.deepen_not(0).is_some()
 }
 
-// Whether the line says that a commit is shallow.
+// Whether this is a `shallow` line.
 fn is_shallow(line: &Boundary) -> bool
     ensures { result ≡ says_shallow line.now }
 {
     matches!(line, Boundary::Shallow(_))
 }
 
-// Whether the line says that one of these commits is no longer shallow.
+// Whether this is the `unshallow` line of one of these commits.
 fn is_unshallow_of(line: &Boundary, shallows: &[Oid]) -> bool
     ensures { result ≡ says_unshallow shallows.now line.now }
 {
@@ -418,7 +410,7 @@ fn is_unshallow_of(line: &Boundary, shallows: &[Oid]) -> bool
     }
 }
 
-// How many lines of the boundary a client is told that has these commits without their parents.
+// How many lines of the boundary a client receives that has these commits without their parents.
 fn count_told(lines: &[Boundary], shallows: &[Oid]) -> usize
     ensures { result ≡ length (told_lines lines.now shallows.now) }
 {
@@ -430,7 +422,7 @@ fn count_told(lines: &[Boundary], shallows: &[Oid]) -> usize
     shallow + unshallow
 }
 
-// The line at place `i` of those that it is told: the shallow commits come first.
+// The line at place `i` of those that it receives: the shallow commits come first.
 fn told_at(lines: &[Boundary], shallows: &[Oid], i: usize) -> Option<Boundary>
     ensures { result ≡ slice_get (told_lines lines.now shallows.now) i }
 {

@@ -1,4 +1,4 @@
-//! The packet that tells a fault to the other end.
+//! The packet that reports a fault to the other end.
 
 ghost use Rattle.std.specs.Prelude.{◌≡◌, false};
 ghost use Rattle.git_pkt.specs.PacketReader.{is_open};
@@ -8,7 +8,7 @@ ghost use Rattle.git_server.specs.WrittenPackets.{Writes};
 use crate::packets::write_line;
 use git_pkt::{Fault, PacketReader};
 
-/// Makes the hold the error packet, gitprotocol-pack(5), that tells this fault by its name and offset, between two
+/// Makes the hold the error packet, gitprotocol-pack(5), that reports this fault by its name and offset, between two
 /// packets that are read.
 pub(crate) fn write_error(reader: &mut PacketReader, fault: Fault)
     requires { is_open reader.old ≡ false }

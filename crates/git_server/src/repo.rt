@@ -32,8 +32,8 @@ pub trait Repo {
     /// What the repository answers, and how many of its reads have failed.
     ghost state: { Self → RepoState };
 
-    /// How many bytes a read of a pack may come to: for a request, from an offset on, into a room of so many. Any number, where a
-    /// repository does not say it.
+    /// How many bytes a read of a pack may give: for a request, from an offset on, into a room of so many. Any number, where a
+    /// repository does not define it.
     ghost read_gives: { Self → FetchAsked → ℕ → ℕ → ℕ → Type 0 } = { λ repo request offset room count. Unit {0} };
 
     /// The format of its object names.
@@ -44,7 +44,7 @@ pub trait Repo {
     fn refs(&self) -> &[RefEntry]
         ensures { result.now ≡ (state self.now).answers.refs };
 
-    /// The object that the reference of this name stands for, if there is such a reference.
+    /// The object that the reference of this name points to, if there is such a reference.
     fn find(&self, name: &[u8]) -> Option<Oid>
         ensures { IsFound (state self.now).answers.refs name.now result };
 
@@ -56,13 +56,13 @@ pub trait Repo {
     fn has(&self, id: &Oid) -> bool
         ensures { result ≡ (state self.now).answers.has id.now };
 
-    /// How many bytes the object of this name has: none where it has no such object, of which `object-info` is then told without a
+    /// How many bytes the object of this name has: none where it has no such object, which `object-info` then lists without a
     /// size.
     fn object_size(&self, id: &Oid) -> Option<u64>
         ensures { result ≡ (state self.now).answers.object_size id.now };
 
     /// Whether it is ready to send a pack for the request: of what the client has, enough is common to make one.
-    /// The answer to a request that negotiates then says `ready`, gitprotocol-v2(5), and the pack follows. This is not asked for
+    /// The answer to a request that negotiates then has a `ready` line, gitprotocol-v2(5), and the pack follows. This is not asked for
     /// a request that negotiates alone, which gets no pack.
     fn is_ready<A: Allocator + Copy>(&self, request: &Fetch<A>) -> bool
         ensures { result ≡ (state self.now).answers.is_ready request.now.asked };
@@ -93,7 +93,7 @@ pub trait Repo {
 
     /// The names of the references rise, they and the targets are names that a reference may have, and the object names of the
     /// references and of a shallow boundary are of the format. There none but a commit that the request calls shallow is
-    /// said to be no longer shallow. An unborn `HEAD` points to a name that a reference may have, and is no reference.
+    /// listed as no longer shallow. An unborn `HEAD` points to a name that a reference may have, and is no reference.
     ghost sound: { (repo : Self) → IsSound (state repo).answers };
 
     /// A pack has less than 2^63 bytes.

@@ -64,7 +64,7 @@ fn serve_piece<W: Write, R: Repo, A: Allocator + Copy>(
     Ok(None)
 }
 
-/// Runs a server, from where it stands, over a reader of requests and a writer of answers, to the session's end. The piece is where
+/// Runs a server, from where it is, over a reader of requests and a writer of answers, to the session's end. The piece is where
 /// the bytes that are read go; it may not be empty. The writer is flushed before each read and at the end.
 ///
 /// `ReadFault` where a read fails, `WriteFault` where a write or a flush does, and `ReadLimit` where a further read

@@ -5,7 +5,7 @@
 pub(crate) enum SectionPlace {
     /// From its header on, if the answer has the section.
     Header,
-    /// From the line of what stands at this place on.
+    /// From the line of what is at this place on.
     Line(usize),
 }
 
@@ -14,7 +14,7 @@ pub(crate) enum SectionPlace {
 pub(crate) enum SectionPart {
     /// Nothing was written: the answer does not have the section.
     Absent,
-    /// It goes on with the line of what stands at this place.
+    /// It goes on with the line of what is at this place.
     Line(usize),
     /// That was its delimiter.
     Over,

@@ -1,6 +1,6 @@
 //! The server's end of a conversation, as a machine that takes bytes in pieces and gives packets.
 //!
-//! How a session stands, and which call moves it on:
+//! The phases of a session, and which call moves it on:
 //!
 //! ```text
 //!                pull: the flush            feed: the first packet
@@ -34,7 +34,7 @@ use git_names::Steps;
 use git_pkt::{Fault, Got, Kind, PacketReader, front_packet};
 use std::alloc::Allocator;
 
-/// Where a session stands.
+/// How far a session has come.
 #[derive(Drop)]
 enum Phase<A: Allocator + Copy> {
     // The advertisement is owed, from this line on.
@@ -170,8 +170,8 @@ impl<R: Repo, A: Allocator + Copy> Server<R, A> {
         }
     }
 
-    /// Takes bytes of the input, and says how many were used: all of them, or those up to the end of a request, a flush
-    /// in the place of one, or a fault. None is used while a packet waits to be pulled, nor after the end. An empty
+    /// Takes bytes of the input, and returns how many were used: all of them, or those up to the end of a request, a flush
+    /// instead of one, or a fault. None is used while a packet waits to be pulled, nor after the end. An empty
     /// piece changes nothing.
     pub fn feed(&mut self, piece: &[u8], steps: &mut Steps) -> usize
         ensures used { result ≤ length piece.now }
@@ -190,7 +190,7 @@ impl<R: Repo, A: Allocator + Copy> Server<R, A> {
         used
     }
 
-    /// Tells that the input ends here, where bytes are wanted. Between two requests the session ends well; inside one
+    /// The input ends here, where bytes are wanted. Between two requests the session ends well; inside one
     /// it is refused as truncated, at the end of the last whole packet.
     pub fn close(&mut self)
         requires { wants_input self.old ≡ true }
@@ -325,7 +325,7 @@ fn following<A: Allocator + Copy>(brought: Brought<A>, offset: u64) -> Phase<A>
     }
 }
 
-// An error packet of the other end is not answered; any other fault is told.
+// An error packet of the other end is not answered; any other fault is reported.
 fn refusal<A: Allocator + Copy>(fault: Fault) -> Phase<A>
     ensures { result ≡ refused_by fault.kind fault }
 {

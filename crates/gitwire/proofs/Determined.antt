@@ -1,4 +1,4 @@
--- What a writer for C tells, and what it leaves in the room, is determined by the values that C gives and the room.
+-- What a writer for C reports, and what it leaves in the room, is determined by the values that C gives and the room.
 use Rattle.std.proofs.Common.{◌≡◌, ℕ, ◌≤◌, List, [], ◌∷◌, length, length-append, Option, Some, None, Ok, Err, slice_get}
 use Rattle.std.proofs.Common.{sym, ◌∙◌, ap, refl, subst, inl, inr, arith}
 use Rattle.std.proofs.lemmas.Bool.Decides.{leb_tells}
@@ -22,7 +22,7 @@ use Rattle.gitwire.specs.Rooms.{Fills}
 use Rattle.gitwire.specs.WrittenForC.{Advertises, InFormat, IsDetermined, IsLineOf, IsOfKind, IsReferenceOf, Meant, Tells, telling_why}
 use Rattle.gitwire.specs.WrittenForC.{MeansBand, MeansLine, MeansLineOf, MeansPacket, MeansReference, MeansWanted}
 use Rattle.gitwire.specs.WrittenForC.{given, object_name_check, ref_name_check, where_given}
-use Rattle.gitwire.specs.declared.told.GitwireTold.{GitwireTold}
+use Rattle.gitwire.specs.declared.answer.GitwireAnswer.{GitwireAnswer}
 use Rattle.gitwire.specs.declared.written.Unwritten.{Unwritten}
 use Rattle.gitwire.specs.declared.written.Unwritten.TheVariants.{BadValue, Refused}
 use Rattle.gitwire.proofs.GivenNames.{maybe_passes}
@@ -33,33 +33,34 @@ pub record IsOne (Means : Meant → Type 0) : Type 0 where
   pub whys : (why other : Unwritten) → Means (Err why) → Means (Err other) → why ≡ other
   pub apart : (p : Pkt) (why : Unwritten) → length (body_of p) ≤ longest_payload → Means (Ok p) → Means (Err why) → ⊥
 
-fills_once : (bytes room : List ℕ) (told other : GitwireTold) (filled others : List ℕ)
-    → Fills bytes room told filled → Fills bytes room other others → (told ≡ other) × (filled ≡ others)
-fills_once bytes room told other filled others h k =
+fills_once : (bytes room : List ℕ) (answer other : GitwireAnswer) (filled others : List ℕ)
+    → Fills bytes room answer filled → Fills bytes room other others → (answer ≡ other) × (filled ≡ others)
+fills_once bytes room answer other filled others h k =
     elim (leb_tells (length bytes) (length room)) [
       | inl fits ↦ ((h.done fits.1).0 ∙ sym (k.done fits.1).0, (h.done fits.1).1 ∙ sym (k.done fits.1).1)
       | inr small ↦ ((h.too_small small.1).0 ∙ sym (k.too_small small.1).0, (h.too_small small.1).1 ∙ sym (k.too_small small.1).1)
     ]
 
-told_once : (Means : Meant → Type 0) → IsOne Means → (a b : Meant) → Means a → Means b → (room : List ℕ) (told other : GitwireTold) (filled others : List ℕ)
-    → Tells a room told filled → Tells b room other others → (told ≡ other) × (filled ≡ others)
-told_once Means one (Ok p) (Ok q) h k room told other filled others t u =
+answer_once : (Means : Meant → Type 0) → IsOne Means → (a b : Meant) → Means a → Means b → (room : List ℕ)
+    (answer other : GitwireAnswer) (filled others : List ℕ)
+    → Tells a room answer filled → Tells b room other others → (answer ≡ other) × (filled ≡ others)
+answer_once Means one (Ok p) (Ok q) h k room answer other filled others t u =
     let same = sym (one.packets p q h k) in
-    fills_once (spelling_of p) room told other filled others t.1 (subst (λ (p : Pkt). Fills (spelling_of p) room other others) same u.1)
-told_once Means one (Ok p) (Err why) h k room told other filled others t u = absurd (one.apart p why t.0 h k)
-told_once Means one (Err why) (Ok p) h k room told other filled others t u = absurd (one.apart p why u.0 k h)
-told_once Means one (Err why) (Err because) h k room told other filled others t u =
+    fills_once (spelling_of p) room answer other filled others t.1 (subst (λ (p : Pkt). Fills (spelling_of p) room other others) same u.1)
+answer_once Means one (Ok p) (Err why) h k room answer other filled others t u = absurd (one.apart p why t.0 h k)
+answer_once Means one (Err why) (Ok p) h k room answer other filled others t u = absurd (one.apart p why u.0 k h)
+answer_once Means one (Err why) (Err because) h k room answer other filled others t u =
     (t.0 ∙ ap telling_why (one.whys why because h k) ∙ sym u.0, t.1 ∙ sym u.1)
 
 pub determined : (Means : Meant → Type 0) → IsOne Means → IsDetermined Means
-determined Means one room told other filled others w v =
-    told_once Means one w.meant v.meant w.means v.means room told other filled others w.tells v.tells
+determined Means one room answer other filled others w v =
+    answer_once Means one w.meant v.meant w.means v.means room answer other filled others w.tells v.tells
 
-pub advertised_once : (offer : Option Offer) (room : List ℕ) (told other : GitwireTold) (filled others : List ℕ)
-    → Advertises offer room told filled → Advertises offer room other others → (told ≡ other) × (filled ≡ others)
-advertised_once None room told other filled others h k = (h.0 ∙ sym k.0, h.1 ∙ sym k.1)
-advertised_once (Some offer) room told other filled others h k =
-    fills_once (spelled (advertisement_of offer)) room told other filled others h.1 k.1
+pub advertised_once : (offer : Option Offer) (room : List ℕ) (answer other : GitwireAnswer) (filled others : List ℕ)
+    → Advertises offer room answer filled → Advertises offer room other others → (answer ≡ other) × (filled ≡ others)
+advertised_once None room answer other filled others h k = (h.0 ∙ sym k.0, h.1 ∙ sym k.1)
+advertised_once (Some offer) room answer other filled others h k =
+    fills_once (spelled (advertisement_of offer)) room answer other filled others h.1 k.1
 
 -- packets of any subject
 

@@ -1,4 +1,4 @@
--- A room that is filled from its front, with one text behind another.
+-- A room that is filled from its front, with one text after another.
 use Rattle.std.proofs.Common.{arith, ◌≡◌, ◌∙◌, ℕ, ◌+◌, List, ◌++◌, length, take, drop, refl, length-append}
 use Rattle.std.proofs.Math.Seq.{take-append_seam}
 use Rattle.std.proofs.lemmas.Slice.{drop-append-drop}
@@ -14,7 +14,7 @@ placed base front bytes =
     )
     refl
 
--- bytes are put behind those that stand at the front
+-- bytes are put after those at the front
 pub filled_more : (base front bytes room next : List ℕ) (at : ℕ) → at ≡ length front → room ≡ put_before front base
     → next ≡ take at room ++ bytes ++ drop (at + length bytes) room → next ≡ put_before (front ++ bytes) base
 filled_more base front bytes room next at e h k = k ∙ rw (e, h) (placed base front bytes)

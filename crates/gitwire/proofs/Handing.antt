@@ -1,4 +1,4 @@
--- What a writer for C tells, by what it made and how that was handed out.
+-- What a writer for C reports, by what it made and how that was handed out.
 use Rattle.std.proofs.Common.{◌≡◌, ℕ, ◌<◌, ◌≤◌, List, length, length-append, Result, Ok, Err, OnOk, IfErr, subst, sym, ap, arith}
 use Rattle.std.specs.Result.{IsErrAnd}
 use Rattle.git_names.specs.ObjectName.{ObjectName}
@@ -7,7 +7,7 @@ use Rattle.git_pkt.specs.Packets.{body_of, longest_payload, spelling_of}
 use Rattle.git_msg.specs.WrittenRequest.{text_line}
 use Rattle.gitwire.specs.Rooms.{Fills}
 use Rattle.gitwire.specs.WrittenForC.{Makes, Meant, MeansLineOf, Names, Writes, refused_name, telling_why}
-use Rattle.gitwire.specs.declared.told.GitwireTold.{GitwireTold}
+use Rattle.gitwire.specs.declared.answer.GitwireAnswer.{GitwireAnswer}
 use Rattle.gitwire.specs.declared.written.Unwritten.{Unwritten}
 
 -- a text that is shorter than a payload may be is a payload with LF
@@ -15,12 +15,12 @@ pub line_fits : (text : List ℕ) → length text < longest_payload → length (
 line_fits text short = simp length-append (omega arith)
 
 -- what was made and handed out is what the values mean
-pub writes : (Means : Meant → Type 0) (made : Result (Unit {0}) Unwritten) (held room : List ℕ) (told : GitwireTold) (filled : List ℕ)
-    → Makes Means made held → OnOk made (Fills held room told filled)
-    → IfErr made (λ why. (told ≡ telling_why why) × (filled ≡ room)) → Writes Means room told filled
-writes Means (Ok _) held room told filled (packet, means, fits, written) fills why =
-    record { meant = Ok packet; means = means; tells = (fits, subst (λ bytes. Fills bytes room told filled) written fills) }
-writes Means (Err why) held room told filled means fills tells = record { meant = Err why; means = means; tells = tells }
+pub writes : (Means : Meant → Type 0) (made : Result (Unit {0}) Unwritten) (held room : List ℕ) (answer : GitwireAnswer) (filled : List ℕ)
+    → Makes Means made held → OnOk made (Fills held room answer filled)
+    → IfErr made (λ why. (answer ≡ telling_why why) × (filled ≡ room)) → Writes Means room answer filled
+writes Means (Ok _) held room answer filled (packet, means, fits, written) fills why =
+    record { meant = Ok packet; means = means; tells = (fits, subst (λ bytes. Fills bytes room answer filled) written fills) }
+writes Means (Err why) held room answer filled means fills tells = record { meant = Err why; means = means; tells = tells }
 
 -- what is made of a line, where its text is that of the object
 pub line_made : (number : ℕ) (digits : List ℕ) (text : ObjectName → List ℕ) (id : ObjectName) (line held : List ℕ)
@@ -29,7 +29,7 @@ pub line_made : (number : ℕ) (digits : List ℕ) (text : ObjectName → List �
 line_made number digits text id line held (format, numbered, is_id) same written short =
     (text_line line, (format, numbered, record { id = id; is_id = is_id; line = ap text_line same }), line_fits line short, written)
 
--- what is told where a name is refused
+-- what is reported where a name is refused
 pub name_refused : (Means : Meant → Type 0) (made : Result (Unit {0}) Unwritten) (fault : NameFault) (held : List ℕ)
     → IsErrAnd made (λ why. why ≡ refused_name fault) → Means (Err (refused_name fault)) → Makes Means made held
 name_refused Means (Ok _) fault held refused means = absurd refused

@@ -11,7 +11,7 @@ use Rattle.git_msg.specs.References.{id_length}
 use Rattle.git_client.specs.Events.{EventValue, all_parts_length, parts_length, pack, progress}
 use Rattle.git_client.specs.Turns.{values_of}
 use Rattle.git_client.specs.declared.events.Event.{Event}
-use Rattle.gitwire.specs.EventsTold.{Parts, bytes_shown, digits_shown, parts_of, telling_parts, text_shown}
+use Rattle.gitwire.specs.EventAnswers.{Parts, bytes_shown, digits_shown, parts_of, telling_parts, text_shown}
 use Rattle.gitwire.specs.declared.event.GitwireEvent.{GitwireEvent}
 
 hex_length : (bytes : List ℕ) → length (hex_text bytes) ≡ 2 * length bytes
@@ -30,7 +30,7 @@ digits_fit_in : (id : Option ObjectName) → length (digits_shown id) ≤ option
 digits_fit_in None = omega arith
 digits_fit_in (Some id) = digits_fit id
 
--- where a reference has no object, no digits are shown of the word that stands in their place
+-- where a reference has no object, no digits are shown of the word in their place
 first_fits : (id : Option ObjectName) → length (digits_shown id) ≤ id_length id
 first_fits None = omega arith
 first_fits (Some id) = digits_fit id
@@ -80,8 +80,8 @@ shown_fits Event.Nak = omega arith
 shown_fits Event.Ready = omega arith
 shown_fits Event.Ended = omega arith
 
--- C is told of no more bytes than a payload has
-pub told_fits : (used : ℕ) (event : Event) (p : Parts) (told : GitwireEvent) → all_parts_length (values_of event) ≤ longest_payload
-    → p ≡ parts_of event → told ≡ telling_parts used p
-    → told.id_length + told.name_length + told.text_length + told.peeled_length ≤ longest_payload
-told_fits used event p told fits same tells = rw (tells, same) (omega (arith, shown_length (parts_of event), shown_fits event, fits))
+-- no more bytes are reported to C than a payload has
+pub answer_fits : (used : ℕ) (event : Event) (p : Parts) (answer : GitwireEvent) → all_parts_length (values_of event) ≤ longest_payload
+    → p ≡ parts_of event → answer ≡ telling_parts used p
+    → answer.id_length + answer.name_length + answer.text_length + answer.peeled_length ≤ longest_payload
+answer_fits used event p answer fits same tells = rw (tells, same) (omega (arith, shown_length (parts_of event), shown_fits event, fits))

@@ -6,8 +6,8 @@ use Rattle.git_client.specs.declared.client.Client.{Client}
 use Rattle.git_client.specs.declared.events.Event.{Event}
 use Rattle.git_client.specs.declared.events.HeardGot.{HeardGot}
 use Rattle.git_client.specs.declared.events.HeardGot.TheVariants as Got
-use Rattle.gitwire.specs.ClientTold.{LieInPiece, filled_beside}
-use Rattle.gitwire.specs.EventsTold.{bytes_shown, parts_of}
+use Rattle.gitwire.specs.ClientAnswers.{LieInPiece, filled_beside}
+use Rattle.gitwire.specs.EventAnswers.{bytes_shown, parts_of}
 use Rattle.gitwire.specs.Rooms.{put_before}
 
 -- bytes of the pack and of the progress are bytes of the piece

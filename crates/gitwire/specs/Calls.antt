@@ -1,19 +1,19 @@
 -- What a call does to the handle that it is made on, by what that has before and after.
 use Rattle.std.specs.Prelude.{◌≡◌, ℕ, List, Option, Some, None, IsSomeAnd}
-use Rattle.gitwire.specs.Told.{telling}
-use Rattle.gitwire.specs.declared.told.GitwireTold.{GitwireTold}
-use Rattle.gitwire.specs.declared.told.What.{What}
-use Rattle.gitwire.specs.declared.told.What.TheVariants.{Done, NoHandle, OutOfMemory}
+use Rattle.gitwire.specs.Answers.{answering}
+use Rattle.gitwire.specs.declared.answer.GitwireAnswer.{GitwireAnswer}
+use Rattle.gitwire.specs.declared.answer.What.{What}
+use Rattle.gitwire.specs.declared.answer.What.TheVariants.{Done, NoHandle, OutOfMemory}
 
--- the handle has nothing: that is told, and the room stays
-abbrev pub HasNone : List ℕ → GitwireTold → List ℕ → Type 0
-HasNone room told filled = (told ≡ telling NoHandle) × (filled ≡ room)
+-- the handle has nothing: that is reported, and the room stays
+abbrev pub HasNone : List ℕ → GitwireAnswer → List ℕ → Type 0
+HasNone room answer filled = (answer ≡ answering NoHandle) × (filled ≡ room)
 
 module _ {X : Type 0} where
   -- the handle has the value; or memory ran out, and it has none
   abbrev pub IsMade : What → X → Option X → Type 0
-  IsMade told value None = told ≡ OutOfMemory
-  IsMade told value (Some made) = (told ≡ Done) × (made ≡ value)
+  IsMade answer value None = answer ≡ OutOfMemory
+  IsMade answer value (Some made) = (answer ≡ Done) × (made ≡ value)
 
   -- the call does this to what the handle has; or that has nothing, and this holds
   abbrev pub On : Option X → Option X → (X → X → Type 0) → Type 0 → Type 0

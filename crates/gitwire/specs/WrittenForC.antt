@@ -1,4 +1,4 @@
--- The packets that are written for C, each to the front of a room: what the values mean that C gives, and what C is told.
+-- The packets that are written for C, each to the front of a room: what the values mean that C gives, and what is reported to C.
 use Rattle.std.specs.Prelude.{◌≡◌, ◌≢◌, ℕ, ◌<◌, ◌≤◌, Bool, true, false, List, [], ◌∷◌, ◌++◌, length, codes, slice_get}
 use Rattle.std.specs.Prelude.{Option, Some, None, IsSome, Result, Ok, Err}
 use Rattle.std.specs.Bool.{then_some}
@@ -22,9 +22,9 @@ use Rattle.git_msg.specs.declared.offers.Offer.{Offer}
 use Rattle.git_server.specs.Answers.{advertisement_of, spelled}
 use Rattle.gitwire.specs.Numbers.{formats}
 use Rattle.gitwire.specs.Rooms.{Fills}
-use Rattle.gitwire.specs.Told.{telling, telling_fault, what_number}
-use Rattle.gitwire.specs.declared.told.GitwireTold.{GitwireTold}
-use Rattle.gitwire.specs.declared.told.What.TheVariants.{Done, NoHandle, OutOfMemory, Payload, Flush, Delim, ResponseEnd, BadValue as a_bad_value}
+use Rattle.gitwire.specs.Answers.{answering, answering_fault, what_number}
+use Rattle.gitwire.specs.declared.answer.GitwireAnswer.{GitwireAnswer}
+use Rattle.gitwire.specs.declared.answer.What.TheVariants.{Done, NoHandle, OutOfMemory, Payload, Flush, Delim, ResponseEnd, BadValue as a_bad_value}
 use Rattle.gitwire.specs.declared.written.Unwritten.{Unwritten}
 use Rattle.gitwire.specs.declared.written.Unwritten.TheVariants.{BadValue, Refused}
 
@@ -37,25 +37,25 @@ abbrev pub refused_name : NameFault → Unwritten
 refused_name fault = Refused (kind_of fault)
 
 -- why nothing was written
-abbrev pub telling_why : Unwritten → GitwireTold
-telling_why BadValue = telling a_bad_value
-telling_why (Refused kind) = telling_fault 0 (record { kind = kind; offset = 0 })
+abbrev pub telling_why : Unwritten → GitwireAnswer
+telling_why BadValue = answering a_bad_value
+telling_why (Refused kind) = answering_fault 0 (record { kind = kind; offset = 0 })
 
--- what C is told where its values mean this
-abbrev pub Tells : Meant → List ℕ → GitwireTold → List ℕ → Type 0
-Tells (Ok packet) room told filled = (length (body_of packet) ≤ longest_payload) × Fills (spelling_of packet) room told filled
-Tells (Err why) room told filled = (told ≡ telling_why why) × (filled ≡ room)
+-- what is reported to C where its values mean this
+abbrev pub Tells : Meant → List ℕ → GitwireAnswer → List ℕ → Type 0
+Tells (Ok packet) room answer filled = (length (body_of packet) ≤ longest_payload) × Fills (spelling_of packet) room answer filled
+Tells (Err why) room answer filled = (answer ≡ telling_why why) × (filled ≡ room)
 
--- the packet that the values mean is at the front of the room, or C is told why not
-pub record Writes (Means : Meant → Type 0) (room : List ℕ) (told : GitwireTold) (filled : List ℕ) : Type 0 where
+-- the packet that the values mean is at the front of the room, or it is reported to C why not
+pub record Writes (Means : Meant → Type 0) (room : List ℕ) (answer : GitwireAnswer) (filled : List ℕ) : Type 0 where
   pub meant : Meant
   pub means : Means meant
-  pub tells : Tells meant room told filled
+  pub tells : Tells meant room answer filled
 
--- what is told and left in the room follows from the values and the room
+-- what is reported and left in the room follows from the values and the room
 abbrev pub IsDetermined : (Meant → Type 0) → Type 0
-IsDetermined Means = (room : List ℕ) (told other : GitwireTold) (filled others : List ℕ)
-    → Writes Means room told filled → Writes Means room other others → (told ≡ other) × (filled ≡ others)
+IsDetermined Means = (room : List ℕ) (answer other : GitwireAnswer) (filled others : List ℕ)
+    → Writes Means room answer filled → Writes Means room other others → (answer ≡ other) × (filled ≡ others)
 
 -- the hold has the packet that the values mean, or this is why there is none
 abbrev pub Makes : (Meant → Type 0) → Result (Unit {0}) Unwritten → List ℕ → Type 0
@@ -63,20 +63,20 @@ Makes Means (Ok _) held = (packet : Pkt) × Means (Ok packet) × (length (body_o
 Makes Means (Err why) held = Means (Err why)
 
 -- the packets of the advertisement of the offer that C means, one after another
-abbrev pub Advertises : Option Offer → List ℕ → GitwireTold → List ℕ → Type 0
-Advertises None room told filled = (told ≡ telling a_bad_value) × (filled ≡ room)
-Advertises (Some offer) room told filled =
-    (length (spelled (advertisement_of offer)) < 200) × Fills (spelled (advertisement_of offer)) room told filled
+abbrev pub Advertises : Option Offer → List ℕ → GitwireAnswer → List ℕ → Type 0
+Advertises None room answer filled = (answer ≡ answering a_bad_value) × (filled ≡ room)
+Advertises (Some offer) room answer filled =
+    (length (spelled (advertisement_of offer)) < 200) × Fills (spelled (advertisement_of offer)) room answer filled
 
 -- a handle has a writer, or none where memory ran out
 abbrev pub BeginsToWrite : ℕ → Option (List ℕ) → Type 0
-BeginsToWrite told None = told ≡ what_number OutOfMemory
-BeginsToWrite told (Some held) = told ≡ what_number Done
+BeginsToWrite answer None = answer ≡ what_number OutOfMemory
+BeginsToWrite answer (Some held) = answer ≡ what_number Done
 
--- a handle with a writer does this to the room, and keeps it; one with none tells so, and nothing is written
-abbrev pub WritesIn : Option (List ℕ) → (List ℕ → GitwireTold → List ℕ → Type 0) → List ℕ → GitwireTold → List ℕ → Option (List ℕ) → Type 0
-WritesIn None Does room told filled new = (told ≡ telling NoHandle) × (filled ≡ room) × (new ≡ None)
-WritesIn (Some held) Does room told filled new = Does room told filled × IsSome new
+-- a handle with a writer does this to the room, and keeps it; where it has none, that is reported, and nothing is written
+abbrev pub WritesIn : Option (List ℕ) → (List ℕ → GitwireAnswer → List ℕ → Type 0) → List ℕ → GitwireAnswer → List ℕ → Option (List ℕ) → Type 0
+WritesIn None Does room answer filled new = (answer ≡ answering NoHandle) × (filled ≡ room) × (new ≡ None)
+WritesIn (Some held) Does room answer filled new = Does room answer filled × IsSome new
 
 -- the packet of this kind: only a payload has bytes
 abbrev pub IsOfKind : ℕ → List ℕ → Pkt → Type 0
@@ -125,7 +125,7 @@ given (byte ∷ bytes) = Some (byte ∷ bytes)
 abbrev pub where_given : List ℕ → Check → Check
 where_given text c = record { refuses = λ kind. (text ≢ []) × c.refuses kind; passes = text ≢ [] → c.passes }
 
--- why names in the format of this number mean nothing: the first check that fails tells
+-- why names in the format of this number mean nothing: that of the first check that fails
 abbrev pub IsRefusedIn : ℕ → (Format → List Check) → Unwritten → Type 0
 IsRefusedIn number checks BadValue = slice_get formats number ≡ None
 IsRefusedIn number checks (Refused kind) = (format : Format) × (slice_get formats number ≡ Some format) × Refuses (checks format) kind
@@ -166,7 +166,7 @@ MeansBoundary number shallow digits meant = MeansLineOf number digits (λ id. bo
 abbrev pub info_of : Option ℕ → ObjectName → Info
 info_of size id = record { id = id; size = size }
 
--- the line that says what is known of the object
+-- the line with what is known of the object
 abbrev pub MeansInfo : ℕ → List ℕ → Bool → ℕ → Meant → Type 0
 MeansInfo number digits has_size size meant = MeansLineOf number digits (λ id. info_text (info_of (then_some has_size size) id)) meant
 

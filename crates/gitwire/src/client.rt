@@ -3,18 +3,18 @@
 ghost use Rattle.std.specs.Prelude.{◌≡◌, ◌≤◌, None, MatchResult, length, slice_get};
 ghost use Rattle.git_client.specs.declared.events.HeardGot.TheVariants as Got;
 ghost use Rattle.gitwire.specs.Calls.{HasNone, Of, On};
-ghost use Rattle.gitwire.specs.ClientTold.{AsksIn, BeginsBy, CapsTold, ClosesTold, FeedsInRoom, HearsNone, filled_beside, filled_by};
-ghost use Rattle.gitwire.specs.ClientTold.{LeavesRequest, LeavesTold, MessageTold, PullsInRoom, TakesRequest, endings};
-ghost use Rattle.gitwire.specs.EventsTold.{bytes_shown, parts_of, telling_parts};
+ghost use Rattle.gitwire.specs.ClientAnswers.{AsksIn, BeginsBy, CapsAnswers, ClosesAnswers, FeedsInRoom, HearsNone, filled_beside, filled_by};
+ghost use Rattle.gitwire.specs.ClientAnswers.{LeavesRequest, LeavesAnswers, MessageAnswers, PullsInRoom, TakesRequest, endings};
+ghost use Rattle.gitwire.specs.EventAnswers.{bytes_shown, parts_of, telling_parts};
 ghost use Rattle.gitwire.specs.Handles.{client_in, request_in};
 ghost use Rattle.gitwire.specs.Numbers.{formats};
-ghost use Rattle.gitwire.specs.Told.{telling, what_number};
+ghost use Rattle.gitwire.specs.Answers.{answering, what_number};
 
+use crate::answer::{GitwireAnswer, What};
 use crate::event::{EventParts, GitwireEvent};
 use crate::handles::{GitwireClient, GitwireRequest, Holds, fill};
 use crate::numbers::format_numbered;
 use crate::offer::features_noted;
-use crate::told::{GitwireTold, What};
 use git_client::{Client, Ending, Event, HeardGot, Sent};
 use git_msg::{Command, Limits, Request};
 use git_names::{Format, Steps};
@@ -46,7 +46,7 @@ pub struct GitwireCaps {
 }
 
 /// Makes the handle's client a new one, before the first byte of the advertisement. What it had before is freed. `Done`;
-/// `BadValue`, and the handle stays as it was, for a number that stands for no format or no ending; or `OutOfMemory`, and the
+/// `BadValue`, and the handle stays as it was, for a number that means no format or no ending; or `OutOfMemory`, and the
 /// handle has none.
 #[unsafe(no_mangle)]
 pub extern "C" fn gitwire_client_new(
@@ -70,7 +70,7 @@ pub extern "C" fn gitwire_client_new(
     fill(client, alloc, made).number()
 }
 
-/// The ending of this number.
+/// The ending that C means by this number; none where there is no such ending.
 fn ending_numbered(number: u8) -> Option<Ending>
     ensures { result ≡ slice_get endings number }
 {
@@ -96,9 +96,9 @@ pub extern "C" fn gitwire_client_feed(
     let Some(mut taken) = client.take(alloc) else {
         return GitwireEvent::none(0, What::NoHandle);
     };
-    let told = feed(&mut taken.inner, piece, room);
+    let answer = feed(&mut taken.inner, piece, room);
     client.put(taken);
-    told
+    answer
 }
 
 /// Reads on, as `gitwire_client_feed` does, but leaves the bytes of `Pack` and `Progress` where they are: the last `text_length`
@@ -116,9 +116,9 @@ pub extern "C" fn gitwire_client_feed_in_place(
     let Some(mut taken) = client.take(alloc) else {
         return GitwireEvent::none(0, What::NoHandle);
     };
-    let told = feed_in_place(&mut taken.inner, piece, room);
+    let answer = feed_in_place(&mut taken.inner, piece, room);
     client.put(taken);
-    told
+    answer
 }
 
 fn feed(client: &mut Client<Global>, piece: &[u8], room: &mut [u8]) -> GitwireEvent
@@ -154,7 +154,7 @@ fn feed_in_place(client: &mut Client<Global>, piece: &[u8], room: &mut [u8]) -> 
 /// Shows an event, of which bytes that pass stay where they are.
 fn show_in_place(event: Event<'_>, used: usize, room: &mut [u8]) -> GitwireEvent
     requires { length (bytes_shown (parts_of event)) ≤ length room.old }
-    ensures told { result ≡ telling_parts used (parts_of event.entry) }
+    ensures answer { result ≡ telling_parts used (parts_of event.entry) }
     ensures room { room.new ≡ filled_beside (Got.Event event.entry) room.old }
 {
     match event {
@@ -171,32 +171,32 @@ pub extern "C" fn gitwire_client_pull(
     alloc: Global,
     client: &mut GitwireClient,
     room: &mut [u8],
-) -> GitwireTold
+) -> GitwireAnswer
     ensures { On (client_in client.old) (client_in client.new) (λ old new. PullsInRoom old room.old result room.new new) (HasNone room.old result room.new) }
 {
     let Some(mut taken) = client.take(alloc) else {
-        return GitwireTold::of(What::NoHandle);
+        return GitwireAnswer::of(What::NoHandle);
     };
-    let told = pull(&mut taken.inner, room);
+    let answer = pull(&mut taken.inner, room);
     client.put(taken);
-    told
+    answer
 }
 
-fn pull(client: &mut Client<Global>, room: &mut [u8]) -> GitwireTold
+fn pull(client: &mut Client<Global>, room: &mut [u8]) -> GitwireAnswer
     ensures { PullsInRoom client.old room.old result room.new client.new }
 {
     if room.len() < LONGEST_PACKET {
-        return GitwireTold::of(What::RoomTooSmall);
+        return GitwireAnswer::of(What::RoomTooSmall);
     }
     match client.pull() {
         Sent::Packet(bytes) => {
             room[..bytes.len()].copy_from_slice(bytes);
-            GitwireTold::of_packet(0, 0, bytes.len(), What::Packet)
+            GitwireAnswer::of_packet(0, 0, bytes.len(), What::Packet)
         }
-        Sent::NeedInput => GitwireTold::of(What::NeedInput),
-        Sent::CanAsk => GitwireTold::of(What::CanAsk),
-        Sent::Finished => GitwireTold::of(What::Finished),
-        Sent::Failed(fault) => GitwireTold::of_fault(0, fault),
+        Sent::NeedInput => GitwireAnswer::of(What::NeedInput),
+        Sent::CanAsk => GitwireAnswer::of(What::CanAsk),
+        Sent::Finished => GitwireAnswer::of(What::Finished),
+        Sent::Failed(fault) => GitwireAnswer::of_fault(0, fault),
     }
 }
 
@@ -207,38 +207,38 @@ pub extern "C" fn gitwire_client_ask(
     alloc: Global,
     client: &mut GitwireClient,
     request: &mut GitwireRequest,
-) -> GitwireTold
+) -> GitwireAnswer
     ensures { AsksIn (client_in client.old) (request_in request.old) result (client_in client.new) (request_in request.new) }
 {
     let Some(mut taken) = client.take(alloc) else {
-        return GitwireTold::of(What::NoHandle);
+        return GitwireAnswer::of(What::NoHandle);
     };
     let Some(mut asked) = request.take(alloc) else {
         client.put(taken);
-        return GitwireTold::of(What::NoHandle);
+        return GitwireAnswer::of(What::NoHandle);
     };
     let answer = ask(alloc, &mut taken.inner, &mut asked.inner);
     client.put(taken);
     match answer {
-        Ok(()) => GitwireTold::of(What::Done),
-        Err(told) => {
+        Ok(()) => GitwireAnswer::of(What::Done),
+        Err(answer) => {
             request.put(asked);
-            told
+            answer
         }
     }
 }
 
-/// Asks for what the handle of a request has. Where the client takes it, an empty request stands in its place.
+/// Asks for what the handle of a request has. Where the client takes it, an empty request is left in its place.
 fn ask(
     alloc: Global,
     client: &mut Client<Global>,
     held: &mut Request<Global>,
-) -> Result<(), GitwireTold>
+) -> Result<(), GitwireAnswer>
     ensures { MatchResult result (λ _. TakesRequest client.old held.old client.new)
-        (λ told. LeavesRequest client.old held.old told client.new held.new) }
+        (λ answer. LeavesRequest client.old held.old answer client.new held.new) }
 {
     if !client.can_ask() {
-        return Err(GitwireTold::of(What::NotNow));
+        return Err(GitwireAnswer::of(What::NotNow));
     }
     let empty = Request::new(alloc, Command::LsRefs, Format::Sha1, Limits { args: 0 });
     let request = replace(held, empty);
@@ -246,7 +246,7 @@ fn ask(
         Ok(()) => Ok(()),
         Err((request, fault)) => {
             *held = request;
-            Err(GitwireTold::of_fault(0, fault))
+            Err(GitwireAnswer::of_fault(0, fault))
         }
     }
 }
@@ -254,18 +254,18 @@ fn ask(
 /// Leaves: the flush that ends the conversation is to be pulled. `Done`, `NotNow` where the client cannot ask, or `NoHandle`.
 #[unsafe(no_mangle)]
 pub extern "C" fn gitwire_client_leave(alloc: Global, client: &mut GitwireClient) -> u8
-    ensures { On (client_in client.old) (client_in client.new) (λ old new. LeavesTold old result new) (result ≡ what_number What.NoHandle) }
+    ensures { On (client_in client.old) (client_in client.new) (λ old new. LeavesAnswers old result new) (result ≡ what_number What.NoHandle) }
 {
     let Some(mut taken) = client.take(alloc) else {
         return What::NoHandle.number();
     };
-    let told = leave(&mut taken.inner);
+    let answer = leave(&mut taken.inner);
     client.put(taken);
-    told
+    answer
 }
 
 fn leave(client: &mut Client<Global>) -> u8
-    ensures { LeavesTold client.old result client.new }
+    ensures { LeavesAnswers client.old result client.new }
 {
     if !client.can_ask() {
         return What::NotNow.number();
@@ -274,58 +274,58 @@ fn leave(client: &mut Client<Global>) -> u8
     What::Done.number()
 }
 
-/// Tells that the input ends here. `Failed`, where more was due; `NotNow` where the client does not wait for input: then all is
+/// The input ends here. `Failed`, where more was due; `NotNow` where the client does not wait for input: then all is
 /// well, or the conversation has failed already; or `NoHandle`.
 #[unsafe(no_mangle)]
-pub extern "C" fn gitwire_client_close(alloc: Global, client: &mut GitwireClient) -> GitwireTold
-    ensures { On (client_in client.old) (client_in client.new) (λ old new. ClosesTold old result new) (result ≡ telling What.NoHandle) }
+pub extern "C" fn gitwire_client_close(alloc: Global, client: &mut GitwireClient) -> GitwireAnswer
+    ensures { On (client_in client.old) (client_in client.new) (λ old new. ClosesAnswers old result new) (result ≡ answering What.NoHandle) }
 {
     let Some(mut taken) = client.take(alloc) else {
-        return GitwireTold::of(What::NoHandle);
+        return GitwireAnswer::of(What::NoHandle);
     };
-    let told = close(&mut taken.inner);
+    let answer = close(&mut taken.inner);
     client.put(taken);
-    told
+    answer
 }
 
-fn close(client: &mut Client<Global>) -> GitwireTold
-    ensures { ClosesTold client.old result client.new }
+fn close(client: &mut Client<Global>) -> GitwireAnswer
+    ensures { ClosesAnswers client.old result client.new }
 {
     if !client.wants_input() {
-        return GitwireTold::of(What::NotNow);
+        return GitwireAnswer::of(What::NotNow);
     }
-    GitwireTold::of_fault(0, client.close())
+    GitwireAnswer::of_fault(0, client.close())
 }
 
-/// Writes what the server said of the fault that ended the conversation to the front of the room. `Done`, `Nothing` where it said
-/// nothing, `RoomTooSmall` or `NoHandle`.
+/// Writes the server's message on the fault that ended the conversation to the front of the room. `Done`, `Nothing` where there
+/// is none, `RoomTooSmall` or `NoHandle`.
 #[unsafe(no_mangle)]
 pub extern "C" fn gitwire_client_message(
     alloc: Global,
     client: &mut GitwireClient,
     room: &mut [u8],
-) -> GitwireTold
-    ensures { Of (client_in client.old) (client_in client.new) (λ had. MessageTold had room.old result room.new) (HasNone room.old result room.new) }
+) -> GitwireAnswer
+    ensures { Of (client_in client.old) (client_in client.new) (λ had. MessageAnswers had room.old result room.new) (HasNone room.old result room.new) }
 {
     let Some(taken) = client.take(alloc) else {
-        return GitwireTold::of(What::NoHandle);
+        return GitwireAnswer::of(What::NoHandle);
     };
-    let told = message(&taken.inner, room);
+    let answer = message(&taken.inner, room);
     client.put(taken);
-    told
+    answer
 }
 
-fn message(client: &Client<Global>, room: &mut [u8]) -> GitwireTold
-    ensures { MessageTold client.now room.old result room.new }
+fn message(client: &Client<Global>, room: &mut [u8]) -> GitwireAnswer
+    ensures { MessageAnswers client.now room.old result room.new }
 {
     let Some(message) = client.message() else {
-        return GitwireTold::of(What::Nothing);
+        return GitwireAnswer::of(What::Nothing);
     };
     if room.len() < message.len() {
-        return GitwireTold::of(What::RoomTooSmall);
+        return GitwireAnswer::of(What::RoomTooSmall);
     }
     room[..message.len()].copy_from_slice(message);
-    GitwireTold::of_packet(0, 0, message.len(), What::Done)
+    GitwireAnswer::of_packet(0, 0, message.len(), What::Done)
 }
 
 /// What was noted of the advertisement so far. `Done`, or `NoHandle`: then nothing is written.
@@ -335,7 +335,7 @@ pub extern "C" fn gitwire_client_caps(
     client: &mut GitwireClient,
     caps: &mut GitwireCaps,
 ) -> u8
-    ensures { Of (client_in client.old) (client_in client.new) (λ had. (result ≡ what_number What.Done) × CapsTold had caps.new)
+    ensures { Of (client_in client.old) (client_in client.new) (λ had. (result ≡ what_number What.Done) × CapsAnswers had caps.new)
         ((result ≡ what_number What.NoHandle) × (caps.new ≡ caps.old)) }
 {
     let Some(taken) = client.take(alloc) else {
@@ -347,7 +347,7 @@ pub extern "C" fn gitwire_client_caps(
 }
 
 fn noted(client: &Client<Global>) -> GitwireCaps
-    ensures { CapsTold client.now result }
+    ensures { CapsAnswers client.now result }
 {
     let caps = client.caps();
     GitwireCaps {

@@ -2,17 +2,17 @@
 
 ghost use Rattle.std.specs.Prelude.{◌≡◌, ◌+◌, ◌≤◌, ◌++◌, ℕ, List, length, take, drop};
 ghost use Rattle.std.specs.Option.{option_copied};
-ghost use Rattle.gitwire.specs.EventsTold.{digits_shown, text_shown};
+ghost use Rattle.gitwire.specs.EventAnswers.{digits_shown, text_shown};
 ghost use Rattle.gitwire.specs.Rooms.{put_before};
 
-use crate::told::What;
+use crate::answer::What;
 use git_client::Event;
 use git_names::Oid;
 use git_pkt::Fault;
 
-/// What one call of `gitwire_client_feed` did, and the event that came. Fields that say nothing are 0 or false. The texts
-/// stand at the front of the room, one after another: the object's name in lower case digits, the name, the text, and the
-/// digits of the object that a tag stands for.
+/// What one call of `gitwire_client_feed` did, and the event that came. Fields without a meaning are 0 or false. The texts
+/// are at the front of the room, one after another: the object's name in lower case digits, the name, the text, and the
+/// digits of the object that a tag peels to.
 #[repr(C)]
 #[derive(Clone, Copy, Debug)]
 pub struct GitwireEvent {
@@ -27,7 +27,7 @@ pub struct GitwireEvent {
     /// How many bytes the text has: the value of a capability, the target of a symbolic reference, or bytes of the pack or
     /// the progress.
     pub text_length: usize,
-    /// How many digits the name of the object has that an annotated tag stands for.
+    /// How many digits the name of the object has that an annotated tag peels to.
     pub peeled_length: usize,
     /// How many bytes the object has.
     pub size: u64,
@@ -53,7 +53,7 @@ pub(crate) struct EventParts<'a> {
 }
 
 impl<'a> EventParts<'a> {
-    ghost use Rattle.gitwire.specs.EventsTold.{bare, bytes_shown, of_object, of_text, parts_of, parts_shown, telling_parts};
+    ghost use Rattle.gitwire.specs.EventAnswers.{bare, bytes_shown, of_object, of_text, parts_of, parts_shown, telling_parts};
 
     /// The parts of the event.
     pub(crate) fn of(event: Event<'a>) -> EventParts<'a>
@@ -129,10 +129,10 @@ impl<'a> EventParts<'a> {
         }
     }
 
-    /// Writes the texts to the front of the room, one after another, and tells how long they are.
+    /// Writes the texts to the front of the room, one after another, and returns how long they are.
     pub(crate) fn show(self, used: usize, room: &mut [u8]) -> GitwireEvent
         requires { length (bytes_shown (parts_shown self)) ≤ length room.old }
-        ensures told { result ≡ telling_parts used (parts_shown self.entry) }
+        ensures answer { result ≡ telling_parts used (parts_shown self.entry) }
         ensures room { room.new ≡ put_before (bytes_shown (parts_shown self.entry)) room.old }
     {
         let id_end = put_digits(room, 0, self.id);
@@ -156,7 +156,7 @@ impl<'a> EventParts<'a> {
 }
 
 impl GitwireEvent {
-    ghost use Rattle.gitwire.specs.EventsTold.{of_text, telling_none, telling_parts, telling_refusal};
+    ghost use Rattle.gitwire.specs.EventAnswers.{of_text, telling_none, telling_parts, answering_refusal};
 
     /// No event.
     pub(crate) fn none(used: usize, what: What) -> GitwireEvent
@@ -190,7 +190,7 @@ impl GitwireEvent {
 
     /// A refusal.
     pub(crate) fn of_fault(used: usize, fault: Fault) -> GitwireEvent
-        ensures { result ≡ telling_refusal used fault }
+        ensures { result ≡ answering_refusal used fault }
     {
         GitwireEvent {
             offset: fault.offset,
@@ -210,7 +210,7 @@ fn bytes_of(text: Option<&[u8]>) -> &[u8]
     }
 }
 
-/// Puts bytes at a place of the room, and tells where they end.
+/// Puts bytes at a place of the room, and returns where they end.
 fn put(room: &mut [u8], at: usize, bytes: &[u8]) -> usize
     requires { at + length bytes.now ≤ length room.old }
     ensures end { result ≡ at + length bytes.now }
@@ -221,7 +221,7 @@ fn put(room: &mut [u8], at: usize, bytes: &[u8]) -> usize
     end
 }
 
-/// Puts the digits of an object name at a place of the room, if there is one, and tells where they end.
+/// Puts the digits of an object name at a place of the room, if there is one, and returns where they end.
 fn put_digits(room: &mut [u8], at: usize, id: Option<&Oid>) -> usize
     requires { at + length (digits_shown (option_copied id)) ≤ length room.old }
     ensures end { result ≡ at + length (digits_shown (option_copied id.entry)) }

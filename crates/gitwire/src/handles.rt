@@ -4,10 +4,10 @@ ghost use Rattle.std.specs.Prelude.{◌≡◌, Option, Some, None, MatchOption, 
 ghost use Rattle.gitwire.specs.Calls.{IsMade};
 ghost use Rattle.gitwire.specs.Machines.{is_none_or, gatherer_of, request_reader_of, request_of, repository_of, server_of, client_of, buffer_of};
 
+use crate::answer::What;
 use crate::gatherer::Gatherer;
 use crate::held::{Handle, Shell};
 use crate::machine::{Machine, PacketBuffer};
-use crate::told::What;
 use git_client::Client;
 use git_msg::{Request, RequestStream};
 use git_server::{Server, SharedRepo};

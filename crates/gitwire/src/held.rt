@@ -1,4 +1,4 @@
-//! A machine behind a pointer whose type C may see, or none.
+//! A machine, or none, by a pointer whose type C may see.
 
 ghost use Rattle.std.specs.Prelude.{◌≡◌, Option, Some, None, IsSome, MatchOption, is_some};
 ghost use Rattle.gitwire.specs.declared.machine.Machine.{Machine};

@@ -1,12 +1,12 @@
-//! The names of what is told, by their numbers.
+//! The names of what is reported, by their numbers.
 
 ghost use Rattle.std.specs.Prelude.{◌≡◌};
-ghost use Rattle.gitwire.specs.KindsTold.{IsWhatOf, TellsKind, what_name};
+ghost use Rattle.gitwire.specs.KindAnswers.{IsWhatOf, TellsKind, what_name};
 
+use crate::answer::What;
 use crate::rooms::put_bytes;
-use crate::told::What;
 
-/// Writes the name of a kind of what is told to the front of the room, as `NeedInput`, and says how long it is: 0 where no kind has
+/// Writes the name of a kind of what is reported to the front of the room, as `NeedInput`, and returns how long it is: 0 where no kind has
 /// the number, or the room is too small.
 #[unsafe(no_mangle)]
 pub extern "C" fn gitwire_kind_name(kind: u8, room: &mut [u8]) -> usize

@@ -5,9 +5,9 @@ ghost use Rattle.gitwire.specs.Offers.{offer_meant};
 ghost use Rattle.gitwire.specs.WrittenForC.{Advertises, IsDetermined, MeansAck, MeansBand, MeansBoundary, MeansError, MeansInfo};
 ghost use Rattle.gitwire.specs.WrittenForC.{MeansLine, MeansPacket, MeansReference, MeansWanted};
 ghost use Rattle.gitwire.specs.declared.offer.GitwireOffer.{GitwireOffer};
-ghost use Rattle.gitwire.specs.declared.told.GitwireTold.{GitwireTold};
+ghost use Rattle.gitwire.specs.declared.answer.GitwireAnswer.{GitwireAnswer};
 
-/// What a writer tells, and what it leaves in the room, follow from the values that C gives and the room.
+/// What a writer reports, and what it leaves in the room, follow from the values that C gives and the room.
 pub fn writers_tell_one_thing()
     ensures packet { (kind : ℕ) (payload : List ℕ) → IsDetermined (MeansPacket kind payload) }
     ensures band { (band : ℕ) (bytes : List ℕ) → IsDetermined (MeansBand band bytes) }
@@ -18,6 +18,6 @@ pub fn writers_tell_one_thing()
     ensures boundary { (format : ℕ) (shallow : Bool) (id : List ℕ) → IsDetermined (MeansBoundary format shallow id) }
     ensures wanted { (format : ℕ) (id name : List ℕ) → IsDetermined (MeansWanted format id name) }
     ensures info { (format : ℕ) (id : List ℕ) (has_size : Bool) (size : ℕ) → IsDetermined (MeansInfo format id has_size size) }
-    ensures advertisement { (offer : GitwireOffer) (room : List ℕ) (told other : GitwireTold) (filled others : List ℕ)
-        → Advertises (offer_meant offer) room told filled → Advertises (offer_meant offer) room other others → (told ≡ other) × (filled ≡ others) }
+    ensures advertisement { (offer : GitwireOffer) (room : List ℕ) (answer other : GitwireAnswer) (filled others : List ℕ)
+        → Advertises (offer_meant offer) room answer filled → Advertises (offer_meant offer) room other others → (answer ≡ other) × (filled ≡ others) }
 {}

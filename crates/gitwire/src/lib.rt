@@ -2,6 +2,7 @@
 //! and checks the handle, the rooms and the numbers that it is given.
 #![tactic(auto)]
 
+mod answer;
 mod client;
 mod event;
 mod faults;
@@ -23,11 +24,11 @@ mod request_reader;
 mod rooms;
 mod server;
 mod threads;
-mod told;
 mod writer;
 mod writers;
 mod written;
 
+pub use answer::{GitwireAnswer, What};
 pub use client::GitwireCaps;
 pub use event::GitwireEvent;
 pub use handles::{
@@ -36,4 +37,3 @@ pub use handles::{
 };
 pub use offer::GitwireOffer;
 pub use threads::handles_are_send;
-pub use told::{GitwireTold, What};

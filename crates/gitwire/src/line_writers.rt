@@ -9,9 +9,9 @@ ghost use Rattle.gitwire.specs.Handles.{writer_in};
 ghost use Rattle.gitwire.specs.WrittenForC.{Makes, MeansAck, MeansBoundary, MeansInfo, MeansReference, MeansWanted, Names, Writes, WritesIn};
 ghost use Rattle.gitwire.specs.WrittenForC.{boundary_of, given};
 
+use crate::answer::{GitwireAnswer, What};
 use crate::handles::{GitwireWriter, Holds};
 use crate::numbers::format_numbered;
-use crate::told::{GitwireTold, What};
 use crate::written::{Unwritten, hand_out};
 use git_msg::{
     Boundary, Info, Reference, WantedRef, put_ack, put_boundary, put_info, put_reference,
@@ -35,17 +35,17 @@ pub extern "C" fn gitwire_put_reference(
     target: &[u8],
     peeled: &[u8],
     room: &mut [u8],
-) -> GitwireTold
+) -> GitwireAnswer
     ensures { WritesIn (writer_in writer.old) (Writes (MeansReference format id.now name.now target.now peeled.now)) room.old result room.new
         (writer_in writer.new) }
 {
     let Some(mut taken) = writer.take(alloc) else {
-        return GitwireTold::of(What::NoHandle);
+        return GitwireAnswer::of(What::NoHandle);
     };
     let made = make_reference(&mut taken.inner.hold, format, id, name, target, peeled);
-    let told = hand_out(made, &taken.inner.hold, room);
+    let answer = hand_out(made, &taken.inner.hold, room);
     writer.put(taken);
-    told
+    answer
 }
 
 /// Writes the line that acknowledges an object, of the section `acknowledgments`, to the front of the room.
@@ -57,16 +57,16 @@ pub extern "C" fn gitwire_put_ack(
     format: u8,
     id: &[u8],
     room: &mut [u8],
-) -> GitwireTold
+) -> GitwireAnswer
     ensures { WritesIn (writer_in writer.old) (Writes (MeansAck format id.now)) room.old result room.new (writer_in writer.new) }
 {
     let Some(mut taken) = writer.take(alloc) else {
-        return GitwireTold::of(What::NoHandle);
+        return GitwireAnswer::of(What::NoHandle);
     };
     let made = make_ack(&mut taken.inner.hold, format, id);
-    let told = hand_out(made, &taken.inner.hold, room);
+    let answer = hand_out(made, &taken.inner.hold, room);
     writer.put(taken);
-    told
+    answer
 }
 
 /// Writes a line of the section `shallow-info`, `shallow` or else `unshallow`, to the front of the room.
@@ -79,16 +79,16 @@ pub extern "C" fn gitwire_put_boundary(
     shallow: bool,
     id: &[u8],
     room: &mut [u8],
-) -> GitwireTold
+) -> GitwireAnswer
     ensures { WritesIn (writer_in writer.old) (Writes (MeansBoundary format shallow id.now)) room.old result room.new (writer_in writer.new) }
 {
     let Some(mut taken) = writer.take(alloc) else {
-        return GitwireTold::of(What::NoHandle);
+        return GitwireAnswer::of(What::NoHandle);
     };
     let made = make_boundary(&mut taken.inner.hold, format, shallow, id);
-    let told = hand_out(made, &taken.inner.hold, room);
+    let answer = hand_out(made, &taken.inner.hold, room);
     writer.put(taken);
-    told
+    answer
 }
 
 /// Writes a line of the section `wanted-refs` to the front of the room. Its parts are checked from left to right:
@@ -102,20 +102,20 @@ pub extern "C" fn gitwire_put_wanted(
     id: &[u8],
     name: &[u8],
     room: &mut [u8],
-) -> GitwireTold
+) -> GitwireAnswer
     ensures { WritesIn (writer_in writer.old) (Writes (MeansWanted format id.now name.now)) room.old result room.new (writer_in writer.new) }
 {
     let Some(mut taken) = writer.take(alloc) else {
-        return GitwireTold::of(What::NoHandle);
+        return GitwireAnswer::of(What::NoHandle);
     };
     let made = make_wanted(&mut taken.inner.hold, format, id, name);
-    let told = hand_out(made, &taken.inner.hold, room);
+    let answer = hand_out(made, &taken.inner.hold, room);
     writer.put(taken);
-    told
+    answer
 }
 
 /// Writes a line of the response to `object-info` to the front of the room: the object and its size, or the object alone,
-/// which says that the server does not have it.
+/// which means that the server does not have it.
 #[tactic(auto, using(crate::proofs::Handing::writes))]
 #[unsafe(no_mangle)]
 pub extern "C" fn gitwire_put_info(
@@ -126,16 +126,16 @@ pub extern "C" fn gitwire_put_info(
     has_size: bool,
     size: u64,
     room: &mut [u8],
-) -> GitwireTold
+) -> GitwireAnswer
     ensures { WritesIn (writer_in writer.old) (Writes (MeansInfo format id.now has_size size)) room.old result room.new (writer_in writer.new) }
 {
     let Some(mut taken) = writer.take(alloc) else {
-        return GitwireTold::of(What::NoHandle);
+        return GitwireAnswer::of(What::NoHandle);
     };
     let made = make_info(&mut taken.inner.hold, format, id, has_size, size);
-    let told = hand_out(made, &taken.inner.hold, room);
+    let answer = hand_out(made, &taken.inner.hold, room);
     writer.put(taken);
-    told
+    answer
 }
 
 fn make_reference(

@@ -6,7 +6,7 @@ ghost use Rattle.gitwire.specs.Numbers.{commands, flags, formats, format_number,
 use git_msg::Command;
 use git_names::Format;
 
-/// The format of this number.
+/// The format that C means by this number; none where there is no such format.
 pub(crate) fn format_numbered(number: u8) -> Option<Format>
     ensures { result ≡ slice_get formats number }
 {
@@ -17,7 +17,7 @@ pub(crate) fn format_numbered(number: u8) -> Option<Format>
     }
 }
 
-/// The number of a format.
+/// The number by which C knows a format.
 pub(crate) fn number_of_format(format: Format) -> u64
     ensures value { result ≡ format_number format }
     ensures place { slice_get formats result ≡ Some format }
@@ -28,7 +28,7 @@ pub(crate) fn number_of_format(format: Format) -> u64
     }
 }
 
-/// The command of this number.
+/// The command that C means by this number; none where there is no such command.
 pub(crate) fn command_numbered(number: u8) -> Option<Command>
     ensures { result ≡ slice_get commands number }
 {
@@ -40,7 +40,7 @@ pub(crate) fn command_numbered(number: u8) -> Option<Command>
     }
 }
 
-/// The number of a command.
+/// The number by which C knows a command.
 pub(crate) fn number_of_command(command: Command) -> u64
     ensures value { result ≡ command_number command }
     ensures place { slice_get commands result ≡ Some command }

@@ -3,12 +3,12 @@
 ghost use Rattle.std.specs.Prelude.{◌≡◌, None};
 ghost use Rattle.gitwire.specs.Calls.{HasNone, On};
 ghost use Rattle.gitwire.specs.Handles.{packet_reader_in};
-ghost use Rattle.gitwire.specs.PacketsTold.{Begins, ClosesTold, FeedsInRoom};
-ghost use Rattle.gitwire.specs.Told.{telling};
+ghost use Rattle.gitwire.specs.PacketAnswers.{Begins, ClosesAnswers, FeedsInRoom};
+ghost use Rattle.gitwire.specs.Answers.{answering};
 
+use crate::answer::{GitwireAnswer, What};
 use crate::gatherer::Gatherer;
 use crate::handles::{GitwirePacketReader, Holds, fill};
-use crate::told::{GitwireTold, What};
 use git_names::Steps;
 use git_pkt::{Got, Packet, PacketReader};
 use std::alloc::Global;
@@ -41,62 +41,62 @@ pub extern "C" fn gitwire_packet_reader_feed(
     reader: &mut GitwirePacketReader,
     piece: &[u8],
     room: &mut [u8],
-) -> GitwireTold
+) -> GitwireAnswer
     ensures { On (packet_reader_in reader.old) (packet_reader_in reader.new) (λ old new. FeedsInRoom old piece.now room.old result room.new new)
         (HasNone room.old result room.new) }
 {
     let Some(mut taken) = reader.take(alloc) else {
-        return GitwireTold::of(What::NoHandle);
+        return GitwireAnswer::of(What::NoHandle);
     };
-    let told = feed(&mut taken.inner, piece, room);
+    let answer = feed(&mut taken.inner, piece, room);
     reader.put(taken);
-    told
+    answer
 }
 
-fn feed(gatherer: &mut Gatherer, piece: &[u8], room: &mut [u8]) -> GitwireTold
+fn feed(gatherer: &mut Gatherer, piece: &[u8], room: &mut [u8]) -> GitwireAnswer
     ensures { FeedsInRoom gatherer.old.reader piece.now room.old result room.new gatherer.new.reader }
 {
     if room.len() < LONGEST_PAYLOAD {
-        return GitwireTold::of(What::RoomTooSmall);
+        return GitwireAnswer::of(What::RoomTooSmall);
     }
     let fed = gatherer.reader.feed(piece, &mut Steps::new());
     match fed.got {
-        Got::More => GitwireTold::of_used(fed.used, What::More),
-        Got::Failed(fault) => GitwireTold::of_fault(fed.used, fault),
+        Got::More => GitwireAnswer::of_used(fed.used, What::More),
+        Got::Failed(fault) => GitwireAnswer::of_fault(fed.used, fault),
         Got::Packet(packet, offset) => match packet {
-            Packet::Flush => GitwireTold::of_packet(fed.used, offset, 0, What::Flush),
-            Packet::Delim => GitwireTold::of_packet(fed.used, offset, 0, What::Delim),
-            Packet::RespEnd => GitwireTold::of_packet(fed.used, offset, 0, What::ResponseEnd),
+            Packet::Flush => GitwireAnswer::of_packet(fed.used, offset, 0, What::Flush),
+            Packet::Delim => GitwireAnswer::of_packet(fed.used, offset, 0, What::Delim),
+            Packet::RespEnd => GitwireAnswer::of_packet(fed.used, offset, 0, What::ResponseEnd),
             Packet::Payload(bytes) => {
                 room[..bytes.len()].copy_from_slice(bytes);
-                GitwireTold::of_packet(fed.used, offset, bytes.len(), What::Payload)
+                GitwireAnswer::of_packet(fed.used, offset, bytes.len(), What::Payload)
             }
         },
     }
 }
 
-/// Tells that the stream ends here. `Done` between packets; else `Failed`, or `NoHandle`.
+/// The stream ends here. `Done` between packets; else `Failed`, or `NoHandle`.
 #[unsafe(no_mangle)]
 pub extern "C" fn gitwire_packet_reader_close(
     alloc: Global,
     reader: &mut GitwirePacketReader,
-) -> GitwireTold
-    ensures { On (packet_reader_in reader.old) (packet_reader_in reader.new) (λ old new. ClosesTold old result new) (result ≡ telling What.NoHandle) }
+) -> GitwireAnswer
+    ensures { On (packet_reader_in reader.old) (packet_reader_in reader.new) (λ old new. ClosesAnswers old result new) (result ≡ answering What.NoHandle) }
 {
     let Some(mut taken) = reader.take(alloc) else {
-        return GitwireTold::of(What::NoHandle);
+        return GitwireAnswer::of(What::NoHandle);
     };
-    let told = close(&mut taken.inner);
+    let answer = close(&mut taken.inner);
     reader.put(taken);
-    told
+    answer
 }
 
-fn close(gatherer: &mut Gatherer) -> GitwireTold
-    ensures { ClosesTold gatherer.old.reader result gatherer.new.reader }
+fn close(gatherer: &mut Gatherer) -> GitwireAnswer
+    ensures { ClosesAnswers gatherer.old.reader result gatherer.new.reader }
 {
     match gatherer.reader.close() {
-        Ok(()) => GitwireTold::of(What::Done),
-        Err(fault) => GitwireTold::of_fault(0, fault),
+        Ok(()) => GitwireAnswer::of(What::Done),
+        Err(fault) => GitwireAnswer::of_fault(0, fault),
     }
 }
 

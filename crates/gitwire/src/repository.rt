@@ -4,11 +4,11 @@ ghost use Rattle.std.specs.Prelude.{◌≡◌, Some, None, IfSome, MatchResult};
 ghost use Rattle.std.specs.Option.{option_copied};
 ghost use Rattle.git_repository.specs.Packs.{packs_of};
 ghost use Rattle.gitwire.specs.Handles.{repository_in};
-ghost use Rattle.gitwire.specs.RepositoryTold.{Begins, packs_given};
-ghost use Rattle.gitwire.specs.Told.{telling};
+ghost use Rattle.gitwire.specs.RepositoryAnswers.{Begins, packs_given};
+ghost use Rattle.gitwire.specs.Answers.{answering};
 
+use crate::answer::{GitwireAnswer, What};
 use crate::handles::{GitwireRepository, Holds, fill};
-use crate::told::{GitwireTold, What};
 use git_repository::{Packs, TextFault, read_repo};
 use git_server::SharedRepo;
 use std::alloc::Global;
@@ -23,7 +23,7 @@ pub extern "C" fn gitwire_repository_new(
     repository: &mut GitwireRepository,
     text: &[u8],
     pack: &[u8],
-) -> GitwireTold
+) -> GitwireAnswer
     ensures { Begins text.now (packs_given pack.now None) result (repository_in repository.new) }
 {
     begin(alloc, repository, text, pack, None)
@@ -37,7 +37,7 @@ pub extern "C" fn gitwire_repository_new_filtered(
     text: &[u8],
     pack: &[u8],
     filtered: &[u8],
-) -> GitwireTold
+) -> GitwireAnswer
     ensures { Begins text.now (packs_given pack.now (Some filtered.now)) result (repository_in repository.new) }
 {
     begin(alloc, repository, text, pack, Some(filtered))
@@ -49,21 +49,21 @@ fn begin(
     text: &[u8],
     pack: &[u8],
     filtered: Option<&[u8]>,
-) -> GitwireTold
+) -> GitwireAnswer
     ensures { Begins text.now (packs_given pack.now (option_copied filtered.entry)) result (repository_in repository.new) }
 {
     *repository = GitwireRepository::none(alloc);
     let Some(packs) = copy_packs(alloc, pack, filtered) else {
-        return GitwireTold::of(What::OutOfMemory);
+        return GitwireAnswer::of(What::OutOfMemory);
     };
     let made = match read(alloc, text, packs) {
         Ok(made) => made,
-        Err(told) => return told,
+        Err(answer) => return answer,
     };
     let Ok(made) = Box::new(alloc, made) else {
-        return GitwireTold::of(What::OutOfMemory);
+        return GitwireAnswer::of(What::OutOfMemory);
     };
-    GitwireTold::of(fill(repository, alloc, made))
+    GitwireAnswer::of(fill(repository, alloc, made))
 }
 
 /// The packs, in memory of their own; none where it runs out.
@@ -88,20 +88,20 @@ fn copy_packs(alloc: Global, pack: &[u8], filtered: Option<&[u8]>) -> Option<Pac
     }
 }
 
-/// The repository of the text, with these packs; or what C is told where there is none.
-fn read(alloc: Global, text: &[u8], packs: Packs) -> Result<SharedRepo, GitwireTold>
-    ensures { MatchResult result (λ made. Begins text.now (packs_of packs) (telling What.Done) (Some made))
-        (λ told. Begins text.now (packs_of packs) told None) }
+/// The repository of the text, with these packs; or what is reported to C where there is none.
+fn read(alloc: Global, text: &[u8], packs: Packs) -> Result<SharedRepo, GitwireAnswer>
+    ensures { MatchResult result (λ made. Begins text.now (packs_of packs) (answering What.Done) (Some made))
+        (λ answer. Begins text.now (packs_of packs) answer None) }
 {
     let repo = match read_repo(alloc, text, packs) {
         Ok(repo) => repo,
         Err(TextFault::Bad { line }) => {
-            return Err(GitwireTold::of_packet(0, line, 0, What::Failed));
+            return Err(GitwireAnswer::of_packet(0, line, 0, What::Failed));
         }
-        Err(TextFault::OutOfMemory) => return Err(GitwireTold::of(What::OutOfMemory)),
+        Err(TextFault::OutOfMemory) => return Err(GitwireAnswer::of(What::OutOfMemory)),
     };
     let Ok(shared) = SharedRepo::new(alloc, repo) else {
-        return Err(GitwireTold::of(What::OutOfMemory));
+        return Err(GitwireAnswer::of(What::OutOfMemory));
     };
     Ok(shared)
 }

@@ -5,16 +5,16 @@ ghost use Rattle.git_msg.specs.HeldRequest.{asked_of, command_of, format_of};
 ghost use Rattle.gitwire.specs.Calls.{HasNone, Of, On};
 ghost use Rattle.gitwire.specs.Handles.{request_in};
 ghost use Rattle.gitwire.specs.Numbers.{command_number, format_number, item_lists};
-ghost use Rattle.gitwire.specs.RequestsTold.{AddsLine, AddsTold, EndsTold, Makes, MeanNoRequest, MeanRequest, PutsFrom};
-ghost use Rattle.gitwire.specs.Told.{telling};
-ghost use Rattle.gitwire.specs.RequestsTold.{is_set, telling_number, telling_result, telling_which};
+ghost use Rattle.gitwire.specs.RequestAnswers.{AddsLine, AddsAnswers, EndsAnswers, Makes, MeanNoRequest, MeanRequest, PutsFrom};
+ghost use Rattle.gitwire.specs.Answers.{answering};
+ghost use Rattle.gitwire.specs.RequestAnswers.{is_set, telling_number, telling_result, telling_which};
 
+use crate::answer::{GitwireAnswer, What};
 use crate::handles::{GitwireRequest, Holds, fill};
 use crate::numbers::{
     Flag, Given, command_numbered, format_numbered, number_of_command, number_of_format,
 };
 use crate::request_items::put_item;
-use crate::told::{GitwireTold, What};
 use git_msg::{Limits, Offer, Request, read_argument};
 use git_names::Steps;
 use git_pkt::{Fault, Kind};
@@ -26,7 +26,7 @@ pub(crate) const MOST_LIMIT: u32 = 1_073_741_824;
 
 /// Makes the handle's request an empty one of this command, `LS_REFS`, `FETCH` or `OBJECT_INFO`, of this format and with this
 /// limit on the bytes of its argument lines. What it had before is freed. `Done`; `BadValue`, and the handle stays as it was,
-/// where a number stands for nothing or the limit is above 1,073,741,824; or `OutOfMemory`, and the handle has none.
+/// where a number means nothing or the limit is above 1,073,741,824; or `OutOfMemory`, and the handle has none.
 #[unsafe(no_mangle)]
 pub extern "C" fn gitwire_request_new(
     alloc: Global,
@@ -47,7 +47,7 @@ pub extern "C" fn gitwire_request_new(
     fill(request, alloc, made).number()
 }
 
-/// The empty request that is meant; none where a number stands for nothing or the limit is more than one may be.
+/// The empty request that is meant; none where a number means nothing or the limit is more than one may be.
 fn request_meant(alloc: Global, command: u8, format: u8, limit: u32) -> Option<Request<Global>>
     ensures { MatchOption result (MeanNoRequest command format limit) (MeanRequest command format limit) }
 {
@@ -70,19 +70,19 @@ pub extern "C" fn gitwire_request_add(
     alloc: Global,
     request: &mut GitwireRequest,
     line: &[u8],
-) -> GitwireTold
-    ensures { On (request_in request.old) (request_in request.new) (λ old new. AddsTold old line.now result new) (result ≡ telling What.NoHandle) }
+) -> GitwireAnswer
+    ensures { On (request_in request.old) (request_in request.new) (λ old new. AddsAnswers old line.now result new) (result ≡ answering What.NoHandle) }
 {
     let Some(mut taken) = request.take(alloc) else {
-        return GitwireTold::of(What::NoHandle);
+        return GitwireAnswer::of(What::NoHandle);
     };
-    let told = add(&mut taken.inner, line);
+    let answer = add(&mut taken.inner, line);
     request.put(taken);
-    told
+    answer
 }
 
-fn add(request: &mut Request<Global>, line: &[u8]) -> GitwireTold
-    ensures { AddsTold request.old line.now result request.new }
+fn add(request: &mut Request<Global>, line: &[u8]) -> GitwireAnswer
+    ensures { AddsAnswers request.old line.now result request.new }
 {
     tell(add_line(request, line))
 }
@@ -90,7 +90,7 @@ fn add(request: &mut Request<Global>, line: &[u8]) -> GitwireTold
 fn add_line(request: &mut Request<Global>, line: &[u8]) -> Result<(), Kind>
     ensures { AddsLine request.old line.now result request.new }
 {
-    // So that a line is judged by what it says alone.
+    // So that a line is judged by its own text alone.
     let offer = Offer::everything(request.format());
     match read_argument(request.command(), &offer, line, &mut Steps::new()) {
         Ok(argument) => request.add(argument),
@@ -98,30 +98,30 @@ fn add_line(request: &mut Request<Global>, line: &[u8]) -> Result<(), Kind>
     }
 }
 
-fn tell(judged: Result<(), Kind>) -> GitwireTold
+fn tell(judged: Result<(), Kind>) -> GitwireAnswer
     ensures { result ≡ telling_result judged }
 {
     match judged {
-        Ok(()) => GitwireTold::of(What::Done),
-        Err(kind) => GitwireTold::of_fault(0, Fault { kind, offset: 0 }),
+        Ok(()) => GitwireAnswer::of(What::Done),
+        Err(kind) => GitwireAnswer::of_fault(0, Fault { kind, offset: 0 }),
     }
 }
 
 /// Judges whether the request is whole. `Done`; `Failed`, by `DeepenConflict`, `NoWants` or `NoSize`; or `NoHandle`.
 #[unsafe(no_mangle)]
-pub extern "C" fn gitwire_request_end(alloc: Global, request: &mut GitwireRequest) -> GitwireTold
-    ensures { Of (request_in request.old) (request_in request.new) (λ had. EndsTold (asked_of had) result) (result ≡ telling What.NoHandle) }
+pub extern "C" fn gitwire_request_end(alloc: Global, request: &mut GitwireRequest) -> GitwireAnswer
+    ensures { Of (request_in request.old) (request_in request.new) (λ had. EndsAnswers (asked_of had) result) (result ≡ answering What.NoHandle) }
 {
     let Some(taken) = request.take(alloc) else {
-        return GitwireTold::of(What::NoHandle);
+        return GitwireAnswer::of(What::NoHandle);
     };
-    let told = judge_end(&taken.inner);
+    let answer = judge_end(&taken.inner);
     request.put(taken);
-    told
+    answer
 }
 
-fn judge_end(request: &Request<Global>) -> GitwireTold
-    ensures { EndsTold (asked_of request.now) result }
+fn judge_end(request: &Request<Global>) -> GitwireAnswer
+    ensures { EndsAnswers (asked_of request.now) result }
 {
     tell(request.check_end())
 }
@@ -131,36 +131,39 @@ fn judge_end(request: &Request<Global>) -> GitwireTold
 pub extern "C" fn gitwire_request_command(
     alloc: Global,
     request: &mut GitwireRequest,
-) -> GitwireTold
+) -> GitwireAnswer
     ensures { Of (request_in request.old) (request_in request.new) (λ had. result ≡ telling_number (command_number (command_of had)))
-        (result ≡ telling What.NoHandle) }
+        (result ≡ answering What.NoHandle) }
 {
     let Some(taken) = request.take(alloc) else {
-        return GitwireTold::of(What::NoHandle);
+        return GitwireAnswer::of(What::NoHandle);
     };
-    let told = tell_number(number_of_command(taken.inner.command()));
+    let answer = tell_number(number_of_command(taken.inner.command()));
     request.put(taken);
-    told
+    answer
 }
 
 /// The format of the request's object names: `Done`, and `offset` is its number; or `NoHandle`.
 #[unsafe(no_mangle)]
-pub extern "C" fn gitwire_request_format(alloc: Global, request: &mut GitwireRequest) -> GitwireTold
+pub extern "C" fn gitwire_request_format(
+    alloc: Global,
+    request: &mut GitwireRequest,
+) -> GitwireAnswer
     ensures { Of (request_in request.old) (request_in request.new) (λ had. result ≡ telling_number (format_number (format_of had)))
-        (result ≡ telling What.NoHandle) }
+        (result ≡ answering What.NoHandle) }
 {
     let Some(taken) = request.take(alloc) else {
-        return GitwireTold::of(What::NoHandle);
+        return GitwireAnswer::of(What::NoHandle);
     };
-    let told = tell_number(number_of_format(taken.inner.format()));
+    let answer = tell_number(number_of_format(taken.inner.format()));
     request.put(taken);
-    told
+    answer
 }
 
-fn tell_number(number: u64) -> GitwireTold
+fn tell_number(number: u64) -> GitwireAnswer
     ensures { result ≡ telling_number number }
 {
-    GitwireTold::of_packet(0, number, 0, What::Done)
+    GitwireAnswer::of_packet(0, number, 0, What::Done)
 }
 
 /// Whether the request has the flag of this number, from `SYMREFS` to `WAIT_FOR_DONE`. Of another number, and of a handle that has no
@@ -176,9 +179,9 @@ pub extern "C" fn gitwire_request_flag(
     let Some(taken) = request.take(alloc) else {
         return false;
     };
-    let told = has_flag(&taken.inner, flag);
+    let answer = has_flag(&taken.inner, flag);
     request.put(taken);
-    told
+    answer
 }
 
 fn has_flag(request: &Request<Global>, number: u8) -> bool
@@ -209,22 +212,22 @@ pub extern "C" fn gitwire_request_number(
     alloc: Global,
     request: &mut GitwireRequest,
     which: u8,
-) -> GitwireTold
-    ensures { Of (request_in request.old) (request_in request.new) (λ had. result ≡ telling_which which (asked_of had)) (result ≡ telling What.NoHandle) }
+) -> GitwireAnswer
+    ensures { Of (request_in request.old) (request_in request.new) (λ had. result ≡ telling_which which (asked_of had)) (result ≡ answering What.NoHandle) }
 {
     let Some(taken) = request.take(alloc) else {
-        return GitwireTold::of(What::NoHandle);
+        return GitwireAnswer::of(What::NoHandle);
     };
-    let told = given_number(&taken.inner, which);
+    let answer = given_number(&taken.inner, which);
     request.put(taken);
-    told
+    answer
 }
 
-fn given_number(request: &Request<Global>, which: u8) -> GitwireTold
+fn given_number(request: &Request<Global>, which: u8) -> GitwireAnswer
     ensures { result ≡ telling_which which (asked_of request.now) }
 {
     let Some(which) = Given::numbered(which) else {
-        return GitwireTold::of(What::BadValue);
+        return GitwireAnswer::of(What::BadValue);
     };
     let given = match which {
         Given::Deepen => request.deepen(),
@@ -232,7 +235,7 @@ fn given_number(request: &Request<Global>, which: u8) -> GitwireTold
     };
     match given {
         Some(number) => tell_number(number),
-        None => GitwireTold::of(What::Nothing),
+        None => GitwireAnswer::of(What::Nothing),
     }
 }
 
@@ -245,16 +248,16 @@ pub extern "C" fn gitwire_request_item(
     list: u8,
     index: usize,
     room: &mut [u8],
-) -> GitwireTold
+) -> GitwireAnswer
     ensures { Of (request_in request.old) (request_in request.new) (λ had. PutsFrom (slice_get item_lists list) (asked_of had) index room.old result room.new)
         (HasNone room.old result room.new) }
 {
     let Some(taken) = request.take(alloc) else {
-        return GitwireTold::of(What::NoHandle);
+        return GitwireAnswer::of(What::NoHandle);
     };
-    let told = put_item(&taken.inner, list, index, room);
+    let answer = put_item(&taken.inner, list, index, room);
     request.put(taken);
-    told
+    answer
 }
 
 /// Frees the request. The handle has none from then on.

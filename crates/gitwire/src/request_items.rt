@@ -5,11 +5,11 @@ ghost use Rattle.std.specs.Option.{option_copied, option_map};
 ghost use Rattle.git_names.specs.ObjectName.{hex_of};
 ghost use Rattle.git_msg.specs.HeldRequest.{asked_of};
 ghost use Rattle.gitwire.specs.Numbers.{item_lists};
-ghost use Rattle.gitwire.specs.RequestsTold.{PutsFrom, PutsItem};
+ghost use Rattle.gitwire.specs.RequestAnswers.{PutsFrom, PutsItem};
 
+use crate::answer::{GitwireAnswer, What};
 use crate::numbers::ItemList;
 use crate::rooms::fill;
-use crate::told::{GitwireTold, What};
 use git_msg::Request;
 use git_names::Oid;
 use std::alloc::Global;
@@ -20,11 +20,11 @@ pub(crate) fn put_item(
     list: u8,
     index: usize,
     room: &mut [u8],
-) -> GitwireTold
+) -> GitwireAnswer
     ensures { PutsFrom (slice_get item_lists list) (asked_of request.now) index room.old result room.new }
 {
     let Some(list) = ItemList::numbered(list) else {
-        return GitwireTold::of(What::BadValue);
+        return GitwireAnswer::of(What::BadValue);
     };
     match list {
         ItemList::RefPrefixes => put_text_if_any(request.ref_prefix(index), room),
@@ -38,20 +38,20 @@ pub(crate) fn put_item(
     }
 }
 
-fn put_text_if_any(text: Option<&[u8]>, room: &mut [u8]) -> GitwireTold
+fn put_text_if_any(text: Option<&[u8]>, room: &mut [u8]) -> GitwireAnswer
     ensures { PutsItem (option_copied text.entry) room.old result room.new }
 {
     match text {
         Some(text) => fill(text, room),
-        None => GitwireTold::of(What::Nothing),
+        None => GitwireAnswer::of(What::Nothing),
     }
 }
 
-fn put_name_if_any(id: Option<&Oid>, room: &mut [u8]) -> GitwireTold
+fn put_name_if_any(id: Option<&Oid>, room: &mut [u8]) -> GitwireAnswer
     ensures { PutsItem (option_map hex_of (option_copied id.entry)) room.old result room.new }
 {
     let Some(id) = id else {
-        return GitwireTold::of(What::Nothing);
+        return GitwireAnswer::of(What::Nothing);
     };
     let mut digits = [0; 64];
     let length = id.write(&mut digits);

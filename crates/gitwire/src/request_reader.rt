@@ -3,13 +3,13 @@
 ghost use Rattle.std.specs.Prelude.{◌≡◌, MatchOption, None};
 ghost use Rattle.gitwire.specs.Calls.{On};
 ghost use Rattle.gitwire.specs.Handles.{request_in, request_reader_in};
-ghost use Rattle.gitwire.specs.RequestReaderTold.{ClosesTold, FeedsIn, FeedsTold, Holds, MakesReader, MeanNoReader, MeanReader};
-ghost use Rattle.gitwire.specs.Told.{telling};
+ghost use Rattle.gitwire.specs.RequestReaderAnswers.{ClosesAnswers, FeedsIn, FeedsAnswers, Holds, MakesReader, MeanNoReader, MeanReader};
+ghost use Rattle.gitwire.specs.Answers.{answering};
 
+use crate::answer::{GitwireAnswer, What};
 use crate::handles::{GitwireRequest, GitwireRequestReader, Holds, Taken, fill};
 use crate::offer::GitwireOffer;
 use crate::request::MOST_LIMIT;
-use crate::told::{GitwireTold, What};
 use git_msg::{Command, Limits, ReadGot, ReadRequest, Request, RequestStream};
 use git_names::Format;
 use std::alloc::Global;
@@ -50,8 +50,8 @@ fn reader_meant(alloc: Global, offer: GitwireOffer, limit: u32) -> Option<Reques
     Some(RequestStream::new(alloc, offer, Limits { args: limit }))
 }
 
-/// Reads on, to the end of the next request. `Request`, and the handle for requests has it, in the place of what that had before;
-/// `More` with the whole piece used; `NotNow` after a `Stop`; `Stop` at a flush in the place of a request; `Failed` at the
+/// Reads on, to the end of the next request. `Request`, and the handle for requests has it, instead of what that had before;
+/// `More` with the whole piece used; `NotNow` after a `Stop`; `Stop` at a flush instead of a request; `Failed` at the
 /// first fault, and again from then on; or `NoHandle`. A handle for requests that has none is given an empty one first;
 /// `OutOfMemory` where there is no memory for that, and then nothing was read.
 #[unsafe(no_mangle)]
@@ -60,20 +60,20 @@ pub extern "C" fn gitwire_request_reader_feed(
     reader: &mut GitwireRequestReader,
     request: &mut GitwireRequest,
     piece: &[u8],
-) -> GitwireTold
+) -> GitwireAnswer
     ensures { FeedsIn (request_reader_in reader.old) piece.now (request_in request.old) result (request_reader_in reader.new) (request_in request.new) }
 {
     let Some(mut taken) = reader.take(alloc) else {
-        return GitwireTold::of(What::NoHandle);
+        return GitwireAnswer::of(What::NoHandle);
     };
     let Some(mut held) = take_request(alloc, request) else {
         reader.put(taken);
-        return GitwireTold::of(What::OutOfMemory);
+        return GitwireAnswer::of(What::OutOfMemory);
     };
-    let told = feed(&mut taken.inner, piece, &mut held.inner);
+    let answer = feed(&mut taken.inner, piece, &mut held.inner);
     reader.put(taken);
     request.put(held);
-    told
+    answer
 }
 
 /// The request of the handle, or an empty one; none where there is no memory for that.
@@ -96,48 +96,48 @@ fn feed(
     reader: &mut RequestStream<Global>,
     piece: &[u8],
     request: &mut Request<Global>,
-) -> GitwireTold
-    ensures { FeedsTold reader.old piece.now request.old result reader.new request.new }
+) -> GitwireAnswer
+    ensures { FeedsAnswers reader.old piece.now request.old result reader.new request.new }
 {
     let due = reader.wants_input();
     let ReadRequest { used, got } = reader.feed(piece);
     match got {
-        ReadGot::More => GitwireTold::of_used(used, What::more(due)),
+        ReadGot::More => GitwireAnswer::of_used(used, What::more(due)),
         ReadGot::Request(asked) => {
             *request = asked;
-            GitwireTold::of_used(used, What::Request)
+            GitwireAnswer::of_used(used, What::Request)
         }
-        ReadGot::Stop => GitwireTold::of_used(used, What::Stop),
-        ReadGot::Failed(fault) => GitwireTold::of_fault(used, fault),
+        ReadGot::Stop => GitwireAnswer::of_used(used, What::Stop),
+        ReadGot::Failed(fault) => GitwireAnswer::of_fault(used, fault),
     }
 }
 
-/// Tells that the input ends here. `Done` between two requests; `Failed` inside one, as `Truncated`; `NotNow`, and nothing
-/// changed, after a fault or a flush in the place of a request; or `NoHandle`.
+/// The input ends here. `Done` between two requests; `Failed` inside one, as `Truncated`; `NotNow`, and nothing
+/// changed, after a fault or a flush instead of a request; or `NoHandle`.
 #[unsafe(no_mangle)]
 pub extern "C" fn gitwire_request_reader_close(
     alloc: Global,
     reader: &mut GitwireRequestReader,
-) -> GitwireTold
-    ensures { On (request_reader_in reader.old) (request_reader_in reader.new) (λ old new. ClosesTold old result new) (result ≡ telling What.NoHandle) }
+) -> GitwireAnswer
+    ensures { On (request_reader_in reader.old) (request_reader_in reader.new) (λ old new. ClosesAnswers old result new) (result ≡ answering What.NoHandle) }
 {
     let Some(mut taken) = reader.take(alloc) else {
-        return GitwireTold::of(What::NoHandle);
+        return GitwireAnswer::of(What::NoHandle);
     };
-    let told = close(&mut taken.inner);
+    let answer = close(&mut taken.inner);
     reader.put(taken);
-    told
+    answer
 }
 
-fn close(reader: &mut RequestStream<Global>) -> GitwireTold
-    ensures { ClosesTold reader.old result reader.new }
+fn close(reader: &mut RequestStream<Global>) -> GitwireAnswer
+    ensures { ClosesAnswers reader.old result reader.new }
 {
     if !reader.wants_input() {
-        return GitwireTold::of(What::NotNow);
+        return GitwireAnswer::of(What::NotNow);
     }
     match reader.close() {
-        Ok(()) => GitwireTold::of(What::Done),
-        Err(fault) => GitwireTold::of_fault(0, fault),
+        Ok(()) => GitwireAnswer::of(What::Done),
+        Err(fault) => GitwireAnswer::of_fault(0, fault),
     }
 }
 

@@ -2,9 +2,9 @@
 
 ghost use Rattle.gitwire.specs.Rooms.{Fills, Puts};
 
-use crate::told::{GitwireTold, What};
+use crate::answer::{GitwireAnswer, What};
 
-/// Copies the bytes to the front of the room, and says how many they are; or 0, and nothing is written, where the room is too
+/// Copies the bytes to the front of the room, and returns how many they are; or 0, and nothing is written, where the room is too
 /// small.
 pub(crate) fn put_bytes(bytes: &[u8], room: &mut [u8]) -> usize
     ensures { Puts bytes.now room.old result room.new }
@@ -16,12 +16,12 @@ pub(crate) fn put_bytes(bytes: &[u8], room: &mut [u8]) -> usize
     bytes.len()
 }
 
-/// Copies the bytes to the front of the room, and tells how many they are, or that it is too small.
-pub(crate) fn fill(bytes: &[u8], room: &mut [u8]) -> GitwireTold
+/// Copies the bytes to the front of the room, and reports how many they are, or that it is too small.
+pub(crate) fn fill(bytes: &[u8], room: &mut [u8]) -> GitwireAnswer
     ensures { Fills bytes.now room.old result room.new }
 {
     if room.len() < bytes.len() {
-        return GitwireTold::of(What::RoomTooSmall);
+        return GitwireAnswer::of(What::RoomTooSmall);
     }
-    GitwireTold::of_packet(0, 0, put_bytes(bytes, room), What::Done)
+    GitwireAnswer::of_packet(0, 0, put_bytes(bytes, room), What::Done)
 }

@@ -3,11 +3,11 @@
 ghost use Rattle.std.specs.Prelude.{◌≡◌, IfSome, None};
 ghost use Rattle.gitwire.specs.Calls.{HasNone, On};
 ghost use Rattle.gitwire.specs.Handles.{repository_in, server_in};
-ghost use Rattle.gitwire.specs.Told.{telling, what_number};
-ghost use Rattle.gitwire.specs.ServerTold.{BeginsOver, BeginsWithin, ClosesTold, FeedsTold, PullsInRoom, Starts};
+ghost use Rattle.gitwire.specs.Answers.{answering, what_number};
+ghost use Rattle.gitwire.specs.ServerAnswers.{BeginsOver, BeginsWithin, ClosesAnswers, FeedsAnswers, PullsInRoom, Starts};
 
+use crate::answer::{GitwireAnswer, What};
 use crate::handles::{GitwireRepository, GitwireServer, Holds, fill};
-use crate::told::{GitwireTold, What};
 use git_msg::{Limits, Offer};
 use git_names::Steps;
 use git_pkt::LONGEST_PACKET;
@@ -36,9 +36,9 @@ pub extern "C" fn gitwire_server_new(
     let Some(taken) = repository.take(alloc) else {
         return What::NoHandle.number();
     };
-    let told = begin(alloc, server, &taken.inner, limit, advertise);
+    let answer = begin(alloc, server, &taken.inner, limit, advertise);
     repository.put(taken);
-    told
+    answer
 }
 
 fn begin(
@@ -80,47 +80,47 @@ fn make(
     }
 }
 
-/// Takes bytes of the input: all of them, or those up to the end of a request, a flush in the place of one, or a fault. None is
+/// Takes bytes of the input: all of them, or those up to the end of a request, a flush instead of one, or a fault. None is
 /// used while a packet waits to be pulled, nor after the end: `NotNow`. `More`, and how many were used; or `NoHandle`.
 #[unsafe(no_mangle)]
 pub extern "C" fn gitwire_server_feed(
     alloc: Global,
     server: &mut GitwireServer,
     piece: &[u8],
-) -> GitwireTold
-    ensures { On (server_in server.old) (server_in server.new) (λ old new. FeedsTold old piece.now result new) (result ≡ telling What.NoHandle) }
+) -> GitwireAnswer
+    ensures { On (server_in server.old) (server_in server.new) (λ old new. FeedsAnswers old piece.now result new) (result ≡ answering What.NoHandle) }
 {
     let Some(mut taken) = server.take(alloc) else {
-        return GitwireTold::of(What::NoHandle);
+        return GitwireAnswer::of(What::NoHandle);
     };
-    let told = feed(&mut taken.inner, piece);
+    let answer = feed(&mut taken.inner, piece);
     server.put(taken);
-    told
+    answer
 }
 
-fn feed(server: &mut Server<SharedRepo, Global>, piece: &[u8]) -> GitwireTold
-    ensures { FeedsTold server.old piece.now result server.new }
+fn feed(server: &mut Server<SharedRepo, Global>, piece: &[u8]) -> GitwireAnswer
+    ensures { FeedsAnswers server.old piece.now result server.new }
 {
     let due = server.wants_input();
     let used = server.feed(piece, &mut Steps::new());
-    GitwireTold::of_used(used, What::more(due))
+    GitwireAnswer::of_used(used, What::more(due))
 }
 
-/// Tells that the input ends here. `Done`; `NotNow` where the server does not wait for bytes, and nothing changed; or `NoHandle`.
+/// The input ends here. `Done`; `NotNow` where the server does not wait for bytes, and nothing changed; or `NoHandle`.
 #[unsafe(no_mangle)]
 pub extern "C" fn gitwire_server_close(alloc: Global, server: &mut GitwireServer) -> u8
-    ensures { On (server_in server.old) (server_in server.new) (λ old new. ClosesTold old result new) (result ≡ what_number What.NoHandle) }
+    ensures { On (server_in server.old) (server_in server.new) (λ old new. ClosesAnswers old result new) (result ≡ what_number What.NoHandle) }
 {
     let Some(mut taken) = server.take(alloc) else {
         return What::NoHandle.number();
     };
-    let told = close(&mut taken.inner);
+    let answer = close(&mut taken.inner);
     server.put(taken);
-    told
+    answer
 }
 
 fn close(server: &mut Server<SharedRepo, Global>) -> u8
-    ensures { ClosesTold server.old result server.new }
+    ensures { ClosesAnswers server.old result server.new }
 {
     if !server.wants_input() {
         return What::NotNow.number();
@@ -136,33 +136,33 @@ pub extern "C" fn gitwire_server_pull(
     alloc: Global,
     server: &mut GitwireServer,
     room: &mut [u8],
-) -> GitwireTold
+) -> GitwireAnswer
     ensures { On (server_in server.old) (server_in server.new) (λ old new. PullsInRoom old room.old result room.new new) (HasNone room.old result room.new) }
 {
     let Some(mut taken) = server.take(alloc) else {
-        return GitwireTold::of(What::NoHandle);
+        return GitwireAnswer::of(What::NoHandle);
     };
-    let told = pull(&mut taken.inner, room);
+    let answer = pull(&mut taken.inner, room);
     server.put(taken);
-    told
+    answer
 }
 
-fn pull(server: &mut Server<SharedRepo, Global>, room: &mut [u8]) -> GitwireTold
+fn pull(server: &mut Server<SharedRepo, Global>, room: &mut [u8]) -> GitwireAnswer
     ensures { PullsInRoom server.old room.old result room.new server.new }
 {
     if room.len() < LONGEST_PACKET {
-        return GitwireTold::of(What::RoomTooSmall);
+        return GitwireAnswer::of(What::RoomTooSmall);
     }
     match server.pull() {
-        Pulled::NeedInput => GitwireTold::of(What::NeedInput),
+        Pulled::NeedInput => GitwireAnswer::of(What::NeedInput),
         Pulled::Packet(bytes) => {
             room[..bytes.len()].copy_from_slice(bytes);
-            GitwireTold::of_packet(0, 0, bytes.len(), What::Packet)
+            GitwireAnswer::of_packet(0, 0, bytes.len(), What::Packet)
         }
         Pulled::Finished(outcome) => match outcome {
-            Outcome::Flush => GitwireTold::of(What::EndedByFlush),
-            Outcome::Closed => GitwireTold::of(What::EndedByClose),
-            Outcome::Refused(fault) => GitwireTold::of_fault(0, fault),
+            Outcome::Flush => GitwireAnswer::of(What::EndedByFlush),
+            Outcome::Closed => GitwireAnswer::of(What::EndedByClose),
+            Outcome::Refused(fault) => GitwireAnswer::of_fault(0, fault),
         },
     }
 }

@@ -4,9 +4,9 @@ ghost use Rattle.std.specs.Prelude.{◌≡◌, None};
 ghost use Rattle.gitwire.specs.Handles.{writer_in};
 ghost use Rattle.gitwire.specs.WrittenForC.{BeginsToWrite};
 
+use crate::answer::What;
 use crate::handles::{GitwireWriter, Holds, fill};
 use crate::machine::PacketBuffer;
-use crate::told::What;
 use git_pkt::Hold;
 use std::alloc::Global;
 use std::mem::replace;

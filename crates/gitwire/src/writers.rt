@@ -7,11 +7,11 @@ ghost use Rattle.gitwire.specs.Handles.{writer_in};
 ghost use Rattle.gitwire.specs.Offers.{offer_meant};
 ghost use Rattle.gitwire.specs.WrittenForC.{Advertises, Makes, MeansBand, MeansError, MeansLine, MeansPacket, Writes, WritesIn};
 
+use crate::answer::{GitwireAnswer, What};
 use crate::handles::{GitwireWriter, Holds};
 use crate::offer::GitwireOffer;
 use crate::packets::LONGEST_PAYLOAD;
 use crate::rooms::fill;
-use crate::told::{GitwireTold, What};
 use crate::written::{Unwritten, hand_out};
 use git_msg::put_line;
 use git_pkt::{Band, Hold, Kind, Packet, put, put_band};
@@ -28,16 +28,16 @@ pub extern "C" fn gitwire_put_packet(
     kind: u8,
     payload: &[u8],
     room: &mut [u8],
-) -> GitwireTold
+) -> GitwireAnswer
     ensures { WritesIn (writer_in writer.old) (Writes (MeansPacket kind payload.now)) room.old result room.new (writer_in writer.new) }
 {
     let Some(mut taken) = writer.take(alloc) else {
-        return GitwireTold::of(What::NoHandle);
+        return GitwireAnswer::of(What::NoHandle);
     };
     let made = make_packet(&mut taken.inner.hold, kind, payload);
-    let told = hand_out(made, &taken.inner.hold, room);
+    let answer = hand_out(made, &taken.inner.hold, room);
     writer.put(taken);
-    told
+    answer
 }
 
 /// Writes a packet with these bytes on a band, 1, 2 or 3, to the front of the room. Another number is BadValue, and then
@@ -50,16 +50,16 @@ pub extern "C" fn gitwire_put_band(
     band: u8,
     bytes: &[u8],
     room: &mut [u8],
-) -> GitwireTold
+) -> GitwireAnswer
     ensures { WritesIn (writer_in writer.old) (Writes (MeansBand band bytes.now)) room.old result room.new (writer_in writer.new) }
 {
     let Some(mut taken) = writer.take(alloc) else {
-        return GitwireTold::of(What::NoHandle);
+        return GitwireAnswer::of(What::NoHandle);
     };
     let made = make_band(&mut taken.inner.hold, band, bytes);
-    let told = hand_out(made, &taken.inner.hold, room);
+    let answer = hand_out(made, &taken.inner.hold, room);
     writer.put(taken);
-    told
+    answer
 }
 
 /// Writes the packet of a line to the front of the room: the text and LF. More than 65,515 bytes are BadLine.
@@ -70,16 +70,16 @@ pub extern "C" fn gitwire_put_line(
     writer: &mut GitwireWriter,
     text: &[u8],
     room: &mut [u8],
-) -> GitwireTold
+) -> GitwireAnswer
     ensures { WritesIn (writer_in writer.old) (Writes (MeansLine text.now)) room.old result room.new (writer_in writer.new) }
 {
     let Some(mut taken) = writer.take(alloc) else {
-        return GitwireTold::of(What::NoHandle);
+        return GitwireAnswer::of(What::NoHandle);
     };
     let made = make_line(&mut taken.inner.hold, b"", text);
-    let told = hand_out(made, &taken.inner.hold, room);
+    let answer = hand_out(made, &taken.inner.hold, room);
     writer.put(taken);
-    told
+    answer
 }
 
 /// Writes an error packet, gitprotocol-pack(5), to the front of the room: `ERR `, the text and LF. More than 65,511 bytes
@@ -91,16 +91,16 @@ pub extern "C" fn gitwire_put_error(
     writer: &mut GitwireWriter,
     text: &[u8],
     room: &mut [u8],
-) -> GitwireTold
+) -> GitwireAnswer
     ensures { WritesIn (writer_in writer.old) (Writes (MeansError text.now)) room.old result room.new (writer_in writer.new) }
 {
     let Some(mut taken) = writer.take(alloc) else {
-        return GitwireTold::of(What::NoHandle);
+        return GitwireAnswer::of(What::NoHandle);
     };
     let made = make_line(&mut taken.inner.hold, b"ERR ", text);
-    let told = hand_out(made, &taken.inner.hold, room);
+    let answer = hand_out(made, &taken.inner.hold, room);
     writer.put(taken);
-    told
+    answer
 }
 
 /// Writes the whole advertisement of an offer, packet after packet to its flush, to the front of the room: fewer than 200
@@ -111,22 +111,22 @@ pub extern "C" fn gitwire_put_advertisement(
     writer: &mut GitwireWriter,
     offer: GitwireOffer,
     room: &mut [u8],
-) -> GitwireTold
+) -> GitwireAnswer
     ensures { WritesIn (writer_in writer.old) (Advertises (offer_meant offer)) room.old result room.new (writer_in writer.new) }
 {
     let Some(mut taken) = writer.take(alloc) else {
-        return GitwireTold::of(What::NoHandle);
+        return GitwireAnswer::of(What::NoHandle);
     };
-    let told = advertise(&mut taken.inner.hold, offer, room);
+    let answer = advertise(&mut taken.inner.hold, offer, room);
     writer.put(taken);
-    told
+    answer
 }
 
-fn advertise(hold: &mut Hold, offer: GitwireOffer, room: &mut [u8]) -> GitwireTold
+fn advertise(hold: &mut Hold, offer: GitwireOffer, room: &mut [u8]) -> GitwireAnswer
     ensures { Advertises (offer_meant offer) room.old result room.new }
 {
     let Some(offer) = offer.meant() else {
-        return GitwireTold::of(What::BadValue);
+        return GitwireAnswer::of(What::BadValue);
     };
     put_advertisement(hold, &offer);
     fill(hold.as_slice(), room)

@@ -4,15 +4,15 @@ ghost use Rattle.std.specs.Prelude.{◌≡◌, IfErr, OnOk};
 ghost use Rattle.gitwire.specs.Rooms.{Fills};
 ghost use Rattle.gitwire.specs.WrittenForC.{refused_name, telling_why};
 
+use crate::answer::{GitwireAnswer, What};
 use crate::rooms::fill;
-use crate::told::{GitwireTold, What};
 use git_names::NameFault;
 use git_pkt::{Fault, Hold, Kind};
 
 /// Why values that C gives mean no packet.
 #[derive(Clone, Copy, Debug)]
 pub(crate) enum Unwritten {
-    /// A number stands for nothing.
+    /// A number means nothing.
     BadValue,
     /// A text is none of the packet's kind, by this name.
     Refused(Kind),
@@ -26,14 +26,14 @@ impl From<NameFault> for Unwritten {
     }
 }
 
-/// Copies the packet that was made to the front of the room, or tells why there is none.
-pub(crate) fn hand_out(made: Result<(), Unwritten>, hold: &Hold, room: &mut [u8]) -> GitwireTold
+/// Copies the packet that was made to the front of the room, or reports why there is none.
+pub(crate) fn hand_out(made: Result<(), Unwritten>, hold: &Hold, room: &mut [u8]) -> GitwireAnswer
     ensures made { OnOk made (Fills hold.now.items room.old result room.new) }
     ensures unwritten { IfErr made (λ why. (result ≡ telling_why why) × (room.new ≡ room.old)) }
 {
     match made {
         Ok(()) => fill(hold.as_slice(), room),
-        Err(Unwritten::BadValue) => GitwireTold::of(What::BadValue),
-        Err(Unwritten::Refused(kind)) => GitwireTold::of_fault(0, Fault { kind, offset: 0 }),
+        Err(Unwritten::BadValue) => GitwireAnswer::of(What::BadValue),
+        Err(Unwritten::Refused(kind)) => GitwireAnswer::of_fault(0, Fault { kind, offset: 0 }),
     }
 }

@@ -46,7 +46,7 @@ pub fn written(alloc: Global, request: &Request<Global>, caps: &Caps) -> Result<
 }
 
 impl Asking {
-    // Adds an argument, and says how that went.
+    // Adds an argument, and returns how that went.
     fn told(
         self,
         alloc: Global,
@@ -75,7 +75,7 @@ impl Asking {
         written(alloc, request, &caps)
     }
 
-    /// Each argument is kept or refused as the line after it says, and the request is written as the ending does.
+    /// Each argument is kept or refused as the line after it states, and the request is written as the ending has it.
     pub fn goes(self, alloc: Global, script: &Script) -> Result<usize, Trouble> {
         let limits = limits(self.limit);
         let mut request = Request::new(alloc, self.command, self.format, limits);

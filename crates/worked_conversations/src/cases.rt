@@ -23,7 +23,7 @@ struct Files {
     repository: Vec<u8>,
     pack: Vec<u8>,
     filtered: Option<Vec<u8>>,
-    /// What a client has heard before.
+    /// What a client has received before.
     heard: Vec<u8>,
     recording: Option<Recording>,
 }
@@ -74,7 +74,7 @@ impl<'a> Words<'a> {
         }
     }
 
-    // The word after which the file of a repository stands.
+    // The word after which the file of a repository is named.
     fn end(self) -> &'static str {
         match self.has("play") {
             true => "play",
@@ -92,7 +92,7 @@ impl<'a> Words<'a> {
         Command::LsRefs
     }
 
-    // The number after this word, if it stands there.
+    // The number after this word, if the word is there.
     fn number(self, word: &str) -> Result<Option<u32>, Trouble> {
         match self.after(word) {
             Some(number) => match number.parse::<u32>() {
@@ -227,7 +227,7 @@ fn subject_of<'a>(words: Words<'_>, files: &'a Files) -> Result<Subject<'a>, Tro
     Ok(Subject::End(end_of(words, files)?))
 }
 
-// The file that stands after this word, where the word stands there.
+// The file that is named after this word, where the word is there.
 fn named_file(rt: &HostRuntime, words: Words<'_>, word: &str) -> Result<Option<Vec<u8>>, Trouble> {
     match words.after(word) {
         Some(path) => Ok(Some(fs::read(rt, path)?)),
@@ -317,7 +317,7 @@ fn goes(rt: &HostRuntime, alloc: Global, setup: &str, lines: &[&str]) -> Result<
     }
 }
 
-// The line that tells how a case went.
+// The line that reports how a case went.
 fn line_of(alloc: Global, name: &str, went: &Result<usize, Trouble>) -> Result<String, AllocError> {
     match went {
         Ok(runs) => format!(in alloc; "ok: {name} ({runs})"),
@@ -329,7 +329,7 @@ fn line_of(alloc: Global, name: &str, went: &Result<usize, Trouble>) -> Result<S
     }
 }
 
-/// How many cases went as they say, and how many did not.
+/// How many cases went as they state, and how many did not.
 #[derive(Clone, Copy, Default)]
 pub struct Count {
     pub passed: u32,

@@ -71,7 +71,7 @@ pub fn goes(
     compare(alloc, &run, due, place)
 }
 
-// How many bytes of the transcript stand before the line of the request with this number, from 0.
+// How many bytes of the transcript come before the line of the request with this number, from 0.
 fn before_request(given: &[u8], number: usize) -> usize {
     let mut before = 0usize;
     let mut seen = 0usize;
@@ -97,7 +97,7 @@ fn responses_before(script: &Script, given: usize) -> usize {
     script.told()
 }
 
-/// Where the requests stand at a byte.
+/// How far the requests have come at a byte.
 #[derive(Clone, Copy)]
 struct Place {
     /// Where the last whole packet ends.

@@ -1,12 +1,12 @@
-//! A client that asks and is fed: what it sends, the transcript of what it hears, the bytes of the side bands, how it ended,
+//! A client that asks and is fed: what it sends, the transcript of what it receives, the bytes of the side bands, how it ended,
 //! and what it noted.
 
 use crate::escapes::escaped;
-use crate::questions::{Question, shown};
 use crate::runs::Run;
 use crate::script::{Script, append_sent};
 use crate::setup::MANY;
 use crate::trouble::Trouble;
+use crate::wordings::{Wording, shown};
 use git_client::{Client, Ending, Event, HeardGot, Sent, write_asked, write_event};
 use git_msg::Caps;
 use git_names::{Format, Steps};
@@ -18,7 +18,7 @@ use std::alloc::{AllocError, Global};
 pub struct Setup<'a> {
     pub format: Format,
     pub ending: Ending,
-    /// The advertisement that it has heard before its case begins, where the case does not begin with one.
+    /// The advertisement that it has received before its case begins, where the case does not begin with one.
     pub heard: &'a [u8],
 }
 
@@ -50,7 +50,7 @@ pub fn append_noted(line: &mut String, caps: &Caps) -> Result<(), AllocError> {
     line.push_str("\n")
 }
 
-/// What a client sent and heard.
+/// What a client sent and received.
 #[derive(Drop)]
 struct Notes {
     // A line for each packet that it sends and each event, and for each request that was refused.
@@ -103,7 +103,7 @@ impl Notes {
 struct Talk<'a> {
     alloc: Global,
     client: Client<Global>,
-    questions: &'a [Question],
+    wordings: &'a [Wording],
     leaves: bool,
     // Whether the case has the packets that are sent.
     shows_sent: bool,
@@ -111,12 +111,12 @@ struct Talk<'a> {
 }
 
 impl<'a> Talk<'a> {
-    // A client that has heard what comes before its case.
+    // A client that has received what comes before its case.
     fn new(alloc: Global, setup: &Setup<'_>, script: &'a Script) -> Result<Talk<'a>, Trouble> {
         let mut talk = Talk {
             alloc,
             client: Client::new(setup.format, setup.ending),
-            questions: &[],
+            wordings: &[],
             leaves: false,
             shows_sent: !script.asked.is_empty(),
             notes: Notes::new(alloc),
@@ -126,7 +126,7 @@ impl<'a> Talk<'a> {
             return Err(Trouble::BadCase("more than an advertisement was heard before"));
         }
         talk.notes = Notes::new(alloc);
-        talk.questions = script.questions.as_slice();
+        talk.wordings = script.wordings.as_slice();
         talk.leaves = script.leaves;
         talk.say()?;
         Ok(talk)
@@ -166,7 +166,7 @@ impl<'a> Talk<'a> {
         if !self.client.can_ask() {
             return Err(Trouble::Breaks("a client that can be asked says that it cannot"));
         }
-        let Some((question, rest)) = self.questions.split_first() else {
+        let Some((wording, rest)) = self.wordings.split_first() else {
             if self.leaves {
                 self.leaves = false;
                 self.client.leave();
@@ -174,13 +174,13 @@ impl<'a> Talk<'a> {
             }
             return Ok(false);
         };
-        self.questions = rest;
-        self.ask_one(question)?;
+        self.wordings = rest;
+        self.ask_one(wording)?;
         Ok(true)
     }
 
-    fn ask_one(&mut self, question: &Question) -> Result<(), Trouble> {
-        let request = question.request(self.alloc)?;
+    fn ask_one(&mut self, wording: &Wording) -> Result<(), Trouble> {
+        let request = wording.request(self.alloc)?;
         let asked = shown(self.alloc, &request)?;
         if !self.client.can_ask() {
             return Ok(());
@@ -188,7 +188,7 @@ impl<'a> Talk<'a> {
         match self.client.ask(request) {
             Ok(()) => {
                 let mut line = Vec::new(self.alloc);
-                if write_asked(&mut Told::new(&mut line), question.command).is_err() {
+                if write_asked(&mut Told::new(&mut line), wording.command).is_err() {
                     return Err(Trouble::Breaks("a line is not written"));
                 }
                 self.notes.lines.extend_from_slice(line.as_slice())?;
@@ -207,7 +207,7 @@ impl<'a> Talk<'a> {
         Ok(())
     }
 
-    // Hears a piece, up to where no more input is wanted, and says what is to be said between.
+    // Receives a piece, up to where no more input is wanted, and sends what is to be sent between.
     fn hear(&mut self, piece: &[u8]) -> Result<(), Trouble> {
         let mut rest = piece;
         for _ in 0..=piece.len() {
@@ -244,7 +244,7 @@ impl<'a> Talk<'a> {
         }
     }
 
-    // A client that is at its end uses nothing more, and says so of itself in every way. Answers how it ended.
+    // A client that is at its end uses nothing more, and reports its end by each of its functions. Answers how it ended.
     fn ended(&mut self) -> Result<String, Trouble> {
         let position = self.client.position();
         let heard = self.client.feed(b"0000", &mut Steps::new());
@@ -288,7 +288,7 @@ fn append_message(alloc: Global, ending: &mut String, message: &[u8]) -> Result<
     ending.push_str("\n")
 }
 
-/// Feeds the pieces to a client, which asks what the case says as soon as it can, and after which the input ends.
+/// Feeds the pieces to a client, which sends the requests of the case as soon as it can, and after which the input ends.
 pub fn fed(
     alloc: Global,
     setup: &Setup<'_>,

@@ -4,7 +4,7 @@ use crate::trouble::Trouble;
 use git_pkt::escape_into;
 use std::alloc::{AllocError, Global};
 
-/// Where a text stands between two bytes.
+/// How far an escape has come between two bytes of a text.
 #[derive(Clone, Copy)]
 enum Place {
     Plain,
@@ -25,7 +25,7 @@ fn digit(byte: u8) -> Option<u8> {
     }
 }
 
-/// The length that the four digits of a packet tell.
+/// The length in the four digits of a packet.
 pub fn length_told(digits: &[u8]) -> Option<usize> {
     let [first, second, third, fourth] = digits else {
         return None;
@@ -35,7 +35,7 @@ pub fn length_told(digits: &[u8]) -> Option<usize> {
     Some(((first * 16 + second) * 16 + third) * 16 + fourth)
 }
 
-/// Appends the bytes that an escaped text stands for: `\n` is LF, `\\` a backslash, `\x` and two digits that byte.
+/// Appends the bytes of an escaped text: `\n` is LF, `\\` a backslash, `\x` and two digits that byte.
 pub fn append_unescaped(bytes: &mut Vec<u8>, text: &str) -> Result<(), Trouble> {
     let mut place = Place::Plain;
     for byte in text.as_bytes() {

@@ -1,4 +1,4 @@
-//! Lists that make a repository or do not, told as lines.
+//! Lists that make a repository or do not, given as lines.
 
 use crate::trouble::Trouble;
 use git_msg::Boundary;
@@ -16,7 +16,7 @@ struct Lists {
     unborn: Option<Vec<u8>>,
 }
 
-// The object name that a text is, of the format that its length says.
+// The object name that a text is, of the format that its length calls for.
 fn object(text: &str) -> Result<Oid, Trouble> {
     let format = match text.len() {
         40 => Format::Sha1,
@@ -27,7 +27,7 @@ fn object(text: &str) -> Result<Oid, Trouble> {
     ))
 }
 
-// The reference that the words after `ref` tell, or how its names are refused.
+// The reference that the words after `ref` give, or how its names are refused.
 fn entry(
     alloc: Global,
     name: &str,
@@ -52,7 +52,7 @@ fn entry(
 }
 
 impl Lists {
-    // Adds what a line tells. Answers how it is refused, if it is.
+    // Adds what a line contains. Answers how it is refused, if it is.
     fn add(&mut self, alloc: Global, line: &str) -> Result<Option<String>, Trouble> {
         let (kind, words) = line.split_once(' ').unwrap_or((line, ""));
         let (first, rest) = words.split_once(' ').unwrap_or((words, ""));
@@ -84,7 +84,7 @@ impl Lists {
     }
 }
 
-/// What is made of the lists that a text tells, a line an entry: `taken`, or how they are refused.
+/// What is made of the lists that a text contains, a line an entry: `taken`, or how they are refused.
 pub fn made(alloc: Global, format: Format, text: &str) -> Result<String, Trouble> {
     let mut lists = Lists {
         refs: Vec::new(alloc),

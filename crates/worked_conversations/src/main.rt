@@ -1,4 +1,4 @@
-//! Runs worked cases: packets, requests, sessions, advertisements and lines of text, each as a text tells it, in every
+//! Runs worked cases: packets, requests, sessions, advertisements and lines of text, each as a text describes it, in every
 //! cut and ended everywhere.
 #![tactic(auto)]
 
@@ -11,7 +11,6 @@ mod escapes;
 mod lists;
 mod packets;
 mod plays;
-mod questions;
 mod requests;
 mod runs;
 mod script;
@@ -19,6 +18,7 @@ mod sessions;
 mod setup;
 mod tables;
 mod trouble;
+mod wordings;
 
 use cases::Count;
 use std::io::Read;

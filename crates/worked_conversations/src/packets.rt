@@ -83,7 +83,7 @@ fn feed(
     Err(Trouble::Breaks("a piece is never used up"))
 }
 
-// A reader that failed uses nothing more, has no packet open, and tells the same fault for good.
+// A reader that failed uses nothing more, has no packet open, and reports the same fault for good.
 fn check_failed(reader: &mut PacketReader, fault: Fault) -> Result<(), Trouble>
     requires gathers { passes_of reader.old ≡ false }
 {

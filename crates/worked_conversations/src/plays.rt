@@ -32,7 +32,7 @@ fn ending_of(alloc: Global, ended: Result<(), RunFault>) -> Result<String, Alloc
     }
 }
 
-// Plays what the script says.
+// Plays the script.
 fn played(
     alloc: Global,
     contents: Contents<'_>,
@@ -72,7 +72,7 @@ fn played(
     Ok(run)
 }
 
-// How many bytes of response ends the client has heard before a fault, where there are such: one for each response that was whole.
+// How many bytes of response ends the client has received before a fault, where there are such: one for each response that was whole.
 fn response_ends(given: &[u8], ending: Ending) -> u64 {
     let mut bytes = 0u64;
     for line in given.split(|byte| *byte == b'\n') {
@@ -83,7 +83,7 @@ fn response_ends(given: &[u8], ending: Ending) -> u64 {
     bytes
 }
 
-// How a play ends: as the script says, and a fault stands after the response ends.
+// How a play ends: as the script states, and a fault comes after the response ends.
 fn due_ending(alloc: Global, script: &Script, ending: Ending) -> Result<String, Trouble> {
     let line = script.ending.as_str();
     let Some((fault, offset)) = line.trim_end().split_once(" at ") else {
@@ -130,7 +130,7 @@ fn goes_with(
     Ok(runs.saturating_add(1))
 }
 
-/// The play goes as the script says, with either ending of the responses. Answers how many runs were made.
+/// The play goes as the script states, with either ending of the responses. Answers how many runs were made.
 pub fn goes(alloc: Global, contents: Contents<'_>, script: &Script) -> Result<usize, Trouble> {
     let by_flush = goes_with(alloc, contents, script, Ending::FlushOnly)?;
     let by_response_end = goes_with(alloc, contents, script, Ending::ResponseEnd)?;

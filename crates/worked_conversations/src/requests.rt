@@ -236,7 +236,7 @@ fn feed(
     Err(Trouble::Breaks("a piece is never used up"))
 }
 
-/// What a reader that keeps so much of a request hears in the pieces, after which the input ends.
+/// What a reader that keeps so much of a request receives in the pieces, after which the input ends.
 pub fn heard(alloc: Global, offer: Offer, limit: u32, pieces: &[&[u8]]) -> Result<Run, Trouble> {
     let mut packets = PacketReader::new();
     let mut keeper = Keeper {

@@ -17,7 +17,7 @@ pub struct Run {
     pub progress: Vec<u8>,
     /// How it ended, a line or more.
     pub ending: String,
-    /// How many bytes it used, where the end tells that.
+    /// How many bytes it used, where the end reports that.
     pub used: Option<usize>,
 }
 
@@ -40,7 +40,7 @@ pub enum Known {
     All,
     /// What is given, and the first line of the ending.
     Given,
-    /// That what is given begins what is told here, and the first line of the ending.
+    /// That what is given begins what is stated here, and the first line of the ending.
     Front,
 }
 
@@ -173,7 +173,7 @@ fn first_line(text: &str) -> &str {
     text.split_once('\n').unwrap_or((text, "")).0
 }
 
-// What to say of bytes that came.
+// How bytes that came are reported.
 fn told(alloc: Global, place: usize, what: &str, came: &[u8]) -> Result<Trouble, AllocError> {
     let came = escaped(alloc, came)?;
     let came = String::from_utf8_lossy(alloc, came.as_slice())?;
@@ -217,7 +217,7 @@ pub fn compare(alloc: Global, run: &Run, due: &Due, place: usize) -> Result<(), 
     }
 }
 
-/// The case goes as it says: whole, cut in two at each byte, in single bytes with empty pieces between, and ended
+/// The case goes as it states: whole, cut in two at each byte, in single bytes with empty pieces between, and ended
 /// at each byte. Answers how many runs were made.
 pub fn goes(alloc: Global, end: &End<'_>, script: &Script) -> Result<usize, Trouble> {
     let input = script.input.as_slice();

@@ -1,8 +1,8 @@
 //! The lines of a case: what comes, what is given for it, and how it ends.
 
 use crate::escapes::{append_unescaped, escaped};
-use crate::questions::Question;
 use crate::trouble::Trouble;
+use crate::wordings::Wording;
 use std::alloc::{AllocError, Global};
 
 /// How a line of what is given is written.
@@ -45,7 +45,7 @@ pub struct Recording {
     pub pack: Vec<u8>,
 }
 
-/// What the lines of a case say.
+/// What the lines of a case contain.
 #[derive(Drop)]
 pub struct Script {
     /// What comes, whole: the steps, and after them what is left unread.
@@ -65,9 +65,9 @@ pub struct Script {
     pub asked: Vec<u8>,
     pub asked_read: usize,
     /// What a client is to ask, and whether it leaves then.
-    pub questions: Vec<Question>,
+    pub wordings: Vec<Wording>,
     pub leaves: bool,
-    /// The lines that say how it ends, each with its LF.
+    /// The lines that state how it ends, each with its LF.
     pub ending: String,
     last: Last,
 }
@@ -85,7 +85,7 @@ impl Script {
             is_recorded: false,
             asked: Vec::new(alloc),
             asked_read: 0,
-            questions: Vec::new(alloc),
+            wordings: Vec::new(alloc),
             leaves: false,
             ending: String::new(alloc),
             last: Last::Nothing,
@@ -179,9 +179,9 @@ impl Script {
     }
 
     fn take_question(&mut self, alloc: Global, words: &str) -> Result<(), Trouble> {
-        let question = Question::new(alloc, words)?;
-        self.questions
-            .push(question)
+        let wording = Wording::new(alloc, words)?;
+        self.wordings
+            .push(wording)
             .map_err(|_| Trouble::OutOfMemory)
     }
 
@@ -189,8 +189,8 @@ impl Script {
     fn take_argument(&mut self, alloc: Global, text: &str) -> Result<(), Trouble> {
         let mut argument = Vec::new(alloc);
         append_unescaped(&mut argument, text)?;
-        match self.questions.as_mut_slice().last_mut() {
-            Some(question) => question
+        match self.wordings.as_mut_slice().last_mut() {
+            Some(wording) => wording
                 .arguments
                 .push(argument)
                 .map_err(|_| Trouble::OutOfMemory),
@@ -212,7 +212,7 @@ impl Script {
         Ok(())
     }
 
-    /// Takes what was recorded: what was sent, which has to be what the lines say, all that came, and its pack.
+    /// Takes what was recorded: what was sent, which has to be what the lines state, all that came, and its pack.
     pub fn take_recording(&mut self, recording: Recording) -> Result<(), Trouble> {
         if self.asked.as_slice() != recording.requests.as_slice() {
             return Err(Trouble::BadCase("other requests than were recorded"));

@@ -1,4 +1,4 @@
-//! How the ends of all cases are set up, and what no case comes to.
+//! How the ends of all cases are set up, and numbers that no case reaches.
 
 ghost use Rattle.std.specs.Prelude.{◌≡◌};
 
@@ -21,19 +21,16 @@ pub const MOST_KEPT: u32 = 1_073_741_824;
 pub fn offer(format: Format, features: bool) -> Offer
     ensures format { result.format ≡ format }
 {
+    if features {
+        return Offer::everything(format);
+    }
     Offer {
-        format,
-        unborn: features,
-        shallow: features,
-        ref_in_want: features,
-        wait_for_done: features,
-        filter: features,
-        object_info: features,
         server_option: true,
+        ..Offer::nothing(format)
     }
 }
 
-/// The limit that a case tells, or the highest that there is.
+/// The limit that a case gives, or the highest that there is.
 pub fn limits(args: u32) -> Limits {
     Limits {
         args: args.min(MOST_KEPT),

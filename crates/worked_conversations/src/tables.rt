@@ -1,12 +1,12 @@
-//! Tables: each text that comes is read or written by itself, and what is told of it are lines.
+//! Tables: each text that comes is read or written by itself, and what is reported of it are lines.
 
 use crate::clients::append_noted;
 use crate::escapes::escaped;
 use crate::lists::made;
-use crate::questions::shown;
 use crate::script::{Script, Step};
 use crate::setup::{limits, offer};
 use crate::trouble::Trouble;
+use crate::wordings::shown;
 use git_msg::{Argument, Caps, Command, read_argument, read_capability, read_reference};
 use git_names::{Format, Oid, RefName, Steps};
 use git_pkt::{Hold, Packet, put, text};
@@ -35,7 +35,7 @@ pub enum Table {
     Lists(Format),
 }
 
-/// What stands on a line after a word.
+/// What is on a line after a word.
 #[derive(Clone, Copy)]
 enum Said<'a> {
     Nothing,
@@ -278,7 +278,7 @@ fn say_script(
 }
 
 impl Table {
-    // The lines that tell of a text.
+    // The lines that report on a text.
     fn told(self, alloc: Global, text: &[u8]) -> Result<Vec<u8>, Trouble> {
         let mut lines = Vec::new(alloc);
         match self {
@@ -302,7 +302,7 @@ impl Table {
         Ok(lines)
     }
 
-    /// Each text gives the lines that stand after it. Answers how many texts there are.
+    /// Each text gives the lines that are after it. Answers how many texts there are.
     pub fn goes(self, alloc: Global, script: &Script) -> Result<usize, Trouble> {
         let mut last = Step::default();
         for step in script.steps.as_slice() {

@@ -1,14 +1,14 @@
-//! What keeps a case from going as it says.
+//! What keeps a case from going as it states.
 
 use std::alloc::{AllocError, AllocFailed};
 use std::io;
 
-/// Why a case did not go as it says.
+/// Why a case did not go as it states.
 #[derive(Debug, Drop)]
 pub enum Trouble {
     /// Its text is no case.
     BadCase(&'static str),
-    /// What came is not what it says: at which place the input was cut or ended, and what came.
+    /// What came is not what it states: at which place the input was cut or ended, and what came.
     Differs(String),
     /// An end broke a rule that holds in every case.
     Breaks(&'static str),

@@ -9,7 +9,7 @@ use Rattle.git_client.specs.RunSteps.{window_of}
 use Rattle.git2show_lib.proofs.CheckRuns.{Checking}
 use Rattle.git2show_lib.proofs.checking.check.Given as goal
 
--- the requests that were read were asked, and the response to each was heard whole: what waits of both pieces is all that was read
+-- the requests that were read were asked, and the response to each was received whole: what waits of both pieces is all that was read
 -- and not used
 abbrev pub invariant-loop-asking : goal.invariant-loop-asking
 invariant-loop-asking g l = record {

@@ -4,7 +4,7 @@ use Rattle.git_pkt.specs.declared.fault.RunFault.{RunFault}
 use Rattle.git_pkt.specs.Streams.{flow, WrittenAs}
 use Rattle.git_msg.specs.declared.arguments.Command.{Command}
 use Rattle.git_client.specs.Transcript.{asked_line}
-use Rattle.git_client.proofs.Alongs.{at_fault}
+use Rattle.git_pkt.proofs.EngineLemmas.{at_fault}
 use Rattle.git_client.proofs.SayingSteps.{asks_unsaid}
 use Rattle.git2show_lib.specs.PlaySteps.{AsksServerTo}
 use Rattle.git2show_lib.proofs.PlayAsking.{asks_server}

@@ -4,7 +4,7 @@ use Rattle.git_pkt.specs.Told.{inner_of}
 use Rattle.git_pkt.specs.Streams.{flow}
 use Rattle.git_client.specs.Client.{wants_input}
 use Rattle.git_client.specs.RunSteps.{HearsPieceTo}
-use Rattle.git_client.proofs.Alongs.{at_fault}
+use Rattle.git_pkt.proofs.EngineLemmas.{at_fault}
 use Rattle.git_client.proofs.HeardBytes.{nothing_heard}
 use Rattle.git_client.proofs.Phases.{not_ready_where_due, sound_where_due}
 use Rattle.git2show_lib.specs.PlaySteps.{silent}

@@ -1,4 +1,4 @@
--- The client waits for input or can ask, and no writer has failed; what was said in the bytes used was written.
+-- The client waits for input or can ask, and no writer has failed; what the bytes used contain was written.
 use Rattle.std.proofs.Common.{◌≡◌, ◌-◌, ◌≤◌, ◌<◌, length, take, true, false, None}
 use Rattle.git_pkt.specs.Told.{inner_of, has_failed}
 use Rattle.git_pkt.specs.Streams.{flow}

@@ -4,7 +4,7 @@ use Rattle.git_pkt.specs.Told.{inner_of}
 use Rattle.git_pkt.specs.Streams.{flow}
 use Rattle.git_pkt.specs.declared.fault.RunFault.{RunFault}
 use Rattle.git_client.specs.Client.{wants_input}
-use Rattle.git_client.proofs.Alongs.{at_fault}
+use Rattle.git_pkt.proofs.EngineLemmas.{at_fault}
 use Rattle.git_server.specs.ServerCalls.{TellsPulled}
 use Rattle.git_server.specs.declared.server.Pulled.{Pulled}
 use Rattle.git2show_lib.specs.PlaySteps.{HearsServerTo}

@@ -1,4 +1,4 @@
--- No writer has failed, and what the server gave was heard, up to where the client can ask.
+-- No writer has failed, and what the server gave was received, up to where the client can ask.
 use Rattle.std.proofs.Common.{◌≡◌, false}
 use Rattle.git_pkt.specs.Told.{inner_of, has_failed}
 use Rattle.git_pkt.specs.Streams.{flow}

@@ -1,4 +1,4 @@
--- What was pulled was said.
+-- What was pulled was sent.
 use Rattle.std.proofs.Common.{length}
 use Rattle.git_client.specs.Client.{left_to_say}
 use Rattle.git2show_lib.proofs.PlayAsking.{TellsSome}

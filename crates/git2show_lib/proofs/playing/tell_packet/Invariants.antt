@@ -1,4 +1,4 @@
--- What is done of the packet was said.
+-- What is done of the packet was sent.
 use Rattle.std.proofs.Common.{length, take, drop, ◌-◌, ◌≤◌, ◌++◌, List, ℕ}
 use Rattle.git_server.specs.Server.{wants_input}
 use Rattle.git_server.specs.Sessions.{Setting}

@@ -3,6 +3,7 @@ use Rattle.git_pkt.specs.Told.{inner_of}
 use Rattle.git_pkt.specs.Streams.{flow}
 use Rattle.git2show_lib.specs.ShownStream.{WritesFront}
 use Rattle.git2show_lib.proofs.Printing.{fed_failed, fed_packet, fed_packet_front, left_length, none_read, tells_by}
+use Rattle.git2show_lib.proofs.Sendings.{emits_by, front_by}
 use Rattle.git2show_lib.proofs.showing.print_piece.Goals as goal
 
 pub returns-in-Failed-clause-ok : goal.returns-in-Failed-clause-ok
@@ -15,7 +16,7 @@ returns-in_err-put-in-Packet-clause-front g c =
     let front : WritesFront c.args.packets.now c.feed-fed.follows.lender-at-none c.args.piece.now (flow (g.W.Write.contents (inner_of c.args.writer.now))
     (g.W.Write.contents (inner_of c.put.new.writer))) =
     fed_packet_front _ _ _ _ _ _ _ _ _ c.loop-done.invariant.within c.loop-done.invariant.prints c.feed-fed.follows.holds-at-none _ _ _ c.in-Packet.is
-    (search rules) in
+    (front_by c.in_err-put-in-Packet.ensures) in
     search rules
 
 pub loop-done-init : goal.loop-done-init
@@ -39,5 +40,5 @@ loop-done-preserved g c =
       gathers = c.feed-fed.follows.holds-at-none.gathers;
       writer_sound = search rules;
       prints = fed_packet _ _ _ _ _ _ _ _ _ c.loop-done.invariant.within c.loop-done.invariant.prints c.feed-fed.follows.holds-at-none _ _ _ _
-          c.in-Packet.is (search rules);
+          c.in-Packet.is (emits_by c.in_ok-put-in-Packet.ensures);
     }

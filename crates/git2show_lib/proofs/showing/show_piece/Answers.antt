@@ -12,5 +12,5 @@ pub returns-in_err-send_all-clause-shown : goal.returns-in_err-send_all-clause-s
 returns-in_err-send_all-clause-shown g c =
     at_fault c.from_residual-in_err-send_all.result _ WriteFault (λ (r : Result (Unit {0}) RunFault). ShowsPiece r c.args.packets.now
     c.print_piece.new.packets c.args.piece.now (flow (g.W.Write.contents (inner_of c.args.writer.now)) (g.W.Write.contents (inner_of c.send_all.new.writer))))
-    c.in_err-send_all.ensures.fault c.from_residual-in_err-send_all.ensures.1
-    (sent_in_part _ _ _ _ _ _ _ c.in_ok-stopped.stopped c.in_ok-stopped.ensures.ok c.in_err-send_all.ensures.err)
+    c.in_err-send_all.ensures.sends.fault c.from_residual-in_err-send_all.ensures.1
+    (sent_in_part _ _ _ _ _ _ _ c.in_ok-stopped.stopped c.in_ok-stopped.ensures.ok c.in_err-send_all.ensures.sends.err)

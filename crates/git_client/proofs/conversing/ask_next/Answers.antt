@@ -5,8 +5,7 @@ use Rattle.git_msg.specs.declared.arguments.Command.{Command}
 use Rattle.git_pkt.specs.Streams.{flow, WrittenAs}
 use Rattle.git_client.specs.Transcript.{asked_line}
 use Rattle.git_client.specs.RunSteps.{AsksTo}
-use Rattle.git_client.proofs.Alongs.{written_nothing}
-use Rattle.git_client.proofs.Alongs.{at_fault}
+use Rattle.git_pkt.proofs.EngineLemmas.{written_nothing, at_fault}
 use Rattle.git_client.proofs.SayingSteps.{asks_unsaid, asks_said}
 use Rattle.git_client.proofs.conversing.ask_next.Goals as goal
 

@@ -1,9 +1,7 @@
-use Rattle.std.proofs.Common.{rules, arith, Bool, ◌||◌, Err, ◌≡◌, ◌∷◌, [], ◌++◌, List, length, false, true, refl, sym, ap, ◌∙◌, subst, append_assoc}
+use Rattle.std.proofs.Common.{rules, arith, Bool, ◌||◌, Err, ◌≡◌, ◌∷◌, [], ◌++◌, length, false, true, refl, sym, ap, ◌∙◌, subst}
 use denote.Enum.Bare.{same_true, sameb}
 use Rattle.std.proofs.lemmas.Bool.{or_parts, or_from}
-use Rattle.std.proofs.lemmas.List.{nil_from_length}
 use Rattle.std.specs.Io.KnownBytes.{Keeps}
-use Rattle.std.specs.Vec.Iter.{into_iter_items}
 use Rattle.git_pkt.specs.Told.{inner_of, has_failed, has_ended}
 use Rattle.git_pkt.specs.declared.fault.RunFault.{RunFault}
 use Rattle.git_pkt.specs.declared.told.Told.{Told}
@@ -14,6 +12,7 @@ use Rattle.git_client.specs.contracts.events.Ending.{the_type}
 use Rattle.git_client.specs.Client.{ending_of}
 use Rattle.git_pkt.specs.Streams.{flow, is_broken}
 use Rattle.git_client.specs.RunSteps.{Says, no_counts, window_of}
+use Rattle.git_client.proofs.AskedInTurn.{next_is, none_more, one_more}
 use Rattle.git_client.proofs.ClientRuns.{RunEnds, begins, asks_on, hears_whole, ends_at, ends_at_write, breaks_unflushed}
 use Rattle.git_client.proofs.ClientRuns.{hearing_stopped, asking_stopped, stays_to_the_end, leaving_stopped, leaves_at_the_end}
 use Rattle.git_client.proofs.ClientRuns.{fails_at, shown_at, flush_fails, flush_shows, sound_last, sound_first}
@@ -27,44 +26,25 @@ use Rattle.git_client.proofs.conversing.converse.Goals.{then-eq+in_ok-say, else-
 abbrev write_broke : RunFault → Bool
 write_broke fault = is_broken {T = Unit {0}} (Err fault)
 
--- one request more came off the vector, and then none
-next_is : {X : Type 0} (all front rest later : List X) (x : X) → all ≡ front ++ rest → rest ≡ x ∷ later → all ≡ front ++ x ∷ later
-next_is {X} all front rest later x split next = split ∙ ap (λ (l : List X). front ++ l) next
-
-one_more : {X : Type 0} (all front rest later : List X) (x : X) → all ≡ front ++ rest → rest ≡ x ∷ later → all ≡ (front ++ x ∷ []) ++ later
-one_more all front rest later x split next = next_is all front rest later x split next ∙ sym (append_assoc front (x ∷ []) later)
-
-none_more : {X : Type 0} (all front rest : List X) → all ≡ front ++ rest → length rest ≡ 0 → all ≡ front ++ []
-none_more {X} all front rest split none = split ∙ ap (λ (l : List X). front ++ l) (nil_from_length rest none)
-
 pub returns-in_err-flush-clause-conversed : goal.returns-in_err-flush-clause-conversed
 returns-in_err-flush-clause-conversed g c =
     λ t begun.
-    ends_at_write t c.args.requests.items c.from_residual.result _ _ _ _ _ _ _ _ c.from_residual.ensures.1 c.in_err-flush.ensures.fault
-    (breaks_unflushed t c.args.requests.items [] c.args.requests.items refl _ c.args.client.now no_counts [] (sound_where_due _ c.requires.waits)
-    (begins t c.args.client.now (g.R.Read.remaining (inner_of c.args.reader.now)) (g.W.Write.contents (inner_of c.args.writer.now))
-    (g.W.Write.contents (inner_of c.flush.new.writer)) (g.O.Write.contents (inner_of c.args.out.now)) (g.P.Write.contents (inner_of c.args.pack.now))
-    (g.E.Output.contents c.args.progress.now) c.requires.waits begun c.flush.ensures.bytes))
+    ends_at_write t _ _ _ _ _ _ _ _ _ _ c.from_residual.ensures.1 c.in_err-flush.ensures.fault
+    (breaks_unflushed t _ [] _ refl _ _ no_counts [] (sound_where_due _ c.requires.waits)
+    (begins t _ _ _ _ _ _ _ c.requires.waits begun c.flush.ensures.bytes))
 
 pub returns-in_err-waiting-clause-conversed : goal.returns-in_err-waiting-clause-conversed
 returns-in_err-waiting-clause-conversed g c =
     λ t begun.
-    ends_at t c.args.requests.items c.from_residual-in_err-waiting.result c.in_err-waiting.field-0.0 _ _ _ _ _ _ _ c.from_residual-in_err-waiting.ensures.1
-    (hearing_stopped t c.args.requests.items [] c.args.requests.items refl c.in_err-waiting.field-0.0 _ c.args.client.now c.hear.new.client []
-    c.hear.new.piece
-    (begins t c.args.client.now (g.R.Read.remaining (inner_of c.args.reader.now)) (g.W.Write.contents (inner_of c.args.writer.now))
-    (g.W.Write.contents (inner_of c.flush.new.writer)) (g.O.Write.contents (inner_of c.args.out.now)) (g.P.Write.contents (inner_of c.args.pack.now))
-    (g.E.Output.contents c.args.progress.now) c.requires.waits begun c.flush.ensures.bytes) c.requires.waits c.in_err-waiting.ensures.heard)
+    ends_at t _ _ _ _ _ _ _ _ _ _ c.from_residual-in_err-waiting.ensures.1
+    (hearing_stopped t _ [] _ refl _ _ _ _ [] _ (begins t _ _ _ _ _ _ _ c.requires.waits begun c.flush.ensures.bytes)
+    c.requires.waits c.in_err-waiting.ensures.heard)
 
 pub loop-request-init : goal.loop-request-init
 loop-request-init g c =
     let heard = c.in_ok-waiting.ensures.heard in
     record {
-      runs = λ t begun.
-          (hears_whole t [] c.args.client.now c.hear.new.client [] c.in_ok-waiting.waiting c.hear.new.piece
-          (begins t c.args.client.now (g.R.Read.remaining (inner_of c.args.reader.now)) (g.W.Write.contents (inner_of c.args.writer.now))
-          (g.W.Write.contents (inner_of c.flush.new.writer)) (g.O.Write.contents (inner_of c.args.out.now)) (g.P.Write.contents (inner_of c.args.pack.now))
-          (g.E.Output.contents c.args.progress.now) c.requires.waits begun c.flush.ensures.bytes) c.requires.waits heard).0;
+      runs = λ t begun. (_, hears_whole t [] _ _ [] _ _ (begins t _ _ _ _ _ _ _ c.requires.waits begun c.flush.ensures.bytes) c.requires.waits heard);
       ready = heard.can_ask_on;
       left_to_ask = sym c.into_iter-request-iterator.ensures.into_iter_gives.0;
       counted = search rules;
@@ -85,14 +65,11 @@ pub returns-in_err-ask_next-clause-conversed : goal.returns-in_err-ask_next-clau
 returns-in_err-ask_next-clause-conversed g c =
     let at = c.loop-request in
     let request = c.in-Some.request in
-    let later = into_iter_items c.next.new.self in
     λ t begun.
-    ends_at t c.args.requests.items c.from_residual-in_err-ask_next.result c.in_err-ask_next.field-0.0 _ _ _ _ _ _ _
-    c.from_residual-in_err-ask_next.ensures.1
-    (asking_stopped t c.args.requests.items c.in_err-ask_next.field-0.0 _ at.yielded later request at.client c.ask_next.new.client no_counts
-    (window_of at.waiting at.piece)
-    (next_is c.args.requests.items at.yielded (into_iter_items at.request-iterator) later request at.invariant.left_to_ask c.in-Some.ensures.steps.0)
-    at.invariant.ready (at.invariant.runs t begun) c.in_err-ask_next.ensures.asked)
+    ends_at t _ _ _ _ _ _ _ _ _ _ c.from_residual-in_err-ask_next.ensures.1
+    (asking_stopped t _ _ _ at.yielded _ request _ _ no_counts _
+    (next_is _ at.yielded _ _ request at.invariant.left_to_ask c.in-Some.ensures.steps.0)
+    at.invariant.ready (at.invariant.runs t begun).1 c.in_err-ask_next.ensures.asked)
 
 pub returns-in_err-ask_next-clause-fault : goal.returns-in_err-ask_next-clause-fault
 returns-in_err-ask_next-clause-fault g c =
@@ -119,15 +96,11 @@ pub returns-in_err-waiting-2-clause-conversed : goal.returns-in_err-waiting-2-cl
 returns-in_err-waiting-2-clause-conversed g c =
     let at = c.loop-request in
     let request = c.in-Some.request in
-    let later = into_iter_items c.next.new.self in
     λ t begun.
-    ends_at t c.args.requests.items c.from_residual-in_err-waiting-2.result c.in_err-waiting-2.field-0.0 _ _ _ _ _ _ _
-    c.from_residual-in_err-waiting-2.ensures.1
-    (hearing_stopped t c.args.requests.items (at.yielded ++ request ∷ []) later
-    (one_more c.args.requests.items at.yielded (into_iter_items at.request-iterator) later request at.invariant.left_to_ask c.in-Some.ensures.steps.0)
-    c.in_err-waiting-2.field-0.0 _ c.ask_next.new.client c.hear-in-loop-request.new.client (window_of at.waiting at.piece) c.hear-in-loop-request.new.piece
-    (asks_on t false at.yielded at.client c.ask_next.new.client request no_counts (window_of at.waiting at.piece) (at.invariant.runs t begun)
-    at.invariant.ready c.in_ok-ask_next.ensures.asked.0).0 c.in_ok-ask_next.ensures.asked.1 c.in_err-waiting-2.ensures.heard)
+    ends_at t _ _ _ _ _ _ _ _ _ _ c.from_residual-in_err-waiting-2.ensures.1
+    (hearing_stopped t _ (at.yielded ++ request ∷ []) _ (one_more _ at.yielded _ _ request at.invariant.left_to_ask c.in-Some.ensures.steps.0) _ _ _ _ _ _
+    (asks_on t false at.yielded _ _ request no_counts _ (at.invariant.runs t begun).1 at.invariant.ready c.in_ok-ask_next.ensures.asked.0)
+    c.in_ok-ask_next.ensures.asked.1 c.in_err-waiting-2.ensures.heard)
 
 pub returns-in_err-waiting-2-clause-fault : goal.returns-in_err-waiting-2-clause-fault
 returns-in_err-waiting-2-clause-fault g c =
@@ -148,18 +121,16 @@ pub loop-request-preserved : goal.loop-request-preserved
 loop-request-preserved g c =
     let at = c.loop-request in
     let request = c.in-Some.request in
-    let later = into_iter_items c.next.new.self in
     let heard = c.in_ok-waiting-2.ensures.heard in
-    let waiting = window_of at.waiting at.piece in
     record {
-      runs = λ t begun.
-          (hears_whole t (at.yielded ++ request ∷ []) c.ask_next.new.client c.hear-in-loop-request.new.client waiting
-          c.in_ok-waiting-2.waiting c.hear-in-loop-request.new.piece
-          (asks_on t false at.yielded at.client c.ask_next.new.client request no_counts waiting (at.invariant.runs t begun)
-          at.invariant.ready c.in_ok-ask_next.ensures.asked.0).0 c.in_ok-ask_next.ensures.asked.1 heard).0;
+      runs = λ t begun. (
+        _,
+        hears_whole t (at.yielded ++ request ∷ []) _ _ _ _ _
+            (asks_on t false at.yielded _ _ request no_counts _ (at.invariant.runs t begun).1 at.invariant.ready c.in_ok-ask_next.ensures.asked.0)
+            c.in_ok-ask_next.ensures.asked.1 heard,
+      );
       ready = heard.can_ask_on;
-      left_to_ask =
-          one_more c.args.requests.items at.yielded (into_iter_items at.request-iterator) later request at.invariant.left_to_ask c.in-Some.ensures.steps.0;
+      left_to_ask = one_more _ at.yielded _ _ request at.invariant.left_to_ask c.in-Some.ensures.steps.0;
       counted = omega (arith, at.invariant.counted, c.in-Some.ensures.steps.1, ap length c.in-Some.ensures.steps.0);
       ordered = heard.ordered;
       within = heard.within;
@@ -184,12 +155,9 @@ pub returns-in_err-say-clause-conversed : goal.returns-in_err-say-clause-convers
 returns-in_err-say-clause-conversed g c =
     let at = c.loop-request in
     λ t begun.
-    ends_at_write t c.args.requests.items c.from_residual-in_err-say.result c.in_err-say.field-0.0 _ _ _ _ _ _ _ c.from_residual-in_err-say.ensures.1
-    c.in_err-say.ensures.fault
-    (leaving_stopped t c.args.requests.items at.yielded
-    (none_more c.args.requests.items at.yielded (into_iter_items at.request-iterator) at.invariant.left_to_ask
-    (sym at.invariant.counted ∙ c.in-None.ensures.steps.0)) at.client c.leave.new.self c.say.new.client no_counts (window_of at.waiting at.piece)
-    at.invariant.ready c.leave.ensures _ (same_true the_type (search rules) _ _ (sym c.if-eq.ensures)) (at.invariant.runs t begun)
+    ends_at_write t _ _ _ _ _ _ _ _ _ _ c.from_residual-in_err-say.ensures.1 c.in_err-say.ensures.fault
+    (leaving_stopped t _ at.yielded (none_more _ at.yielded _ at.invariant.left_to_ask (sym at.invariant.counted ∙ c.in-None.ensures.steps.0)) _ _ _
+    no_counts _ at.invariant.ready c.leave.ensures _ (same_true the_type (search rules) _ _ (sym c.if-eq.ensures)) (at.invariant.runs t begun).1
     (subst (λ (fault : RunFault). Says (write_broke fault) c.leave.new.self c.say.new.client
     (flow (g.W.Write.contents (inner_of at.writer)) (g.W.Write.contents (inner_of c.say.new.writer)))) c.in_err-say.ensures.fault c.in_err-say.ensures.says))
 
@@ -197,8 +165,7 @@ pub returns-clause-conversed : goal.returns-clause-conversed
 returns-clause-conversed g c =
     let at = c.loop-request in
     let all =
-    none_more c.args.requests.items at.yielded (into_iter_items at.request-iterator) at.invariant.left_to_ask
-    (sym at.invariant.counted ∙ c.in-None.ensures.steps.0) in
+    none_more c.args.requests.items at.yielded _ at.invariant.left_to_ask (sym at.invariant.counted ∙ c.in-None.ensures.steps.0) in
     let ended = has_ended at.reader in
     let reader = flow (g.R.Read.remaining (inner_of c.args.reader.now)) (g.R.Read.remaining (inner_of at.reader)) in
     let writer = flow (g.W.Write.contents (inner_of c.args.writer.now)) (g.W.Write.contents (inner_of c.flush-2.new.writer)) in
@@ -214,7 +181,7 @@ returns-clause-conversed g c =
           c.flush-2.ensures.bytes in
           subst (λ (client : Client _). RunEnds t c.args.requests.items c.flush-2.result ended client reader writer out pack progress) (sym w.client-is)
           (leaves_at_the_end t c.args.requests.items at.yielded all at.client w.leave.new.self w.say.new.client no_counts (window_of at.waiting at.piece)
-          at.invariant.ready w.leave.ensures c.flush-2.result ended c.flush-2.ensures.fault last (at.invariant.runs t begun) w.in_ok-say.ensures.says kept)
+          at.invariant.ready w.leave.ensures c.flush-2.result ended c.flush-2.ensures.fault last (at.invariant.runs t begun).1 w.in_ok-say.ensures.says kept)
       | else-eq w ↦
           let other : ending_of at.client ≡ FlushOnly → ⊥ = λ last. let differs : false ≡ true =
           w.if-eq.ensures ∙ ap (λ (ending : Ending). sameb the_type ending FlushOnly) last in absurd (cc) in
@@ -223,7 +190,7 @@ returns-clause-conversed g c =
           c.flush-2.ensures.bytes in
           subst (λ (client : Client _). RunEnds t c.args.requests.items c.flush-2.result ended client reader writer out pack progress) (sym w.client-is)
           (stays_to_the_end t c.args.requests.items at.yielded all c.flush-2.result ended at.client no_counts (window_of at.waiting at.piece)
-          c.flush-2.ensures.fault at.invariant.ready other (at.invariant.runs t begun) kept)
+          c.flush-2.ensures.fault at.invariant.ready other (at.invariant.runs t begun).1 kept)
     ]
 
 pub returns-clause-fault : goal.returns-clause-fault

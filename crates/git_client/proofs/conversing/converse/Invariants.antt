@@ -3,16 +3,17 @@ use Rattle.std.specs.Vec.Iter.{into_iter_items, into_iter_len}
 use Rattle.git_pkt.specs.Told.{inner_of, reads_of, has_failed, has_ended, has_wasted}
 use Rattle.git_pkt.specs.Streams.{flow}
 use Rattle.git_client.specs.Parts.{Terms}
-use Rattle.git_client.specs.Client.{Converses, nothing_yet, can_ask}
+use Rattle.git_client.specs.Client.{History, Converses, nothing_yet, can_ask}
 use Rattle.git_client.specs.RunSteps.{no_counts, window_of}
 use Rattle.git_client.proofs.ClientRuns.{Running}
 use Rattle.git_client.proofs.conversing.converse.Given as goal
 
--- The requests that came off the vector were asked, and the response to each was heard whole: what waits of the piece is all
+-- The requests that came off the vector were asked, and the response to each was received whole: what waits of the piece is all
 -- that was read and not used.
 abbrev pub invariant-loop-request : goal.invariant-loop-request
 invariant-loop-request g l = record {
-  runs : (t : Terms) → Converses t nothing_yet l.fn.client → Running false t l.yielded l.client no_counts (window_of l.waiting l.piece)
+  runs : (t : Terms) → Converses t nothing_yet l.fn.client
+      → (h : History) × Running false t h l.yielded l.client no_counts (window_of l.waiting l.piece)
       (flow (g.R.Read.remaining (inner_of l.fn.reader)) (g.R.Read.remaining (inner_of l.reader)))
       (flow (g.W.Write.contents (inner_of l.fn.writer)) (g.W.Write.contents (inner_of l.writer)))
       (flow (g.O.Write.contents (inner_of l.fn.out)) (g.O.Write.contents (inner_of l.out)))

@@ -5,7 +5,7 @@ use Rattle.git_client.specs.Client.{fault_of, can_ask, wants_input}
 use Rattle.git_client.specs.RunSteps.{HearsBytes}
 use Rattle.git_client.proofs.hearing.hear_piece.Given as goal
 
--- the client waits for input or can ask, and no writer has failed; what was said in the bytes used was written
+-- the client waits for input or can ask, and no writer has failed; what the bytes used contain was written
 abbrev pub invariant-loop-used : goal.invariant-loop-used
 invariant-loop-used g l = record {
   within : l.used ≤ length l.piece;

@@ -12,7 +12,7 @@ use Rattle.git_client.specs.declared.phase.Due.TheVariants.{Acknowledgments, Pac
 use Rattle.git_client.specs.declared.phase.Turn.{Turn}
 use Rattle.git_client.proofs.judge.judge_flush.Goals as goal
 
--- a flush that may stand there ends the response
+-- a flush that is allowed there ends the response
 ends_response : (format : Format) (ending : Ending) (due known : Due) (caps : Caps) (turn : Turn) → due ≡ known → turn ≡ turn_after_flush ending caps
     → Gives format ending (place_due caps format known) flush (ended_by ending) → NotesAfter known caps flush caps
     → phase_after ending known flush ≡ phase_after_response ending → IsTurn format ending due caps flush turn

@@ -8,7 +8,7 @@ use Rattle.git_client.specs.Turns.{Says}
 use Rattle.git_client.specs.declared.phase.Said.TheVariants.{WantedRef}
 use Rattle.git_client.proofs.judge_lines.judge_wanted.Goals as goal
 
--- the name stands after the object's digits and a space
+-- the name comes after the object's digits and a space
 located : (format : Format) (text : List ℕ) (wanted : Wanted) → IsWantedLine format text wanted → Says wanted_refs format text (WantedRef wanted.id)
 located format text wanted line =
     let digits : length line.id ≡ digits_of wanted.id.format = line.id_is.count ∙ ap digits_of (sym line.id_is.of_format) in

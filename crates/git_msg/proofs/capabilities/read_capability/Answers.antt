@@ -1,18 +1,27 @@
-use Rattle.std.proofs.Common.{arith, sym, ◌∙◌}
-use Rattle.git_pkt.proofs.Pieces.{left_of}
-use Rattle.git_msg.proofs.Keys.{no_key, no_value, key_and_value}
+use Rattle.std.proofs.Common.{arith, sym, ap, ◌∙◌, refl, List, ℕ, Bor, [], ◌≡◌, Bool, Option, unwrap_or}
+use Rattle.std.specs.Option.{option_copied}
+use Rattle.git_msg.specs.Capability.{is_value}
+use Rattle.git_msg.proofs.Keys.{is_capability, no_key, no_value, value_there, value_within}
 use Rattle.git_msg.proofs.capabilities.read_capability.Goals as goal
+
+value_tested : (value : Option (Bor (List ℕ))) (empty given : Bor (List ℕ)) (b : Bool) → given ≡ unwrap_or value empty → empty.now ≡ []
+    → b ≡ is_value given.now → is_value (unwrap_or (option_copied value) []) ≡ b
+value_tested value empty given b is none e = sym (e ∙ ap is_value (ap (λ (x : Bor (List ℕ)). x.now) is ∙ value_there value empty none))
 
 pub returns-then-not-is_key-clause-line : goal.returns-then-not-is_key-clause-line
 returns-then-not-is_key-clause-line c =
-    no_key c.args.text.now c.key_length-end.result c.key_length-end.ensures.first (cc)
+    no_key c.args.text.now _ (option_copied c.split_at_first.result.1) c.split_at_first.ensures.cut (sym c.is_key.ensures.value ∙ c.if-not-is_key.true)
 
 pub returns-then-not-is_value-clause-line : goal.returns-then-not-is_value-clause-line
 returns-then-not-is_value-clause-line c =
-    no_value c.args.text.now _ c.key_length-end.result c.key_length-end.ensures.first c.if-end-text.false
-    (left_of c.args.text.now _ (omega arith)) (sym c.is_value.ensures.value ∙ c.if-not-is_value.true)
+    no_value c.args.text.now _ (option_copied c.split_at_first.result.1) c.split_at_first.ensures.cut
+    (value_tested c.split_at_first.result.1 _ _ _ c.unwrap_or.ensures refl c.is_value.ensures.value ∙ c.if-not-is_value.true)
 
 pub returns-clause-line : goal.returns-clause-line
 returns-clause-line c =
-    key_and_value c.args.text.now _ c.key_length-end.result c.key_length-end.ensures.first c.key_length-end.ensures.within c.if-end-text.false
-    (left_of c.args.text.now _ (omega arith)) (sym c.is_key.ensures.value ∙ c.if-not-is_key.false) (sym c.is_value.ensures.value ∙ c.if-not-is_value.false)
+    is_capability c.args.text.now _ (option_copied c.split_at_first.result.1) c.split_at_first.ensures.cut
+    (sym c.is_key.ensures.value ∙ c.if-not-is_key.false)
+    (value_tested c.split_at_first.result.1 _ _ _ c.unwrap_or.ensures refl c.is_value.ensures.value ∙ c.if-not-is_value.false)
+
+pub returns-clause-within : goal.returns-clause-within
+returns-clause-within c = omega (arith, c.split_at_first.ensures.whole, value_within (option_copied c.split_at_first.result.1))

@@ -6,7 +6,7 @@ use Rattle.git_msg.proofs.ResponseLines.{wanted_reads_back}
 use Rattle.git_msg.proofs.WrittenNames.{named_in}
 use Rattle.git_msg.proofs.response_lines.put_wanted.Goals as goal
 
--- a reference of which only the object is told has the format of that
+-- a reference of which only the object is given has the format of that
 own_format : (id : ObjectName) (name : List ℕ) → HasFormat id.format (reference_of (Some id) name None None)
 own_format id name = record {
   by_id = λ other e. let same : id ≡ other = cc in ap (λ (o : ObjectName). o.format) (sym same);

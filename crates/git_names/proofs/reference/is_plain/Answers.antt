@@ -6,7 +6,7 @@ use Rattle.git_names.proofs.PlainBytes.{is_plain, IsPlain-is_plain}
 use Rattle.git_names.proofs.Tables.{all_pass, all_pass-at}
 use Rattle.git_names.proofs.reference.is_plain.Goals as goal
 
--- the place of a byte has a dot, or no rule speaks of it
+-- the place of a byte has a dot, or no rule is about it
 abbrev dot_or_plain : List ℕ → ℕ → Bool
 dot_or_plain table b = slice_index table b == 46 || is_plain b
 

@@ -3,8 +3,8 @@ use Rattle.git_pkt.specs.Packets.{longest_payload}
 use Rattle.git_client.specs.Client.{events_of}
 use Rattle.git_client.specs.Events.{all_parts_length}
 use Rattle.git_client.specs.declared.events.HeardGot.{HeardGot}
-use Rattle.gitwire.specs.EventsTold.{Parts, bytes_shown}
-use Rattle.gitwire.proofs.ShownLengths.{shown_fits, told_fits}
+use Rattle.gitwire.specs.EventAnswers.{Parts, bytes_shown}
+use Rattle.gitwire.proofs.ShownLengths.{shown_fits, answer_fits}
 use Rattle.gitwire.proofs.client.feed.Goals as goal
 
 pub show-requires : goal.show-requires
@@ -18,5 +18,5 @@ pub returns-in-Event : goal.returns-in-Event
 returns-in-Event c =
     let fits =
     subst (λ (got : HeardGot). all_parts_length (events_of got) ≤ longest_payload) c.in-Event.is c.feed-heard.ensures.fits in
-    let told = told_fits _ c.in-Event.event _ c.show.result fits c.of.ensures c.show.ensures.told in
-    search (rules, told)
+    let answer = answer_fits _ c.in-Event.event _ c.show.result fits c.of.ensures c.show.ensures.answer in
+    search (rules, answer)

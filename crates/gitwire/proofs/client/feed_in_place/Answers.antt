@@ -3,8 +3,8 @@ use Rattle.git_pkt.specs.Packets.{longest_payload}
 use Rattle.git_client.specs.Client.{events_of, wants_input}
 use Rattle.git_client.specs.Events.{all_parts_length}
 use Rattle.git_client.specs.declared.events.HeardGot.{HeardGot}
-use Rattle.gitwire.specs.ClientTold.{filled_beside, told_of}
-use Rattle.gitwire.proofs.ShownLengths.{shown_fits, told_fits}
+use Rattle.gitwire.specs.ClientAnswers.{filled_beside, answer_of}
+use Rattle.gitwire.proofs.ShownLengths.{shown_fits, answer_fits}
 use Rattle.gitwire.proofs.ShownPlaces.{lies}
 use Rattle.gitwire.proofs.client.feed_in_place.Goals as goal
 
@@ -20,15 +20,15 @@ returns-in-Event c =
     let feeds = c.feed-heard.follows.holds-at-none.0 in
     let fits =
     subst (λ (got : HeardGot). all_parts_length (events_of got) ≤ longest_payload) c.in-Event.is c.feed-heard.ensures.fits in
-    let told_as = λ (g : HeardGot). c.show_in_place.result ≡ told_of (wants_input c.args.client.now) c.feed-heard.result.used g in
+    let answered_as = λ (g : HeardGot). c.show_in_place.result ≡ answer_of (wants_input c.args.client.now) c.feed-heard.result.used g in
     record {
       small = λ short. absurd (omega (arith, short, c.if-room-lt-LONGEST_PARTS.false));
       large = λ _. record {
         heard = c.feed-heard.result;
         feeds = feeds;
         within = c.feed-heard.ensures.used;
-        fits = told_fits _ c.in-Event.event _ c.show_in_place.result fits refl c.show_in_place.ensures.told;
-        told_is = subst told_as (sym c.in-Event.is) c.show_in_place.ensures.told;
+        fits = answer_fits _ c.in-Event.event _ c.show_in_place.result fits refl c.show_in_place.ensures.answer;
+        answer_is = subst answered_as (sym c.in-Event.is) c.show_in_place.ensures.answer;
         room_is = subst (λ (g : HeardGot). c.show_in_place.new.room ≡ filled_beside g c.args.room.now) (sym c.in-Event.is) c.show_in_place.ensures.room;
         lies = lies c.args.client.now c.feed-heard.follows.lender-at-none c.args.piece.now c.feed-heard.result.used got feeds;
       };

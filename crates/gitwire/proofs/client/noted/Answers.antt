@@ -1,6 +1,6 @@
 use Rattle.std.proofs.Common.{ℕ, ◌∙◌, ap, subst}
 use Rattle.git_client.specs.Conversation.{HasNoted}
-use Rattle.gitwire.specs.ClientTold.{caps_shown}
+use Rattle.gitwire.specs.ClientAnswers.{caps_shown}
 use Rattle.gitwire.specs.declared.client.GitwireCaps.{GitwireCaps}
 use Rattle.gitwire.proofs.client.noted.Goals as goal
 
@@ -17,6 +17,6 @@ returns c =
       sha256 = caps.sha256;
     } in
     record {
-      told_is = ap shown c.features_noted.ensures ∙ ap caps_shown c.caps-caps.ensures.value;
+      answer_is = ap shown c.features_noted.ensures ∙ ap caps_shown c.caps-caps.ensures.value;
       noted = λ t h stands. subst (HasNoted t h.asked h.used) c.caps-caps.ensures.value (c.caps-caps.ensures.noted t h stands);
     }

@@ -1,21 +1,21 @@
 use Rattle.std.proofs.Common.{arith, ◌≡◌, ◌∙◌, ap, length, refl, subst, sym}
 use Rattle.git_client.specs.declared.events.Event.{Event}
 use Rattle.git_client.specs.declared.events.HeardGot.TheVariants as Got
-use Rattle.gitwire.specs.ClientTold.{filled_beside}
-use Rattle.gitwire.specs.EventsTold.{Parts, bytes_shown, parts_of, telling_parts}
+use Rattle.gitwire.specs.ClientAnswers.{filled_beside}
+use Rattle.gitwire.specs.EventAnswers.{Parts, bytes_shown, parts_of, telling_parts}
 use Rattle.gitwire.specs.Rooms.{put_before}
 use Rattle.gitwire.proofs.ShownPlaces.{beside_others}
 use Rattle.gitwire.proofs.client.show_in_place.Goals as goal
 
 pub returns-in-Pack : goal.returns-in-Pack
 returns-in-Pack c = record {
-  told = subst (λ (e : Event). c.of_bytes.result ≡ telling_parts c.args.used (parts_of e)) (sym c.in-Pack.is) (c.of_bytes.ensures c.in-Pack.bytes.now refl);
+  answer = subst (λ (e : Event). c.of_bytes.result ≡ telling_parts c.args.used (parts_of e)) (sym c.in-Pack.is) (c.of_bytes.ensures c.in-Pack.bytes.now refl);
   room = ap (λ (e : Event). filled_beside (Got.Event e) c.args.room.now) (sym c.in-Pack.is);
 }
 
 pub returns-in-Progress : goal.returns-in-Progress
 returns-in-Progress c = record {
-  told = subst (λ (e : Event). c.of_bytes-in-Progress.result ≡ telling_parts c.args.used (parts_of e)) (sym c.in-Progress.is)
+  answer = subst (λ (e : Event). c.of_bytes-in-Progress.result ≡ telling_parts c.args.used (parts_of e)) (sym c.in-Progress.is)
       (c.of_bytes-in-Progress.ensures c.in-Progress.bytes.now refl);
   room = ap (λ (e : Event). filled_beside (Got.Event e) c.args.room.now) (sym c.in-Progress.is);
 }
@@ -25,7 +25,7 @@ show-requires c = omega (arith, c.requires, ap (λ (p : Parts). length (bytes_sh
 
 pub returns-in_default : goal.returns-in_default
 returns-in_default c = record {
-  told = c.show.ensures.told ∙ ap (telling_parts c.args.used) c.of.ensures;
+  answer = c.show.ensures.answer ∙ ap (telling_parts c.args.used) c.of.ensures;
   room = c.show.ensures.room
       ∙ ap (λ (p : Parts). put_before (bytes_shown p) c.args.room.now) c.of.ensures
       ∙ sym (beside_others c.args.event c.args.room.now c.in_default.not-Pack c.in_default.not-Progress);

@@ -10,5 +10,5 @@ returns-in-Err c = record {
     truncated = search rules;
   };
   carries = search rules;
-  told_is = search rules;
+  answer_is = search rules;
 }

@@ -1,15 +1,12 @@
 use Rattle.std.proofs.Common.{◌≡◌}
 use Rattle.std.specs.Slice.Iter.{chunks_rest, chunks_size}
-use Rattle.git_pkt.specs.Told.{inner_of, has_failed}
 use Rattle.git2show_lib.specs.declared.lines.TheConstants.{BLOCK}
 use Rattle.git2show_lib.proofs.Sendings.{EscapesTo}
 use Rattle.git2show_lib.proofs.lines.Lines.emit_blocks.Given as goal
 
--- what came of the bytes has been escaped, and nothing has failed since the call began
+-- what came of the bytes has been escaped
 abbrev pub invariant-loop-block : goal.invariant-loop-block
 invariant-loop-block g l = record {
   size : chunks_size l.block-iterator ≡ BLOCK;
-  sound : has_failed l.writer ≡ has_failed l.fn.writer;
-  escapes : EscapesTo (g.W.Write.contents (inner_of l.fn.writer)) (g.W.Write.contents (inner_of l.writer)) l.fn.self l.bytes l.self
-      (chunks_rest l.block-iterator);
+  escapes : EscapesTo g.W.Write.contents l.fn.writer l.writer l.fn.self l.bytes l.self (chunks_rest l.block-iterator);
 }

@@ -1,24 +1,19 @@
-use Rattle.std.proofs.Common.{rules, ◌∙◌, refl}
+use Rattle.std.proofs.Common.{rules, ◌∙◌}
 use Rattle.git2show_lib.proofs.Sendings.{escapes_begin, escapes_on, escapes_front, escapes_end}
 use Rattle.git2show_lib.proofs.lines.Lines.emit_escaped.Goals as goal
 
 pub loop-run-init : goal.loop-run-init
-loop-run-init g c = record { size = search rules; sound = refl; escapes = escapes_begin _ _ _ _ (search rules) }
+loop-run-init g c = record { size = search rules; escapes = escapes_begin (search rules) }
 
 pub loop-run-preserved : goal.loop-run-preserved
 loop-run-preserved g c =
     let so_far = c.loop-run.invariant in
     let steps = c.in-Some.ensures.steps in
-    record {
-      size = steps.0 ∙ so_far.size;
-      sound = search rules;
-      escapes = escapes_on _ _ _ _ _ _ _ _ _ so_far.escapes steps.1.0 _ c.in_ok-emit_run.ensures.ok;
-    }
+    record { size = steps.0 ∙ so_far.size; escapes = escapes_on _ _ so_far.escapes steps.1.0 c.in_ok-emit_run.ensures }
 
-pub returns-in_err-emit_run-clause-err : goal.returns-in_err-emit_run-clause-err
-returns-in_err-emit_run-clause-err g c =
-    let front = escapes_front _ _ _ _ _ _ _ _ _ c.loop-run.invariant.escapes c.in-Some.ensures.steps.1.0 c.in_err-emit_run.ensures.err in
-    search rules
+pub returns-in_err-emit_run : goal.returns-in_err-emit_run
+returns-in_err-emit_run g c =
+    escapes_front _ _ c.loop-run.invariant.escapes c.in-Some.ensures.steps.1.0 c.in_err-emit_run.ensures c.from_residual.ensures.1
 
-pub returns-clause-ok : goal.returns-clause-ok
-returns-clause-ok g c = escapes_end _ _ _ _ _ _ c.loop-run.invariant.escapes c.in-None.ensures.steps.1.0
+pub returns : goal.returns
+returns g c = escapes_end c.loop-run.invariant.escapes c.in-None.ensures.steps.1.0

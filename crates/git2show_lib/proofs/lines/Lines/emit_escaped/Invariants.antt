@@ -1,15 +1,12 @@
 use Rattle.std.proofs.Common.{◌≡◌}
 use Rattle.std.specs.Slice.Iter.{chunks_rest, chunks_size}
-use Rattle.git_pkt.specs.Told.{inner_of, has_failed}
 use Rattle.git2show_lib.specs.declared.lines.TheConstants.{RUN}
 use Rattle.git2show_lib.proofs.Sendings.{EscapesTo}
 use Rattle.git2show_lib.proofs.lines.Lines.emit_escaped.Given as goal
 
--- what came of the bytes has been escaped, and nothing has failed since the call began
+-- what came of the bytes has been escaped
 abbrev pub invariant-loop-run : goal.invariant-loop-run
 invariant-loop-run g l = record {
   size : chunks_size l.run-iterator ≡ RUN;
-  sound : has_failed l.writer ≡ has_failed l.fn.writer;
-  escapes : EscapesTo (g.W.Write.contents (inner_of l.fn.writer)) (g.W.Write.contents (inner_of l.writer)) l.fn.self l.bytes l.self
-      (chunks_rest l.run-iterator);
+  escapes : EscapesTo g.W.Write.contents l.fn.writer l.writer l.fn.self l.bytes l.self (chunks_rest l.run-iterator);
 }

@@ -19,7 +19,7 @@ use Rattle.git_client.proofs.HandedOut.{answers, has_no_fault, has_part}
 use Rattle.git_client.proofs.Opened.{no_turns}
 use Rattle.git_client.proofs.client.Client.feed.Goals as goal
 
--- what was said gives some event
+-- what a packet contained gives some event
 gives_some : (said : Said) (bytes : List ℕ) → said ≢ Nothing → events_at said bytes ≢ []
 gives_some Nothing bytes other e = other refl
 gives_some said bytes other e = cc
@@ -29,7 +29,7 @@ paid_again : (a b before after credit left : ℕ) → a ≡ b → Pays a before 
 paid_again a b before after credit left same paid = subst (λ (n : ℕ). Pays n before after credit left) same paid
 
 module _ {A : Type 0} where
-  -- where the client stands after so many turns: none or one
+  -- whether the client can ask or receives more, after so many turns: none or one
   abbrev ComesTo : ℕ → Client A → Type 0
   ComesTo zero new = wants_input new ≡ true
   ComesTo (suc n) new = can_ask new ≡ true

@@ -22,61 +22,32 @@ invariant_of-self-2 g c =
     value c.requires.counted) in
     let room : fetch_stored c.self.inside + stored_in (shown c.args.argument.now) ≤ c.charge.new.self.kept =
     omega (arith, charged, stored_fits c.self.inside.format (shown c.args.argument.now) value.1, c.requires.counted, c.self.invariant.covered) in
+    let still : fetch_stored c.self.inside ≤ c.charge.new.self.kept = omega (arith, room) in
     elim c.match-argument.branch [
       | in-Want+in_ok-keep_id-in-Want w ↦
           let grown : w.keep_id.new.ids.items ≡ c.self.inside.wants.items ++ w.in-Want.id ∷ [] = search rules in
-          let here = rw w.in-Want.is at more in
           let fits = rw w.in-Want.is at room in
           rw (w.self-inside-is, grown)
-          (record { counted = here; covered = omega (arith, fits, length-append c.self.inside.wants.items (w.in-Want.id ∷ [])) })
+          (record { counted = rw w.in-Want.is at more; covered = omega (arith, fits, length-append c.self.inside.wants.items (w.in-Want.id ∷ [])) })
       | in-Have+in_ok-keep_id-in-Have w ↦
           let grown : w.keep_id-in-Have.new.ids.items ≡ c.self.inside.haves.items ++ w.in-Have.id ∷ [] = search rules in
-          let here = rw w.in-Have.is at more in
           let fits = rw w.in-Have.is at room in
           rw (w.self-inside-is, grown)
-          (record { counted = here; covered = omega (arith, fits, length-append c.self.inside.haves.items (w.in-Have.id ∷ [])) })
-      | in-IsDone w ↦
-          let here = rw w.in-IsDone.is at more in
-          let fits = rw w.in-IsDone.is at room in
-          rw w.self-inside-is (record { counted = here; covered = omega (arith, fits) })
-      | in-ThinPack w ↦
-          let here = rw w.in-ThinPack.is at more in
-          let fits = rw w.in-ThinPack.is at room in
-          rw w.self-inside-is (record { counted = here; covered = omega (arith, fits) })
-      | in-NoProgress w ↦
-          let here = rw w.in-NoProgress.is at more in
-          let fits = rw w.in-NoProgress.is at room in
-          rw w.self-inside-is (record { counted = here; covered = omega (arith, fits) })
-      | in-IncludeTag w ↦
-          let here = rw w.in-IncludeTag.is at more in
-          let fits = rw w.in-IncludeTag.is at room in
-          rw w.self-inside-is (record { counted = here; covered = omega (arith, fits) })
-      | in-OfsDelta w ↦
-          let here = rw w.in-OfsDelta.is at more in
-          let fits = rw w.in-OfsDelta.is at room in
-          rw w.self-inside-is (record { counted = here; covered = omega (arith, fits) })
-      | in-WaitForDone w ↦
-          let here = rw w.in-WaitForDone.is at more in
-          let fits = rw w.in-WaitForDone.is at room in
-          rw w.self-inside-is (record { counted = here; covered = omega (arith, fits) })
+          (record { counted = rw w.in-Have.is at more; covered = omega (arith, fits, length-append c.self.inside.haves.items (w.in-Have.id ∷ [])) })
+      | in-IsDone w ↦ rw w.self-inside-is (record { counted = rw w.in-IsDone.is at more; covered = still })
+      | in-ThinPack w ↦ rw w.self-inside-is (record { counted = rw w.in-ThinPack.is at more; covered = still })
+      | in-NoProgress w ↦ rw w.self-inside-is (record { counted = rw w.in-NoProgress.is at more; covered = still })
+      | in-IncludeTag w ↦ rw w.self-inside-is (record { counted = rw w.in-IncludeTag.is at more; covered = still })
+      | in-OfsDelta w ↦ rw w.self-inside-is (record { counted = rw w.in-OfsDelta.is at more; covered = still })
+      | in-WaitForDone w ↦ rw w.self-inside-is (record { counted = rw w.in-WaitForDone.is at more; covered = still })
       | in-Shallow+in_ok-keep_id-in-Shallow w ↦
           let grown : w.keep_id-in-Shallow.new.ids.items ≡ c.self.inside.shallows.items ++ w.in-Shallow.id ∷ [] = search rules in
-          let here = rw w.in-Shallow.is at more in
           let fits = rw w.in-Shallow.is at room in
           rw (w.self-inside-is, grown)
-          (record { counted = here; covered = omega (arith, fits, length-append c.self.inside.shallows.items (w.in-Shallow.id ∷ [])) })
-      | in-Deepen w ↦
-          let here = rw w.in-Deepen.is at more in
-          let fits = rw w.in-Deepen.is at room in
-          rw w.self-inside-is (record { counted = here; covered = omega (arith, fits) })
-      | in-DeepenRelative w ↦
-          let here = rw w.in-DeepenRelative.is at more in
-          let fits = rw w.in-DeepenRelative.is at room in
-          rw w.self-inside-is (record { counted = here; covered = omega (arith, fits) })
-      | in-DeepenSince w ↦
-          let here = rw w.in-DeepenSince.is at more in
-          let fits = rw w.in-DeepenSince.is at room in
-          rw w.self-inside-is (record { counted = here; covered = omega (arith, fits) })
+          (record { counted = rw w.in-Shallow.is at more; covered = omega (arith, fits, length-append c.self.inside.shallows.items (w.in-Shallow.id ∷ [])) })
+      | in-Deepen w ↦ rw w.self-inside-is (record { counted = rw w.in-Deepen.is at more; covered = still })
+      | in-DeepenRelative w ↦ rw w.self-inside-is (record { counted = rw w.in-DeepenRelative.is at more; covered = still })
+      | in-DeepenSince w ↦ rw w.self-inside-is (record { counted = rw w.in-DeepenSince.is at more; covered = still })
       | in-DeepenNot+in_ok-keep-in-DeepenNot w ↦
           let grown : texts_of w.keep.new.self
           ≡ texts_of c.self.inside.deepen_nots ++ w.in-DeepenNot.revision.now ∷ [] = w.in_ok-keep-in-DeepenNot.ensures.ok in

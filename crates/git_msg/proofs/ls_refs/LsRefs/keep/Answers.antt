@@ -18,19 +18,11 @@ invariant_of-self-2 g c =
     value c.requires.counted) in
     let room : ls_refs_stored c.self.inside + stored_in (shown c.args.argument.now) ≤ c.charge.new.self.kept =
     omega (arith, charged, stored_fits c.self.inside.format (shown c.args.argument.now) value.1, c.requires.counted, c.self.invariant.covered) in
+    let still : ls_refs_stored c.self.inside ≤ c.charge.new.self.kept = omega (arith, room) in
     elim c.match-argument.branch [
-      | in-Symrefs w ↦
-          let here = rw w.in-Symrefs.is at more in
-          let fits = rw w.in-Symrefs.is at room in
-          rw w.self-inside-is (record { counted = here; covered = omega (arith, fits) })
-      | in-Peel w ↦
-          let here = rw w.in-Peel.is at more in
-          let fits = rw w.in-Peel.is at room in
-          rw w.self-inside-is (record { counted = here; covered = omega (arith, fits) })
-      | in-Unborn w ↦
-          let here = rw w.in-Unborn.is at more in
-          let fits = rw w.in-Unborn.is at room in
-          rw w.self-inside-is (record { counted = here; covered = omega (arith, fits) })
+      | in-Symrefs w ↦ rw w.self-inside-is (record { counted = rw w.in-Symrefs.is at more; covered = still })
+      | in-Peel w ↦ rw w.self-inside-is (record { counted = rw w.in-Peel.is at more; covered = still })
+      | in-Unborn w ↦ rw w.self-inside-is (record { counted = rw w.in-Unborn.is at more; covered = still })
       | in-RefPrefix+in_ok-keep-in-RefPrefix w ↦
           let grown : texts_of w.keep.new.self ≡ texts_of c.self.inside.ref_prefixes ++ w.in-RefPrefix.prefix.now ∷ [] = w.in_ok-keep-in-RefPrefix.ensures.ok in
           let here = rw w.in-RefPrefix.is at more in

@@ -17,15 +17,12 @@ invariant_of-self-2 g c =
     c.self.invariant.counted value c.requires.counted) in
     let room : object_info_stored c.self.inside + stored_in (shown c.args.argument.now) ≤ c.charge.new.self.kept =
     omega (arith, charged, stored_fits c.self.inside.format (shown c.args.argument.now) value.1, c.requires.counted, c.self.invariant.covered) in
+    let still : object_info_stored c.self.inside ≤ c.charge.new.self.kept = omega (arith, room) in
     elim c.match-argument.branch [
-      | in-Size w ↦
-          let here = rw w.in-Size.is at more in
-          let fits = rw w.in-Size.is at room in
-          rw w.self-inside-is (record { counted = here; covered = omega (arith, fits) })
+      | in-Size w ↦ rw w.self-inside-is (record { counted = rw w.in-Size.is at more; covered = still })
       | in-ObjectId+in_ok-keep_id-in-ObjectId w ↦
           let grown : w.keep_id.new.ids.items ≡ c.self.inside.oids.items ++ w.in-ObjectId.id ∷ [] = search rules in
-          let here = rw w.in-ObjectId.is at more in
           let fits = rw w.in-ObjectId.is at room in
           rw (w.self-inside-is, grown)
-          (record { counted = here; covered = omega (arith, fits, length-append c.self.inside.oids.items (w.in-ObjectId.id ∷ [])) })
+          (record { counted = rw w.in-ObjectId.is at more; covered = omega (arith, fits, length-append c.self.inside.oids.items (w.in-ObjectId.id ∷ [])) })
     ]

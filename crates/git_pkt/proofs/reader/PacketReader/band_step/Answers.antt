@@ -170,13 +170,21 @@ returns-else-gathered-lt5 c =
     (subst (λ (l : List ℕ). ReadsBandsOn old l [] [] mid) (take_front used front c.args.piece.now c.step-first.ensures.used)
     (open_goes old mid u fits c.requires.sound gathers (c.requires.passes gathers) moves (first_five (rest_of old) u (c.requires.passes gathers) few))) in
     record {
-      used = omega (arith, ap length left, length-take front c.args.piece.now, length-append (take front c.args.piece.now) (drop front c.args.piece.now), ap length (take-append-drop front c.args.piece.now), c.after_five-next.ensures.used);
+      used = omega (
+        arith,
+        ap length left,
+        length-take front c.args.piece.now,
+        length-append (take front c.args.piece.now) (drop front c.args.piece.now),
+        ap length (take-append-drop front c.args.piece.now),
+        c.after_five-next.ensures.used,
+      );
       moves = bands_after old mid c.after_five-next.new.self (take front c.args.piece.now) _ c.args.piece.now c.after_five-next.result.used
           (front + c.after_five-next.result.used)
           (ap (λ (l : List ℕ). take front c.args.piece.now ++ l) left ∙ take-append-drop front c.args.piece.now)
           (omega (arith, length-take-le front c.args.piece.now within))
           (open_rises old mid u fits c.requires.sound gathers (c.requires.passes gathers) (length (take front c.args.piece.now))
-          (omega (arith, taken, all, length-take-le front c.args.piece.now within)) moves) first c.after_five-next.result.progress c.after_five-next.ensures.moves;
+          (omega (arith, taken, all, length-take-le front c.args.piece.now within)) moves) first c.after_five-next.result.progress
+          c.after_five-next.ensures.moves;
       keeps = λ none.
           let empty : u ≡ [] = no_bytes u (omega (arith, taken, all, none)) in
           let same : rest_of mid ≡ rest_of old =

@@ -29,13 +29,22 @@ loop-used-preserved c =
     (bands_after c.args.self.now c.loop-used.self c.next_band-step.new.self (take done piece) _ piece c.next_band-step.result.used
     (done + c.next_band-step.result.used) (ap (λ (l : List ℕ). take done piece ++ l) left ∙ take-append-drop done piece)
     (omega (arith, length-take-le done piece c.loop-used.invariant.within))
-    (omega (arith, c.loop-used.invariant.rises, length-take-le done piece c.loop-used.invariant.within)) c.loop-used.invariant.goes c.next_band-step.result.progress
+    (omega (arith, c.loop-used.invariant.rises, length-take-le done piece c.loop-used.invariant.within)) c.loop-used.invariant.goes
+    c.next_band-step.result.progress
     c.next_band-step.ensures.moves) in
     let some : 0 < c.next_band-step.result.used =
-    (subst (λ (p : BandProgress). BandMoves c.loop-used.self (take (length piece - done) (drop done piece)) c.next_band-step.result.used p c.next_band-step.new.self) c.in-Empty.is
+    (subst (λ (p : BandProgress). BandMoves c.loop-used.self (take (length piece - done) (drop done piece)) c.next_band-step.result.used p
+    c.next_band-step.new.self) c.in-Empty.is
     c.next_band-step.ensures.moves).comes.some in
     record {
-      within = omega (arith, ap length left, length-take-le done piece c.loop-used.invariant.within, length-append (take done piece) (drop done piece), ap length (take-append-drop done piece), c.next_band-step.ensures.used);
+      within = omega (
+        arith,
+        ap length left,
+        length-take-le done piece c.loop-used.invariant.within,
+        length-append (take done piece) (drop done piece),
+        ap length (take-append-drop done piece),
+        c.next_band-step.ensures.used,
+      );
       sound = moves.comes.no_fault;
       passes = moves.passes;
       rises = moves.rises;
@@ -53,12 +62,20 @@ returns-in_default c =
     let piece = c.args.piece.now in
     let left = left_of piece done c.loop-used.invariant.within in
     record {
-      used = omega (arith, ap length left, length-take-le done piece c.loop-used.invariant.within, length-append (take done piece) (drop done piece), ap length (take-append-drop done piece), c.next_band-step.ensures.used);
+      used = omega (
+        arith,
+        ap length left,
+        length-take-le done piece c.loop-used.invariant.within,
+        length-append (take done piece) (drop done piece),
+        ap length (take-append-drop done piece),
+        c.next_band-step.ensures.used,
+      );
       some = c.in_default.not-Empty;
       moves = bands_after c.args.self.now c.loop-used.self c.next_band-step.new.self (take done piece) _ piece c.next_band-step.result.used
           (done + c.next_band-step.result.used) (ap (λ (l : List ℕ). take done piece ++ l) left ∙ take-append-drop done piece)
           (omega (arith, length-take-le done piece c.loop-used.invariant.within))
-          (omega (arith, c.loop-used.invariant.rises, length-take-le done piece c.loop-used.invariant.within)) c.loop-used.invariant.goes c.next_band-step.result.progress
+          (omega (arith, c.loop-used.invariant.rises, length-take-le done piece c.loop-used.invariant.within)) c.loop-used.invariant.goes
+          c.next_band-step.result.progress
           c.next_band-step.ensures.moves;
       keeps = λ none. c.next_band-step.ensures.keeps (omega arith) ∙ c.loop-used.invariant.keeps (omega arith);
       cost = record {

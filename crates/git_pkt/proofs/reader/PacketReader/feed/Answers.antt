@@ -24,7 +24,8 @@ returns-in-Open c =
         refl,
         (λ _. tt),
         record {
-          reads = carry_open _ _ _ (omega (arith, c.len.ensures.value, c.len.ensures.fits)) (sound_unless c.args.self.now.state c.in_default.not-Failed) c.requires.gathers moves;
+          reads = carry_open _ _ _ (omega (arith, c.len.ensures.value, c.len.ensures.fits)) (sound_unless c.args.self.now.state c.in_default.not-Failed)
+              c.requires.gathers moves;
           tells = (c.step-step.ensures.all c.in-Open.is, moves.arrives.no_fault);
           news = λ f sound is. absurd (cc);
           stays = λ f is. let none = sound_unless c.args.self.now.state c.in_default.not-Failed in absurd (cc);
@@ -34,7 +35,11 @@ returns-in-Open c =
           gathers = moves.arrives.gathers;
         },
       ),
-      record { after = tt; used = c.step-step.ensures.used; cost = record { rises = c.step-step.ensures.cost.rises; within = omega (arith, c.step-step.ensures.cost.within) } },
+      record {
+        after = tt;
+        used = c.step-step.ensures.used;
+        cost = record { rises = c.step-step.ensures.cost.rises; within = omega (arith, c.step-step.ensures.cost.within) };
+      },
     )
 
 pub returns-in-Failed-progress : goal.returns-in-Failed-progress
@@ -48,7 +53,8 @@ returns-in-Failed-progress c =
         refl,
         (λ _. tt),
         record {
-          reads = carry_failed _ _ _ c.in-Failed-progress.fault (omega (arith, c.len.ensures.value, c.len.ensures.fits)) (sound_unless c.args.self.now.state c.in_default.not-Failed) c.requires.gathers moves;
+          reads = carry_failed _ _ _ c.in-Failed-progress.fault (omega (arith, c.len.ensures.value, c.len.ensures.fits))
+              (sound_unless c.args.self.now.state c.in_default.not-Failed) c.requires.gathers moves;
           tells = moves.arrives.told ∙ (cc);
           news =
               λ f sound is.
@@ -61,7 +67,11 @@ returns-in-Failed-progress c =
           gathers = gathers_between c.step-step.new.self moves.arrives.closed;
         },
       ),
-      record { after = tt; used = c.step-step.ensures.used; cost = record { rises = c.step-step.ensures.cost.rises; within = omega (arith, c.step-step.ensures.cost.within) } },
+      record {
+        after = tt;
+        used = c.step-step.ensures.used;
+        cost = record { rises = c.step-step.ensures.cost.rises; within = omega (arith, c.step-step.ensures.cost.within) };
+      },
     )
 
 pub returns-in-Whole : goal.returns-in-Whole
@@ -75,7 +85,8 @@ returns-in-Whole c =
         refl,
         (λ _. tt),
         record {
-          reads = carry_whole _ _ _ _ (omega (arith, c.len.ensures.value, c.len.ensures.fits)) (sound_unless c.args.self.now.state c.in_default.not-Failed) c.requires.gathers moves c.packet.ensures.spells
+          reads = carry_whole _ _ _ _ (omega (arith, c.len.ensures.value, c.len.ensures.fits)) (sound_unless c.args.self.now.state c.in_default.not-Failed)
+              c.requires.gathers moves c.packet.ensures.spells
               (omega (arith, behind, c.len.ensures.value));
           tells = (
             omega (arith, uses, length-take-le c.step-step.result.used c.args.piece.now c.step-step.ensures.used),
@@ -91,9 +102,14 @@ returns-in-Whole c =
               λ rest holds.
               moves.arrives.held
               ∙ ap (λ (l : List ℕ). l ++ take c.step-step.result.used c.args.piece.now) (gathered_rest c.args.self.now rest c.requires.gathers holds);
-          counts = whole_counts _ _ _ _ _ c.requires.gathers (length-take-le c.step-step.result.used c.args.piece.now c.step-step.ensures.used) moves c.packet.ensures.spells;
+          counts = whole_counts _ _ _ _ _ c.requires.gathers (length-take-le c.step-step.result.used c.args.piece.now c.step-step.ensures.used) moves
+              c.packet.ensures.spells;
           gathers = gathers_between c.step-step.new.self moves.arrives.closed;
         },
       ),
-      record { after = tt; used = c.step-step.ensures.used; cost = record { rises = c.step-step.ensures.cost.rises; within = omega (arith, c.step-step.ensures.cost.within) } },
+      record {
+        after = tt;
+        used = c.step-step.ensures.used;
+        cost = record { rises = c.step-step.ensures.cost.rises; within = omega (arith, c.step-step.ensures.cost.within) };
+      },
     )

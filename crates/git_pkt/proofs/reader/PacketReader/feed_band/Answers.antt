@@ -13,7 +13,8 @@ returns-in-Failed c = (
 pub fed-requires : goal.fed-requires
 fed-requires c = record {
   part = has_part c.args.self.now c.band_steps-step.new.self c.args.piece.now c.band_steps-step.result.used
-      (sound_unless c.args.self.now.state c.in_default.not-Failed) c.band_steps-step.ensures.keeps c.band_steps-step.result.progress c.band_steps-step.ensures.moves
+      (sound_unless c.args.self.now.state c.in_default.not-Failed) c.band_steps-step.ensures.keeps c.band_steps-step.result.progress
+      c.band_steps-step.ensures.moves
       c.band_steps-step.ensures.used;
   all = c.band_steps-step.ensures.used;
 }
@@ -24,7 +25,8 @@ returns-in_default-progress c = (
     refl,
     (λ _. tt),
     feeds_step c.args.self.now c.band_steps-step.new.self c.args.piece.now c.band_steps-step.result.used
-        (sound_unless c.args.self.now.state c.in_default.not-Failed) c.band_steps-step.ensures.keeps c.band_steps-step.result.progress c.fed.result c.band_steps-step.ensures.moves
+        (sound_unless c.args.self.now.state c.in_default.not-Failed) c.band_steps-step.ensures.keeps c.band_steps-step.result.progress c.fed.result
+        c.band_steps-step.ensures.moves
         c.band_steps-step.ensures.used c.in_default-progress.not-Whole c.band_steps-step.ensures.some c.fed.ensures.used c.fed.ensures.got,
   ),
   record {

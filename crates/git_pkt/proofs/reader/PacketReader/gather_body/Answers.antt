@@ -46,7 +46,8 @@ returns-clause-moves c =
       kept.gathering.partial four,
       length-append (take count c.args.self.now.hold.items) (take c.min-used.result c.args.piece.now),
     ) in
-    moves_from c.args.self.now _ (take count c.args.self.now.hold.items) _ Whole (ap (λ (n : ℕ). take n c.args.self.now.hold.items) (sym c.gathered-count.ensures.value)) (omega arith) (record {
+    moves_from c.args.self.now _ (take count c.args.self.now.hold.items) _ Whole
+    (ap (λ (n : ℕ). take n c.args.self.now.hold.items) (sym c.gathered-count.ensures.value)) (omega arith) (record {
       no_fault = refl;
       closed = refl;
       held = c.truncate.ensures.items ∙ placed;

@@ -10,9 +10,9 @@ use Rattle.git_repository.proofs.drafts.Draft.comes_last.Goals as goal
 pub returns-else-is_none : goal.returns-else-is_none
 returns-else-is_none c =
     after_unborn (drafted c.args.self.now) c.args.name.now _
-    (nil_from_length c.args.self.now.refs.items (search rules)) (search rules) (search rules)
+    (nil_from_length c.args.self.now.lists.refs.items (search rules)) (search rules) (search rules)
 
 pub returns : goal.returns
 returns c =
-    after_refs (head_names (is_some (bytes_of c.args.self.now.unborn))) c.args.self.now.refs.items c.args.name.now c.index.result.now _
+    after_refs (head_names (is_some (bytes_of c.args.self.now.lists.unborn_head))) c.args.self.now.lists.refs.items c.args.name.now c.index.result.now _
     (search rules) (search rules) (search rules)

@@ -1,29 +1,33 @@
 use Rattle.std.proofs.Common.{ap, List, ℕ}
 use Rattle.std.specs.Option.{is_some}
-use Rattle.git_server.specs.Repository.{bytes_of}
 use Rattle.git_repository.specs.DraftLists.{drafted}
-use Rattle.git_repository.specs.Drafts.{head_names, with_unborn}
+use Rattle.git_repository.specs.RepositoryLines.{unborn}
+use Rattle.git_repository.specs.Drafts.{head_names, with_said}
 use Rattle.git_repository.proofs.LastNames.{head_comes_alone, no_refs_there, unborn_told}
 use Rattle.git_repository.proofs.drafts.Draft.keep_unborn.Goals as goal
 
 pub invariant_of-self : goal.invariant_of-self
 invariant_of-self c =
     let old = c.args.self.now in
-    let alone = head_comes_alone (bytes_of old.unborn) old.refs.items old.named (c.comes_last.ensures.0 c.if-not-comes_last.false) in
+    let lists = drafted old in
+    let alone = head_comes_alone lists.unborn_head lists.refs old.named (c.comes_last.ensures.0 c.if-not-comes_last.false) in
     record {
-      rising = old.rising;
-      rising_objects = old.rising_objects;
+      fit = record {
+        rising_refs = old.fit.rising_refs;
+        rising_objects = old.fit.rising_objects;
+        of_format = record {
+          by_refs = old.fit.of_format.by_refs;
+          by_objects = old.fit.of_format.by_objects;
+          by_boundaries = old.fit.of_format.by_boundaries;
+        };
+        unborn_head = unborn_told lists.refs c.args.target.now c.in-Ok.copy.items
+            (no_refs_there (head_names (is_some lists.unborn_head)) lists.refs alone) c.in-Ok.ensures.items c.requires;
+      };
       named = old.named;
-      of_format = old.of_format;
-      of_objects = old.of_objects;
-      of_boundaries = old.of_boundaries;
-      unborn_head = unborn_told old.refs.items c.args.target.now c.in-Ok.copy.items
-          (no_refs_there (head_names (is_some (bytes_of old.unborn))) old.refs.items alone) c.in-Ok.ensures.items c.requires;
     }
 
 pub returns-in-Ok : goal.returns-in-Ok
-returns-in-Ok c =
-    let old = c.args.self.now in (
-      ap (λ (target : List ℕ). with_unborn (drafted old) target) c.in-Ok.ensures.items,
-      head_comes_alone (bytes_of old.unborn) old.refs.items old.named (c.comes_last.ensures.0 c.if-not-comes_last.false),
-    )
+returns-in-Ok c = (
+  ap (λ (target : List ℕ). with_said (drafted c.args.self.now) (unborn target)) c.in-Ok.ensures.items,
+  record { name_last = c.comes_last.ensures.0 c.if-not-comes_last.false; object_last = tt; first_count = tt },
+)

@@ -9,7 +9,7 @@ returns-in_default c lines h =
     says_nothing_at lines (drafted c.args.self.now) c.args.line.now c.next_line-line_number.result c.next_line-line_number.ensures c.in_default.ensures h
 
 pub keep-requires : goal.keep-requires
-keep-requires c = fit_of_says c.args.self.now.format c.args.line.now (shown c.in-Some.item) c.in-Some.ensures
+keep-requires c = fit_of_says c.args.self.now.lists.format c.args.line.now (shown c.in-Some.item) c.in-Some.ensures
 
 pub returns-in-Ok : goal.returns-in-Ok
 returns-in-Ok c lines h =

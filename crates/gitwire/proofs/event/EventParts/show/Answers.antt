@@ -1,5 +1,5 @@
 use Rattle.std.proofs.Common.{arith, ◌≡◌, [], ◌++◌, length, refl, ap, length-append}
-use Rattle.gitwire.specs.EventsTold.{digits_shown, text_shown, parts_shown}
+use Rattle.gitwire.specs.EventAnswers.{digits_shown, text_shown, parts_shown}
 use Rattle.gitwire.specs.Rooms.{put_before}
 use Rattle.gitwire.proofs.FilledRooms.{filled_more}
 use Rattle.gitwire.proofs.event.EventParts.show.Goals as goal

@@ -1,0 +1,18 @@
+-- The parts that a line of text is written in.
+use Rattle.std.specs.Prelude.{ℕ, List, [], ◌∷◌, ◌++◌, codes, decimal}
+use Rattle.git_names.specs.ObjectName.{hex_of}
+use Rattle.git_pkt.specs.Escape.{escaped_of}
+use Rattle.git_client.specs.declared.line.Part.{Part}
+use Rattle.git_client.specs.declared.line.Part.TheVariants.{Word, Text, Name, Number}
+
+-- the bytes of a part
+abbrev pub part_shown : Part → List ℕ
+part_shown (Word word) = word.now
+part_shown (Text word text) = word.now ++ escaped_of text.now
+part_shown (Name word id) = word.now ++ hex_of id.now
+part_shown (Number word number) = word.now ++ decimal number
+
+-- the line of the parts
+abbrev pub line_shown : List Part → List ℕ
+line_shown [] = codes "\n"
+line_shown (part ∷ parts) = part_shown part ++ line_shown parts

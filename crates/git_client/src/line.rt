@@ -1,0 +1,164 @@
+//! A line of text on its way to a writer, part after part.
+
+ghost use Rattle.std.specs.Prelude.{◌≡◌, ◌+◌, ◌≤◌, ◌++◌, [], decimal, length, OnOk};
+ghost use Rattle.git_names.specs.ObjectName.{hex_of};
+ghost use Rattle.git_pkt.specs.Escape.{escaped_of};
+ghost use Rattle.git_pkt.specs.Sends.{Puts, Sends};
+ghost use Rattle.git_client.specs.LineParts.{line_shown, part_shown};
+
+use git_names::Oid;
+use git_pkt::{RunFault, Told, escape_into, is_plain, send};
+use itoa::Buffer;
+use std::io::Write;
+use std::marker::Model;
+
+/// How many bytes wait for the writer at the most: few lines have more.
+const ROOM: usize = 256;
+
+/// How many bytes are escaped at a time.
+const BLOCK: usize = 64;
+
+/// A part of a line: a word, and what comes after it.
+#[derive(Clone, Copy, Debug)]
+pub(crate) enum Part<'a> {
+    /// A word alone.
+    Word(&'a [u8]),
+    /// A word, and bytes that are escaped.
+    Text(&'a [u8], &'a [u8]),
+    /// A word, and the name of an object.
+    Name(&'a [u8], &'a Oid),
+    /// A word, and a number.
+    Number(&'a [u8], u64),
+}
+
+/// Writes a line of these parts.
+pub(crate) fn write_line<W: Write>(out: &mut Told<W>, parts: &[Part<'_>]) -> Result<(), RunFault>
+    ensures { Sends W.contents out.old (line_shown parts.now) result out.new }
+{
+    let mut line = Line::new();
+    for part in parts {
+        line.put_part(out, *part)?;
+    }
+    line.put(out, b"\n")?;
+    line.drain(out)
+}
+
+/// The bytes of a line that wait for the writer, so that most lines take one write.
+#[derive(Drop)]
+struct Line {
+    bytes: [u8; ROOM],
+    count: usize,
+}
+
+impl Model for Line {
+    ghost use Rattle.std.specs.Prelude.{◌≤◌, ℕ, List, take};
+    ghost use Rattle.git_client.specs.declared.line.TheConstants.{ROOM};
+
+    ghost Value = { List ℕ };
+
+    ghost view = { λ line. take line.count line.bytes };
+
+    ghost invariant = { λ line. line.count ≤ ROOM };
+}
+
+impl Line {
+    fn new() -> Self
+        ensures { result ≡ [] }
+    {
+        Line {
+            bytes: [0; ROOM],
+            count: 0,
+        }
+    }
+
+    /// Sends all that waits.
+    fn drain<W: Write>(&mut self, out: &mut Told<W>) -> Result<(), RunFault>
+        ensures sends { Sends W.contents out.old self.old result out.new }
+        ensures empty { OnOk result (self.new ≡ []) }
+    {
+        send(out, &self.bytes[..self.count])?;
+        self.count = 0;
+        Ok(())
+    }
+
+    /// Puts bytes after those that wait, or sends both where there is no room.
+    fn put<W: Write>(&mut self, out: &mut Told<W>, bytes: &[u8]) -> Result<(), RunFault>
+        ensures { Puts W.contents out.old self.old bytes.now result out.new self.new }
+    {
+        if bytes.len() <= ROOM - self.count {
+            self.append(bytes);
+            return Ok(());
+        }
+        self.drain(out)?;
+        send(out, bytes)
+    }
+
+    /// Puts bytes for which there is room after those that wait.
+    fn append(&mut self, bytes: &[u8])
+        requires { length self.old + length bytes.now ≤ ROOM }
+        ensures { self.new ≡ self.old ++ bytes.now }
+    {
+        let end = self.count + bytes.len();
+        self.bytes[self.count..end].copy_from_slice(bytes);
+        self.count = end;
+    }
+
+    fn put_part<W: Write>(&mut self, out: &mut Told<W>, part: Part<'_>) -> Result<(), RunFault>
+        ensures { Puts W.contents out.old self.old (part_shown part.entry) result out.new self.new }
+    {
+        match part {
+            Part::Word(word) => self.put(out, word),
+            Part::Text(word, text) => {
+                self.put(out, word)?;
+                self.put_text(out, text)
+            }
+            Part::Name(word, id) => {
+                self.put(out, word)?;
+                self.put_name(out, id)
+            }
+            Part::Number(word, number) => {
+                self.put(out, word)?;
+                self.put_number(out, number)
+            }
+        }
+    }
+
+    fn put_name<W: Write>(&mut self, out: &mut Told<W>, id: &Oid) -> Result<(), RunFault>
+        ensures { Puts W.contents out.old self.old (hex_of id.now) result out.new self.new }
+    {
+        let mut digits = [0; 64];
+        let count = id.write(&mut digits);
+        self.put(out, &digits[..count])
+    }
+
+    fn put_number<W: Write>(&mut self, out: &mut Told<W>, number: u64) -> Result<(), RunFault>
+        ensures { Puts W.contents out.old self.old (decimal number) result out.new self.new }
+    {
+        self.put(out, Buffer::new().format(number).as_bytes())
+    }
+
+    /// Puts the escapes of bytes after those that wait: at once where each is its own escape, else a block at a time.
+    fn put_text<W: Write>(&mut self, out: &mut Told<W>, bytes: &[u8]) -> Result<(), RunFault>
+        ensures { Puts W.contents out.old self.old (escaped_of bytes.now) result out.new self.new }
+    {
+        if is_plain(bytes) {
+            return self.put(out, bytes);
+        }
+        let mut done = 0;
+        while done < bytes.len() {
+            let count = BLOCK.min(bytes.len() - done);
+            self.put_block(out, &bytes[done..done + count])?;
+            done += count;
+        }
+        Ok(())
+    }
+
+    fn put_block<W: Write>(&mut self, out: &mut Told<W>, block: &[u8]) -> Result<(), RunFault>
+        requires { length block.now ≤ BLOCK }
+        ensures { Puts W.contents out.old self.old (escaped_of block.now) result out.new self.new }
+    {
+        let mut shown = [0; 256];
+        let end = escape_into(block, &mut shown, 0);
+        self.put(out, &shown[..end])
+    }
+}

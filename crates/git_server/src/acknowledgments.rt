@@ -1,0 +1,122 @@
+//! The section `acknowledgments` in an answer to `fetch`, a packet at a time.
+
+ghost use Rattle.std.specs.Prelude.{◌≡◌, false};
+ghost use Rattle.git_pkt.specs.PacketReader.{is_open};
+ghost use Rattle.git_server.specs.FetchAnswers.{ack_packet};
+ghost use Rattle.git_server.specs.FetchPlaces.{Acknowledges, NextCommon};
+ghost use Rattle.git_server.specs.WrittenPackets.{Writes};
+
+use crate::packets::{write_line, write_packet};
+use crate::repo::Repo;
+use git_msg::{Fetch, put_ack};
+use git_names::Oid;
+use git_pkt::{Packet, PacketReader};
+use std::alloc::Allocator;
+
+/// The place from which on the section is owed, gitprotocol-v2(5).
+#[derive(Clone, Copy, Debug)]
+pub(crate) enum AcknowledgmentsPlace {
+    /// From its header on.
+    Header,
+    /// From the have at this place on, and whether one was acknowledged before it.
+    Have(usize, bool),
+    /// From what comes after all the haves on.
+    Through,
+}
+
+/// What came of writing a packet of the section.
+#[derive(Clone, Copy, Debug)]
+pub(crate) enum Acknowledged {
+    /// It goes on from this place.
+    Part(AcknowledgmentsPlace),
+    /// The repository is ready to send a pack, which follows, and that was its `ready` line.
+    Ready,
+    /// No pack follows, and that was the flush of the answer.
+    Whole,
+}
+
+/// Writes the next packet of the section into the reader's hold, and returns what comes after it.
+pub(crate) fn write_acknowledgments<R: Repo, A: Allocator + Copy>(
+    repo: &R,
+    request: &Fetch<A>,
+    place: AcknowledgmentsPlace,
+    reader: &mut PacketReader,
+) -> Acknowledged
+    requires { is_open reader.old ≡ false }
+    ensures { Acknowledges (R.state repo.now).answers request.now.asked place reader.old result reader.new }
+{
+    match place {
+        AcknowledgmentsPlace::Header => {
+            write_line(reader, b"acknowledgments", b"");
+            Acknowledged::Part(AcknowledgmentsPlace::Have(0, false))
+        }
+        AcknowledgmentsPlace::Have(from, told) => write_ack(repo, request, from, told, reader),
+        AcknowledgmentsPlace::Through => write_end(repo, request, reader),
+    }
+}
+
+// Writes the line of the first common object from a place on. Where there is none, and none was before it, it writes `NAK`.
+fn write_ack<R: Repo, A: Allocator + Copy>(
+    repo: &R,
+    request: &Fetch<A>,
+    from: usize,
+    told: bool,
+    reader: &mut PacketReader,
+) -> Acknowledged
+    requires { is_open reader.old ≡ false }
+    ensures { Acknowledges (R.state repo.now).answers request.now.asked (AcknowledgmentsPlace.Have from told) reader.old result reader.new }
+{
+    let haves = request.haves();
+    match next_common(repo, haves, from) {
+        Some(at) => {
+            write_common(reader, &haves[at]);
+            Acknowledged::Part(AcknowledgmentsPlace::Have(at + 1, true))
+        }
+        None => {
+            if told {
+                return write_end(repo, request, reader);
+            }
+            write_line(reader, b"NAK", b"");
+            Acknowledged::Part(AcknowledgmentsPlace::Through)
+        }
+    }
+}
+
+// Makes the hold the line of an object that both ends have.
+fn write_common(reader: &mut PacketReader, id: &Oid)
+    requires { is_open reader.old ≡ false }
+    ensures { Writes reader.old (ack_packet id.now) reader.new }
+{
+    put_ack(reader.lend(), id);
+    let _ = reader.hold();
+}
+
+// The place of the first of these objects, at `from` or after it, that the repository has.
+fn next_common<R: Repo>(repo: &R, haves: &[Oid], from: usize) -> Option<usize>
+    ensures { NextCommon (R.state repo.now).answers.has haves.now from result }
+{
+    for at in from..haves.len() {
+        if repo.has(&haves[at]) {
+            return Some(at);
+        }
+    }
+    None
+}
+
+// Writes what comes after the lines of the haves: whether a pack follows.
+fn write_end<R: Repo, A: Allocator + Copy>(
+    repo: &R,
+    request: &Fetch<A>,
+    reader: &mut PacketReader,
+) -> Acknowledged
+    requires { is_open reader.old ≡ false }
+    ensures { Acknowledges (R.state repo.now).answers request.now.asked AcknowledgmentsPlace.Through reader.old result reader.new }
+{
+    let only_negotiates = request.wait_for_done() && !request.done();
+    if !only_negotiates && repo.is_ready(request) {
+        write_line(reader, b"ready", b"");
+        return Acknowledged::Ready;
+    }
+    write_packet(reader, Packet::Flush);
+    Acknowledged::Whole
+}

@@ -1,0 +1,239 @@
+//! The answer to `ls-refs`, a packet at a time. Both the request's prefixes and the references are searched by halves.
+
+ghost use Rattle.std.specs.Prelude.{◌≡◌, ◌<◌, ◌≤◌, ℕ, List, [], ◌∷◌, Some, None, IfSome, MatchOption, true, false, if◌then◌else◌};
+ghost use Rattle.std.specs.Prelude.{codes, drop, length, slice_index_or};
+ghost use Rattle.std.specs.Option.{option_copied};
+ghost use Rattle.git_names.specs.RefName.{IsRefName};
+ghost use Rattle.git_pkt.specs.PacketReader.{is_open};
+ghost use Rattle.git_msg.specs.Prefixes.{IsOrdered, SplitsAt};
+ghost use Rattle.git_msg.specs.References.{IsWritable, reference_of, shown_reference};
+ghost use Rattle.git_server.specs.AnsweredRequest.{AnswersOne};
+ghost use Rattle.git_server.specs.Answers.{asks_for_unborn as asks, is_shown, reference_packet, shown_line, shown_refs, unborn_packet, unborn_packets};
+ghost use Rattle.git_server.specs.NextShown.{NextShown};
+ghost use Rattle.git_server.specs.WrittenPackets.{Writes};
+ghost use Rattle.git_server.specs.Repository.{Entry, HasOneFormat, IsRising, comes_before};
+
+use crate::entry::RefEntry;
+use crate::packets::write_packet;
+use crate::repo::Repo;
+use git_msg::{Listing, Reference, put_reference};
+use git_names::Oid;
+use git_pkt::{Packet, PacketReader};
+use std::alloc::Allocator;
+
+/// The place from which on an answer for references is owed, gitprotocol-v2(5).
+#[derive(Clone, Copy, Debug)]
+pub(crate) enum ReferencesPlace {
+    /// From an unborn `HEAD` on, where one is shown.
+    First,
+    /// From the reference at this place on.
+    Entry(usize),
+}
+
+/// Writes the next packet of the answer, from a place on, into the reader's hold, and returns where the packet after it begins. There
+/// is none after the flush that ends the answer.
+pub(crate) fn write_references<R: Repo, A: Allocator + Copy>(
+    repo: &R,
+    listing: &Listing<A>,
+    place: ReferencesPlace,
+    reader: &mut PacketReader,
+) -> Option<ReferencesPlace>
+    requires between { is_open reader.old ≡ false }
+    requires ordered { IsOrdered listing.now.asked.ref_prefixes }
+    ensures { AnswersOne listing.now.asked (R.state repo.now).answers place reader.old result reader.new }
+{
+    match place {
+        ReferencesPlace::First => match shown_unborn(repo, listing) {
+            Some(target) => {
+                write_unborn(reader, target);
+                Some(ReferencesPlace::Entry(0))
+            }
+            None => answer_entry(repo, listing, 0, reader),
+        },
+        ReferencesPlace::Entry(next) => answer_entry(repo, listing, next, reader),
+    }
+}
+
+// Writes the line of the first reference at `next` or after it that is shown, or the flush.
+fn answer_entry<R: Repo, A: Allocator + Copy>(
+    repo: &R,
+    listing: &Listing<A>,
+    next: usize,
+    reader: &mut PacketReader,
+) -> Option<ReferencesPlace>
+    requires between { is_open reader.old ≡ false }
+    requires ordered { IsOrdered listing.now.asked.ref_prefixes }
+    ensures { AnswersOne listing.now.asked (R.state repo.now).answers (ReferencesPlace.Entry next) reader.old result reader.new }
+{
+    let refs = repo.refs();
+    match next_shown(refs, listing, next) {
+        Some(at) => {
+            write_entry(reader, &refs[at], listing);
+            Some(ReferencesPlace::Entry(at + 1))
+        }
+        None => {
+            write_packet(reader, Packet::Flush);
+            None
+        }
+    }
+}
+
+// What an unborn `HEAD` points to, where the request asks for it.
+fn shown_unborn<'a, R: Repo, A: Allocator + Copy>(
+    repo: &'a R,
+    listing: &Listing<A>,
+) -> Option<&'a [u8]>
+    requires { IsOrdered listing.now.asked.ref_prefixes }
+    ensures shown { MatchOption result (unborn_packets listing.now.asked (R.state repo.now).answers.unborn_head ≡ [])
+        (λ target. unborn_packets listing.now.asked (R.state repo.now).answers.unborn_head ≡ unborn_packet target.now ∷ []) }
+    ensures name { IfSome result (λ target. IsRefName target.now) }
+{
+    if !asks_for_unborn(listing) {
+        return None;
+    }
+    repo.unborn_head()
+}
+
+fn asks_for_unborn<A: Allocator + Copy>(listing: &Listing<A>) -> bool
+    requires { IsOrdered listing.now.asked.ref_prefixes }
+    ensures { result ≡ asks listing.now.asked }
+{
+    listing.unborn() && listing.symrefs() && listing.shows_at(listing.split(b"HEAD"), b"HEAD")
+}
+
+// Makes the hold the line of an unborn `HEAD`.
+#[tactic(auto, using(crate::proofs::WrittenHolds::line_written))]
+fn write_unborn(reader: &mut PacketReader, target: &[u8])
+    requires between { is_open reader.old ≡ false }
+    requires name { IsRefName target.now }
+    ensures { Writes reader.old (unborn_packet target.now) reader.new }
+{
+    put_reference(reader.lend(), unborn(target));
+    let _ = reader.hold();
+}
+
+fn unborn(target: &[u8]) -> Reference<'_>
+    requires { IsRefName target.now }
+    ensures shown { shown_reference result ≡ reference_of None (codes "HEAD") (Some target.now) None }
+    ensures writable { IsWritable (shown_reference result) }
+{
+    Reference {
+        id: None,
+        name: b"HEAD",
+        target: Some(target),
+        peeled: None,
+    }
+}
+
+// Makes the hold the line of a reference.
+#[tactic(auto, using(crate::proofs::WrittenHolds::line_written))]
+fn write_entry<A: Allocator + Copy>(
+    reader: &mut PacketReader,
+    entry: &RefEntry,
+    listing: &Listing<A>,
+)
+    requires between { is_open reader.old ≡ false }
+    requires format { HasOneFormat entry.now }
+    ensures { Writes reader.old (reference_packet listing.now.asked.symrefs listing.now.asked.peel entry.now) reader.new }
+{
+    put_reference(reader.lend(), shown(entry, listing));
+    let _ = reader.hold();
+}
+
+// What the request asks for of a reference.
+fn shown<'a, A: Allocator + Copy>(entry: &'a RefEntry, listing: &Listing<A>) -> Reference<'a>
+    requires { HasOneFormat entry.now }
+    ensures shown { shown_reference result ≡ shown_line listing.now.asked.symrefs listing.now.asked.peel entry.now }
+    ensures writable { IsWritable (shown_reference result) }
+{
+    Reference {
+        id: Some(entry.id()),
+        name: entry.name(),
+        target: shown_target(entry, listing.symrefs()),
+        peeled: shown_peeled(entry, listing.peel()),
+    }
+}
+
+fn shown_target(entry: &RefEntry, symrefs: bool) -> Option<&[u8]>
+    ensures value { option_copied result ≡ (if symrefs then entry.now.target else None) }
+    ensures name { (name : List ℕ) → option_copied result ≡ Some name → IsRefName name }
+{
+    if !symrefs {
+        return None;
+    }
+    entry.target()
+}
+
+fn shown_peeled(entry: &RefEntry, peel: bool) -> Option<Oid>
+    ensures { result ≡ (if peel then entry.now.peeled else None) }
+{
+    if !peel {
+        return None;
+    }
+    entry.peeled()
+}
+
+/// The place of the first reference, at `from` or after it, that the request asks for.
+pub(crate) fn next_shown<A: Allocator + Copy>(
+    refs: &[RefEntry],
+    listing: &Listing<A>,
+    from: usize,
+) -> Option<usize>
+    requires rising { IsRising refs.now }
+    requires ordered { IsOrdered listing.now.asked.ref_prefixes }
+    ensures { NextShown listing.now.asked.ref_prefixes refs.now from result }
+{
+    let mut at = from;
+    while at < refs.len() {
+        let name = refs[at].name();
+        let split = listing.split(name);
+        if listing.shows_at(split, name) {
+            return Some(at);
+        }
+        at = past_hidden(refs, listing, at, split);
+    }
+    None
+}
+
+// Past a reference that is not shown, and past those after it that come before the next prefix: none of them is shown.
+fn past_hidden<A: Allocator + Copy>(
+    refs: &[RefEntry],
+    listing: &Listing<A>,
+    at: usize,
+    split: usize,
+) -> usize
+    requires rising { IsRising refs.now }
+    requires ordered { IsOrdered listing.now.asked.ref_prefixes }
+    requires within { at < length refs.now }
+    requires split { (d : Entry) → SplitsAt listing.now.asked.ref_prefixes (slice_index_or refs.now at d).name split }
+    requires hidden { (d : Entry) → is_shown listing.now.asked.ref_prefixes (slice_index_or refs.now at d).name ≡ false }
+    ensures onward { at < result }
+    ensures within { result ≤ length refs.now }
+    ensures same { shown_refs listing.now.asked.ref_prefixes (drop result refs.now) ≡ shown_refs listing.now.asked.ref_prefixes (drop at refs.now) }
+{
+    match listing.ref_prefix(split) {
+        Some(next) => first_from(refs, next, at + 1),
+        None => refs.len(),
+    }
+}
+
+// Past those of the references from this place on that come before the text.
+fn first_from(refs: &[RefEntry], text: &[u8], from: usize) -> usize
+    requires rising { IsRising refs.now }
+    requires within { from ≤ length refs.now }
+    ensures onward { from ≤ result }
+    ensures within { result ≤ length refs.now }
+    ensures before { (k : ℕ) (d : Entry) → from ≤ k → k < result → comes_before (slice_index_or refs.now k d).name text.now ≡ true }
+{
+    let mut low = from;
+    let mut high = refs.len();
+    while low < high {
+        let middle = low + (high - low) / 2;
+        if refs[middle].name().cmp(text).is_lt() {
+            low = middle + 1;
+        } else {
+            high = middle;
+        }
+    }
+    low
+}

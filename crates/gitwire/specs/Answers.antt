@@ -1,0 +1,68 @@
+-- What is reported to C of a call.
+use Rattle.std.specs.Prelude.{ℕ, Bool, true, false}
+use Rattle.git_pkt.specs.FaultNames.{kind_number}
+use Rattle.git_pkt.specs.declared.fault.Fault.{Fault}
+use Rattle.gitwire.specs.declared.answer.GitwireAnswer.{GitwireAnswer}
+use Rattle.gitwire.specs.declared.answer.What.{What}
+use Rattle.gitwire.specs.declared.answer.What.TheVariants.{Done, More, Failed, NoHandle, RoomTooSmall, NotNow, OutOfMemory, BadValue, Nothing}
+use Rattle.gitwire.specs.declared.answer.What.TheVariants.{Payload, Flush, Delim, ResponseEnd, Request, Stop, Packet, NeedInput, EndedByFlush}
+use Rattle.gitwire.specs.declared.answer.What.TheVariants.{EndedByClose, CanAsk, Finished, Capability, Offered, Reference, Ack, Nak, Ready}
+use Rattle.gitwire.specs.declared.answer.What.TheVariants.{Shallow, Unshallow, WantedRef, Info, Pack, Progress, Ended}
+
+-- the number by which C knows it
+abbrev pub what_number : What → ℕ
+what_number Done = 0
+what_number More = 1
+what_number Failed = 2
+what_number NoHandle = 3
+what_number RoomTooSmall = 4
+what_number NotNow = 5
+what_number OutOfMemory = 6
+what_number BadValue = 7
+what_number Nothing = 8
+what_number Payload = 9
+what_number Flush = 10
+what_number Delim = 11
+what_number ResponseEnd = 12
+what_number Request = 13
+what_number Stop = 14
+what_number Packet = 15
+what_number NeedInput = 16
+what_number EndedByFlush = 17
+what_number EndedByClose = 18
+what_number CanAsk = 19
+what_number Finished = 20
+what_number Capability = 21
+what_number Offered = 22
+what_number Reference = 23
+what_number Ack = 24
+what_number Nak = 25
+what_number Ready = 26
+what_number Shallow = 27
+what_number Unshallow = 28
+what_number WantedRef = 29
+what_number Info = 30
+what_number Pack = 31
+what_number Progress = 32
+what_number Ended = 33
+
+-- what is reported of a piece where nothing else is: more is to come, or none was due
+abbrev pub more_of : Bool → What
+more_of true = More
+more_of false = NotNow
+
+-- what came of a call, and nothing more
+abbrev pub answering : What → GitwireAnswer
+answering what = record { used = 0; offset = 0; length = 0; kind = what_number what; fault = 0 }
+
+-- what came of a piece of which so many bytes were used, and nothing more
+abbrev pub answering_used : ℕ → What → GitwireAnswer
+answering_used used what = record { used = used; offset = 0; length = 0; kind = what_number what; fault = 0 }
+
+-- a packet at this offset, of which so many bytes are in the room
+abbrev pub answering_packet : ℕ → ℕ → ℕ → What → GitwireAnswer
+answering_packet used offset filled what = record { used = used; offset = offset; length = filled; kind = what_number what; fault = 0 }
+
+-- a refusal
+abbrev pub answering_fault : ℕ → Fault → GitwireAnswer
+answering_fault used fault = record { used = used; offset = fault.offset; length = 0; kind = what_number Failed; fault = kind_number fault.kind }

@@ -1,0 +1,196 @@
+-- What is reported to C of a client's calls.
+use Rattle.std.specs.Prelude.{◌≡◌, ℕ, ◌+◌, ◌<◌, ◌≤◌, Bool, true, false, List, [], ◌∷◌, ◌++◌, length, take, Option, Some, None, MatchOption, IsSomeAnd}
+use Rattle.std.specs.Global.{Global}
+use Rattle.git_names.specs.declared.object_format.Format.{Format}
+use Rattle.git_pkt.specs.Packets.{longest_payload}
+use Rattle.git_pkt.specs.Splits.{Given, Splits}
+use Rattle.git_pkt.specs.declared.fault.Fault.{Fault}
+use Rattle.git_pkt.specs.declared.fault.Kind.TheVariants.{Truncated}
+use Rattle.git_msg.specs.declared.offers.Caps.{Caps}
+use Rattle.git_msg.specs.declared.requests.Request.{Request}
+use Rattle.git_client.specs.Client.{Asks, Converses, EndsWithMessage, EndsWithoutMessage, Feeds, HearsOn, History, Leaves, Pulls, RefusesToAsk}
+use Rattle.git_client.specs.Client.{can_ask, caps_of, fault_of, given_by, nothing_yet, wants_input}
+use Rattle.git_client.specs.Conversation.{HasNoted}
+use Rattle.git_client.specs.Parts.{Terms, terms_of}
+use Rattle.git_client.specs.declared.client.Client.{Client}
+use Rattle.git_client.specs.declared.events.Ending.{Ending}
+use Rattle.git_client.specs.declared.events.Ending.TheVariants.{FlushOnly, ResponseEnd}
+use Rattle.git_client.specs.declared.events.Event.TheVariants as Event
+use Rattle.git_client.specs.declared.events.Heard.{Heard}
+use Rattle.git_client.specs.declared.events.HeardGot.{HeardGot}
+use Rattle.git_client.specs.declared.events.HeardGot.TheVariants as Got
+use Rattle.git_client.specs.declared.events.Sent.{Sent}
+use Rattle.gitwire.specs.EventAnswers.{bytes_shown, parts_of, telling_none, telling_parts, answering_refusal}
+use Rattle.gitwire.specs.Offers.{features_shown}
+use Rattle.gitwire.specs.Rooms.{put_before}
+use Rattle.gitwire.specs.Answers.{more_of, answering, answering_fault, answering_packet, what_number}
+use Rattle.gitwire.specs.declared.client.GitwireCaps.{GitwireCaps}
+use Rattle.gitwire.specs.declared.event.GitwireEvent.{GitwireEvent}
+use Rattle.gitwire.specs.declared.answer.GitwireAnswer.{GitwireAnswer}
+use Rattle.gitwire.specs.declared.answer.What.TheVariants as What
+
+-- the endings by their numbers
+abbrev pub endings : List Ending
+endings = FlushOnly ∷ ResponseEnd ∷ []
+
+-- a client on these terms, before the first byte, or none where memory ran out
+abbrev pub Begins : Terms → ℕ → Option (Client Global) → Type 0
+Begins t answer None = answer ≡ what_number What.OutOfMemory
+Begins t answer (Some client) = (answer ≡ what_number What.Done) × Converses t nothing_yet client × (wants_input client ≡ true)
+
+-- the same by what two numbers mean; nothing changes where one of them means nothing
+abbrev pub BeginsBy : Option Format → Option Ending → Option (Client Global) → ℕ → Option (Client Global) → Type 0
+BeginsBy (Some format) (Some ending) old answer new = Begins (terms_of format ending) answer new
+BeginsBy format ending old answer new = (answer ≡ what_number What.BadValue) × (new ≡ old)
+
+-- what is reported to C of what was received, by whether bytes were due
+abbrev pub answer_of : Bool → ℕ → HeardGot → GitwireEvent
+answer_of due used Got.More = telling_none used (more_of due)
+answer_of due used (Got.Event event) = telling_parts used (parts_of event)
+answer_of due used (Got.Failed fault) = answering_refusal used fault
+
+-- the room: the texts of an event are at its front
+abbrev pub filled_by : HeardGot → List ℕ → List ℕ
+filled_by Got.More room = room
+filled_by (Got.Event event) room = put_before (bytes_shown (parts_of event)) room
+filled_by (Got.Failed fault) room = room
+
+-- the room where bytes that pass are left in the piece: theirs stays as it was
+abbrev pub filled_beside : HeardGot → List ℕ → List ℕ
+filled_beside (Got.Event (Event.Pack bytes)) room = room
+filled_beside (Got.Event (Event.Progress bytes)) room = room
+filled_beside got room = filled_by got room
+
+-- bytes of the pack or of the progress are the last of those used of the piece
+abbrev pub LieInPiece : HeardGot → ℕ → List ℕ → Type 0
+LieInPiece (Got.Event (Event.Pack bytes)) used piece = (front : List ℕ) × (take used piece ≡ front ++ bytes.now)
+LieInPiece (Got.Event (Event.Progress bytes)) used piece = (front : List ℕ) × (take used piece ≡ front ++ bytes.now)
+LieInPiece got used piece = Unit {0}
+
+-- the client receives more, and it is reported to C what came, whose texts have no more bytes than a payload; the room is filled by what came
+pub record FeedsAnswers (filled_with : HeardGot → List ℕ → List ℕ) (old : Client Global) (piece room : List ℕ) (answer : GitwireEvent) (filled : List ℕ)
+    (new : Client Global) : Type 0 where
+  pub heard : Heard
+  pub feeds : Feeds old piece heard new
+  pub within : heard.used ≤ length piece
+  pub fits : answer.id_length + answer.name_length + answer.text_length + answer.peeled_length ≤ longest_payload
+  pub answer_is : answer ≡ answer_of (wants_input old) heard.used heard.got
+  pub room_is : filled ≡ filled_with heard.got room
+  pub lies : LieInPiece heard.got heard.used piece
+
+-- nothing happens where the room is too small for the parts of some event
+pub record FeedsInRoom (filled_with : HeardGot → List ℕ → List ℕ) (old : Client Global) (piece room : List ℕ) (answer : GitwireEvent) (filled : List ℕ)
+    (new : Client Global) : Type 0 where
+  pub small : length room < longest_payload → (answer ≡ telling_none 0 What.RoomTooSmall) × (filled ≡ room) × (new ≡ old)
+  pub large : longest_payload ≤ length room → FeedsAnswers filled_with old piece room answer filled new
+
+-- the handle has nothing: that is reported, and the room stays
+abbrev pub HearsNone : List ℕ → GitwireEvent → List ℕ → Type 0
+HearsNone room answer filled = (answer ≡ telling_none 0 What.NoHandle) × (filled ≡ room)
+
+-- what is reported to C of what is to be done next
+abbrev pub answer_of_sent : Sent → GitwireAnswer
+answer_of_sent (Sent.Packet bytes) = answering_packet 0 0 (length bytes.now) What.Packet
+answer_of_sent Sent.NeedInput = answering What.NeedInput
+answer_of_sent Sent.CanAsk = answering What.CanAsk
+answer_of_sent Sent.Finished = answering What.Finished
+answer_of_sent (Sent.Failed fault) = answering_fault 0 fault
+
+-- the room: a packet is at its front
+abbrev pub filled_by_sent : Sent → List ℕ → List ℕ
+filled_by_sent (Sent.Packet bytes) room = put_before bytes.now room
+filled_by_sent sent room = room
+
+-- the client returns what is to be done next, and that is reported to C; a packet that is to be sent has no more bytes than one may have
+pub record PullsAnswers (old : Client Global) (room : List ℕ) (answer : GitwireAnswer) (filled : List ℕ) (new : Client Global) : Type 0 where
+  pub sent : Sent
+  pub pulls : Pulls old sent new
+  pub fits : length (given_by sent) ≤ 65520
+  pub answer_is : answer ≡ answer_of_sent sent
+  pub room_is : filled ≡ filled_by_sent sent room
+
+-- nothing happens where the room is too small for the longest packet
+pub record PullsInRoom (old : Client Global) (room : List ℕ) (answer : GitwireAnswer) (filled : List ℕ) (new : Client Global) : Type 0 where
+  pub small : length room < 65520 → (answer ≡ answering What.RoomTooSmall) × (filled ≡ room) × (new ≡ old)
+  pub large : 65520 ≤ length room → PullsAnswers old room answer filled new
+
+-- a request that the client takes
+pub record TakesRequest (old : Client Global) (request : Request Global) (new : Client Global) : Type 0 where
+  pub ready : can_ask old ≡ true
+  pub asks : Asks old request new
+
+-- the client refuses the request
+pub record RefusesNow (old : Client Global) (request : Request Global) (answer : GitwireAnswer) (new : Client Global) : Type 0 where
+  pub fault : Fault
+  pub refuses : RefusesToAsk old request request fault new
+  pub answer_is : answer ≡ answering_fault 0 fault
+
+-- a request that is not taken, now or at all: it stays as it was, and so does the client
+pub record LeavesRequest (old : Client Global) (request : Request Global) (answer : GitwireAnswer) (new : Client Global) (kept : Request Global) : Type 0 where
+  pub not_now : can_ask old ≡ false → (answer ≡ answering What.NotNow) × (new ≡ old)
+  pub refused : can_ask old ≡ true → RefusesNow old request answer new
+  pub stays : kept ≡ request
+
+-- it is reported to C whether the request was taken: then its handle has none
+abbrev pub AsksAnswers : Client Global → Request Global → GitwireAnswer → Client Global → Option (Request Global) → Type 0
+AsksAnswers old request answer new None = (answer ≡ answering What.Done) × TakesRequest old request new
+AsksAnswers old request answer new (Some kept) = LeavesRequest old request answer new kept
+
+-- the handle of a client is asked for what the handle of a request has
+abbrev pub AsksIn : Option (Client Global) → Option (Request Global) → GitwireAnswer → Option (Client Global) → Option (Request Global) → Type 0
+AsksIn None request answer new kept = (answer ≡ answering What.NoHandle) × (new ≡ None) × (kept ≡ request)
+AsksIn (Some old) None answer new kept = (answer ≡ answering What.NoHandle) × (new ≡ Some old) × (kept ≡ None)
+AsksIn (Some old) (Some request) answer new kept = IsSomeAnd new (λ client. AsksAnswers old request answer client kept)
+
+-- it is reported to C whether the client leaves
+pub record LeavesAnswers (old : Client Global) (answer : ℕ) (new : Client Global) : Type 0 where
+  pub not_now : can_ask old ≡ false → (answer ≡ what_number What.NotNow) × (new ≡ old)
+  pub leaves : can_ask old ≡ true → (answer ≡ what_number What.Done) × Leaves old new
+
+-- the input ends where more was due: at the end of the last whole packet
+pub record CutsShort (old : Client Global) (answer : GitwireAnswer) (new : Client Global) : Type 0 where
+  pub fault : Fault
+  pub carries : HearsOn old [] [] new
+  pub stays : fault_of new ≡ Some fault
+  pub kind : fault.kind ≡ Truncated
+  pub offset : (t : Terms) (h : History) (given : List Given) (rest : List ℕ) → Converses t h old → Splits 0 h.used given rest
+      → fault.offset + length rest ≡ length h.used
+  pub answer_is : answer ≡ answering_fault 0 fault
+
+-- it is reported to C what the end of the input results in
+pub record ClosesAnswers (old : Client Global) (answer : GitwireAnswer) (new : Client Global) : Type 0 where
+  pub not_now : wants_input old ≡ false → (answer ≡ answering What.NotNow) × (new ≡ old)
+  pub cut : wants_input old ≡ true → CutsShort old answer new
+
+-- a message, if there is one, is put into the room, if that is large enough
+pub record PutsMessage (message room : List ℕ) (answer : GitwireAnswer) (filled : List ℕ) : Type 0 where
+  pub small : length room < length message → (answer ≡ answering What.RoomTooSmall) × (filled ≡ room)
+  pub large : length message ≤ length room → (answer ≡ answering_packet 0 0 (length message) What.Done) × (filled ≡ put_before message room)
+
+abbrev pub PutsMaybe : Option (List ℕ) → List ℕ → GitwireAnswer → List ℕ → Type 0
+PutsMaybe None room answer filled = (answer ≡ answering What.Nothing) × (filled ≡ room)
+PutsMaybe (Some message) room answer filled = PutsMessage message room answer filled
+
+-- the server's message on the fault that ended the conversation
+pub record MessageAnswers (client : Client Global) (room : List ℕ) (answer : GitwireAnswer) (filled : List ℕ) : Type 0 where
+  pub message : Option (List ℕ)
+  pub ends : (t : Terms) (h : History) → Converses t h client
+      → MatchOption message (EndsWithoutMessage client) (λ said. EndsWithMessage t h.asked h.used said)
+  pub puts : PutsMaybe message room answer filled
+
+-- what was noted, as C sees it
+abbrev pub caps_shown : Caps → GitwireCaps
+caps_shown caps = record {
+  features = features_shown caps;
+  agent = caps.agent;
+  ls_refs = caps.ls_refs;
+  fetch = caps.fetch;
+  object_format = caps.object_format;
+  sha1 = caps.sha1;
+  sha256 = caps.sha256;
+}
+
+-- what was noted of the advertisement so far
+pub record CapsAnswers (client : Client Global) (answer : GitwireCaps) : Type 0 where
+  pub answer_is : answer ≡ caps_shown (caps_of client)
+  pub noted : (t : Terms) (h : History) → Converses t h client → HasNoted t h.asked h.used (caps_of client)

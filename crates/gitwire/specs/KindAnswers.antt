@@ -1,0 +1,56 @@
+-- The names of what is reported, by their numbers.
+use Rattle.std.specs.Prelude.{◌≡◌, ◌≢◌, ℕ, List, Option, Some, None, codes}
+use Rattle.gitwire.specs.Rooms.{Puts}
+use Rattle.gitwire.specs.Answers.{what_number}
+use Rattle.gitwire.specs.declared.answer.What.{What}
+
+-- the name that users see
+abbrev pub what_name : What → List ℕ
+what_name What.Done = codes "Done"
+what_name What.More = codes "More"
+what_name What.Failed = codes "Failed"
+what_name What.NoHandle = codes "NoHandle"
+what_name What.RoomTooSmall = codes "RoomTooSmall"
+what_name What.NotNow = codes "NotNow"
+what_name What.OutOfMemory = codes "OutOfMemory"
+what_name What.BadValue = codes "BadValue"
+what_name What.Nothing = codes "Nothing"
+what_name What.Payload = codes "Payload"
+what_name What.Flush = codes "Flush"
+what_name What.Delim = codes "Delim"
+what_name What.ResponseEnd = codes "ResponseEnd"
+what_name What.Request = codes "Request"
+what_name What.Stop = codes "Stop"
+what_name What.Packet = codes "Packet"
+what_name What.NeedInput = codes "NeedInput"
+what_name What.EndedByFlush = codes "EndedByFlush"
+what_name What.EndedByClose = codes "EndedByClose"
+what_name What.CanAsk = codes "CanAsk"
+what_name What.Finished = codes "Finished"
+what_name What.Capability = codes "Capability"
+what_name What.Offered = codes "Offered"
+what_name What.Reference = codes "Reference"
+what_name What.Ack = codes "Ack"
+what_name What.Nak = codes "Nak"
+what_name What.Ready = codes "Ready"
+what_name What.Shallow = codes "Shallow"
+what_name What.Unshallow = codes "Unshallow"
+what_name What.WantedRef = codes "WantedRef"
+what_name What.Info = codes "Info"
+what_name What.Pack = codes "Pack"
+what_name What.Progress = codes "Progress"
+what_name What.Ended = codes "Ended"
+
+-- what has the number, or nothing has it
+abbrev pub IsWhatOf : ℕ → Option What → Type 0
+IsWhatOf number None = (what : What) → what_number what ≢ number
+IsWhatOf number (Some what) = what_number what ≡ number
+
+-- its name is in the room; or there is none, and nothing is written
+abbrev pub PutsName : Option What → List ℕ → ℕ → List ℕ → Type 0
+PutsName None room answer filled = (answer ≡ 0) × (filled ≡ room)
+PutsName (Some what) room answer filled = Puts (what_name what) room answer filled
+
+-- the name of what has the number
+abbrev pub TellsKind : ℕ → List ℕ → ℕ → List ℕ → Type 0
+TellsKind number room answer filled = (what : Option What) × IsWhatOf number what × PutsName what room answer filled

@@ -1,0 +1,141 @@
+-- What is reported to C of a request's calls.
+use Rattle.std.specs.Prelude.{◌≡◌, ◌⊎◌, ℕ, ◌<◌, ◌≤◌, Bool, false, List, length, Option, Some, None, Result, Ok, Err, unwrap_or, slice_get}
+use Rattle.std.specs.Option.{option_map}
+use Rattle.std.specs.Global.{Global}
+use Rattle.git_names.specs.ObjectName.{hex_of}
+use Rattle.git_pkt.specs.declared.fault.Kind.{Kind}
+use Rattle.git_msg.specs.Advertisement.{everything}
+use Rattle.git_msg.specs.Arguments.{Arg, IsArgumentFault, ReadsAs, most_limit, written_text}
+use Rattle.git_msg.specs.Asked.{Asked, symrefs_of, peel_of, done_of, thin_pack_of, no_progress_of, include_tag_of, ofs_delta_of, deepen_relative_of, size_of}
+use Rattle.git_msg.specs.Asked.{unborn_of, wait_for_done_of, filters_of}
+use Rattle.git_msg.specs.Asked.{deepen_of, deepen_since_of, ref_prefixes_of, wants_of, haves_of, shallows_of, deepen_nots_of, want_refs_of, oids_of}
+use Rattle.git_msg.specs.Checks.{Passes, Refuses}
+use Rattle.git_msg.specs.HeldRequest.{IsEmpty, IsRefused, Keeps, add_checks, command_of, format_of}
+use Rattle.git_msg.specs.Lines.{end_checks}
+use Rattle.git_msg.specs.declared.requests.Request.{Request}
+use Rattle.gitwire.specs.Numbers.{commands, flags, formats, given_numbers}
+use Rattle.gitwire.specs.Rooms.{Fills}
+use Rattle.gitwire.specs.Answers.{answering, answering_fault, answering_packet, what_number}
+use Rattle.gitwire.specs.declared.answer.GitwireAnswer.{GitwireAnswer}
+use Rattle.gitwire.specs.declared.answer.What.TheVariants as What
+use Rattle.gitwire.specs.declared.numbers.Flag.{Flag}
+use Rattle.gitwire.specs.declared.numbers.Given.{Given}
+use Rattle.gitwire.specs.declared.numbers.ItemList.{ItemList}
+
+-- done, with a number
+abbrev pub telling_number : ℕ → GitwireAnswer
+telling_number number = answering_packet 0 number 0 What.Done
+
+-- done, or refused by a name
+abbrev pub telling_result : Result (Unit {0}) Kind → GitwireAnswer
+telling_result (Ok done) = answering What.Done
+telling_result (Err kind) = answering_fault 0 (record { kind = kind; offset = 0 })
+
+-- the handle has the value, or none where memory ran out
+abbrev pub HasOrNone : {X : Type 0} → ℕ → X → Option X → Type 0
+HasOrNone answer value new =
+    ((answer ≡ what_number What.Done) × (new ≡ Some value)) ⊎ ((answer ≡ what_number What.OutOfMemory) × (new ≡ None))
+
+-- a number means nothing, or the limit is more than one may be
+abbrev pub MeanNoRequest : ℕ → ℕ → ℕ → Type 0
+MeanNoRequest command format limit = (slice_get commands command ≡ None) ⊎ ((slice_get formats format ≡ None) ⊎ (most_limit < limit))
+
+-- the request is an empty one of the command, the format and the limit that are meant
+pub record MeanRequest (command format limit : ℕ) (request : Request Global) : Type 0 where
+  pub command_is : slice_get commands command ≡ Some (command_of request)
+  pub format_is : slice_get formats format ≡ Some (format_of request)
+  pub in_range : limit ≤ most_limit
+  pub empty : IsEmpty (command_of request) (format_of request) limit request
+
+-- a request is made, or nothing changes
+abbrev pub Makes : ℕ → ℕ → ℕ → Option (Request Global) → ℕ → Option (Request Global) → Type 0
+Makes command format limit old answer new =
+    (MeanNoRequest command format limit × (answer ≡ what_number What.BadValue) × (new ≡ old))
+    ⊎ ((request : Request Global) × MeanRequest command format limit request × HasOrNone answer request new)
+
+-- the line is this argument of the request's command, in its format
+abbrev pub IsLineOf : Request Global → List ℕ → Arg → Type 0
+IsLineOf request line arg = ReadsAs (command_of request) (everything (format_of request)) line arg
+
+-- the line is no argument of the command, or one that is refused
+abbrev pub IsLineRefused : Request Global → List ℕ → Kind → Type 0
+IsLineRefused request line kind =
+    IsArgumentFault (command_of request) (everything (format_of request)) line kind
+    ⊎ ((arg : Arg) × IsLineOf request line arg × IsRefused (add_checks request arg) arg kind)
+
+-- the line's argument is added to the others, or the request stays as it was
+abbrev pub AddsLine : Request Global → List ℕ → Result (Unit {0}) Kind → Request Global → Type 0
+AddsLine old line (Ok done) new =
+    (arg : Arg) × IsLineOf old line arg × Passes (add_checks old arg) × Keeps old arg (length (written_text arg)) new
+AddsLine old line (Err kind) new = (new ≡ old) × IsLineRefused old line kind
+
+-- a line is added or refused, and that is reported to C
+pub record AddsAnswers (old : Request Global) (line : List ℕ) (answer : GitwireAnswer) (new : Request Global) : Type 0 where
+  pub added : Result (Unit {0}) Kind
+  pub adds : AddsLine old line added new
+  pub answer_is : answer ≡ telling_result added
+
+-- what is asked for is whole, or it is not, by this name
+abbrev pub JudgesEnd : Asked → Result (Unit {0}) Kind → Type 0
+JudgesEnd asked (Ok done) = Passes (end_checks asked)
+JudgesEnd asked (Err kind) = Refuses (end_checks asked) kind
+
+-- it is reported to C whether what is asked for is whole
+pub record EndsAnswers (asked : Asked) (answer : GitwireAnswer) : Type 0 where
+  pub judged : Result (Unit {0}) Kind
+  pub judges : JudgesEnd asked judged
+  pub answer_is : answer ≡ telling_result judged
+
+-- whether the flag is set
+abbrev pub flag_of : Flag → Asked → Bool
+flag_of Flag.Symrefs = symrefs_of
+flag_of Flag.Peel = peel_of
+flag_of Flag.Done = done_of
+flag_of Flag.ThinPack = thin_pack_of
+flag_of Flag.NoProgress = no_progress_of
+flag_of Flag.IncludeTag = include_tag_of
+flag_of Flag.OfsDelta = ofs_delta_of
+flag_of Flag.DeepenRelative = deepen_relative_of
+flag_of Flag.Size = size_of
+flag_of Flag.Unborn = unborn_of
+flag_of Flag.WaitForDone = wait_for_done_of
+
+-- whether the flag of this number is set; a number that is no flag's is not
+abbrev pub is_set : ℕ → Asked → Bool
+is_set number asked = unwrap_or (option_map (λ flag. flag_of flag asked) (slice_get flags number)) false
+
+-- the number, if it was given
+abbrev pub given_of : Given → Asked → Option ℕ
+given_of Given.Deepen = deepen_of
+given_of Given.DeepenSince = deepen_since_of
+
+-- what is reported to C of a number that may have been given
+abbrev pub telling_given : Option ℕ → GitwireAnswer
+telling_given None = answering What.Nothing
+telling_given (Some number) = telling_number number
+
+-- what is reported to C of the number in the request that is asked for by this number
+abbrev pub telling_which : ℕ → Asked → GitwireAnswer
+telling_which number asked =
+    unwrap_or (option_map (λ which. telling_given (given_of which asked)) (slice_get given_numbers number)) (answering What.BadValue)
+
+-- the text at a place of a list; an object name as its digits
+abbrev pub item_of : ItemList → Asked → ℕ → Option (List ℕ)
+item_of ItemList.RefPrefixes asked i = slice_get (ref_prefixes_of asked) i
+item_of ItemList.Wants asked i = option_map hex_of (slice_get (wants_of asked) i)
+item_of ItemList.Haves asked i = option_map hex_of (slice_get (haves_of asked) i)
+item_of ItemList.Shallows asked i = option_map hex_of (slice_get (shallows_of asked) i)
+item_of ItemList.DeepenNots asked i = slice_get (deepen_nots_of asked) i
+item_of ItemList.WantRefs asked i = slice_get (want_refs_of asked) i
+item_of ItemList.Oids asked i = option_map hex_of (slice_get (oids_of asked) i)
+item_of ItemList.Filters asked i = slice_get (filters_of asked) i
+
+-- the text, if there is one
+abbrev pub PutsItem : Option (List ℕ) → List ℕ → GitwireAnswer → List ℕ → Type 0
+PutsItem None room answer filled = (answer ≡ answering What.Nothing) × (filled ≡ room)
+PutsItem (Some text) room answer filled = Fills text room answer filled
+
+-- the text at a place of the list, if there is such a list
+abbrev pub PutsFrom : Option ItemList → Asked → ℕ → List ℕ → GitwireAnswer → List ℕ → Type 0
+PutsFrom None asked i room answer filled = (answer ≡ answering What.BadValue) × (filled ≡ room)
+PutsFrom (Some list) asked i room answer filled = PutsItem (item_of list asked i) room answer filled

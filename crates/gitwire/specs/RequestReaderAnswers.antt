@@ -1,0 +1,96 @@
+-- What is reported to C of a request reader's calls.
+use Rattle.std.specs.Prelude.{◌≡◌, ◌⊎◌, ℕ, ◌<◌, ◌≤◌, Bool, true, false, List, [], length, Option, Some, None, IsSomeAnd, Result, Ok, Err}
+use Rattle.std.specs.Global.{Global}
+use Rattle.git_names.specs.declared.object_format.Format.TheVariants as Format
+use Rattle.git_pkt.specs.declared.fault.Fault.{Fault}
+use Rattle.git_msg.specs.Arguments.{most_limit}
+use Rattle.git_msg.specs.HeldRequest.{IsEmpty}
+use Rattle.git_msg.specs.RequestStreams.{Closes, Feeds, HasRead, limit_of, offer_of, wants_input}
+use Rattle.git_msg.specs.declared.arguments.Command.TheVariants as Command
+use Rattle.git_msg.specs.declared.requests.Request.{Request}
+use Rattle.git_msg.specs.declared.streams.ReadGot.{ReadGot}
+use Rattle.git_msg.specs.declared.streams.ReadGot.TheVariants.{More, Request as RequestGot, Stop, Failed}
+use Rattle.git_msg.specs.declared.streams.ReadRequest.{ReadRequest}
+use Rattle.git_msg.specs.declared.streams.RequestStream.{RequestStream}
+use Rattle.gitwire.specs.Offers.{offer_meant}
+use Rattle.gitwire.specs.RequestAnswers.{HasOrNone}
+use Rattle.gitwire.specs.Answers.{more_of, answering, answering_fault, answering_used, what_number}
+use Rattle.gitwire.specs.declared.offer.GitwireOffer.{GitwireOffer}
+use Rattle.gitwire.specs.declared.answer.GitwireAnswer.{GitwireAnswer}
+use Rattle.gitwire.specs.declared.answer.What.TheVariants as What
+
+-- the offer has no format, or the limit is more than one may be
+abbrev pub MeanNoReader : GitwireOffer → ℕ → Type 0
+MeanNoReader offer limit = (offer_meant offer ≡ None) ⊎ (most_limit < limit)
+
+-- the reader is one before the first byte, of the offer and the limit that are meant
+pub record MeanReader (offer : GitwireOffer) (limit : ℕ) (reader : RequestStream Global) : Type 0 where
+  pub offer_is : offer_meant offer ≡ Some (offer_of reader)
+  pub in_range : limit ≤ most_limit
+  pub limit_is : limit_of reader ≡ limit
+  pub reads : HasRead [] [] reader
+  pub waits : wants_input reader ≡ true
+
+-- a reader is made, or nothing changes
+abbrev pub MakesReader : GitwireOffer → ℕ → Option (RequestStream Global) → ℕ → Option (RequestStream Global) → Type 0
+MakesReader offer limit old answer new =
+    (MeanNoReader offer limit × (answer ≡ what_number What.BadValue) × (new ≡ old))
+    ⊎ ((reader : RequestStream Global) × MeanReader offer limit reader × HasOrNone answer reader new)
+
+-- what is reported to C of an answer, by whether input was due
+abbrev pub telling_read : Bool → ℕ → ReadGot Global → GitwireAnswer
+telling_read due used More = answering_used used (more_of due)
+telling_read due used (RequestGot request) = answering_used used What.Request
+telling_read due used Stop = answering_used used What.Stop
+telling_read due used (Failed fault) = answering_fault used fault
+
+-- the request of a handle after an answer: a new one takes the place of the old one
+abbrev pub request_after : ReadGot Global → Request Global → Request Global
+request_after More held = held
+request_after (RequestGot request) held = request
+request_after Stop held = held
+request_after (Failed fault) held = held
+
+-- the reader reads on, and it is reported to C what came
+pub record FeedsAnswers (old : RequestStream Global) (piece : List ℕ) (held : Request Global) (answer : GitwireAnswer)
+    (new : RequestStream Global) (kept : Request Global) : Type 0 where
+  pub read : ReadRequest Global
+  pub within : read.used ≤ length piece
+  pub feeds : Feeds old piece read new
+  pub answer_is : answer ≡ telling_read (wants_input old) read.used read.got
+  pub request : kept ≡ request_after read.got held
+
+-- what a handle for requests has when a reader is fed: its own, or an empty one where it has none
+abbrev pub Holds : Option (Request Global) → Request Global → Type 0
+Holds None held = IsEmpty Command.LsRefs Format.Sha1 0 held
+Holds (Some request) held = held ≡ request
+
+-- a reader and a handle for its requests; where there is no memory for that one's first request, nothing is read
+abbrev pub FeedsHandle : RequestStream Global → List ℕ → Option (Request Global) → GitwireAnswer
+    → Option (RequestStream Global) → Option (Request Global) → Type 0
+FeedsHandle old piece request answer new kept =
+    ((request ≡ None) × (answer ≡ answering What.OutOfMemory) × (new ≡ Some old) × (kept ≡ None))
+    ⊎ ((held : Request Global) × Holds request held
+    × IsSomeAnd new (λ reader. IsSomeAnd kept (λ next. FeedsAnswers old piece held answer reader next)))
+
+-- a handle that is fed
+abbrev pub FeedsIn : Option (RequestStream Global) → List ℕ → Option (Request Global) → GitwireAnswer
+    → Option (RequestStream Global) → Option (Request Global) → Type 0
+FeedsIn None piece request answer new kept = (answer ≡ answering What.NoHandle) × (new ≡ None) × (kept ≡ request)
+FeedsIn (Some old) piece request answer new kept = FeedsHandle old piece request answer new kept
+
+-- done, or refused at an offset
+abbrev pub telling_end : Result (Unit {0}) Fault → GitwireAnswer
+telling_end (Ok done) = answering What.Done
+telling_end (Err fault) = answering_fault 0 fault
+
+-- the input ends, and it is reported to C how
+pub record TellsClose (old : RequestStream Global) (answer : GitwireAnswer) (new : RequestStream Global) : Type 0 where
+  pub ended : Result (Unit {0}) Fault
+  pub closes : Closes ended old new
+  pub answer_is : answer ≡ telling_end ended
+
+-- the input may end only where more could come
+pub record ClosesAnswers (old : RequestStream Global) (answer : GitwireAnswer) (new : RequestStream Global) : Type 0 where
+  pub now : wants_input old ≡ true → TellsClose old answer new
+  pub not_now : wants_input old ≡ false → (answer ≡ answering What.NotNow) × (new ≡ old)

@@ -1,0 +1,90 @@
+-- What is reported to C of a server's calls.
+use Rattle.std.specs.Prelude.{◌≡◌, ◌⊎◌, ℕ, ◌≤◌, ◌<◌, Bool, true, false, List, [], length, take, Option, Some, None, IsSome}
+use Rattle.std.specs.Global.{Global}
+use Rattle.git_msg.specs.Advertisement.{everything}
+use Rattle.git_msg.specs.Arguments.{most_limit}
+use Rattle.git_server.specs.Server.{Running, outcome_of, repo_of, wants_input}
+use Rattle.git_server.specs.ServerCalls.{Closes, Goes, Pulls, StopsInTime}
+use Rattle.git_server.specs.SharedRepo.{shared_by, shared_state}
+use Rattle.git_server.specs.declared.outcome.Outcome.TheVariants.{Flush, Closed, Refused}
+use Rattle.git_server.specs.declared.server.Pulled.{Pulled}
+use Rattle.git_server.specs.declared.server.Pulled.TheVariants.{Packet, NeedInput, Finished}
+use Rattle.git_server.specs.declared.server.Server.{Server}
+use Rattle.git_server.specs.declared.shared_repo.SharedRepo.{SharedRepo}
+use Rattle.gitwire.specs.Rooms.{put_before}
+use Rattle.gitwire.specs.Answers.{more_of, answering, answering_fault, answering_packet, answering_used, what_number}
+use Rattle.gitwire.specs.declared.answer.GitwireAnswer.{GitwireAnswer}
+use Rattle.gitwire.specs.declared.answer.What.TheVariants as What
+
+-- a server at the beginning of its session over the repository, which offers all
+pub record Starts (repository : SharedRepo) (limit : ℕ) (advertise : Bool) (server : Server SharedRepo Global) : Type 0 where
+  pub running : Running shared_state
+      (record {
+        offer = everything (shared_state repository).answers.format;
+        limit = limit;
+        advertise = advertise;
+        repo = (shared_state repository).answers;
+        failures = (shared_state repository).failures;
+      }) [] false [] server
+  pub shares : shared_by (repo_of server) ≡ shared_by repository
+
+-- such a server, or none where memory ran out
+abbrev pub Begins : SharedRepo → ℕ → Bool → ℕ → Option (Server SharedRepo Global) → Type 0
+Begins repository limit advertise answer None = answer ≡ what_number What.OutOfMemory
+Begins repository limit advertise answer (Some server) = (answer ≡ what_number What.Done) × Starts repository limit advertise server
+
+-- nothing changes where the limit is more than one may be
+pub record BeginsWithin (repository : SharedRepo) (limit : ℕ) (advertise : Bool) (old : Option (Server SharedRepo Global)) (answer : ℕ)
+    (new : Option (Server SharedRepo Global)) : Type 0 where
+  pub too_much : most_limit < limit → (answer ≡ what_number What.BadValue) × (new ≡ old)
+  pub in_range : limit ≤ most_limit → Begins repository limit advertise answer new
+
+-- a server over the repository of a handle; nothing changes where that has none
+abbrev pub BeginsOver : Option SharedRepo → ℕ → Bool → Option (Server SharedRepo Global) → ℕ → Option (Server SharedRepo Global) → Type 0
+BeginsOver None limit advertise old answer new = (answer ≡ what_number What.NoHandle) × (new ≡ old)
+BeginsOver (Some repository) limit advertise old answer new = BeginsWithin repository limit advertise old answer new
+
+-- the server uses bytes of the piece, and it is reported to C how many
+pub record FeedsAnswers (old : Server SharedRepo Global) (piece : List ℕ) (answer : GitwireAnswer) (new : Server SharedRepo Global) : Type 0 where
+  pub used : ℕ
+  pub answer_is : answer ≡ answering_used used (more_of (wants_input old))
+  pub within : used ≤ length piece
+  pub goes : Goes shared_state (take used piece) [] old new
+  pub whole : wants_input new ≡ true → used ≡ length piece
+  pub moves : wants_input old ≡ true → 0 < length piece → (0 < used) ⊎ IsSome (outcome_of new)
+  pub in_time : StopsInTime shared_state old used piece (outcome_of new)
+  pub stays : wants_input old ≡ false → (used ≡ 0) × (new ≡ old)
+  pub nothing : length piece ≡ 0 → (used ≡ 0) × (new ≡ old)
+
+-- the input ends where the server waits for it
+pub record ClosesAnswers (old : Server SharedRepo Global) (answer : ℕ) (new : Server SharedRepo Global) : Type 0 where
+  pub due : wants_input old ≡ true → (answer ≡ what_number What.Done) × Closes shared_state old new × IsSome (outcome_of new)
+  pub not_now : wants_input old ≡ false → (answer ≡ what_number What.NotNow) × (new ≡ old)
+
+-- what is reported to C of what is pulled
+abbrev pub answer_of : Pulled → GitwireAnswer
+answer_of (Packet bytes) = answering_packet 0 0 (length bytes.now) What.Packet
+answer_of NeedInput = answering What.NeedInput
+answer_of (Finished Flush) = answering What.EndedByFlush
+answer_of (Finished Closed) = answering What.EndedByClose
+answer_of (Finished (Refused fault)) = answering_fault 0 fault
+
+-- the room: a packet is at its front
+abbrev pub filled_by : Pulled → List ℕ → List ℕ
+filled_by (Packet bytes) room = put_before bytes.now room
+filled_by NeedInput room = room
+filled_by (Finished outcome) room = room
+
+-- the server gives a packet or returns what to do instead, and that is reported to C
+pub record PullsAnswers (old : Server SharedRepo Global) (room : List ℕ) (answer : GitwireAnswer) (filled : List ℕ)
+    (new : Server SharedRepo Global) : Type 0 where
+  pub pulled : Pulled
+  pub pulls : Pulls shared_state old pulled new
+  pub answer_is : answer ≡ answer_of pulled
+  pub room_is : filled ≡ filled_by pulled room
+
+-- nothing happens where the room is too small for the longest packet
+pub record PullsInRoom (old : Server SharedRepo Global) (room : List ℕ) (answer : GitwireAnswer) (filled : List ℕ)
+    (new : Server SharedRepo Global) : Type 0 where
+  pub small : length room < 65520 → (answer ≡ answering What.RoomTooSmall) × (filled ≡ room) × (new ≡ old)
+  pub large : 65520 ≤ length room → PullsAnswers old room answer filled new

@@ -1,0 +1,194 @@
+//! What a call returns to C.
+
+ghost use Rattle.std.specs.Prelude.{◌≡◌};
+
+use git_pkt::Fault;
+
+/// What one call did. Fields without a meaning are 0.
+#[repr(C)]
+#[derive(Clone, Copy, Debug)]
+pub struct GitwireAnswer {
+    /// How many bytes of the piece were used.
+    pub used: usize,
+    /// A place in the stream, or a number.
+    pub offset: u64,
+    /// How many bytes were written to the front of the room.
+    pub length: usize,
+    /// The number of a [`What`].
+    pub kind: u8,
+    /// The number of a fault, from 1 to 34.
+    pub fault: u8,
+}
+
+/// What came of a call.
+#[derive(Clone, Copy, Debug)]
+pub enum What {
+    /// All went well.
+    Done,
+    /// So many bytes of the piece were used, and nothing else is to be reported.
+    More,
+    /// The library refuses: `fault` is why, and `offset` where.
+    Failed,
+    /// The handle has nothing: it was never made, or was freed.
+    NoHandle,
+    /// The room is too small. Nothing was used or changed.
+    RoomTooSmall,
+    /// The call may not be made at this moment. Nothing changed.
+    NotNow,
+    /// Memory ran out.
+    OutOfMemory,
+    /// A number means nothing, or a limit is above 1,073,741,824.
+    BadValue,
+    /// There is no such item.
+    Nothing,
+    /// A packet with a payload, which is in the room.
+    Payload,
+    /// A flush packet.
+    Flush,
+    /// A delimiter packet.
+    Delim,
+    /// A response-end packet.
+    ResponseEnd,
+    /// A whole request.
+    Request,
+    /// The other end leaves.
+    Stop,
+    /// A packet to be sent, which is in the room.
+    Packet,
+    /// Nothing is to be sent before more bytes have come.
+    NeedInput,
+    /// The conversation ended by a flush packet.
+    EndedByFlush,
+    /// The conversation ended with the input.
+    EndedByClose,
+    /// A request may be asked now.
+    CanAsk,
+    /// The client has left, and nothing more is to be sent.
+    Finished,
+    /// A capability of the server.
+    Capability,
+    /// The advertisement is whole.
+    Offered,
+    /// A reference.
+    Reference,
+    /// An object that both ends have.
+    Ack,
+    /// The server has none of the objects named so far.
+    Nak,
+    /// The server is ready to send the pack.
+    Ready,
+    /// A commit whose parents are left out.
+    Shallow,
+    /// A commit whose parents are left out no longer.
+    Unshallow,
+    /// A reference that was wanted by its name.
+    WantedRef,
+    /// What is known of an object.
+    Info,
+    /// Bytes of the pack.
+    Pack,
+    /// Progress, a text for the user.
+    Progress,
+    /// The response is whole.
+    Ended,
+}
+
+impl What {
+    ghost use Rattle.gitwire.specs.Answers.{more_of, what_number};
+
+    /// What is reported of a piece where nothing else is: more is to come, or none was due.
+    pub(crate) fn more(due: bool) -> What
+        ensures { result ≡ more_of due }
+    {
+        match due {
+            true => What::More,
+            false => What::NotNow,
+        }
+    }
+
+    /// The number by which C knows it, from 0 to 33.
+    pub fn number(self) -> u8
+        ensures { result ≡ what_number self }
+    {
+        match self {
+            What::Done => 0,
+            What::More => 1,
+            What::Failed => 2,
+            What::NoHandle => 3,
+            What::RoomTooSmall => 4,
+            What::NotNow => 5,
+            What::OutOfMemory => 6,
+            What::BadValue => 7,
+            What::Nothing => 8,
+            What::Payload => 9,
+            What::Flush => 10,
+            What::Delim => 11,
+            What::ResponseEnd => 12,
+            What::Request => 13,
+            What::Stop => 14,
+            What::Packet => 15,
+            What::NeedInput => 16,
+            What::EndedByFlush => 17,
+            What::EndedByClose => 18,
+            What::CanAsk => 19,
+            What::Finished => 20,
+            What::Capability => 21,
+            What::Offered => 22,
+            What::Reference => 23,
+            What::Ack => 24,
+            What::Nak => 25,
+            What::Ready => 26,
+            What::Shallow => 27,
+            What::Unshallow => 28,
+            What::WantedRef => 29,
+            What::Info => 30,
+            What::Pack => 31,
+            What::Progress => 32,
+            What::Ended => 33,
+        }
+    }
+}
+
+impl GitwireAnswer {
+    ghost use Rattle.gitwire.specs.Answers.{answering, answering_used, answering_packet, answering_fault};
+
+    /// What came of a call, and nothing more.
+    pub(crate) fn of(what: What) -> GitwireAnswer
+        ensures { result ≡ answering what }
+    {
+        GitwireAnswer::of_used(0, what)
+    }
+
+    /// What came of a piece of which so many bytes were used, and nothing more.
+    pub(crate) fn of_used(used: usize, what: What) -> GitwireAnswer
+        ensures { result ≡ answering_used used what }
+    {
+        GitwireAnswer::of_packet(used, 0, 0, what)
+    }
+
+    /// A packet at this offset, of which so many bytes are in the room.
+    pub(crate) fn of_packet(used: usize, offset: u64, length: usize, what: What) -> GitwireAnswer
+        ensures { result ≡ answering_packet used offset length what }
+    {
+        GitwireAnswer {
+            used,
+            offset,
+            length,
+            kind: what.number(),
+            fault: 0,
+        }
+    }
+
+    /// A refusal.
+    pub(crate) fn of_fault(used: usize, fault: Fault) -> GitwireAnswer
+        ensures { result ≡ answering_fault used fault }
+    {
+        GitwireAnswer {
+            used,
+            offset: fault.offset,
+            length: 0,
+            kind: What::Failed.number(),
+            fault: fault.kind.number(),
+        }
+    }
+}

@@ -1,0 +1,68 @@
+//! What a case asks of a client: requests, each made of the texts of its arguments.
+
+use crate::asking::written;
+use crate::setup::{MOST_KEPT, limits, offer};
+use crate::trouble::Trouble;
+use git_msg::{Caps, Command, Request, read_argument};
+use git_names::{Format, Steps};
+use std::alloc::Global;
+
+/// A request that is to be made.
+#[derive(Drop)]
+pub struct Wording {
+    pub command: Command,
+    format: Format,
+    /// The texts of its arguments, in the order in which they are added.
+    pub arguments: Vec<Vec<u8>>,
+}
+
+impl Wording {
+    /// A request that has no argument yet, by its words: the command's name, and the format where it is not SHA-1.
+    pub fn new(alloc: Global, words: &str) -> Result<Wording, Trouble> {
+        let (name, format) = words.split_once(' ').unwrap_or((words, "sha1"));
+        let command = match name {
+            "ls-refs" => Command::LsRefs,
+            "fetch" => Command::Fetch,
+            "object-info" => Command::ObjectInfo,
+            _ => return Err(Trouble::BadCase("no command to ask")),
+        };
+        let Some(format) = Format::read(format.as_bytes()) else {
+            return Err(Trouble::BadCase("no format to ask in"));
+        };
+        Ok(Wording {
+            command,
+            format,
+            arguments: Vec::new(alloc),
+        })
+    }
+
+    /// The request, of whose arguments each is read as by one who offers all of them.
+    pub fn request(&self, alloc: Global) -> Result<Request<Global>, Trouble> {
+        let offer = offer(self.format, true);
+        let mut request = Request::new(alloc, self.command, self.format, limits(MOST_KEPT));
+        for text in self.arguments.as_slice() {
+            let Ok(argument) = read_argument(
+                self.command,
+                &offer,
+                text.as_slice(),
+                &mut Steps::new(),
+            ) else {
+                return Err(Trouble::BadCase("no argument"));
+            };
+            if request.add(argument).is_err() {
+                return Err(Trouble::BadCase("an argument that is not added"));
+            }
+        }
+        Ok(request)
+    }
+}
+
+/// All that a request is, as it would be written.
+pub fn shown(alloc: Global, request: &Request<Global>) -> Result<Vec<u8>, Trouble> {
+    let caps = Caps {
+        agent: true,
+        object_format: true,
+        ..Caps::new()
+    };
+    written(alloc, request, &caps)
+}

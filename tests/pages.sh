@@ -1,0 +1,22 @@
+# The pages of this repository beside what they speak of.
+
+# links_of PAGE: prints the files that a page links to, as it writes them.
+links_of() {
+    grep -o -E '\]\([^)#]+[)#]' "$1" | sed -E 's/^\]\(//; s/[)#]$//' | grep -v -E '^[a-z]+:' || true
+}
+
+case_the_tables_of_wrong_bodies_are_made_from_the_edits() {
+    run "$top/wrong-bodies/table.py" --check
+    expect_status 0
+    expect_same 'standard error' /dev/null err
+}
+
+case_each_link_of_a_page_leads_to_a_file() {
+    local page link
+    for page in "$top"/*.md "$top"/docs/*.md "$top"/tests/*.md "$top"/sample/*.md "$top"/crates/*/*.md; do
+        [ -f "$page" ] || continue
+        for link in $(links_of "$page"); do
+            [ -e "$(dirname "$page")/$link" ] || differs "${page#"$top/"} links to $link, which is not there"
+        done
+    done
+}
