@@ -29,6 +29,7 @@ use Rattle.git_client.specs.declared.phase.Phase.{Phase}
 use Rattle.git_client.specs.declared.phase.Phase.TheVariants.{Hearing, Ready, Asking, Leaving, Left, Failed}
 use Rattle.git_client.specs.declared.phase.Due.{Due}
 use Rattle.git_client.specs.declared.phase.Due.TheVariants.{Capabilities}
+use Rattle.git_client.specs.declared.phase.Said.{Said}
 use Rattle.git_client.specs.declared.phase.Turn.{Turn}
 use Rattle.git_client.specs.declared.client.Client.{Client}
 use Rattle.git_client.proofs.Sequences.{nearest_push, give_all_push}
@@ -172,16 +173,16 @@ module _ {A : Type 0} where
     pub held : Spells g.packet (held_of (reader_of new))
 
   -- a packet without a fault
-  pub hears_packet : (old new : Client A) (due : Due) (u : List ℕ) (g : Given) (turn : Turn) → HearsPacket old new due u g
-      → IsTurn (format_of old) (ending_of old) due (caps_of old) g.packet turn → goes_on turn.next ≡ true → phase_of new ≡ turn.next
-      → caps_of new ≡ turn.caps → HearsOn old u (events_at turn.said (body_of g.packet)) new
-  hears_packet old new due u g turn b judged goes_after now caps =
-      let said = events_at turn.said (body_of g.packet) in
+  pub hears_packet : (old new : Client A) (due : Due) (u : List ℕ) (g : Given) (found : Said) (turn : Turn) → HearsPacket old new due u g
+      → IsTurn (format_of old) (ending_of old) due (caps_of old) g.packet found turn → goes_on turn.next ≡ true → phase_of new ≡ turn.next
+      → caps_of new ≡ turn.caps → HearsOn old u (events_at found (body_of g.packet)) new
+  hears_packet old new due u g found turn b judged goes_after now caps =
+      let said = events_at found (body_of g.packet) in
       hears_bytes old new due u (g ∷ []) [] said b.bytes
       (ap is_quiet now ∙ goes_quietly turn.next goes_after) (λ t h c r.
       let of_terms =
-      on_terms (λ format ending. IsTurn format ending due (caps_of old) g.packet turn) _ _ t c.format_is c.ending_is judged in
-      let says = judged_well t h.asked (nearest r.clean []) due (caps_of old) g.packet turn r.is_due r.notes of_terms in
+      on_terms (λ format ending. IsTurn format ending due (caps_of old) g.packet found turn) _ _ t c.format_is c.ending_is judged in
+      let says = judged_well t h.asked (nearest r.clean []) due (caps_of old) g.packet found turn r.is_due r.notes of_terms in
       let push = nearest_push r.clean g [] in
       let nothing = nothing_left (reader_of new) (h.used ++ u) (r.clean ++ g ∷ []) r.rest b.sound b.shut r.reads in
       let next : Goes t h.asked (r.clean ++ g ∷ []) (r.clean ++ g ∷ []) r.rest None turn.next (reader_of new) = record {

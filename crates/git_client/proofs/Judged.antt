@@ -22,6 +22,7 @@ use Rattle.git_client.specs.declared.events.Ending.TheVariants.{FlushOnly, Respo
 use Rattle.git_client.specs.declared.phase.Due.{Due}
 use Rattle.git_client.specs.declared.phase.Due.TheVariants.{Version, Capabilities, References, Header, Acknowledgments, ShallowInfo, WantedRefs}
 use Rattle.git_client.specs.declared.phase.Due.TheVariants.{Packfile, SizeLine, Sizes, ResponseEnd}
+use Rattle.git_client.specs.declared.phase.Said.{Said}
 use Rattle.git_client.specs.declared.phase.Turn.{Turn}
 use Rattle.git_client.proofs.PartSteps.{is_early, next_part, part_due, awaits_where, goes_on, no_flush, Stands, stands, no_end, GoesInto, due_after}
 use Rattle.git_client.proofs.Sequences.{advertisement_more}
@@ -203,13 +204,13 @@ gives_well t asked before due caps after p events is notes gives adds =
     )
 
 -- a packet in which no fault was found gives what was found of it, and then what was found to be due is due
-pub judged_well : (t : Terms) (asked : List Asked) (before : List Pkt) (due : Due) (caps : Caps) (p : Pkt) (turn : Turn) → IsDue t asked before due
-    → caps ≡ noted_of (advertisement_of before) → IsTurn t.format t.ending due caps p turn
-    → GivesAt t asked before p (events_at turn.said (body_of p)) × (turn.caps ≡ noted_of (advertisement_of (p ∷ before)))
+pub judged_well : (t : Terms) (asked : List Asked) (before : List Pkt) (due : Due) (caps : Caps) (p : Pkt) (said : Said) (turn : Turn)
+    → IsDue t asked before due → caps ≡ noted_of (advertisement_of before) → IsTurn t.format t.ending due caps p said turn
+    → GivesAt t asked before p (events_at said (body_of p)) × (turn.caps ≡ noted_of (advertisement_of (p ∷ before)))
     × Behind t asked (p ∷ before) None turn.next
-judged_well t asked before due caps p turn is notes judged =
+judged_well t asked before due caps p said turn is notes judged =
     let (gives, noted, behind) =
-    gives_well t asked before due caps turn.caps p (events_at turn.said (body_of p)) is notes judged.gives judged.notes in
+    gives_well t asked before due caps turn.caps p (events_at said (body_of p)) is notes judged.gives judged.notes in
     (gives, noted, subst (Behind t asked (p ∷ before) None) (sym judged.next) behind)
 
 -- a packet in which one was found is refused for it

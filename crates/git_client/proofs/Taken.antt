@@ -26,7 +26,7 @@ use Rattle.git_client.specs.Places.{Place, acknowledgments, shallow_info, wanted
 use Rattle.git_client.specs.Events.{EventValue, Gives, Refuses, turns_of, ended_by, delimiter_says, response_end_says}
 use Rattle.git_client.specs.Opened.{events_on}
 use Rattle.git_client.specs.Turns.{fault_in, is_ready, takes_packets, place_due, phase_after, phase_after_response, events_at, Fits, IsTurn}
-use Rattle.git_client.specs.Client.{Comes, Takes, LeavesStep, StandsAfter, phase_judged, caps_judged, said_judged, outcome_judged, outcome_said, IsMessage}
+use Rattle.git_client.specs.Client.{Comes, Takes, LeavesStep, StandsAfter, phase_judged, caps_judged, outcome_judged, outcome_said, IsMessage}
 use Rattle.git_client.specs.Client.{Settles, format_of, ending_of, caps_of, phase_of, reader_of, said_last}
 use Rattle.git_client.specs.declared.events.Ending.{Ending}
 use Rattle.git_client.specs.declared.events.Ending.TheVariants.{FlushOnly, ResponseEnd as WithResponseEnd}
@@ -149,23 +149,23 @@ module _ {A : Type 0} where
   leaves Ended used piece new is some shut stands = (some, shut, subst (λ (s : Said). StandsAfter s new) (sym is) stands)
   leaves said used piece new is some shut stands = (some, shut, subst (λ (s : Said). StandsAfter s new) (sym is) stands)
 
-  taken_well : (old new : Client A) (due : Due) (piece : List ℕ) (used : ℕ) (g : Given) (turn : Turn) → HearsPacket old new due (take used piece) g
-      → 0 < used → IsTurn (format_of old) (ending_of old) due (caps_of old) g.packet turn → phase_of new ≡ turn.next → caps_of new ≡ turn.caps
-      → said_last new ≡ turn.said → Takes old piece (record { used = used; outcome = outcome_said turn.said }) new
-  taken_well old new due piece used g turn b some judged now caps said =
+  taken_well : (old new : Client A) (due : Due) (piece : List ℕ) (used : ℕ) (g : Given) (found : Said) (turn : Turn)
+      → HearsPacket old new due (take used piece) g
+      → 0 < used → IsTurn (format_of old) (ending_of old) due (caps_of old) g.packet found turn → phase_of new ≡ turn.next → caps_of new ≡ turn.caps
+      → said_last new ≡ found → Takes old piece (record { used = used; outcome = outcome_said found }) new
+  taken_well old new due piece used g found turn b some judged now caps said =
       let body = body_of g.packet in
       let goes : goes_on turn.next ≡ true = ap goes_on judged.next ∙ goes_after (ending_of old) due g.packet in
-      let turns : IsTurnTo turn.next (events_at turn.said body) =
-      subst (λ (phase : Phase). IsTurnTo phase (events_at turn.said body)) (sym judged.next)
-      (packet_turn (format_of old) (ending_of old) (caps_of old) due g.packet (events_at turn.said body) judged.gives) in
+      let turns : IsTurnTo turn.next (events_at found body) =
+      subst (λ (phase : Phase). IsTurnTo phase (events_at found body)) (sym judged.next)
+      (packet_turn (format_of old) (ending_of old) (caps_of old) due g.packet (events_at found body) judged.gives) in
       record {
-        events = events_at turn.said body;
-        comes = comes turn.said body used piece new said b.held.body judged.fits;
-        hears = hears_packet old new due (take used piece) g turn b judged goes now caps;
-        leaves = leaves turn.said used piece new said some b.shut
-            (subst (StandsOn turn.said) (sym now) (stands_after turn.said body turn.next goes turns));
+        events = events_at found body;
+        comes = comes found body used piece new said b.held.body judged.fits;
+        hears = hears_packet old new due (take used piece) g found turn b judged goes now caps;
+        leaves = leaves found used piece new said some b.shut (subst (StandsOn found) (sym now) (stands_after found body turn.next goes turns));
         fits = events_fit (format_of old) (ending_of old) (place_due (caps_of old) (format_of old) due)
-            g.packet (events_at turn.said body) judged.gives b.held.fits;
+            g.packet (events_at found body) judged.gives b.held.fits;
       }
 
   taken_badly : (old new : Client A) (due : Due) (piece : List ℕ) (used : ℕ) (g : Given) (kind : Kind) → HearsPacket old new due (take used piece) g
@@ -269,27 +269,27 @@ module _ {A : Type 0} where
       }
 
   -- a packet was judged and settled
-  taken : (old new : Client A) (due : Due) (piece : List ℕ) (used : ℕ) (g : Given) (judged : Result Turn Kind)
+  taken : (old new : Client A) (due : Due) (piece : List ℕ) (used : ℕ) (g : Given) (said : Said) (judged : Result Turn Kind)
       → HearsPacket old new due (take used piece) g → 0 < used
-      → MatchResult judged (IsTurn (format_of old) (ending_of old) due (caps_of old) g.packet)
+      → MatchResult judged (IsTurn (format_of old) (ending_of old) due (caps_of old) g.packet said)
       (Refuses (format_of old) (ending_of old) (place_due (caps_of old) (format_of old) due) g.packet)
-      → phase_of new ≡ phase_judged g.offset judged → caps_of new ≡ caps_judged (caps_of old) judged → said_last new ≡ said_judged (said_last old) judged
-      → Takes old piece (record { used = used; outcome = outcome_judged g.offset judged }) new
-  taken old new due piece used g (Ok turn) b some judged now caps said = taken_well old new due piece used g turn b some judged now caps said
-  taken old new due piece used g (Err kind) b some judged now caps said = taken_badly old new due piece used g kind b judged now caps
+      → phase_of new ≡ phase_judged g.offset judged → caps_of new ≡ caps_judged (caps_of old) judged → said_last new ≡ said
+      → Takes old piece (record { used = used; outcome = outcome_judged g.offset said judged }) new
+  taken old new due piece used g said (Ok turn) b some judged now caps is = taken_well old new due piece used g said turn b some judged now caps is
+  taken old new due piece used g said (Err kind) b some judged now caps is = taken_badly old new due piece used g kind b judged now caps
 
   -- a packet came whole, and was judged and settled
   pub settled : (old read new : Client A) (due : Due) (piece : List ℕ) (used : ℕ) (g : Given) (judged : Result Turn Kind)
       (outcome : Outcome) → ReadsPacket old read due (take used piece) g → used ≤ length piece
-      → MatchResult judged (IsTurn (format_of old) (ending_of old) due (caps_of old) g.packet)
+      → MatchResult judged (IsTurn (format_of old) (ending_of old) due (caps_of old) g.packet (said_last read))
       (Refuses (format_of old) (ending_of old) (place_due (caps_of old) (format_of old) due) g.packet)
-      → format_of read ≡ format_of old → ending_of read ≡ ending_of old → caps_of read ≡ caps_of old → said_last read ≡ said_last old
+      → format_of read ≡ format_of old → ending_of read ≡ ending_of old → caps_of read ≡ caps_of old
       → Settles read judged g.offset outcome new → Takes old piece (record { used = used; outcome = outcome }) new
-  settled old read new due piece used g judged outcome r within found format ending caps said settles =
+  settled old read new due piece used g judged outcome r within found format ending caps settles =
       let hears = packet_read old read new due (take used piece) g r settles.reader (settles.format ∙ format) (settles.ending ∙ ending) in
       subst (λ (outcome : Outcome). Takes old piece (record { used = used; outcome = outcome }) new) (sym settles.tells)
-      (taken old new due piece used g judged hears (omega (arith, r.some, length-take-le used piece within)) found settles.phase
-      (settles.caps ∙ ap (λ (c : Caps). caps_judged c judged) caps) (settles.said ∙ ap (λ (s : Said). said_judged s judged) said))
+      (taken old new due piece used g (said_last read) judged hears (omega (arith, r.some, length-take-le used piece within)) found settles.phase
+      (settles.caps ∙ ap (λ (c : Caps). caps_judged c judged) caps) settles.said)
 
   -- bytes that the reader refuses
   pub taken_failed : (old new : Client A) (due : Due) (piece : List ℕ) (used : ℕ) (f : Fault) → HearsBytes old new due (take used piece) [] []

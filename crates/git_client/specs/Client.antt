@@ -304,13 +304,9 @@ abbrev pub outcome_said : Said → Outcome
 outcome_said Nothing = NothingYet
 outcome_said said = EventNow
 
-abbrev pub outcome_judged : ℕ → Result Turn Kind → Outcome
-outcome_judged offset (Ok turn) = outcome_said turn.said
-outcome_judged offset (Err kind) = FailedNow (record { kind = kind; offset = offset })
-
-abbrev pub said_judged : Said → Result Turn Kind → Said
-said_judged said (Ok turn) = turn.said
-said_judged said (Err kind) = said
+abbrev pub outcome_judged : ℕ → Said → Result Turn Kind → Outcome
+outcome_judged offset said (Ok turn) = outcome_said said
+outcome_judged offset said (Err kind) = FailedNow (record { kind = kind; offset = offset })
 
 -- the client receives more, or can ask, after a packet that was judged well
 abbrev pub HearsNext : Result Turn Kind → Type 0
@@ -506,8 +502,8 @@ module _ {A : Type 0} where
     pub request : request_of new ≡ request_of old
     pub phase : phase_of new ≡ phase_judged offset judged
     pub caps : caps_of new ≡ caps_judged (caps_of old) judged
-    pub said : said_last new ≡ said_judged (said_last old) judged
-    pub tells : outcome ≡ outcome_judged offset judged
+    pub said : said_last new ≡ said_last old
+    pub tells : outcome ≡ outcome_judged offset (said_last old) judged
 
   -- whether the client can ask or receives more, after a packet that contained this
   abbrev pub StandsAfter : Said → Client A → Type 0

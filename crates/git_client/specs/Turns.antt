@@ -160,26 +160,30 @@ phase_after ending Capabilities flush = ReadyPhase
 phase_after ending due flush = phase_after_response ending
 phase_after ending due resp_end = ReadyPhase
 
--- what the flush of a response means, where this is noted
+-- what the flush of a response contains
+abbrev pub said_after_flush : Ending → Said
+said_after_flush FlushOnly = Ended
+said_after_flush WithResponseEnd = Nothing
+
+-- what it changes, where this is noted
 abbrev pub turn_after_flush : Ending → Caps → Turn
-turn_after_flush FlushOnly caps = record { said = Ended; caps = caps; next = ReadyPhase }
-turn_after_flush WithResponseEnd caps = record { said = Nothing; caps = caps; next = Hearing ResponseEnd }
+turn_after_flush ending caps = record { caps = caps; next = phase_after_response ending }
 
 -- what is noted after a packet that has no fault: a line of the advertisement adds to it
 abbrev pub NotesAfter : Due → Caps → Pkt → Caps → Type 0
 NotesAfter Capabilities caps (payload line) after = (packets : List Pkt) → caps ≡ noted_of packets → after ≡ noted_of (payload line ∷ packets)
 NotesAfter due caps p after = after ≡ caps
 
--- what the judge found of a packet that has no fault
-pub record IsTurn (format : Format) (ending : Ending) (due : Due) (caps : Caps) (p : Pkt) (turn : Turn) : Type 0 where
-  pub gives : Gives format ending (place_due caps format due) p (events_at turn.said (body_of p))
-  pub fits : Fits turn.said (body_of p)
+-- what the judge found of a packet that has no fault: what it contains, and what it changes
+pub record IsTurn (format : Format) (ending : Ending) (due : Due) (caps : Caps) (p : Pkt) (said : Said) (turn : Turn) : Type 0 where
+  pub gives : Gives format ending (place_due caps format due) p (events_at said (body_of p))
+  pub fits : Fits said (body_of p)
   pub notes : NotesAfter due caps p turn.caps
   pub next : turn.next ≡ phase_after ending due p
 
 -- what it found of a text line
-pub record IsLineTurn (format : Format) (due : Due) (caps : Caps) (text : List ℕ) (turn : Turn) : Type 0 where
-  pub says : Says (place_due caps format due) format text turn.said
+pub record IsLineTurn (format : Format) (due : Due) (caps : Caps) (text : List ℕ) (said : Said) (turn : Turn) : Type 0 where
+  pub says : Says (place_due caps format due) format text said
   pub notes : (line : List ℕ) → text_of line ≡ text → NotesAfter due caps (payload line) turn.caps
   pub next : turn.next ≡ Hearing (due_after_line due text)
 

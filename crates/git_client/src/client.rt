@@ -328,7 +328,15 @@ impl<A: Allocator + Copy> Client<A> {
                 outcome: Outcome::More,
             },
             Got::Packet(packet, offset) => {
-                let judged = judge(self.format, self.ending, due, self.caps, packet, steps);
+                let judged = judge(
+                    self.format,
+                    self.ending,
+                    due,
+                    self.caps,
+                    packet,
+                    &mut self.said,
+                    steps,
+                );
                 let outcome = self.settle(judged, offset);
                 Advance { used, outcome }
             }
@@ -373,6 +381,7 @@ impl<A: Allocator + Copy> Client<A> {
                     Due::Packfile,
                     self.caps,
                     packet,
+                    &mut self.said,
                     steps,
                 );
                 let outcome = self.settle(judged, offset);
@@ -388,7 +397,7 @@ impl<A: Allocator + Copy> Client<A> {
         }
     }
 
-    /// Goes on after a packet that was judged.
+    /// Goes on after a packet that was judged, and of which the client has what it contained.
     fn settle(&mut self, judged: Result<Turn, Kind>, offset: u64) -> Outcome
         requires whole { is_open (reader_of self.old) ≡ false }
         requires sound { reader_fault_of (reader_of self.old) ≡ None }
@@ -400,8 +409,7 @@ impl<A: Allocator + Copy> Client<A> {
             Ok(turn) => {
                 self.caps = turn.caps;
                 self.phase = turn.next;
-                self.said = turn.said;
-                match turn.said {
+                match self.said {
                     Said::Nothing => Outcome::More,
                     _ => Outcome::Event,
                 }

@@ -5,7 +5,7 @@ ghost use Rattle.git_names.specs.declared.object_format.Format.{Format};
 ghost use Rattle.git_names.specs.Steps.{TakesAtMost};
 ghost use Rattle.git_pkt.specs.Packets.{body_of, flush, delim, resp_end, payload as payload_of, seen};
 ghost use Rattle.git_client.specs.Events.{IsLineFault, Refuses, band_says};
-ghost use Rattle.git_client.specs.Turns.{IsLineTurn, IsTurn, TakesLines, place_due, turn_after_flush};
+ghost use Rattle.git_client.specs.Turns.{IsLineTurn, IsTurn, TakesLines, place_due, said_after_flush, turn_after_flush};
 ghost use Rattle.git_pkt.specs.Passed.{begins_band, is_on_band};
 ghost use Rattle.git_client.specs.declared.events.Ending.{Ending};
 
@@ -23,26 +23,27 @@ use git_pkt::{Band, Kind, Packet, split_band, text};
 // The most bytes that a word has which is a line.
 const LONGEST_WORD: usize = 15;
 
-/// What the packet means where this is due, and `caps` was noted before it, or why it is refused. In the packfile section
-/// it is a packet of which no byte passes.
+/// What the packet means where this is due, and `caps` was noted before it, or why it is refused. What it contains is written to
+/// `said`: it has room for two object names, and is not moved. In the packfile section it is a packet of which no byte passes.
 pub(crate) fn judge(
     format: Format,
     ending: Ending,
     due: Due,
     caps: Caps,
     packet: Packet<'_>,
+    said: &mut Said,
     steps: &mut Steps,
 ) -> Result<Turn, Kind>
     requires on_no_band { due ≡ Due.Packfile → is_on_band (seen packet) ≡ false }
-    ensures turn { MatchResult result (IsTurn format ending due caps (seen packet.entry))
+    ensures turn { MatchResult result (IsTurn format ending due caps (seen packet.entry) said.new)
         (Refuses format ending (place_due caps format due) (seen packet.entry)) }
     ensures cost { TakesAtMost (48 * (length (body_of (seen packet.entry)) + 1)) steps.old steps.new }
 {
     match packet {
-        Packet::Payload(payload) => judge_payload(format, due, caps, payload, steps),
-        Packet::Flush => judge_flush(format, ending, due, caps),
-        Packet::Delim => judge_delimiter(due, caps),
-        Packet::RespEnd => judge_response_end(due, caps),
+        Packet::Payload(payload) => judge_payload(format, due, caps, payload, said, steps),
+        Packet::Flush => judge_flush(format, ending, due, caps, said),
+        Packet::Delim => judge_delimiter(due, caps, said),
+        Packet::RespEnd => judge_response_end(due, caps, said),
     }
 }
 
@@ -51,10 +52,11 @@ fn judge_payload(
     due: Due,
     caps: Caps,
     payload: &[u8],
+    said: &mut Said,
     steps: &mut Steps,
 ) -> Result<Turn, Kind>
     requires on_no_band { due ≡ Due.Packfile → begins_band payload.now ≡ false }
-    ensures turn { (ending : Ending) → MatchResult result (IsTurn format ending due caps (payload_of payload.now))
+    ensures turn { (ending : Ending) → MatchResult result (IsTurn format ending due caps (payload_of payload.now) said.new)
         (Refuses format ending (place_due caps format due) (payload_of payload.now)) }
     ensures cost { TakesAtMost (48 * (length payload.now + 1)) steps.old steps.new }
 {
@@ -68,7 +70,7 @@ fn judge_payload(
             if is_error(line) {
                 return Err(Kind::RemoteError);
             }
-            judge_line(format, due, caps, line, steps)
+            judge_line(format, due, caps, line, said, steps)
         }
     }
 }
@@ -79,18 +81,19 @@ fn judge_line(
     due: Due,
     caps: Caps,
     line: &[u8],
+    said: &mut Said,
     steps: &mut Steps,
 ) -> Result<Turn, Kind>
     requires { TakesLines due }
-    ensures turn { MatchResult result (IsLineTurn format due caps line.now) (IsLineFault (place_due caps format due) format line.now) }
+    ensures turn { MatchResult result (IsLineTurn format due caps line.now said.new) (IsLineFault (place_due caps format due) format line.now) }
     ensures cost { TakesAtMost (40 * (length line.now + 1)) steps.old steps.new }
 {
     match due {
         Due::References => {
-            let said = judge_reference(format, line, steps)?;
-            Ok(heard(said, caps, due))
+            judge_reference(format, line, said, steps)?;
+            Ok(heard(caps, due))
         }
-        _ => judge_other_line(format, due, caps, line, steps),
+        _ => judge_other_line(format, due, caps, line, said, steps),
     }
 }
 
@@ -100,57 +103,60 @@ fn judge_other_line(
     due: Due,
     caps: Caps,
     line: &[u8],
+    said: &mut Said,
     steps: &mut Steps,
 ) -> Result<Turn, Kind>
     requires lines { TakesLines due }
     requires no_references { due ≢ Due.References }
-    ensures turn { MatchResult result (IsLineTurn format due caps line.now) (IsLineFault (place_due caps format due) format line.now) }
+    ensures turn { MatchResult result (IsLineTurn format due caps line.now said.new) (IsLineFault (place_due caps format due) format line.now) }
     ensures cost { TakesAtMost (40 * (length line.now + 1)) steps.old steps.new }
 {
+    *said = Said::Nothing;
     match due {
         Due::Version => {
             judge_version(line)?;
-            Ok(heard(Said::Nothing, caps, Due::Capabilities))
+            Ok(heard(caps, Due::Capabilities))
         }
         Due::Capabilities => {
             let (places, after) = judge_capability(caps, line, steps)?;
-            Ok(heard(Said::Capability(places), after, due))
+            *said = Said::Capability(places);
+            Ok(heard(after, due))
         }
         Due::References => unreachable!(),
         Due::Header(allowed) => {
             let next = judge_header(allowed, line)?;
-            Ok(heard(Said::Nothing, caps, next))
+            Ok(heard(caps, next))
         }
         Due::Acknowledgments(told) => {
-            let (said, after) = judge_acknowledgment(format, told, line, steps)?;
-            Ok(heard(said, caps, Due::Acknowledgments(after)))
+            let after = judge_acknowledgment(format, told, line, said, steps)?;
+            Ok(heard(caps, Due::Acknowledgments(after)))
         }
         Due::ShallowInfo(_) => {
-            let said = judge_boundary(format, line, steps)?;
-            Ok(heard(said, caps, due))
+            judge_boundary(format, line, said, steps)?;
+            Ok(heard(caps, due))
         }
         Due::WantedRefs(_) => {
-            let said = judge_wanted(format, line, steps)?;
-            Ok(heard(said, caps, due))
+            judge_wanted(format, line, said, steps)?;
+            Ok(heard(caps, due))
         }
         Due::SizeLine => {
             judge_size_line(line)?;
-            Ok(heard(Said::Nothing, caps, Due::Sizes))
+            Ok(heard(caps, Due::Sizes))
         }
         Due::Sizes => {
-            let said = judge_info(format, line, steps)?;
-            Ok(heard(said, caps, due))
+            judge_info(format, line, said, steps)?;
+            Ok(heard(caps, due))
         }
         Due::Packfile => Err(Kind::UnexpectedPacket),
         Due::ResponseEnd => Err(Kind::UnexpectedPacket),
     }
 }
 
-fn heard(said: Said, caps: Caps, next: Due) -> Turn
-    ensures { result ≡ record { said = said; caps = caps; next = Phase.Hearing next } }
+/// This is due next.
+fn heard(caps: Caps, next: Due) -> Turn
+    ensures { result ≡ record { caps = caps; next = Phase.Hearing next } }
 {
     Turn {
-        said,
         caps,
         next: Phase::Hearing(next),
     }
@@ -168,8 +174,14 @@ fn refused_on_band(payload: &[u8]) -> Kind
     }
 }
 
-fn judge_flush(format: Format, ending: Ending, due: Due, caps: Caps) -> Result<Turn, Kind>
-    ensures turn { MatchResult result (IsTurn format ending due caps flush) (Refuses format ending (place_due caps format due) flush) }
+fn judge_flush(
+    format: Format,
+    ending: Ending,
+    due: Due,
+    caps: Caps,
+    said: &mut Said,
+) -> Result<Turn, Kind>
+    ensures turn { MatchResult result (IsTurn format ending due caps flush said.new) (Refuses format ending (place_due caps format due) flush) }
 {
     match due {
         Due::Version => Err(Kind::NotVersion2),
@@ -177,74 +189,78 @@ fn judge_flush(format: Format, ending: Ending, due: Due, caps: Caps) -> Result<T
             if !caps.speaks(format) {
                 return Err(Kind::WrongFormat);
             }
-            Ok(whole(Said::Offered, caps))
+            *said = Said::Offered;
+            Ok(whole(caps))
         }
-        Due::References => Ok(after_flush(ending, caps)),
+        Due::References => Ok(after_flush(ending, caps, said)),
         Due::Header(_) => Err(Kind::UnexpectedPacket),
         Due::Acknowledgments(told) => {
             if told.ready {
                 return Err(Kind::UnexpectedPacket);
             }
-            Ok(after_flush(ending, caps))
+            Ok(after_flush(ending, caps, said))
         }
         Due::ShallowInfo(_) => Err(Kind::UnexpectedPacket),
         Due::WantedRefs(_) => Err(Kind::UnexpectedPacket),
-        Due::Packfile => Ok(after_flush(ending, caps)),
-        Due::SizeLine => Ok(after_flush(ending, caps)),
-        Due::Sizes => Ok(after_flush(ending, caps)),
+        Due::Packfile => Ok(after_flush(ending, caps, said)),
+        Due::SizeLine => Ok(after_flush(ending, caps, said)),
+        Due::Sizes => Ok(after_flush(ending, caps, said)),
         Due::ResponseEnd => Err(Kind::UnexpectedPacket),
     }
 }
 
-fn judge_delimiter(due: Due, caps: Caps) -> Result<Turn, Kind>
-    ensures turn { (format : Format) (ending : Ending) → MatchResult result (IsTurn format ending due caps delim)
+fn judge_delimiter(due: Due, caps: Caps, said: &mut Said) -> Result<Turn, Kind>
+    ensures turn { (format : Format) (ending : Ending) → MatchResult result (IsTurn format ending due caps delim said.new)
         (Refuses format ending (place_due caps format due) delim) }
 {
+    *said = Said::Nothing;
     match due {
         Due::Version => Err(Kind::NotVersion2),
         Due::Acknowledgments(told) => {
             if !told.ready {
                 return Err(Kind::UnexpectedPacket);
             }
-            Ok(heard(
-                Said::Nothing,
-                caps,
-                Due::Header(Allowed::AFTER_ACKNOWLEDGMENTS),
-            ))
+            Ok(heard(caps, Due::Header(Allowed::AFTER_ACKNOWLEDGMENTS)))
         }
-        Due::ShallowInfo(allowed) => Ok(heard(Said::Nothing, caps, Due::Header(allowed))),
-        Due::WantedRefs(allowed) => Ok(heard(Said::Nothing, caps, Due::Header(allowed))),
+        Due::ShallowInfo(allowed) => Ok(heard(caps, Due::Header(allowed))),
+        Due::WantedRefs(allowed) => Ok(heard(caps, Due::Header(allowed))),
         _ => Err(Kind::UnexpectedPacket),
     }
 }
 
-fn judge_response_end(due: Due, caps: Caps) -> Result<Turn, Kind>
-    ensures turn { (format : Format) (ending : Ending) → MatchResult result (IsTurn format ending due caps resp_end)
+fn judge_response_end(due: Due, caps: Caps, said: &mut Said) -> Result<Turn, Kind>
+    ensures turn { (format : Format) (ending : Ending) → MatchResult result (IsTurn format ending due caps resp_end said.new)
         (Refuses format ending (place_due caps format due) resp_end) }
 {
+    *said = Said::Ended;
     match due {
         Due::Version => Err(Kind::NotVersion2),
-        Due::ResponseEnd => Ok(whole(Said::Ended, caps)),
+        Due::ResponseEnd => Ok(whole(caps)),
         _ => Err(Kind::UnexpectedPacket),
     }
 }
 
 /// The flush of a response ends it, or a response-end packet is due.
-fn after_flush(ending: Ending, caps: Caps) -> Turn
-    ensures { result ≡ turn_after_flush ending caps }
+fn after_flush(ending: Ending, caps: Caps, said: &mut Said) -> Turn
+    ensures said { said.new ≡ said_after_flush ending }
+    ensures turn { result ≡ turn_after_flush ending caps }
 {
-    match ending {
-        Ending::FlushOnly => whole(Said::Ended, caps),
-        Ending::ResponseEnd => heard(Said::Nothing, caps, Due::ResponseEnd),
-    }
+    *said = match ending {
+        Ending::FlushOnly => Said::Ended,
+        Ending::ResponseEnd => Said::Nothing,
+    };
+    let next = match ending {
+        Ending::FlushOnly => Phase::Ready,
+        Ending::ResponseEnd => Phase::Hearing(Due::ResponseEnd),
+    };
+    Turn { caps, next }
 }
 
 /// A message is whole, and the next request can be asked.
-fn whole(said: Said, caps: Caps) -> Turn
-    ensures { result ≡ record { said = said; caps = caps; next = Phase.Ready } }
+fn whole(caps: Caps) -> Turn
+    ensures { result ≡ record { caps = caps; next = Phase.Ready } }
 {
     Turn {
-        said,
         caps,
         next: Phase::Ready,
     }

@@ -1,5 +1,5 @@
-//! What the text lines of a conversation mean, each where it is due, and what refuses them. Error packets are judged
-//! before.
+//! What the text lines of a conversation mean, each where it is due, and what refuses them. What a line contains is written to
+//! `said`. Error packets are judged before.
 
 ghost use Rattle.std.specs.Prelude.{◌≡◌, ◌≢◌, Some, true, codes, MatchResult, ◌+◌, ◌*◌, length};
 ghost use Rattle.git_names.specs.declared.object_format.Format.{Format};
@@ -48,12 +48,18 @@ pub(crate) fn judge_capability(
 }
 
 /// A line of the response to `ls-refs`.
-pub(crate) fn judge_reference(format: Format, line: &[u8], steps: &mut Steps) -> Result<Said, Kind>
-    ensures line { MatchResult result (Says references format line.now) (IsLineFault references format line.now) }
+pub(crate) fn judge_reference(
+    format: Format,
+    line: &[u8],
+    said: &mut Said,
+    steps: &mut Steps,
+) -> Result<(), Kind>
+    ensures line { MatchResult result (λ _. Says references format line.now said.new) (IsLineFault references format line.now) }
     ensures cost { TakesAtMost (40 * (length line.now + 1)) steps.old steps.new }
 {
     let places = locate_reference(format, line, steps)?;
-    Ok(Said::Reference(places))
+    *said = Said::Reference(places);
+    Ok(())
 }
 
 /// The header of a section, with what is due after it.
@@ -82,9 +88,10 @@ pub(crate) fn judge_acknowledgment(
     format: Format,
     acks: Acks,
     line: &[u8],
+    said: &mut Said,
     steps: &mut Steps,
-) -> Result<(Said, Acks), Kind>
-    ensures line { MatchResult result (λ turn. Says (acknowledgments acks) format line.now turn.0 × (turn.1 ≡ acks_with acks line.now))
+) -> Result<Acks, Kind>
+    ensures line { MatchResult result (λ after. Says (acknowledgments acks) format line.now said.new × (after ≡ acks_with acks line.now))
         (IsLineFault (acknowledgments acks) format line.now) }
     ensures cost { TakesAtMost (40 * (length line.now + 1)) steps.old steps.new }
 {
@@ -93,25 +100,25 @@ pub(crate) fn judge_acknowledgment(
         if acks.any {
             return Err(Kind::BadLine);
         }
-        return Ok((Said::Nak, Acks { nak: true, ..after }));
+        *said = Said::Nak;
+        return Ok(Acks { nak: true, ..after });
     }
     if line == b"ready".as_slice() {
         if acks.ready {
             return Err(Kind::BadLine);
         }
-        return Ok((
-            Said::Ready,
-            Acks {
-                ready: true,
-                ..after
-            },
-        ));
+        *said = Said::Ready;
+        return Ok(Acks {
+            ready: true,
+            ..after
+        });
     }
     if acks.nak || acks.ready {
         return Err(Kind::BadLine);
     }
     let id = read_ack(format, line, steps)?;
-    Ok((Said::Ack(id), after))
+    *said = Said::Ack(id);
+    Ok(after)
 }
 
 /// The line that names what is listed of objects: their sizes.
@@ -125,32 +132,52 @@ pub(crate) fn judge_size_line(line: &[u8]) -> Result<(), Kind>
 }
 
 /// A line with the size of an object.
-pub(crate) fn judge_info(format: Format, line: &[u8], steps: &mut Steps) -> Result<Said, Kind>
+pub(crate) fn judge_info(
+    format: Format,
+    line: &[u8],
+    said: &mut Said,
+    steps: &mut Steps,
+) -> Result<(), Kind>
     ensures cost { TakesAtMost (40 * (length line.now + 1)) steps.old steps.new }
-    ensures line { MatchResult result (Says sizes format line.now) (IsLineFault sizes format line.now) }
+    ensures line { MatchResult result (λ _. Says sizes format line.now said.new) (IsLineFault sizes format line.now) }
 {
     let info = read_info(format, line, steps)?;
-    Ok(Said::Info(info))
+    *said = Said::Info(info);
+    Ok(())
 }
 
 /// A line of the section `shallow-info`.
-pub(crate) fn judge_boundary(format: Format, line: &[u8], steps: &mut Steps) -> Result<Said, Kind>
+pub(crate) fn judge_boundary(
+    format: Format,
+    line: &[u8],
+    said: &mut Said,
+    steps: &mut Steps,
+) -> Result<(), Kind>
     ensures cost { TakesAtMost (40 * (length line.now + 1)) steps.old steps.new }
-    ensures line { MatchResult result (Says shallow_info format line.now) (IsLineFault shallow_info format line.now) }
+    ensures line { MatchResult result (λ _. Says shallow_info format line.now said.new) (IsLineFault shallow_info format line.now) }
 {
     match read_boundary(format, line, steps)? {
-        Boundary::Shallow(id) => Ok(Said::Shallow(id)),
-        Boundary::Unshallow(id) => Ok(Said::Unshallow(id)),
+        Boundary::Shallow(id) => *said = Said::Shallow(id),
+        Boundary::Unshallow(id) => *said = Said::Unshallow(id),
     }
+    Ok(())
 }
 
 /// A line of the section `wanted-refs`.
-pub(crate) fn judge_wanted(format: Format, line: &[u8], steps: &mut Steps) -> Result<Said, Kind>
+pub(crate) fn judge_wanted(
+    format: Format,
+    line: &[u8],
+    said: &mut Said,
+    steps: &mut Steps,
+) -> Result<(), Kind>
     ensures cost { TakesAtMost (40 * (length line.now + 1)) steps.old steps.new }
-    ensures line { MatchResult result (Says wanted_refs format line.now) (IsLineFault wanted_refs format line.now) }
+    ensures line { MatchResult result (λ _. Says wanted_refs format line.now said.new) (IsLineFault wanted_refs format line.now) }
 {
     match read_wanted(format, line, steps) {
-        Ok(wanted) => Ok(Said::WantedRef(wanted.id)),
+        Ok(wanted) => {
+            *said = Said::WantedRef(wanted.id);
+            Ok(())
+        }
         Err(kind) => Err(kind),
     }
 }

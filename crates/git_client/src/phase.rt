@@ -72,11 +72,9 @@ pub(crate) struct CapabilityPlaces {
     pub(crate) has_value: bool,
 }
 
-/// A packet without a fault: what it contains, what of the advertisement is noted after it, and the phase of the
-/// conversation then.
+/// What a packet without a fault changes: what of the advertisement is noted after it, and the phase of the conversation then.
 #[derive(Clone, Copy, Debug)]
 pub(crate) struct Turn {
-    pub(crate) said: Said,
     pub(crate) caps: Caps,
     pub(crate) next: Phase,
 }

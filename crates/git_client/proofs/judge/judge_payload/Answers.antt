@@ -18,12 +18,12 @@ use Rattle.git_client.proofs.judge.judge_payload.Goals as goal
 of_payload : (said : Said) (bytes : List ℕ) → FitsLine said (text_of bytes) → (line_events said (text_of bytes) ≡ events_at said bytes) × Fits said bytes
 of_payload said bytes fits = (refl, fits)
 
-line_turn : (format : Format) (ending : Ending) (due : Due) (caps : Caps) (bytes : List ℕ) (turn : Turn) → TakesLines due → ¬ IsErrorText (text_of bytes)
-    → IsLineTurn format due caps (text_of bytes) turn → IsTurn format ending due caps (payload bytes) turn
-line_turn format ending Packfile caps bytes turn takes no_error line = absurd takes
-line_turn format ending ResponseEnd caps bytes turn takes no_error line = absurd takes
-line_turn format ending due caps bytes turn takes no_error line =
-    let (events, fits) = of_payload turn.said bytes line.says.fits in
+line_turn : (format : Format) (ending : Ending) (due : Due) (caps : Caps) (bytes : List ℕ) (said : Said) (turn : Turn) → TakesLines due
+    → ¬ IsErrorText (text_of bytes) → IsLineTurn format due caps (text_of bytes) said turn → IsTurn format ending due caps (payload bytes) said turn
+line_turn format ending Packfile caps bytes said turn takes no_error line = absurd takes
+line_turn format ending ResponseEnd caps bytes said turn takes no_error line = absurd takes
+line_turn format ending due caps bytes said turn takes no_error line =
+    let (events, fits) = of_payload said bytes line.says.fits in
     record {
       gives = record { no_error = no_error; says = subst (SaysLine (place_due caps format due) format (text_of bytes)) events line.says.says };
       fits = fits;
@@ -38,12 +38,12 @@ line_refused format ending ResponseEnd caps bytes kind takes no_error fault = ab
 line_refused format ending due caps bytes kind takes no_error fault = inr (no_error, fault)
 
 -- a text line that is no error packet
-line_judged : (format : Format) (ending : Ending) (due : Due) (caps : Caps) (bytes : List ℕ) (result : Result Turn Kind) → TakesLines due
+line_judged : (format : Format) (ending : Ending) (due : Due) (caps : Caps) (bytes : List ℕ) (said : Said) (result : Result Turn Kind) → TakesLines due
     → ¬ IsErrorText (text_of bytes)
-    → MatchResult result (IsLineTurn format due caps (text_of bytes)) (IsLineFault (place_due caps format due) format (text_of bytes))
-    → MatchResult result (IsTurn format ending due caps (payload bytes)) (Refuses format ending (place_due caps format due) (payload bytes))
-line_judged format ending due caps bytes (Ok turn) takes no_error judged = line_turn format ending due caps bytes turn takes no_error judged
-line_judged format ending due caps bytes (Err kind) takes no_error judged = line_refused format ending due caps bytes kind takes no_error judged
+    → MatchResult result (IsLineTurn format due caps (text_of bytes) said) (IsLineFault (place_due caps format due) format (text_of bytes))
+    → MatchResult result (IsTurn format ending due caps (payload bytes) said) (Refuses format ending (place_due caps format due) (payload bytes))
+line_judged format ending due caps bytes said (Ok turn) takes no_error judged = line_turn format ending due caps bytes said turn takes no_error judged
+line_judged format ending due caps bytes said (Err kind) takes no_error judged = line_refused format ending due caps bytes kind takes no_error judged
 
 takes_lines : (due : Due) → due ≢ Packfile → due ≢ ResponseEnd → TakesLines due
 takes_lines Packfile no_pack no_end = absurd (no_pack refl)
@@ -55,4 +55,4 @@ returns-else-is_error-clause-turn c =
     let takes : TakesLines c.args.due = takes_lines c.args.due c.in_default.not-Packfile c.in_default.not-ResponseEnd in
     let line = c.text-line.ensures in
     let no_error : ¬ IsErrorText (text_of c.args.payload.now) = rw (← line) (iff_false c.is_error.ensures.error c.if-is_error.false) in
-    (λ ending. line_judged c.args.format ending c.args.due c.args.caps c.args.payload.now _ takes no_error (rw (← line) c.judge_line.ensures.turn))
+    (λ ending. line_judged c.args.format ending c.args.due c.args.caps c.args.payload.now _ _ takes no_error (rw (← line) c.judge_line.ensures.turn))

@@ -37,7 +37,7 @@ returns-in-Packet-clause-takes g c =
     c.settle-outcome.result
     (fed_band_packet c.args.self.now _ c.args.piece.now c.feed_band-fed.result c.in-Packet.packet c.in-Packet.offset c.requires.hears
     c.feed_band-fed.ensures.used c.feed_band-fed.follows.holds-at-none c.in-Packet.is) c.feed_band-fed.ensures.used c.judge-judged.ensures.turn refl
-    refl refl refl c.settle-outcome.ensures
+    refl refl c.settle-outcome.ensures
 
 pub returns-in-Failed-clause-takes : goal.returns-in-Failed-clause-takes
 returns-in-Failed-clause-takes g c =
