@@ -25,13 +25,15 @@ ends_response format ResponseEnd due known caps said turn is said_is turn_is giv
 
 pub returns-in-References : goal.returns-in-References
 returns-in-References c = record {
-  turn = ends_response c.args.format c.args.ending c.args.due References c.args.caps _ _ c.in-References.is c.after_flush.ensures.said c.after_flush.ensures.turn refl refl refl;
+  turn = ends_response c.args.format c.args.ending c.args.due References c.args.caps _ _ c.in-References.is
+      c.after_flush.ensures.said c.after_flush.ensures.turn refl refl refl;
 }
 
 pub returns-else-told : goal.returns-else-told
 returns-else-told c = record {
   turn = ends_response c.args.format c.args.ending c.args.due (Acknowledgments c.in-Acknowledgments.told) c.args.caps _ _ c.in-Acknowledgments.is
-      c.after_flush-in-Acknowledgments.ensures.said c.after_flush-in-Acknowledgments.ensures.turn (ap (λ (b : Bool). cond b (Err UnexpectedPacket) (Ok (ended_by c.args.ending))) c.if-told.false) refl refl;
+      c.after_flush-in-Acknowledgments.ensures.said c.after_flush-in-Acknowledgments.ensures.turn
+      (ap (λ (b : Bool). cond b (Err UnexpectedPacket) (Ok (ended_by c.args.ending))) c.if-told.false) refl refl;
 }
 
 pub returns-in-Packfile : goal.returns-in-Packfile
