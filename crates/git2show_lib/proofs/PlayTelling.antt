@@ -86,15 +86,13 @@ module _ {R A : Type 0} (state : R → RepoState) where
     telling_on wants goes in_time s said given h =
         let piece = next_piece packet done k in
         let none : h.unused ≡ [] = h.keeps wants in
-        let all : said ++ take done packet ≡ h.used = h.parts ∙ ap (λ (l : List ℕ). h.used ++ l) none ∙ append-nil h.used in
-        let on : Running state s (h.used ++ take u piece) false given new =
-        subst (λ (l : List ℕ). Running state s (h.used ++ take u piece) false l new) (append-nil given) (goes s h.used false given h.runs) in
+        let all : said ++ take done packet ≡ h.used = h.parts ∙ rw none (append-nil h.used) in
         record {
           used = h.used ++ take u piece;
           unused = [];
-          parts = ap (λ (l : List ℕ). said ++ l) (sym (piece_joined packet done k u within few)) ∙ sym (append_assoc said (take done packet) (take u piece))
-              ∙ ap (λ (l : List ℕ). l ++ take u piece) all ∙ sym (append-nil (h.used ++ take u piece));
-          runs = on;
+          parts = rw (← piece_joined packet done k u within few, ← append_assoc said (take done packet) (take u piece), all)
+              (sym (append-nil (h.used ++ take u piece)));
+          runs = rw (append-nil given) at (goes s h.used false given h.runs);
           keeps = λ _. refl;
           in_time = λ fault is late nothing.
               let less = in_time s h.used false given h.runs wants fault is late in
@@ -112,18 +110,16 @@ module _ {R A : Type 0} (state : R → RepoState) where
   pub telling_ends : (s : Setting) (said given packet : List ℕ) (done : ℕ) (server : Server R A) → (done < length packet → wants_input server ≡ false)
       → Telling s (said ++ take done packet) given (drop done packet) server → Stands state s (said ++ packet) (given ++ []) server
   telling_ends s said given packet done server stops h =
-      let whole : said ++ packet ≡ h.used ++ (h.unused ++ drop done packet) =
-      ap (λ (l : List ℕ). said ++ l) (sym (take-append-drop done packet)) ∙ sym (append_assoc said (take done packet) (drop done packet))
-      ∙ ap (λ (l : List ℕ). l ++ drop done packet) h.parts ∙ append_assoc h.used h.unused (drop done packet) in
+      let whole : said ++ (take done packet ++ drop done packet) ≡ h.used ++ (h.unused ++ drop done packet) =
+      rw (← append_assoc said (take done packet) (drop done packet), h.parts) (append_assoc h.used h.unused (drop done packet)) in
       record {
         used = h.used;
         unused = h.unused ++ drop done packet;
-        parts = whole;
-        runs = subst (λ (l : List ℕ). Running state s h.used false l server) (sym (append-nil given)) h.runs;
-        keeps = λ wants. ap (λ (l : List ℕ). l ++ drop done packet) (h.keeps wants)
-            ∙ drop_all done packet (elim (cases_lt done (length packet)) [
+        parts = rw (take-append-drop done packet) at whole;
+        runs = rw (append-nil given) h.runs;
+        keeps = λ wants. rw (h.keeps wants) (drop_all done packet (elim (cases_lt done (length packet)) [
               | inl less ↦ absurd (let no = stops less in cc)
               | inr all ↦ all
-            ]);
+            ]));
         in_time = h.in_time;
       }

@@ -29,8 +29,7 @@ module _ (offer : Offer) (limit : ℕ) where
   values_upto c before (text ∷ texts) (argument arg ∷ lines) h is =
       let after : IsArgumentAfter offer limit before text arg = h.0 in
       let same : after.of ≡ c = one_open after.of c (open_after before) after.is_open is in
-      let value = says_value after.of offer.format text arg after.reads.is_argument in
-      All-cons (IsValue c offer.format) arg (arguments_upto lines) (subst (λ (d : Command). IsValue d offer.format arg) same value)
+      All-cons (IsValue c offer.format) arg (arguments_upto lines) (rw same at (says_value after.of offer.format text arg after.reads.is_argument))
       (values_upto c (argument arg ∷ before) texts lines h.1 is)
 
   requests_have : (before : List ScriptLine) (texts : List (List ℕ)) (lines : List ScriptLine) → FollowAll offer limit before texts lines
@@ -48,4 +47,4 @@ module _ (offer : Offer) (limit : ℕ) where
 pub script_values : (offer : Offer) (limit : ℕ) (text : List ℕ) (requests : List (Kept Asked)) → IsScript offer limit text requests
     → All (λ q. HasValues q.format q.asked) requests
 script_values offer limit text requests h =
-    subst (All (Has offer limit)) (sym h.requests_are) (requests_have offer limit [] (lines_of text) h.lines h.follow)
+    rw h.requests_are (requests_have offer limit [] (lines_of text) h.lines h.follow)

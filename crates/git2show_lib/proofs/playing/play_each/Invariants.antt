@@ -13,7 +13,7 @@ use Rattle.git2show_lib.proofs.playing.play_each.Given as goal
 abbrev pub invariant-loop-request : goal.invariant-loop-request
 invariant-loop-request g l = record {
   plays : Plays g.R.Repo.state (terms_of (g.R.Repo.state l.fn.repo).answers.format ResponseEnd) USUAL (g.R.Repo.state l.fn.repo)
-      (Kept g.R.Repo.state (terms_of (g.R.Repo.state l.fn.repo).answers.format ResponseEnd) USUAL (g.R.Repo.state l.fn.repo)) l.yielded l.client l.server
+      (Kept g.R.Repo.state (g.R.Repo.state l.fn.repo)) l.yielded l.client l.server
       (flow (g.O.Write.contents (inner_of l.fn.out)) (g.O.Write.contents (inner_of l.out)))
       (flow (g.P.Output.contents l.fn.pack) (g.P.Output.contents l.pack));
   left_to_ask : l.fn.requests.items ≡ l.yielded ++ into_iter_items l.request-iterator;

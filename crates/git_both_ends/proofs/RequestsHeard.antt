@@ -1,5 +1,5 @@
 -- A server reads of what a client wrote just the requests that were written.
-use Rattle.std.proofs.Common.{arith, ◌≡◌, ◌≢◌, ◌⊎◌, inl, inr, ℕ, ◌+◌, ◌≤◌, Bool, true, false, All, flat_map, List, [], ◌∷◌, ◌++◌, codes, refl}
+use Rattle.std.proofs.Common.{arith, ◌≡◌, ◌≢◌, ℕ, ◌+◌, ◌≤◌, Bool, true, false, All, flat_map, List, [], ◌∷◌, ◌++◌, codes, refl}
 use Rattle.std.proofs.Common.{ap, sym, ◌∙◌, subst, append_assoc, get_or}
 use Rattle.std.proofs.lemmas.List.{map-append}
 use Rattle.std.proofs.lemmas.List.Elements.{All-cons, All-head, All-nil, All-tail}
@@ -12,15 +12,15 @@ use Rattle.git_msg.specs.Advertisement.{takes_command}
 use Rattle.git_msg.specs.Arguments.{Arg, is_offered, name_of}
 use Rattle.git_msg.specs.Asked.{Asked, HasValues, arguments_in, asked_by, command_asked, written_bytes}
 use Rattle.git_msg.specs.Lines.{IsFormatMeant, IsLineIn, Line, argument, arguments_of, commands_of, delimiter, has_delimiter}
-use Rattle.git_msg.specs.Requests.{AreLines, Asks, IsStop}
+use Rattle.git_msg.specs.Requests.{AreLines, Asks}
 use Rattle.git_msg.specs.WholeRequests.{AreRequests}
 use Rattle.git_msg.specs.WrittenRequest.{agent_line, format_line, lines_written, text_line, where_set}
 use Rattle.git_msg.proofs.LineLaws.{fronts_same, one_list_of_lines}
 use Rattle.git_msg.proofs.RoundTrip.{lines_read_back}
-use Rattle.git_msg.proofs.WholeRequests.{NoFlush, flush_is_no_line, lines_have_no_flush, whole_then}
+use Rattle.git_msg.proofs.WholeRequests.{NoFlush, lines_have_no_flush, whole_then}
 use Rattle.git_server.specs.Sessions.{IsRequest, Setting}
-use Rattle.git2show_lib.specs.ToldAnswers.{packets_of}
-use Rattle.git2show_lib.proofs.ValuesRead.{argument_packets, arguments_fit_in}
+use Rattle.git_both_ends.specs.ToldAnswers.{packets_of}
+use Rattle.git_both_ends.proofs.ValuesRead.{argument_packets, arguments_fit_in}
 
 -- ---- one request
 
@@ -59,39 +59,27 @@ module _ (offer : Offer) (says_agent says_format : Bool) (meant : IsFormatMeant 
       let fronts = fronts_same a.front r.front a.last r.last (sym a.whole ∙ r.whole) in
       let lines : a.lines ≡ r.lines =
       one_list_of_lines offer most [] r.front a.lines r.lines
-      (subst (λ (l : List Given). AreLines offer most [] l a.lines) fronts
-      (lines_within offer limit most [] a.front a.lines (omega arith) a.taken)) r.taken in
+      (rw fronts at (lines_within offer limit most [] a.front a.lines (omega arith) a.taken)) r.taken in
       let c : a.command ≡ r.of = same_command a.command r.of (sym a.once ∙ ap commands_of lines ∙ r.once) in
-      a.asked_is ∙ ap (λ (x : Command). asked_by x (arguments_of a.lines)) c ∙ ap (λ (l : List Line). asked_by r.of (arguments_of l)) lines
-      ∙ sym r.asked_is
+      rw (a.asked_is, c, lines) (sym r.asked_is)
 
 -- ---- where a request ends
 
 -- none of the packets is a flush
-abbrev IsClear : List Pkt → Type 0
+abbrev pub IsClear : List Pkt → Type 0
 IsClear [] = Unit {0}
 IsClear (p ∷ ps) = (p ≢ flush) × IsClear ps
 
--- all packets of a request but its flush
-abbrev lines_of : Bool → Bool → Format → Asked → List Pkt
-lines_of says_agent says_format format q =
-    text_line (codes "command=" ++ name_of (command_asked q))
-    ∷ where_set says_agent agent_line
-    (where_set says_format (format_line format) (delim ∷ argument_packets (arguments_in q)))
-
--- those before the delimiter
+-- the packets of a request before its delimiter
 abbrev capability_packets : Bool → Bool → Format → Asked → List Pkt
 capability_packets says_agent says_format format q =
     text_line (codes "command=" ++ name_of (command_asked q)) ∷ where_set says_agent agent_line (where_set says_format (format_line format) [])
 
-lines_parts : (says_agent says_format : Bool) (format : Format) (q : Asked)
-    → lines_of says_agent says_format format q ≡ capability_packets says_agent says_format format q ++ delim ∷ argument_packets (arguments_in q)
-lines_parts true true format q = refl
-lines_parts true false format q = refl
-lines_parts false true format q = refl
-lines_parts false false format q = refl
+-- all but its flush
+abbrev pub lines_of : Bool → Bool → Format → Asked → List Pkt
+lines_of says_agent says_format format q = capability_packets says_agent says_format format q ++ delim ∷ argument_packets (arguments_in q)
 
-lines_end : (says_agent says_format : Bool) (format : Format) (q : Asked)
+pub lines_end : (says_agent says_format : Bool) (format : Format) (q : Asked)
     → lines_written says_agent says_format format q ≡ lines_of says_agent says_format format q ++ flush ∷ []
 lines_end true true format q = refl
 lines_end true false format q = refl
@@ -111,7 +99,7 @@ arguments_clear (arg ∷ args) = (no_flush _, arguments_clear args)
 part_clear : (q : Asked) → IsClear (delim ∷ argument_packets (arguments_in q))
 part_clear q = (delim_no_flush, arguments_clear (arguments_in q))
 
-lines_clear : (says_agent says_format : Bool) (format : Format) (q : Asked) → IsClear (lines_of says_agent says_format format q)
+pub lines_clear : (says_agent says_format : Bool) (format : Format) (q : Asked) → IsClear (lines_of says_agent says_format format q)
 lines_clear true true format q = (no_flush _, (no_flush _, (no_flush _, part_clear q)))
 lines_clear true false format q = (no_flush _, (no_flush _, part_clear q))
 lines_clear false true format q = (no_flush _, (no_flush _, part_clear q))
@@ -129,7 +117,7 @@ first_flush (x ∷ xs) more last (p ∷ front) back none ends clear e =
     let same : x.packet ≡ p = cc in
     let rest : packets_of (xs ++ last ∷ more) ≡ front ++ flush ∷ back = cc in
     let then = first_flush xs more last front back none.1 ends clear.1 rest in
-    (ap (λ (q : Pkt). q ∷ packets_of xs) same ∙ ap (λ (l : List Pkt). p ∷ l) then.0, then.1)
+    (rw (same, then.0), then.1)
 
 -- packets with a flush among them
 no_flush_among : (gs : List Given) (front back : List Pkt) → NoFlush gs → packets_of gs ≡ front ++ flush ∷ back → ⊥
@@ -142,34 +130,10 @@ no_flush_among (g ∷ gs) (p ∷ front) back none e =
 
 -- ---- all requests
 
--- after the requests comes nothing, or a flush alone
-abbrev pub IsTail : List Pkt → Type 0
-IsTail ps = (ps ≡ []) ⊎ (ps ≡ flush ∷ [])
-
--- what is left of packets is no flush, or a flush alone
-abbrev pub IsLeft : List Given → Type 0
-IsLeft left = NoFlush left ⊎ IsStop left
-
--- a request does not begin there
-no_request_at : (offer : Offer) (limit : ℕ) (front more : List Given) (last : Given) (lines : List Line) (command : Command) (tail : List Pkt)
-    → AreLines offer limit [] front lines → commands_of lines ≡ command ∷ [] → packets_of (front ++ last ∷ more) ≡ tail → IsTail tail → ⊥
-no_request_at offer limit [] more last [] command tail taken once e is = cc
-no_request_at offer limit [] more last (l ∷ ls) command tail taken once e is = taken
-no_request_at offer limit (g ∷ front) more last [] command tail taken once e is = taken
-no_request_at offer limit (g ∷ front) more last (l ∷ ls) command tail taken once e (inl nothing) =
-    let both : g.packet ∷ packets_of (front ++ last ∷ more) ≡ [] = e ∙ nothing in cc
-no_request_at offer limit (g ∷ front) more last (l ∷ ls) command tail taken once e (inr stop) =
-    let both : g.packet ∷ packets_of (front ++ last ∷ more) ≡ flush ∷ [] = e ∙ stop in
-    let same : g.packet ≡ flush = cc in
-    flush_is_no_line offer limit [] g.packet l taken.0 same
-
--- nor is it left
-no_request_left : (left : List Given) (line : List ℕ) (front back : List Pkt) → IsLeft left → packets_of left ≡ payload line ∷ (front ++ flush ∷ back) → ⊥
-no_request_left left line front back (inl none) e = no_flush_among left (payload line ∷ front) back none e
-no_request_left left line front back (inr stop) e =
-    let alone : payload line ∷ (front ++ flush ∷ back) ≡ stop.last.packet ∷ [] = sym e ∙ ap packets_of stop.alone in
-    let same : payload line ≡ stop.last.packet = cc in
-    no_flush line (same ∙ stop.ends)
+-- packets with one among them are some
+some_packet : (front more : List Given) (last : Given) → packets_of (front ++ last ∷ more) ≡ [] → ⊥
+some_packet [] more last e = cc
+some_packet (g ∷ front) more last e = cc
 
 -- the values of each request are allowed there, where its object names have some format
 abbrev pub HaveValues : List Asked → Type 0
@@ -182,39 +146,34 @@ written_all says_agent says_format format asked = flat_map (lines_written says_a
 module _ (s : Setting) (says_agent says_format : Bool) (meant : IsFormatMeant s.offer.format says_format)
     (takes : (c : Command) → takes_command s.offer c ≡ true) (offers : (arg : Arg) → is_offered s.offer arg ≡ true) where
   -- the packets of the first request, and of the others
-  first_apart : (q : Asked) (asked : List Asked) (tail : List Pkt)
-      → written_all says_agent says_format s.offer.format (q ∷ asked) ++ tail
-      ≡ lines_of says_agent says_format s.offer.format q ++ flush ∷ (written_all says_agent says_format s.offer.format asked ++ tail)
-  first_apart q asked tail =
-      let format = s.offer.format in
-      let others = written_all says_agent says_format format asked in
-      append_assoc (lines_written says_agent says_format format q) others tail
-      ∙ ap (λ (l : List Pkt). l ++ (others ++ tail)) (lines_end says_agent says_format format q)
-      ∙ append_assoc (lines_of says_agent says_format format q) (flush ∷ []) (others ++ tail)
+  first_apart : (q : Asked) (asked : List Asked)
+      → written_all says_agent says_format s.offer.format (q ∷ asked)
+      ≡ lines_of says_agent says_format s.offer.format q ++ flush ∷ written_all says_agent says_format s.offer.format asked
+  first_apart q asked =
+      ap (λ (l : List Pkt). l ++ written_all says_agent says_format s.offer.format asked) (lines_end says_agent says_format s.offer.format q)
+      ∙ append_assoc (lines_of says_agent says_format s.offer.format q) (flush ∷ []) (written_all says_agent says_format s.offer.format asked)
 
   -- the requests that are read are those that were written, and their object names have the reader's format
-  pub requests_are : (asked others : List Asked) (gs left : List Given) (tail : List Pkt) → HaveValues asked
-      → packets_of gs ≡ written_all says_agent says_format s.offer.format asked ++ tail → IsTail tail → IsLeft left
-      → AreRequests (IsRequest s) gs others left → (others ≡ asked) × All (HasValues s.offer.format) asked
-  requests_are [] [] gs left tail values e is over h = (refl, All-nil (HasValues s.offer.format))
-  requests_are [] (r ∷ rs) gs left tail values e is over (front, more, whole, (kept, a, has), later) =
-      absurd (no_request_at s.offer s.limit a.front more a.last a.lines a.command tail a.taken a.once
-      (sym (ap packets_of (whole_then s.offer s.limit front more gs r kept a whole)) ∙ e) is)
-  requests_are (q ∷ qs) [] gs left tail values e is over h =
-      absurd (no_request_left left _ _ _ over (sym (ap packets_of h) ∙ e ∙ first_apart q qs tail))
-  requests_are (q ∷ qs) (r ∷ rs) gs left tail values e is over (front, more, whole, (kept, a, has), later) =
+  pub requests_are : (asked others : List Asked) (gs left : List Given) → HaveValues asked
+      → packets_of gs ≡ written_all says_agent says_format s.offer.format asked → NoFlush left → AreRequests (IsRequest s) gs others left
+      → (others ≡ asked) × All (HasValues s.offer.format) asked
+  requests_are [] [] gs left values e over h = (refl, All-nil (HasValues s.offer.format))
+  requests_are [] (r ∷ rs) gs left values e over (front, more, whole, (kept, a, has), later) =
+      absurd (some_packet a.front more a.last (sym (ap packets_of (whole_then s.offer s.limit front more gs r kept a whole)) ∙ e))
+  requests_are (q ∷ qs) [] gs left values e over h =
+      absurd (no_flush_among left (lines_of says_agent says_format s.offer.format q) (written_all says_agent says_format s.offer.format qs) over
+      (sym (ap packets_of h) ∙ e ∙ first_apart q qs))
+  requests_are (q ∷ qs) (r ∷ rs) gs left values e over (front, more, whole, (kept, a, has), later) =
       let format = s.offer.format in
-      let parts = first_flush a.front more a.last (lines_of says_agent says_format format q) (written_all says_agent says_format format qs ++ tail)
+      let parts = first_flush a.front more a.last (lines_of says_agent says_format format q) (written_all says_agent says_format format qs)
       (lines_have_no_flush s.offer s.limit [] a.front a.lines a.taken) a.ends (lines_clear says_agent says_format format q)
-      (sym (ap packets_of (whole_then s.offer s.limit front more gs r kept a whole)) ∙ e ∙ first_apart q qs tail) in
+      (sym (ap packets_of (whole_then s.offer s.limit front more gs r kept a whole)) ∙ e ∙ first_apart q qs) in
       let own : packets_of front ≡ lines_written says_agent says_format format q =
-      ap packets_of a.whole ∙ map-append (λ (g : Given). g.packet) a.front (a.last ∷ [])
-      ∙ ap (λ (l : List Pkt). l ++ a.last.packet ∷ []) parts.0
-      ∙ ap (λ (p : Pkt). lines_of says_agent says_format format q ++ p ∷ []) a.ends ∙ sym (lines_end says_agent says_format format q) in
+      rw (a.whole, map-append (λ (g : Given). g.packet) a.front (a.last ∷ []), parts.0, a.ends) (sym (lines_end says_agent says_format format q)) in
       let (written, in_written) = All-head (λ (q : Asked). (format : Format) × HasValues format q) q qs values in
       let in_format : HasValues format q =
       arguments_fit_in s.offer s.limit (command_asked q) written (arguments_in q) (capability_packets says_agent says_format format q) [] a.front a.lines
-      a.taken (parts.0 ∙ lines_parts says_agent says_format format q) in_written in
+      a.taken parts.0 in_written in
       let first = one_written s.offer says_agent says_format meant takes offers s.limit kept q r front in_format own a in
-      let rest = requests_are qs rs more left tail (All-tail (λ (q : Asked). (format : Format) × HasValues format q) q qs values) parts.1 is over later in
-      (ap (λ (x : Asked). x ∷ rs) first ∙ ap (λ (l : List Asked). q ∷ l) rest.0, All-cons (HasValues format) q qs in_format rest.1)
+      let rest = requests_are qs rs more left (All-tail (λ (q : Asked). (format : Format) × HasValues format q) q qs values) parts.1 over later in
+      (rw (first, rest.0), All-cons (HasValues format) q qs in_format rest.1)

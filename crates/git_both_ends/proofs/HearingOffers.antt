@@ -25,8 +25,8 @@ use Rattle.git_client.specs.declared.events.Ending.{Ending}
 use Rattle.git_client.specs.declared.events.Ending.TheVariants.{FlushOnly, ResponseEnd}
 use Rattle.git_client.proofs.Sequences.{gives_more}
 use Rattle.git_server.specs.Answers.{advertisement_of as server_says}
-use Rattle.git2show_lib.specs.ToldAnswers.{packets_of, told_offer}
-use Rattle.git2show_lib.proofs.Hearing.{AnswerGives, given_give, given_whole, no_error}
+use Rattle.git_both_ends.specs.ToldAnswers.{packets_of, told_offer}
+use Rattle.git_both_ends.proofs.Hearing.{AnswerGives, given_give, given_whole, no_error}
 
 -- ---- the lines
 
