@@ -1,6 +1,6 @@
 -- A check so far: what was read of both streams, what was asked and received; and what it results in at each of its ends.
 use Rattle.std.proofs.Common.{arith, ◌≡◌, inl, inr, ◌⊎◌, ℕ, ◌-◌, ◌<◌, Bool, true, false, List, [], ◌∷◌, ◌++◌, length, map, Option, None}
-use Rattle.std.proofs.Common.{Result, Ok, Err, IfErr, IsErrAnd, refl, sym, ap, ◌∙◌, subst, append_assoc, append-nil, length-append}
+use Rattle.std.proofs.Common.{Result, Ok, Err, IfErr, refl, sym, ap, ◌∙◌, append_assoc, append-nil, length-append}
 use Rattle.std.proofs.lemmas.List.{map-append}
 use Rattle.std.proofs.KnownBytes.{Consumes-nil, Consumes-trans}
 use Rattle.std.specs.Io.KnownBytes.{Consumes}
@@ -8,7 +8,6 @@ use Rattle.git_pkt.specs.Engine.{FailsAs, IsShownBy, IsSpent}
 use Rattle.git_pkt.specs.Faults.{IsOpen, last_position}
 use Rattle.git_pkt.specs.Splits.{Given}
 use Rattle.git_pkt.specs.Streams.{Flow, flow, Moves, is_broken}
-use Rattle.git_pkt.specs.declared.fault.Fault.{Fault}
 use Rattle.git_pkt.specs.declared.fault.RunFault.{RunFault}
 use Rattle.git_pkt.specs.declared.fault.RunFault.TheVariants.{ReadFault, WriteFault, ReadLimit, Refused}
 use Rattle.git_pkt.specs.Told.{has_ended, has_failed}
@@ -25,7 +24,6 @@ use Rattle.git_msg.specs.declared.requests.Request.{Request}
 use Rattle.git_msg.specs.declared.streams.RequestStream.{RequestStream}
 use Rattle.git_client.specs.Client.{History, Converses, nothing_yet, bytes_used as client_bytes, can_ask, caps_of}
 use Rattle.git_client.specs.Client.{wants_input}
-use Rattle.git_client.specs.Conversation.{IsConversation, HasNoted}
 use Rattle.git_client.specs.Parts.{Terms}
 use Rattle.git_client.specs.RunSteps.{AsksNext, AsksTo, HearsFrom, HearsTo, HearsWhole, no_counts, window_of}
 use Rattle.git_client.specs.Transcript.{transcript_of}

@@ -1,6 +1,6 @@
 -- Messages end with their flushes, the requests of a client as well as what a server gives.
 use Rattle.std.proofs.Common.{arith, if◌then◌else◌, ◌≡◌, ℕ, ◌+◌, Bool, true, false, map, List, [], ◌∷◌}
-use Rattle.std.proofs.Common.{◌++◌, length, codes, inl, inr, ◌⊎◌, refl, sym, ap, ◌∙◌, subst, append_assoc, append-nil}
+use Rattle.std.proofs.Common.{◌++◌, length, codes, inl, inr, ◌⊎◌, refl, sym, ap, ◌∙◌, append_assoc, append-nil}
 use Rattle.git_names.specs.declared.object_format.Format.{Format}
 use Rattle.git_pkt.specs.Packets.{Pkt, flush, flushes}
 use Rattle.git_pkt.specs.Splits.{Given}

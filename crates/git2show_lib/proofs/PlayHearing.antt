@@ -1,8 +1,8 @@
 -- A packet received by a client, piece by piece.
 use Rattle.std.proofs.Common.{arith, ◌≡◌, ℕ, ◌+◌, ◌≤◌, Bool, true, false, length, take, min, List, Option}
-use Rattle.std.proofs.Common.{Err, sym, ap, subst, length-drop}
+use Rattle.std.proofs.Common.{Err, ap, length-drop}
 use Rattle.std.proofs.lemmas.List.{length-take, take_min}
-use Rattle.git_pkt.specs.Streams.{Flow, flow}
+use Rattle.git_pkt.specs.Streams.{flow}
 use Rattle.git_pkt.specs.PacketReader.{ShownByFeed}
 use Rattle.git_pkt.specs.declared.fault.Fault.{Fault}
 use Rattle.git_pkt.specs.declared.fault.RunFault.{RunFault}

@@ -1,11 +1,10 @@
 -- A play in which each request is answered by a server of its own.
-use Rattle.std.proofs.Common.{arith, ◌≡◌, ℕ, Bool, true, false, flat_map, List, [], ◌∷◌, ◌++◌, Option, Some, None}
-use Rattle.std.proofs.Common.{Ok, Err, refl, sym, ap, ◌∙◌, subst, append_assoc, append-nil, length-append}
+use Rattle.std.proofs.Common.{arith, ◌≡◌, ℕ, Bool, true, false, List, [], ◌∷◌, ◌++◌, Option, Some, None}
+use Rattle.std.proofs.Common.{Ok, Err, refl, sym, ap, ◌∙◌, append_assoc, append-nil, length-append}
 use Rattle.std.proofs.lemmas.Grind.{flat_map-append}
 use Rattle.std.proofs.lemmas.List.{map-append}
 use Rattle.std.proofs.lemmas.List.Elements.{All-append, All-cons, All-nil}
 use Rattle.git_names.specs.Digits.{lower_digit}
-use Rattle.git_names.specs.declared.object_format.Format.{Format}
 use Rattle.git_pkt.specs.Packets.{Pkt, resp_end}
 use Rattle.git_pkt.specs.Streams.{flow}
 use Rattle.git_pkt.specs.declared.fault.RunFault.{RunFault}
@@ -21,19 +20,18 @@ use Rattle.git_client.specs.Parts.{Terms, terms_of}
 use Rattle.git_client.specs.RunSteps.{no_counts}
 use Rattle.git_client.specs.Runs.{leaves_last}
 use Rattle.git_client.specs.declared.client.Client.{Client}
-use Rattle.git_client.specs.declared.events.Ending.{Ending}
 use Rattle.git_client.specs.declared.events.Ending.TheVariants.{FlushOnly, ResponseEnd}
 use Rattle.git_client.proofs.ClientRuns.{asks_on, quietly_said, ran}
 use Rattle.git_client.proofs.EventsHeard.{has_noted, is_whole}
 use Rattle.git_client.proofs.Notes.{noted_same}
 use Rattle.git_client.proofs.Phases.{quiet_where_due, quiet_where_ready}
-use Rattle.git_server.specs.Repository.{RepoState, Repository}
+use Rattle.git_server.specs.Repository.{RepoState}
 use Rattle.git_server.specs.Server.{repo_of, wants_input as waits_for_input}
 use Rattle.git_server.specs.Sessions.{Setting, IsAnswered}
 use Rattle.git_server.specs.declared.server.Server.{Server}
 use Rattle.git_server.proofs.Going.{no_outcome}
 use Rattle.git2show_lib.specs.PlaySteps.{Answers, AnswersTo, AsksServer, HearsMessage, Settled, Stands}
-use Rattle.git_both_ends.specs.Plays.{AreAll, AreSaid, AreWholeSessions, CanFail, IsDone, IsTalk, Talk, said_each, setting_of, with_end}
+use Rattle.git_both_ends.specs.Plays.{AreAll, AreSaid, CanFail, IsDone, IsTalk, Talk, said_each, setting_of, with_end}
 use Rattle.git2show_lib.proofs.PlayFlushes.{questions_close, questions_count}
 use Rattle.git2show_lib.proofs.PlayRuns.{PlayEnds, Plays, Runs, Turn, answer_stopped, begun, first_turn, given_is, heard, now_whole, play_ends, settled, waits}
 use Rattle.git2show_lib.proofs.PlayTalks.{spelled-append, talk_of}

@@ -1,6 +1,6 @@
 -- A client that receives what a server gives, packet by packet.
 use Rattle.std.proofs.Common.{arith, ◌≡◌, ℕ, Bool, true, false, take, drop, List, [], ◌++◌, Option, Some, None}
-use Rattle.std.proofs.Common.{Err, refl, sym, ap, ◌∙◌, subst, append_assoc, append-nil, length-drop, take-append-drop, inl, inr}
+use Rattle.std.proofs.Common.{Err, refl, ◌∙◌, append_assoc, append-nil, length-drop, take-append-drop, inl, inr}
 use Rattle.std.proofs.lemmas.List.{drop_all}
 use Rattle.git_pkt.specs.Streams.{Flow, flow}
 use Rattle.git_pkt.specs.declared.fault.RunFault.{RunFault}
@@ -13,14 +13,14 @@ use Rattle.git_client.specs.declared.hearing.Counts.{Counts}
 use Rattle.git_client.proofs.HeardBytes.{heard_then, nothing_heard}
 use Rattle.git_client.proofs.Phases.{not_ready_where_due}
 use Rattle.git_server.specs.Repository.{RepoState}
-use Rattle.git_server.specs.Server.{Running, outcome_of}
-use Rattle.git_server.specs.ServerCalls.{IsAfterPull, Pulls, TellsPulled, given_by}
+use Rattle.git_server.specs.Server.{outcome_of}
+use Rattle.git_server.specs.ServerCalls.{IsAfterPull, Pulls, TellsPulled}
 use Rattle.git_server.specs.declared.outcome.Outcome.{Outcome}
 use Rattle.git_server.specs.declared.server.Pulled.{Pulled}
 use Rattle.git_server.specs.declared.server.Pulled.TheVariants.{Packet, NeedInput, Finished}
 use Rattle.git_server.specs.declared.server.Server.{Server}
 use Rattle.git_server.proofs.Outcomes.{too_long_before}
-use Rattle.git2show_lib.specs.PlaySteps.{GivesOn, Hears, HearsOut, HearsServerTo, IsSpent, Settled, StopsAt, silent}
+use Rattle.git2show_lib.specs.PlaySteps.{GivesOn, Hears, HearsOut, HearsServerTo, IsSpent, StopsAt, silent}
 use denote.Ref.{Bor}
 
 -- ---- the server

@@ -1,5 +1,5 @@
 -- A server of a play before its first byte.
-use Rattle.std.proofs.Common.{◌≡◌, ℕ, Bool, false, [], None, refl, ◌∙◌, ap, subst}
+use Rattle.std.proofs.Common.{◌≡◌, ℕ, Bool, false, [], None, refl}
 use Rattle.git_names.specs.declared.object_format.Format.{Format}
 use Rattle.git_msg.specs.Advertisement.{everything}
 use Rattle.git_msg.specs.declared.offers.Offer.{Offer}

@@ -1,6 +1,6 @@
 -- A play so far: what the client asked and received, and the servers, from one of which it receives.
 use Rattle.std.proofs.Common.{arith, ◌≡◌, inl, inr, ℕ, suc, ◌+◌, ◌≤◌, ◌<◌, Bool, true, false, flat_map, List, [], ◌∷◌, ◌++◌, length, Option, None}
-use Rattle.std.proofs.Common.{Result, Err, IsErrAnd, refl, sym, ap, ◌∙◌, subst, append_assoc, append-nil}
+use Rattle.std.proofs.Common.{Result, Err, refl, sym, ap, ◌∙◌, subst, append_assoc, append-nil}
 use Rattle.std.proofs.lemmas.List.Elements.{All-nil}
 use Rattle.git_pkt.specs.Packets.{Pkt, flushes, resp_end}
 use Rattle.git_pkt.specs.Streams.{Flow, flow, Moves, is_broken}
@@ -25,14 +25,13 @@ use Rattle.git_client.proofs.ClientRuns.{Ran, Running, anew, asks_on, begins, he
 use Rattle.git_client.proofs.EventsHeard.{all_is_said, has_events, is_whole}
 use Rattle.git_client.proofs.Faults.{first_fault}
 use Rattle.git_client.proofs.Phases.{quiet_where_due, quiet_where_failed, quiet_where_ready}
-use Rattle.git_server.specs.Answers.{AllFit}
 use Rattle.git_server.specs.Repository.{RepoState}
 use Rattle.git_server.specs.Server.{wants_input as waits_for_input}
 use Rattle.git_server.specs.Sessions.{IsAnswered, advertised}
 use Rattle.git_server.specs.declared.server.Server.{Server}
 use Rattle.git_server.proofs.AtRest.{packets_of}
 use Rattle.git_server.proofs.Flushes.{flushes-append}
-use Rattle.git2show_lib.specs.PlaySteps.{AnswersTo, AsksServer, AsksServerTo, GivesOn, Hears, HearsMessage, HearsMessageTo, IsSpent}
+use Rattle.git2show_lib.specs.PlaySteps.{AnswersTo, AsksServer, AsksServerTo, Hears, HearsMessage, HearsMessageTo, IsSpent}
 use Rattle.git2show_lib.specs.PlaySteps.{Settled, Stands, silent}
 use Rattle.git_both_ends.specs.Plays.{AreAll, AreSaid, AreServed, CanFail, EndsAs, IsDone, IsServed, IsTalk, Played, Talk, said_each, setting_of, with_end}
 use Rattle.git2show_lib.proofs.PlayFlushes.{Closes, advertises_once, flushes_nearest}

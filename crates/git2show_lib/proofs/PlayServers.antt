@@ -1,6 +1,6 @@
 -- A message of a server, and the packet after it, received whole or up to a fault.
-use Rattle.std.proofs.Common.{arith, ◌≡◌, inl, ℕ, Bool, true, false, List, [], ◌++◌, take, drop, Option, Some, None}
-use Rattle.std.proofs.Common.{Result, Ok, Err, refl, sym, ap, ◌∙◌, subst, append_assoc, append-nil, length-append}
+use Rattle.std.proofs.Common.{arith, ◌≡◌, inl, ℕ, Bool, true, false, List, [], ◌++◌, drop, Option, Some, None}
+use Rattle.std.proofs.Common.{Result, Ok, Err, refl, sym, ap, ◌∙◌, append_assoc, append-nil, length-append}
 use Rattle.std.proofs.lemmas.List.{drop_all}
 use Rattle.std.specs.Io.KnownBytes.{Keeps}
 use Rattle.git_pkt.specs.Streams.{Flow, flow, IsTimely}
@@ -11,14 +11,14 @@ use Rattle.git_pkt.specs.declared.fault.RunFault.TheVariants.{ReadFault, WriteFa
 use Rattle.git_pkt.proofs.EngineLemmas.{written_flushed, written_nothing}
 use Rattle.git_msg.specs.declared.requests.Request.{Request}
 use Rattle.git_client.specs.Client.{can_ask, phase_of, wants_input}
-use Rattle.git_client.specs.RunSteps.{HearsBytes, HearsInPiece, HearsPieceTo, no_counts}
+use Rattle.git_client.specs.RunSteps.{HearsInPiece, HearsPieceTo, no_counts}
 use Rattle.git_client.specs.declared.client.Client.{Client}
 use Rattle.git_client.specs.declared.hearing.Counts.{Counts}
 use Rattle.git_client.proofs.HeardBytes.{heard_flushed, heard_quietly, heard_then}
 use Rattle.git_client.proofs.Phases.{not_ready_where_due, not_ready_where_failed}
 use Rattle.git_server.specs.Repository.{RepoState}
 use Rattle.git_server.specs.declared.server.Server.{Server}
-use Rattle.git2show_lib.specs.PlaySteps.{AnswersTo, AsksServer, EndsMessageTo, Hears, HearsMessage, HearsMessageTo, HearsOut, HearsServerTo}
+use Rattle.git2show_lib.specs.PlaySteps.{AnswersTo, AsksServer, EndsMessageTo, Hears, HearsMessageTo, HearsOut, HearsServerTo}
 use Rattle.git2show_lib.specs.PlaySteps.{IsSpent, silent}
 use Rattle.git2show_lib.proofs.PlayMeeting.{hears_more, stops_in}
 

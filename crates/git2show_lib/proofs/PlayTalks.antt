@@ -11,7 +11,7 @@ use Rattle.git_client.specs.declared.events.Ending.TheVariants.{ResponseEnd}
 use Rattle.git_server.specs.Answers.{AllFit}
 use Rattle.git_server.specs.Repository.{RepoState}
 use Rattle.git_server.specs.Server.{IsPackLost, StandsBy, outcome_of, repo_of, wants_input as waits_for_input}
-use Rattle.git_server.specs.Sessions.{Setting, IsAnswered, IsEnding, Stream, advertised}
+use Rattle.git_server.specs.Sessions.{Setting, IsAnswered, Stream, advertised}
 use Rattle.git_server.specs.declared.outcome.Outcome.{Outcome}
 use Rattle.git_server.specs.declared.server.Server.{Server}
 use Rattle.git_server.proofs.AtRest.{at_rest, all_used, few_asked, front_of, packets_of}
@@ -143,8 +143,7 @@ module _ {R A : Type 0} {state : R → RepoState} {s : Setting} {qs : List Pkt} 
         → (more : List Pkt) × (before ++ (ps ++ tail) ≡ packets_of gs ++ more) × (unheard ≡ spelled more)
         × (flushes ps ≡ flushes qs + flushes (advertised s) + flushes more)
     unheard_packets ps given_is =
-        let front = front_of 0 heard unheard [] gs (before ++ (ps ++ tail)) spells (in_all ps given_is) in
-        (
+        let front = front_of 0 heard unheard [] gs (before ++ (ps ++ tail)) spells (in_all ps given_is) in (
           front.more,
           front.parts,
           front.left_is,

@@ -1,7 +1,7 @@
 -- A packet sent to a server, piece by piece.
 use Rattle.std.proofs.Common.{arith, ◌≡◌, ◌≢◌, ℕ, suc, ◌+◌, ◌-◌, ◌<◌, ◌≤◌, Bool, true, false}
 use Rattle.std.proofs.Common.{cond, length, take, drop, min, List, [], ◌∷◌, ◌++◌, Some}
-use Rattle.std.proofs.Common.{refl, sym, ap, ◌∙◌, subst, append_assoc, append-nil, length-drop, take-append-drop, inl, inr}
+use Rattle.std.proofs.Common.{refl, sym, ap, ◌∙◌, append_assoc, append-nil, length-drop, take-append-drop, inl, inr}
 use Rattle.std.proofs.Math.Seq.{take-add}
 use Rattle.std.proofs.lemmas.List.{drop_all, length-take}
 use Rattle.std.proofs.lemmas.Bool.{cases_lt}
@@ -118,8 +118,8 @@ module _ {R A : Type 0} (state : R → RepoState) where
         parts = rw (take-append-drop done packet) at whole;
         runs = rw (append-nil given) h.runs;
         keeps = λ wants. rw (h.keeps wants) (drop_all done packet (elim (cases_lt done (length packet)) [
-              | inl less ↦ absurd (let no = stops less in cc)
-              | inr all ↦ all
-            ]));
+          | inl less ↦ absurd (let no = stops less in cc)
+          | inr all ↦ all
+        ]));
         in_time = h.in_time;
       }

@@ -1,6 +1,6 @@
 -- Packets printed one after another, and what that results in.
 use Rattle.std.proofs.Common.{◌≡◌, ℕ, ◌+◌, ◌-◌, ◌<◌, ◌≤◌, Bool, true, false, List, [], ◌∷◌, ◌++◌, length, take, drop, Option, Some, None}
-use Rattle.std.proofs.Common.{Result, Ok, Err, IfErr, IsErrAnd, MatchResult, OnOk, arith, ap, sym, ◌∙◌, refl, subst, append_assoc, append-nil}
+use Rattle.std.proofs.Common.{Result, Ok, Err, IfErr, IsErrAnd, MatchResult, OnOk, arith, ap, sym, ◌∙◌, refl, append_assoc, append-nil}
 use Rattle.std.proofs.Common.{length-drop, take-append-drop, zero-add}
 use Rattle.std.proofs.Math.Seq.{take-length}
 use Rattle.std.proofs.lemmas.Grind.{flat_map-append}
@@ -16,8 +16,7 @@ use Rattle.git_pkt.specs.declared.reader.Got.{Got}
 use Rattle.git_pkt.specs.declared.reader.Got.TheVariants.{More, Failed, Packet as GotPacket}
 use Rattle.git_pkt.proofs.Pieces.{take_joined, left_of}
 use Rattle.git_pkt.specs.Told.{AppendsFront}
-use Rattle.git_pkt.specs.Streams.{Flow, flow, WrittenAs, Moves, IsTimely, is_broken}
-use Rattle.git_pkt.specs.declared.fault.Kind.{Kind}
+use Rattle.git_pkt.specs.Streams.{Flow, flow, WrittenAs, Moves, is_broken}
 use Rattle.git_pkt.specs.declared.fault.Kind.TheVariants.{Truncated}
 use Rattle.git_pkt.specs.declared.fault.Fault.{Fault}
 use Rattle.git_pkt.specs.declared.fault.RunFault.{RunFault}

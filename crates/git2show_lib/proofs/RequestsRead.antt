@@ -1,17 +1,15 @@
 -- The next request, read a piece at a time: what all pieces so far result in, and what each end of the reading states of them.
 use Rattle.std.proofs.Common.{arith, ◌≡◌, ℕ, ◌-◌, ◌≤◌, Bool, true, false, List, [], ◌++◌, length, take, drop, Option, None, Result, Ok, Err}
-use Rattle.std.proofs.Common.{IsErrAnd, inl, inr, refl, sym, ap, ◌∙◌, subst, append_assoc, append-nil, length-append, length-drop, take-append-drop}
+use Rattle.std.proofs.Common.{IsErrAnd, inl, inr, refl, sym, ap, ◌∙◌, append_assoc, append-nil, length-append, length-drop, take-append-drop}
 use Rattle.std.proofs.Math.Seq.{drop-length}
 use Rattle.std.proofs.lemmas.List.{length-take-le}
 use Rattle.std.proofs.lemmas.Result.{err_from_is_err_and}
 use Rattle.std.specs.Io.KnownBytes.{Consumes, Keeps}
 use Rattle.std.proofs.KnownBytes.{Consumes-nil, Consumes-trans, Consumes-kept}
 use Rattle.git_pkt.specs.declared.fault.Fault.{Fault}
-use Rattle.git_pkt.specs.declared.fault.Kind.{Kind}
-use Rattle.git_pkt.specs.Streams.{Flow, flow, IsTimely}
+use Rattle.git_pkt.specs.Streams.{Flow, flow}
 use Rattle.git_pkt.proofs.EngineLemmas.{timely}
-use Rattle.git_msg.specs.Asked.{Asked}
-use Rattle.git_msg.specs.RequestStreams.{Closes, Feeds, HasRead, asked_by, fault_of, wants_input}
+use Rattle.git_msg.specs.RequestStreams.{Closes, Feeds, asked_by, fault_of, wants_input}
 use Rattle.git_msg.specs.StreamStages.{fault_in}
 use Rattle.git_msg.specs.declared.requests.Request.{Request as HeldRequest}
 use Rattle.git_msg.specs.declared.streams.RequestStream.{RequestStream}

@@ -1,11 +1,9 @@
 -- The lines of a script with one more after them.
-use Rattle.std.proofs.Common.{◌≡◌, ◌⊎◌, ℕ, List, [], ◌∷◌, ◌++◌, Some, refl, ap, ◌∙◌, inl, inr, map}
+use Rattle.std.proofs.Common.{◌≡◌, ◌⊎◌, ℕ, List, [], ◌∷◌, ◌++◌, Some, refl, ap, inl, inr, map}
 use Rattle.git_names.specs.declared.object_format.Format.{Format}
 use Rattle.git_msg.specs.declared.offers.Offer.{Offer}
 use Rattle.git_msg.specs.declared.arguments.Command.{Command}
 use Rattle.git_msg.specs.Arguments.{Arg}
-use Rattle.git_msg.specs.Asked.{Asked}
-use Rattle.git_msg.specs.Kept.{Kept}
 use Rattle.git2show_lib.specs.Scripts.{ScriptLine, blank, command, argument, FollowAll, MayFollow, arguments_upto, nearest, open_after}
 use Rattle.git2show_lib.specs.Scripts.{request_of, requests_in}
 

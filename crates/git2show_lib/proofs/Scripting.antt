@@ -1,5 +1,5 @@
 -- What one more line adds to what is held of a script.
-use Rattle.std.proofs.Common.{arith, ◌≡◌, ℕ, ◌+◌, ◌-◌, ◌==◌, Bool, true, false, Result, Ok, Err, List}
+use Rattle.std.proofs.Common.{arith, ◌≡◌, ℕ, ◌+◌, ◌-◌, ◌==◌, true, false, Result, Ok, Err, List}
 use Rattle.std.proofs.Common.{[], ◌∷◌, ◌++◌, Some, None, refl, ap, sym, ◌∙◌, subst, length, map, get_or, set}
 use Rattle.std.proofs.Common.{append_assoc, length-append}
 use Rattle.std.specs.Prelude.{MatchResult}
@@ -26,7 +26,7 @@ use Rattle.git_msg.proofs.Values.{added_or_refused}
 use Rattle.git_repository.specs.declared.text_faults.LineFault.{LineFault}
 use Rattle.git_repository.specs.declared.text_faults.LineFault.TheVariants.{Refused, OutOfMemory}
 use Rattle.git2show_lib.specs.Scripts.{ScriptLine, blank, command, argument, MayFollow, kept_after, nearest, open_after, request_of, requests_in}
-use Rattle.git2show_lib.specs.HeldScripts.{Held, AddsArgument, Begins, FitsIn, GoesOn, HasOpen, Holds, IsBeginFault, IsLineFault, IsOpenAs, TakesLine}
+use Rattle.git2show_lib.specs.HeldScripts.{Held, AddsArgument, Begins, FitsIn, GoesOn, HasOpen, Holds, IsBeginFault, IsLineFault, TakesLine}
 use Rattle.git2show_lib.specs.HeldScripts.{nothing_held, with_requests}
 use Rattle.git2show_lib.proofs.ScriptLists.{Cut, cut_of, nearest_more, requests_blank, requests_cut, requests_of_cut}
 

@@ -1,7 +1,7 @@
 -- One thing after another goes through a buffer.
 use Rattle.std.proofs.Common.{length, ◌≡◌, ℕ, List, [], ◌++◌, Option, Result, Ok, Err, IsErrAnd, ap, sym, ◌∙◌, subst, append_assoc, append-nil}
 use Rattle.std.proofs.lemmas.List.{nil_from_length}
-use Rattle.git_pkt.specs.Told.{AppendsFront, inner_of}
+use Rattle.git_pkt.specs.Told.{inner_of}
 use Rattle.git_pkt.specs.Escape.{escaped_of}
 use Rattle.git_pkt.specs.Sends.{Puts}
 use Rattle.git_pkt.specs.declared.fault.RunFault.{RunFault}

@@ -1,5 +1,5 @@
 -- Answers one after the other, and repositories whose answers can be written.
-use Rattle.std.proofs.Common.{◌≡◌, ℕ, Bool, true, false, All, List, [], ◌∷◌, ◌++◌, Option, Some, None, IfSome, refl, ap, sym, ◌∙◌, subst, append_assoc, drop, length, take, take-append-drop}
+use Rattle.std.proofs.Common.{◌≡◌, ℕ, All, List, [], ◌∷◌, ◌++◌, Option, Some, None, IfSome, refl, ap, sym, ◌∙◌, subst, append_assoc, drop, length, take, take-append-drop}
 use Rattle.std.proofs.lemmas.Bool.{cond_both}
 use Rattle.std.proofs.lemmas.List.{append-nil, drop-map, drop_at, take-map, take_at}
 use Rattle.std.proofs.lemmas.List.Elements.{All-cons, All-head, All-nil, All-tail, All-weaker}
@@ -10,7 +10,6 @@ use Rattle.git_names.specs.declared.object_format.Format.{Format}
 use Rattle.git_names.proofs.ObjectNames.{IsOid-of_text}
 use Rattle.git_pkt.specs.Packets.{Pkt}
 use Rattle.git_pkt.specs.Splits.{Given}
-use Rattle.git_msg.specs.declared.Boundary.{Boundary}
 use Rattle.git_msg.specs.declared.Boundary.TheVariants.{Shallow, Unshallow}
 use Rattle.git_msg.specs.Asked.{Asked}
 use Rattle.git_msg.specs.References.{IsMaybeObjectName, IsReferenceLine}

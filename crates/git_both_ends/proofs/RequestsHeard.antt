@@ -1,6 +1,6 @@
 -- A server reads of what a client wrote just the requests that were written.
 use Rattle.std.proofs.Common.{arith, ◌≡◌, ◌≢◌, ℕ, ◌+◌, ◌≤◌, Bool, true, false, All, flat_map, List, [], ◌∷◌, ◌++◌, codes, refl}
-use Rattle.std.proofs.Common.{ap, sym, ◌∙◌, subst, append_assoc, get_or}
+use Rattle.std.proofs.Common.{ap, sym, ◌∙◌, append_assoc, get_or}
 use Rattle.std.proofs.lemmas.List.{map-append}
 use Rattle.std.proofs.lemmas.List.Elements.{All-cons, All-head, All-nil, All-tail}
 use Rattle.git_names.specs.declared.object_format.Format.{Format}
@@ -10,8 +10,8 @@ use Rattle.git_msg.specs.declared.arguments.Command.{Command}
 use Rattle.git_msg.specs.declared.offers.Offer.{Offer}
 use Rattle.git_msg.specs.Advertisement.{takes_command}
 use Rattle.git_msg.specs.Arguments.{Arg, is_offered, name_of}
-use Rattle.git_msg.specs.Asked.{Asked, HasValues, arguments_in, asked_by, command_asked, written_bytes}
-use Rattle.git_msg.specs.Lines.{IsFormatMeant, IsLineIn, Line, argument, arguments_of, commands_of, delimiter, has_delimiter}
+use Rattle.git_msg.specs.Asked.{Asked, HasValues, arguments_in, command_asked, written_bytes}
+use Rattle.git_msg.specs.Lines.{IsFormatMeant, IsLineIn, Line, argument, commands_of, delimiter, has_delimiter}
 use Rattle.git_msg.specs.Requests.{AreLines, Asks}
 use Rattle.git_msg.specs.WholeRequests.{AreRequests}
 use Rattle.git_msg.specs.WrittenRequest.{agent_line, format_line, lines_written, text_line, where_set}

@@ -1,6 +1,6 @@
 -- Packets as they are written: that they fit, and that bytes fall into them again.
 use Rattle.std.proofs.Common.{arith, ◌≡◌, ◌≤◌, ℕ, ◌+◌, Bool, true, false, All, length, List, [], ◌∷◌, ◌++◌, codes}
-use Rattle.std.proofs.Common.{refl, ap, sym, ◌∙◌, subst, append_assoc, length-append}
+use Rattle.std.proofs.Common.{refl, ap, sym, ◌∙◌, append_assoc, length-append}
 use Rattle.std.proofs.lemmas.List.Elements.{All-head, All-tail}
 use Rattle.git_names.specs.declared.object_format.Format.{Format}
 use Rattle.git_names.specs.declared.object_format.Format.TheVariants.{Sha1, Sha256}
@@ -76,8 +76,7 @@ front_are offset (p ∷ ps) more [] rest (now, fit) e none =
 front_are offset (p ∷ ps) more (g ∷ gs) rest (now, fit) (s, later, e, at, is, tail) none =
     let same = same_start p g.packet (spelling_of p) s (spelled ps ++ more) later (spells_written p now) is
     (sym (append_assoc (spelling_of p) (spelled ps) more) ∙ e) in
-    let (front, back, whole, are) = front_are (offset + length s) ps more gs rest fit (rw same.rest tail) none in
-    (
+    let (front, back, whole, are) = front_are (offset + length s) ps more gs rest fit (rw same.rest tail) none in (
       g ∷ front,
       back,
       ap (λ (l : List Given). g ∷ l) whole,

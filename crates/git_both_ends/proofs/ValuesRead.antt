@@ -1,5 +1,5 @@
 -- The values of requests that a server reads: object names of its format, whatever the format of the request.
-use Rattle.std.proofs.Common.{arith, ◌≡◌, ℕ, Bool, true, false, ◌||◌, All, map, List, [], ◌∷◌, ◌++◌, refl, ◌∙◌, subst}
+use Rattle.std.proofs.Common.{arith, ◌≡◌, ℕ, Bool, true, false, All, map, List, [], ◌∷◌, ◌++◌, refl, ◌∙◌}
 use Rattle.std.proofs.lemmas.Bool.{or_left, or_right}
 use Rattle.std.proofs.lemmas.List.Elements.{All-cons, All-head, All-nil, All-tail}
 use Rattle.git_names.specs.ObjectName.{IsObjectName, ObjectName, hex_of}
@@ -10,9 +10,9 @@ use Rattle.git_pkt.specs.Splits.{Given}
 use Rattle.git_pkt.proofs.Texts.{text_of-line_end}
 use Rattle.git_msg.specs.declared.arguments.Command.{Command}
 use Rattle.git_msg.specs.declared.offers.Offer.{Offer}
-use Rattle.git_msg.specs.Arguments.{Arg, IsInRange, IsNameIn, IsValue, MayFollow, SaysArgument, SaysValue, Shape, Value, Word, id_value, object_name}
+use Rattle.git_msg.specs.Arguments.{Arg, IsInRange, IsNameIn, IsValue, MayFollow, SaysArgument, SaysValue, Shape, Value, id_value, object_name}
 use Rattle.git_msg.specs.Arguments.{row, written_text, written_value}
-use Rattle.git_msg.specs.Lines.{IsLine, IsLineIn, Line, delimiter, has_delimiter, is_delimiter}
+use Rattle.git_msg.specs.Lines.{IsLineIn, Line, delimiter, has_delimiter, is_delimiter}
 use Rattle.git_msg.specs.Requests.{AreLines}
 use Rattle.git_msg.specs.WrittenRequest.{text_line}
 use Rattle.git_msg.proofs.LineLaws.{payload_argument}
