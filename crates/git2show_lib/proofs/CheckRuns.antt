@@ -416,10 +416,6 @@ module _ (A : Type 0) (t : Terms) (limit : ℕ) {Q R : Type 0} (of_requests : To
           (λ used remaining rest. (rest ≡ []) × (IsStop remaining ⊎ ((remaining ≡ []) × (step.unused ≡ []) × (has_ended of_requests ≡ true)))) step.over
           (λ used remaining rest over answered. ended (found_after used step.unused remaining rest) answered over)
 
-      -- nothing waits, and nothing came
-      none_over : waiting ≡ [] → waiting ++ [] ≡ []
-      none_over none = append-nil waiting ∙ none
-
       pub seen_the_end : (result : Result (Unit {0}) CheckFault) (position turns : ℕ) (F W : Type 0) (heard_after : Option (List ℕ))
           → position ≡ client_bytes client → SeesEnd result (has_ended of_responses) position waiting (flow heard heard_after)
           → FailsAs (run_result result) (has_failed of_responses) false
@@ -427,7 +423,7 @@ module _ (A : Type 0) (t : Terms) (limit : ℕ) {Q R : Type 0} (of_requests : To
           → CheckEnds result (flow before after) (flow heard_before heard_after) out
       seen_the_end (Ok done) position turns F W heard_after place (seen, ended) told shown =
           seen_then (Ok done) refl [] heard_after seen.read
-          (λ found answered over. record { answered = answered; over = over; nothing_left = none_over seen.none_waits; ended = ended })
+          (λ found answered over. record { answered = answered; over = over; nothing_left = append-nil waiting ∙ seen.none_waits; ended = ended })
       seen_the_end (Err (Requests fault)) position turns F W heard_after place seen told shown = absurd seen
       seen_the_end (Err (Responses fault)) position turns F W heard_after place (seen, fault_is) told shown =
           seen_then (Err (Responses fault)) refl seen.came heard_after seen.read (λ found answered over. inr (inr (record {
@@ -438,8 +434,8 @@ module _ (A : Type 0) (t : Terms) (limit : ℕ) {Q R : Type 0} (of_requests : To
           })))
       seen_the_end (Err CheckReadFault) position turns F W heard_after place seen told shown =
           seen_then (Err CheckReadFault) refl [] heard_after seen.read
-          (λ found answered over. inr (inr (record { answered = answered; over = over; nothing_left = none_over seen.none_waits }, told.0)))
+          (λ found answered over. inr (inr (record { answered = answered; over = over; nothing_left = append-nil waiting ∙ seen.none_waits }, told.0)))
       seen_the_end (Err CheckWriteFault) position turns F W heard_after place seen told shown = absurd seen
       seen_the_end (Err CheckReadLimit) position turns F W heard_after place seen told shown =
           seen_then (Err CheckReadLimit) refl [] heard_after seen.read
-          (λ found answered over. inr (inr (record { answered = answered; over = over; nothing_left = none_over seen.none_waits }, shown.open_ended)))
+          (λ found answered over. inr (inr (record { answered = answered; over = over; nothing_left = append-nil waiting ∙ seen.none_waits }, shown.open_ended)))

@@ -19,7 +19,7 @@ use Rattle.git_server.specs.Sessions.{Setting, AreAnswers, advertised}
 use Rattle.git_server.proofs.AtRest.{EndsWithFlush, packets_of}
 use Rattle.git_server.proofs.Flushes.{flushes-append}
 use Rattle.git_server.proofs.OneSession.{line_owes}
-use Rattle.git_both_ends.proofs.RequestsHeard.{IsClear, lines_clear, lines_end, lines_of}
+use Rattle.git_both_ends.proofs.RequestsHeard.{lines_clear, lines_end, lines_of}
 use Rattle.git_server.specs.declared.advertisement.AdvertisementLine.TheVariants.{Version}
 
 -- ---- lists whose last packet is a flush
@@ -62,19 +62,13 @@ ends_closed qs (inr h) front back e zero = nothing_behind h.front front back (sy
 
 -- ---- requests
 
-none_in_clear : (ps : List Pkt) → IsClear ps → flushes ps ≡ 0
-none_in_clear [] clear = refl
-none_in_clear (flush ∷ ps) clear = absurd (clear.0 refl)
-none_in_clear (p ∷ ps) clear = none_in_clear ps clear.1
-
 question_once : (agent object_format : Bool) (format : Format) (q : Asked) → flushes (lines_written agent object_format format q) ≡ 1
 question_once agent object_format format q =
-    let lines = lines_of agent object_format format q in
     omega (
       arith,
       ap flushes (lines_end agent object_format format q),
-      flushes-append lines (flush ∷ []),
-      none_in_clear lines (lines_clear agent object_format format q),
+      flushes-append (lines_of agent object_format format q) (flush ∷ []),
+      lines_clear agent object_format format q,
     )
 
 pub questions_close : (format : Format) (caps : Caps) (asked : List Asked) → Closes (questions_of format caps asked)

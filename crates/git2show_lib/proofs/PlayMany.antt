@@ -44,14 +44,14 @@ end_is : end_bytes ≡ spelled (resp_end ∷ [])
 unfolding lower_digit
 end_is = refl
 
--- a server's repository is as it was at the beginning
-pub record KeepsRepo {R A : Type 0} (state : R → RepoState) (s0 : RepoState) (server : Server R A) : Type 0 where
+-- the repository of the last server is as it was at the beginning, so it can be handed on
+pub record KeepsRepo {R A : Type 0} (state : R → RepoState) (s0 : RepoState) (h : History) (server : Server R A) : Type 0 where
   pub answers : (state (repo_of server)).answers ≡ s0.answers
   pub failures : (state (repo_of server)).failures ≡ s0.failures
 
 -- a server that waits has failed at nothing
-keeps_repo : {R A : Type 0} (state : R → RepoState) (t : Terms) (limit : ℕ) (s0 : RepoState) {advertise : Bool} {said given : List ℕ} (server : Server R A)
-    → Settled state (setting_of t limit s0 advertise) said given server → waits_for_input server ≡ true → KeepsRepo state s0 server
+keeps_repo : {R A : Type 0} (state : R → RepoState) (t : Terms) (limit : ℕ) (s0 : RepoState) {h : History} {advertise : Bool} {said given : List ℕ} (server : Server R A)
+    → Settled state (setting_of t limit s0 advertise) said given server → waits_for_input server ≡ true → KeepsRepo state s0 h server
 keeps_repo state t limit s0 server st waits =
     let none = no_outcome server.phase waits in
     record {
@@ -91,13 +91,9 @@ module _ {A : Type 0} (t : Terms) (h : History) (old new : Client A) (request : 
       in
       (append_cancel_length h.given h.given u (spelled second) refl (all ∙ rw before refl)).1
 
--- the last server can hand its repository on
-abbrev pub Kept : {R A : Type 0} → (R → RepoState) → RepoState → History → Server R A → Type 0
-Kept state s0 h server = KeepsRepo state s0 server
-
 module _ {R A : Type 0} (state : R → RepoState) (t : Terms) (limit : ℕ) (s0 : RepoState) where
   -- the next server of the same repository
-  pub next_server : (server new : Server R A) {repo : R} → t.format ≡ s0.answers.format → KeepsRepo state s0 server → repo ≡ repo_of server
+  pub next_server : {h : History} (server new : Server R A) {repo : R} → t.format ≡ s0.answers.format → KeepsRepo state s0 h server → repo ≡ repo_of server
       → Stands state (setting_of (terms_of (state repo).answers.format FlushOnly) limit (state repo) false) [] [] new
       → Stands state (setting_of t limit s0 false) [] [] new
   next_server server new {repo} format keeps same st =
@@ -107,19 +103,19 @@ module _ {R A : Type 0} {state : R → RepoState} {t : Terms} {limit : ℕ} {s0 
   heard_kept : {advertise : Bool} {before tail : List Pkt} {said : List ℕ} {h : History} {server after : Server R A} {front : List (Request A)}
       {old new : Client A} {o0 o1 o2 p0 p1 p2 : Option (List ℕ)} → Turn state t limit s0 advertise before tail said h server → wants_input old ≡ true
       → Runs t false h front old no_counts (flow o0 o1) (flow p0 p1) → HearsMessage state (spelled tail) old new server after (flow o1 o2) (flow p1 p2)
-      → Plays state t limit s0 (Kept state s0) front new after (flow o0 o2) (flow p0 p2)
+      → Plays state t limit s0 (KeepsRepo state s0) front new after (flow o0 o2) (flow p0 p2)
   heard_kept {after = after} turn due r step =
-      heard turn due r step {StandsBy = Kept state s0}
+      heard turn due r step {StandsBy = KeepsRepo state s0}
       (keeps_repo state t limit s0 after (settled turn step.hears) (waits turn step.hears (now_whole turn due r step)))
 
   pub advertised_many : {old new : Client A} {server after : Server R A} {o1 o2 p1 p2 : Option (List ℕ)} → wants_input old ≡ true
       → Converses t nothing_yet old → Stands state (setting_of t limit s0 true) [] [] server
-      → HearsMessage state [] old new server after (flow o1 o2) (flow p1 p2) → Plays state t limit s0 (Kept state s0) [] new after (flow o1 o2) (flow p1 p2)
+      → HearsMessage state [] old new server after (flow o1 o2) (flow p1 p2) → Plays state t limit s0 (KeepsRepo state s0) [] new after (flow o1 o2) (flow p1 p2)
   advertised_many {old} {server = server} {o1 = o1} {p1 = p1} due stands st step =
       heard_kept (first_turn server st) due (begun t old o1 p1 due stands) step
 
   module _ {front : List (Request A)} {old : Client A} {server : Server R A} {o0 o1 p0 p1 : Option (List ℕ)}
-      (p : Plays state t limit s0 (Kept state s0) front old server (flow o0 o1) (flow p0 p1)) (ending : t.ending ≡ ResponseEnd) where
+      (p : Plays state t limit s0 (KeepsRepo state s0) front old server (flow o0 o1) (flow p0 p1)) (ending : t.ending ≡ ResponseEnd) where
     sessions_said : (caps : Caps) → HasNoted t p.h.asked p.h.used caps → AreSaid ResponseEnd p.rest.first p.rest.later p.h.given (said_each t caps p.h.asked)
     sessions_said caps noted = rw ending at (p.rest.said caps noted)
 
@@ -178,7 +174,7 @@ module _ {R A : Type 0} {state : R → RepoState} {t : Terms} {limit : ℕ} {s0 
 
       -- or answered
       pub answered_many : {done : Unit {0}} → Answers state (Ok done) end_bytes old new request next after (flow o1 o2) (flow p1 p2)
-          → Plays state t limit s0 (Kept state s0) (front ++ request ∷ []) new after (flow o0 o2) (flow p0 p2)
+          → Plays state t limit s0 (KeepsRepo state s0) (front ++ request ∷ []) new after (flow o0 o2) (flow p0 p2)
       answered_many a =
           heard_kept (next_turn request a.asking next a.told st a.asks) a.asks.waits
           (asks_on t false front old a.asking request no_counts [] p.runs p.ready a.asks.asks)

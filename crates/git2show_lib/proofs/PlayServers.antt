@@ -1,5 +1,5 @@
 -- A message of a server, and the packet after it, received whole or up to a fault.
-use Rattle.std.proofs.Common.{arith, ◌≡◌, inl, ℕ, Bool, true, false, List, [], ◌++◌, drop, Option, Some, None}
+use Rattle.std.proofs.Common.{arith, ◌≡◌, inl, ℕ, Bool, true, false, List, [], ◌++◌, drop, Option, None}
 use Rattle.std.proofs.Common.{Result, Ok, Err, refl, sym, ap, ◌∙◌, append_assoc, append-nil, length-append}
 use Rattle.std.proofs.lemmas.List.{drop_all}
 use Rattle.std.specs.Io.KnownBytes.{Keeps}
@@ -21,11 +21,6 @@ use Rattle.git_server.specs.declared.server.Server.{Server}
 use Rattle.git2show_lib.specs.PlaySteps.{AnswersTo, AsksServer, EndsMessageTo, Hears, HearsMessageTo, HearsOut, HearsServerTo}
 use Rattle.git2show_lib.specs.PlaySteps.{IsSpent, silent}
 use Rattle.git2show_lib.proofs.PlayMeeting.{hears_more, stops_in}
-
--- a stream that nobody called holds what it held
-pub keeps_same : (held : Option (List ℕ)) → Keeps held held
-keeps_same None = tt
-keeps_same (Some bytes) = refl
 
 -- more bytes that nobody used change nothing where the input goes on
 timely_more : (kind : Kind) (unheard more : List ℕ) → IsTimely kind false unheard → IsTimely kind false (unheard ++ more)

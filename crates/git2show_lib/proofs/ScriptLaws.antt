@@ -1,5 +1,5 @@
 -- A text is one script, or has one first bad line.
-use Rattle.std.proofs.Common.{arith, ◌≡◌, ℕ, ◌<◌, List, [], ◌∷◌, ◌++◌, refl, ap, sym, ◌∙◌, subst, length, inl, inr}
+use Rattle.std.proofs.Common.{rules, arith, ◌≡◌, ℕ, ◌<◌, List, [], ◌∷◌, ◌++◌, refl, ap, sym, ◌∙◌, subst, length, inl, inr}
 use Rattle.std.proofs.lemmas.Bool.{cases_order}
 use Rattle.git_pkt.specs.declared.fault.Kind.TheVariants.{UnknownArgument}
 use Rattle.git_msg.specs.declared.offers.Offer.{Offer}
@@ -28,12 +28,9 @@ no_command ObjectInfo e = cc
 
 -- and is no argument
 nothing : (c : Command) → IsNoArgument c []
-nothing LsRefs = (((λ e. cc), ((λ e. cc), ((λ e. cc), tt))), ((λ rest e. cc), tt))
-nothing Fetch = (
-  ((λ e. cc), ((λ e. cc), ((λ e. cc), ((λ e. cc), ((λ e. cc), ((λ e. cc), ((λ e. cc), tt))))))),
-  ((λ rest e. cc), ((λ rest e. cc), ((λ rest e. cc), ((λ rest e. cc), ((λ rest e. cc), ((λ rest e. cc), ((λ rest e. cc), ((λ rest e. cc), tt)))))))),
-)
-nothing ObjectInfo = (((λ e. cc), tt), ((λ rest e. cc), tt))
+nothing LsRefs = search rules
+nothing Fetch = search rules
+nothing ObjectInfo = search rules
 
 no_argument : (c : Command) (offer : Offer) (arg : Arg) → ReadsAs c offer [] arg → ⊥
 no_argument c offer arg h = argument_or_fault c offer [] arg UnknownArgument h (inl (nothing c, refl))

@@ -5,7 +5,7 @@ use Rattle.std.proofs.Common.{append_assoc, length-append}
 use Rattle.std.specs.Prelude.{MatchResult}
 use Rattle.std.proofs.Math.Seq.{get_or-append_seam}
 use Rattle.std.proofs.lemmas.Bool.Decides.{nat_tests}
-use Rattle.std.proofs.lemmas.List.{map-append, same_from_push, set_at}
+use Rattle.std.proofs.lemmas.List.{map-append, nil_from_length, same_from_push, set_at}
 use Rattle.std.proofs.lemmas.List.Sums.{sum_by-append}
 use Rattle.std.proofs.lemmas.List.Elements.{All-nil, All-pop, All-push}
 use Rattle.git_names.specs.declared.object_format.Format.{Format}
@@ -278,12 +278,8 @@ module _ {A : Type 0} where
       → FitsIn offer last text arg → ⊥
   none_reads offer last text kind fault arg fits = argument_or_fault (command_of last) offer text arg kind fits.reads fault
 
-is_zero : (n : ℕ) → (n == 0) ≡ true → n ≡ 0
-is_zero n e = grind (arith, nat_tests)
-
 pub no_bytes : (text : List ℕ) → (length text == 0) ≡ true → text ≡ []
-no_bytes [] e = refl
-no_bytes (x ∷ text) e = let long = is_zero (length (x ∷ text)) e in absurd (omega arith)
+no_bytes text e = nil_from_length text (let n = length text in grind (arith, nat_tests))
 
 pub some_bytes : (text : List ℕ) → (length text == 0) ≡ false → text ≡ [] → ⊥
 some_bytes text e none = let long : length text ≡ 0 = ap length none in grind (arith, nat_tests)

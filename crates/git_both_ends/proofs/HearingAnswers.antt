@@ -1,5 +1,5 @@
 -- Each answer, section by section, as a client receives it.
-use Rattle.std.proofs.Common.{arith, ◌≡◌, ℕ, ◌<◌, Bool, true, false, not, ◌&&◌, ◌||◌, All, length, map, List, [], ◌∷◌, ◌++◌, Option, Some, None}
+use Rattle.std.proofs.Common.{arith, ◌≡◌, ℕ, ◌<◌, Bool, true, false, not, ◌&&◌, ◌||◌, All, length, map, List, [], ◌∷◌, ◌++◌, Option, Some, None, IfSome}
 use Rattle.std.proofs.Common.{codes, refl, ap}
 use Rattle.std.proofs.Common.{sym, ◌∙◌, subst, append_assoc, slice_index, cond}
 use Rattle.std.specs.List.{filter_map, cons_option}
@@ -28,6 +28,7 @@ use Rattle.git_msg.specs.References.{IsWritable, reference_of, reference_text}
 use Rattle.git_msg.specs.ResponseLines.{IsSize, Wanted, ack_text, boundary_text, info_text, object_of, wanted_of, wanted_text}
 use Rattle.git_msg.specs.Texts.{IsErrorText}
 use Rattle.git_msg.specs.WrittenRequest.{text_line}
+use Rattle.git_msg.proofs.FoundParts.{All-filter_map}
 use Rattle.git_msg.proofs.ReferenceLaws.{reference_reads_back}
 use Rattle.git_msg.proofs.ResponseLines.{ack_reads_back, boundary_reads_back, info_reads_back, wanted_reads_back}
 use Rattle.git_msg.proofs.WrittenNames.{hex_of-reads_back, length-hex_of}
@@ -173,22 +174,17 @@ wanted_packets repo (name ∷ names) = go (wanted_packets repo names) (found_ref
 -- what holds of each that can be found holds of all that are
 all_found : (P : Wanted → Type 0) (repo : Repository) → ((name : List ℕ) (id : ObjectName) → found_ref repo.refs name ≡ Some id → P (wanted_of id name))
     → (names : List (List ℕ)) → All P (found_refs repo names)
-all_found P repo each [] = All-nil P
-all_found P repo each (name ∷ names) = go (all_found P repo each names) (found_ref repo.refs name) refl where
-  go : All P (found_refs repo names) → (found : Option ObjectName) → found_ref repo.refs name ≡ found
-      → All P (cons_option (option_map (λ id. wanted_of id name) found) (found_refs repo names))
-  go others None is = others
-  go others (Some id) is = All-cons P (wanted_of id name) (found_refs repo names) (each name id is) others
+all_found P repo each names =
+    All-filter_map P (λ name. option_map (λ id. wanted_of id name) (found_ref repo.refs name)) names (λ k d within. one _ (found_ref repo.refs _) refl) where
+      one : (name : List ℕ) (found : Option ObjectName) → found_ref repo.refs name ≡ found → IfSome (option_map (λ id. wanted_of id name) found) P
+      one name None is = tt
+      one name (Some id) is = each name id is
 
 -- a request that negotiates has no `done`
 not_done : (some done : Bool) → (some && not done) ≡ true → (not done && true) ≡ true
 not_done some done h = and_from (not done) true (and_parts some (not done) h).1 refl
 
 module _ (t : Terms) (asked : List Asked) (repo : Repository) (sound : IsSound repo) (written : CanBeWritten repo) (same : repo.format ≡ t.format) where
-  -- the client's format is that of the repository
-  of_format : (entry : Entry) → IsOfFormat repo.format entry → IsOfFormat t.format entry
-  of_format entry is = subst (λ (format : Format). IsOfFormat format entry) same is
-
   -- ---- the pack
 
   -- the section of the pack, and the end of the answer
@@ -389,7 +385,7 @@ module _ (t : Terms) (asked : List Asked) (repo : Repository) (sound : IsSound r
       let last = end_packets t.ending in
       let head = unborn_packets q repo.unborn_head in
       let all : All (λ entry. GivesLine references t.format (line entry) (event entry ∷ [])) repo.refs =
-      λ k d within. reference_line t.format q.symrefs q.peel _ (sound.named k d within) (of_format _ (sound.of_format k d within)) (written.refs k d within) in
+      λ k d within. reference_line t.format q.symrefs q.peel _ (sound.named k d within) (rw same at (sound.of_format k d within)) (written.refs k d within) in
       let parts : packets ++ last ≡ head ++ (lines ++ (flush ∷ last)) = rw answer (simp append_assoc) in
       rw (parts, append_assoc (told_unborn q repo.unborn_head) (map event shown) (ended ∷ []))
       (unborn_gives q repo.unborn_head before (lines ++ (flush ∷ last)) (map event shown ++ ended ∷ []) sound.unborn is

@@ -1,10 +1,10 @@
 -- A server reads of what a client wrote just the requests that were written.
-use Rattle.std.proofs.Common.{arith, ◌≡◌, ◌≢◌, ℕ, ◌+◌, ◌≤◌, Bool, true, false, All, flat_map, List, [], ◌∷◌, ◌++◌, codes, refl}
+use Rattle.std.proofs.Common.{arith, ◌≡◌, ℕ, ◌+◌, ◌≤◌, Bool, true, false, All, flat_map, List, [], ◌∷◌, ◌++◌, codes, refl}
 use Rattle.std.proofs.Common.{ap, sym, ◌∙◌, append_assoc, get_or}
 use Rattle.std.proofs.lemmas.List.{map-append}
 use Rattle.std.proofs.lemmas.List.Elements.{All-cons, All-head, All-nil, All-tail}
 use Rattle.git_names.specs.declared.object_format.Format.{Format}
-use Rattle.git_pkt.specs.Packets.{Pkt, flush, delim, payload}
+use Rattle.git_pkt.specs.Packets.{Pkt, delim, flush, flushes, payload}
 use Rattle.git_pkt.specs.Splits.{Given}
 use Rattle.git_msg.specs.declared.arguments.Command.{Command}
 use Rattle.git_msg.specs.declared.offers.Offer.{Offer}
@@ -18,6 +18,7 @@ use Rattle.git_msg.specs.WrittenRequest.{agent_line, format_line, lines_written,
 use Rattle.git_msg.proofs.LineLaws.{fronts_same, one_list_of_lines}
 use Rattle.git_msg.proofs.RoundTrip.{lines_read_back}
 use Rattle.git_msg.proofs.WholeRequests.{NoFlush, lines_have_no_flush, whole_then}
+use Rattle.git_server.proofs.Flushes.{flushes-append}
 use Rattle.git_server.specs.Sessions.{IsRequest, Setting}
 use Rattle.git_both_ends.specs.ToldAnswers.{packets_of}
 use Rattle.git_both_ends.proofs.ValuesRead.{argument_packets, arguments_fit_in}
@@ -44,9 +45,6 @@ lines_within offer limit most before (g ∷ gs) (l ∷ ls) more h = (
   lines_within offer limit most (before ++ l ∷ []) gs ls more h.1,
 )
 
-same_command : (c d : Command) → c ∷ [] ≡ d ∷ [] → c ≡ d
-same_command c d e = cc
-
 module _ (offer : Offer) (says_agent says_format : Bool) (meant : IsFormatMeant offer.format says_format)
     (takes : (c : Command) → takes_command offer c ≡ true) (offers : (arg : Arg) → is_offered offer arg ≡ true) where
   -- what is read of the packets of a request is that request
@@ -60,15 +58,11 @@ module _ (offer : Offer) (says_agent says_format : Bool) (meant : IsFormatMeant 
       let lines : a.lines ≡ r.lines =
       one_list_of_lines offer most [] r.front a.lines r.lines
       (rw fronts at (lines_within offer limit most [] a.front a.lines (omega arith) a.taken)) r.taken in
-      let c : a.command ≡ r.of = same_command a.command r.of (sym a.once ∙ ap commands_of lines ∙ r.once) in
+      let once : a.command ∷ [] ≡ r.of ∷ [] = sym a.once ∙ ap commands_of lines ∙ r.once in
+      let c : a.command ≡ r.of = cc in
       rw (a.asked_is, c, lines) (sym r.asked_is)
 
 -- ---- where a request ends
-
--- none of the packets is a flush
-abbrev pub IsClear : List Pkt → Type 0
-IsClear [] = Unit {0}
-IsClear (p ∷ ps) = (p ≢ flush) × IsClear ps
 
 -- the packets of a request before its delimiter
 abbrev capability_packets : Bool → Bool → Format → Asked → List Pkt
@@ -86,37 +80,29 @@ lines_end true false format q = refl
 lines_end false true format q = refl
 lines_end false false format q = refl
 
-no_flush : (line : List ℕ) → payload line ≢ flush
-no_flush line e = cc
+arguments_clear : (args : List Arg) → flushes (argument_packets args) ≡ 0
+arguments_clear [] = refl
+arguments_clear (arg ∷ args) = arguments_clear args
 
-delim_no_flush : delim ≢ flush
-delim_no_flush e = cc
-
-arguments_clear : (args : List Arg) → IsClear (argument_packets args)
-arguments_clear [] = tt
-arguments_clear (arg ∷ args) = (no_flush _, arguments_clear args)
-
-part_clear : (q : Asked) → IsClear (delim ∷ argument_packets (arguments_in q))
-part_clear q = (delim_no_flush, arguments_clear (arguments_in q))
-
-pub lines_clear : (says_agent says_format : Bool) (format : Format) (q : Asked) → IsClear (lines_of says_agent says_format format q)
-lines_clear true true format q = (no_flush _, (no_flush _, (no_flush _, part_clear q)))
-lines_clear true false format q = (no_flush _, (no_flush _, part_clear q))
-lines_clear false true format q = (no_flush _, (no_flush _, part_clear q))
-lines_clear false false format q = (no_flush _, part_clear q)
+pub lines_clear : (says_agent says_format : Bool) (format : Format) (q : Asked) → flushes (lines_of says_agent says_format format q) ≡ 0
+lines_clear true true format q = arguments_clear (arguments_in q)
+lines_clear true false format q = arguments_clear (arguments_in q)
+lines_clear false true format q = arguments_clear (arguments_in q)
+lines_clear false false format q = arguments_clear (arguments_in q)
 
 -- what comes up to the first flush, and after it
-first_flush : (xs more : List Given) (last : Given) (front back : List Pkt) → NoFlush xs → last.packet ≡ flush → IsClear front
+first_flush : (xs more : List Given) (last : Given) (front back : List Pkt) → NoFlush xs → last.packet ≡ flush → flushes front ≡ 0
     → packets_of (xs ++ last ∷ more) ≡ front ++ flush ∷ back → (packets_of xs ≡ front) × (packets_of more ≡ back)
 first_flush [] more last [] back none ends clear e = (refl, cc)
 first_flush [] more last (p ∷ front) back none ends clear e =
-    let same : last.packet ≡ p = cc in absurd (clear.0 (sym same ∙ ends))
+    let same : p ≡ flush = cc in
+    absurd (omega (arith, clear, ap (λ (q : Pkt). flushes (q ∷ front)) same))
 first_flush (x ∷ xs) more last [] back none ends clear e =
     let same : x.packet ≡ flush = cc in absurd (none.0 same)
 first_flush (x ∷ xs) more last (p ∷ front) back none ends clear e =
     let same : x.packet ≡ p = cc in
     let rest : packets_of (xs ++ last ∷ more) ≡ front ++ flush ∷ back = cc in
-    let then = first_flush xs more last front back none.1 ends clear.1 rest in
+    let then = first_flush xs more last front back none.1 ends (omega (arith, clear, flushes-append (p ∷ []) front)) rest in
     (rw (same, then.0), then.1)
 
 -- packets with a flush among them

@@ -1,5 +1,5 @@
 use Rattle.std.proofs.Common.{rules, refl, sym}
-use Rattle.std.proofs.lemmas.Bool.{or_parts, or_from}
+use Rattle.std.proofs.lemmas.Bool.{or_parts}
 use Rattle.std.proofs.lemmas.Result.{err_from_is_err_and}
 use Rattle.git_client.proofs.AskedInTurn.{next_is, none_more, one_more}
 use Rattle.git2show_lib.proofs.PlayOne.{advertised_alone, answered_alone, one_end, one_stopped}
@@ -24,15 +24,6 @@ loop-request-init g c = record {
   sound_pack = (or_parts _ _ c.in_ok-hear_message.ensures.told.1).1;
 }
 
-pub answer_request-requires-clause-ready : goal.answer_request-requires-clause-ready
-answer_request-requires-clause-ready g c = c.loop-request.invariant.plays.ready
-
-pub answer_request-requires-clause-sound_out : goal.answer_request-requires-clause-sound_out
-answer_request-requires-clause-sound_out g c = c.loop-request.invariant.sound_out
-
-pub answer_request-requires-clause-sound_pack : goal.answer_request-requires-clause-sound_pack
-answer_request-requires-clause-sound_pack g c = c.loop-request.invariant.sound_pack
-
 pub returns-in_err-answer_request-clause-played : goal.returns-in_err-answer_request-clause-played
 returns-in_err-answer_request-clause-played g c =
     let at = c.loop-request in
@@ -53,14 +44,8 @@ loop-request-preserved g c =
       sound_pack = (or_parts _ _ c.in_ok-answer_request.ensures.told.1).1;
     }
 
-pub leave-requires : goal.leave-requires
-leave-requires g c = c.loop-request.invariant.plays.ready
-
 pub returns-clause-played : goal.returns-clause-played
 returns-clause-played g c =
     let at = c.loop-request in
     one_end at.invariant.plays refl (none_more _ at.yielded _ at.invariant.left_to_ask (search rules)) c.leave.ensures
     c.tell_all.ensures.told
-
-pub returns-clause-told : goal.returns-clause-told
-returns-clause-told g c = (refl, or_from _ _ c.loop-request.invariant.sound_out c.loop-request.invariant.sound_pack)
