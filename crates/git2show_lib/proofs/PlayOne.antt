@@ -7,7 +7,6 @@ use Rattle.git_pkt.specs.declared.fault.RunFault.{RunFault}
 use Rattle.git_msg.specs.HeldRequest.{asked_of}
 use Rattle.git_msg.specs.declared.requests.Request.{Request}
 use Rattle.git_client.specs.Client.{History, Converses, Leaves, caps_of, nothing_yet, phase_of, questions_of, spelled, wants_input}
-use Rattle.git_client.specs.Conversation.{IsConversation}
 use Rattle.git_client.specs.Parts.{Terms}
 use Rattle.git_client.specs.RunSteps.{no_counts}
 use Rattle.git_client.specs.Runs.{leaves_last}
@@ -29,13 +28,6 @@ use Rattle.git2show_lib.proofs.PlayFlushes.{Closes, advertises_once, closes_both
 use Rattle.git2show_lib.proofs.PlayRuns.{PlayEnds, Plays, Runs, Turn, answer_stopped, begun, first_turn, given_is, sole_turn, heard, now_whole, play_ends}
 use Rattle.git2show_lib.proofs.PlayRuns.{rested, settled, used_all}
 use Rattle.git2show_lib.proofs.PlayTalks.{settle, talk, talk_of}
-
--- one message more was received than requests were asked
-messages_heard : (t : Terms) (h : History) (whole : IsConversation t h.asked h.used h.events) (ps : List Pkt) → h.used ≡ spelled ps
-    → suc (length h.asked) ≤ flushes ps
-messages_heard t h whole ps e =
-    let front = front_of 0 h.used [] [] whole.given ps whole.splits.spelled (append-nil h.used ∙ e) in
-    omega (arith, whole.all_flushes, flushes_nearest whole.given [], ap flushes front.parts, flushes-append (packets_of whole.given) front.more)
 
 module _ {R A : Type 0} (state : R → RepoState) (t : Terms) (limit : ℕ) (s0 : RepoState) where
   -- the server was sent all, and gave all, that the client sent and received
@@ -83,8 +75,12 @@ module _ {R A : Type 0} {state : R → RepoState} {t : Terms} {limit : ℕ} {s0 
     goes_on u after goes =
         rw (append-nil p.h.used) at (goes (setting_of t limit s0 true) p.h.given p.h.used (still_stands p.h server p.stands))
 
+    -- one message more was received than requests were asked
     many_heard : (ps : List Pkt) → p.h.used ≡ spelled ps → suc (length p.h.asked) ≤ flushes ps
-    many_heard = messages_heard t p.h (is_whole t p.h old p.runs.along.stands p.ready)
+    many_heard ps e =
+        let whole = is_whole t p.h old p.runs.along.stands p.ready in
+        let front = front_of 0 p.h.used [] [] whole.given ps whole.splits.spelled (append-nil p.h.used ∙ e) in
+        omega (arith, whole.all_flushes, flushes_nearest whole.given [], ap flushes front.parts, flushes-append (packets_of whole.given) front.more)
 
     all_said : (said all : List ℕ) (each : List (List ℕ)) → AreSaid t.ending (talk_of said all) [] said each
     all_said said all each = rw ending (refl, refl)

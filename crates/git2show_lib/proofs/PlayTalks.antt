@@ -36,7 +36,6 @@ pub record Rests (Fails : Type 0) (s : Setting) (count : ℕ) (said given : List
   pub done : IsAnswered s said given
   pub packets : List Pkt
   pub given_is : given ≡ spelled packets
-  pub fit : AllFit packets
   pub closed : Closes packets
   pub counted : flushes packets ≡ count
 
@@ -109,6 +108,7 @@ module _ {R A : Type 0} {state : R → RepoState} {s : Setting} {qs : List Pkt} 
     done = inr (outcome, ends s st.used false given st.runs, lost_for outcome some);
   }
 
+  -- where all messages were given it waits for more, and nothing is due
   pub waits_on : Enough s qs given → waits_for_input server ≡ true
   waits_on enough =
       (at_rest state server s qs st.used st.unused given st.runs (sym is ∙ st.parts) (ends_closed qs closes) enough st.in_time).waits
@@ -125,7 +125,6 @@ module _ {R A : Type 0} {state : R → RepoState} {s : Setting} {qs : List Pkt} 
         done = all;
         packets = advertised s ++ all.answers;
         given_is = all.given_is;
-        fit = all.fit;
         closed = given_close s all.asked all.answers all.answered;
         counted = omega (arith, many, few, flushes-append (advertised s) all.answers, answers_end s.repo all.asked all.answers all.answered);
       }
