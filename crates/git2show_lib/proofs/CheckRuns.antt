@@ -438,4 +438,7 @@ module _ (A : Type 0) (t : Terms) (limit : ℕ) {Q R : Type 0} (of_requests : To
       seen_the_end (Err CheckWriteFault) position turns F W heard_after place seen told shown = absurd seen
       seen_the_end (Err CheckReadLimit) position turns F W heard_after place seen told shown =
           seen_then (Err CheckReadLimit) refl [] heard_after seen.read
-          (λ found answered over. inr (inr (record { answered = answered; over = over; nothing_left = append-nil waiting ∙ seen.none_waits }, shown.open_ended)))
+          (λ found answered over. inr (inr (
+            record { answered = answered; over = over; nothing_left = append-nil waiting ∙ seen.none_waits },
+            shown.open_ended,
+          )))

@@ -50,8 +50,8 @@ pub record KeepsRepo {R A : Type 0} (state : R → RepoState) (s0 : RepoState) (
   pub failures : (state (repo_of server)).failures ≡ s0.failures
 
 -- a server that waits has failed at nothing
-keeps_repo : {R A : Type 0} (state : R → RepoState) (t : Terms) (limit : ℕ) (s0 : RepoState) {h : History} {advertise : Bool} {said given : List ℕ} (server : Server R A)
-    → Settled state (setting_of t limit s0 advertise) said given server → waits_for_input server ≡ true → KeepsRepo state s0 h server
+keeps_repo : {R A : Type 0} (state : R → RepoState) (t : Terms) (limit : ℕ) (s0 : RepoState) {h : History} {advertise : Bool} {said given : List ℕ}
+    (server : Server R A) → Settled state (setting_of t limit s0 advertise) said given server → waits_for_input server ≡ true → KeepsRepo state s0 h server
 keeps_repo state t limit s0 server st waits =
     let none = no_outcome server.phase waits in
     record {
@@ -110,7 +110,8 @@ module _ {R A : Type 0} {state : R → RepoState} {t : Terms} {limit : ℕ} {s0 
 
   pub advertised_many : {old new : Client A} {server after : Server R A} {o1 o2 p1 p2 : Option (List ℕ)} → wants_input old ≡ true
       → Converses t nothing_yet old → Stands state (setting_of t limit s0 true) [] [] server
-      → HearsMessage state [] old new server after (flow o1 o2) (flow p1 p2) → Plays state t limit s0 (KeepsRepo state s0) [] new after (flow o1 o2) (flow p1 p2)
+      → HearsMessage state [] old new server after (flow o1 o2) (flow p1 p2)
+      → Plays state t limit s0 (KeepsRepo state s0) [] new after (flow o1 o2) (flow p1 p2)
   advertised_many {old} {server = server} {o1 = o1} {p1 = p1} due stands st step =
       heard_kept (first_turn server st) due (begun t old o1 p1 due stands) step
 
@@ -181,7 +182,8 @@ module _ {R A : Type 0} {state : R → RepoState} {t : Terms} {limit : ℕ} {s0 
           (rw end_is at a.hears)
 
     -- all requests were answered
-    pub many_end : {requests : List (Request A)} → requests ≡ front ++ [] → PlayEnds t (CanFail state s0.failures) limit s0 requests (Ok tt) (flow o0 o1) (flow p0 p1)
+    pub many_end : {requests : List (Request A)} → requests ≡ front ++ []
+        → PlayEnds t (CanFail state s0.failures) limit s0 requests (Ok tt) (flow o0 o1) (flow p0 p1)
     many_end {requests} split =
         let h = p.h in
         let stands = p.runs.along.stands in

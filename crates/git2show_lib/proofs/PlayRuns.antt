@@ -394,8 +394,8 @@ module _ {R A : Type 0} {state : R → RepoState} {t : Terms} {limit : ℕ} {s0 
       pub answer_stopped : (fault : RunFault) {new : Client A} {next after : Server R A} {advertise : Bool} {before tail : List Pkt}
           {o2 p2 : Option (List ℕ)} → requests ≡ front ++ request ∷ later
           → ((asking : Client A) (told : Server R A) (written : Option (List ℕ)) (step : AsksServer state old asking request next told (flow o1 written))
-          → (said : List ℕ)
-          × Turn state t limit s0 advertise before tail said (record p.h { asked = p.h.asked ++ asked_of request ∷ []; given = p.h.given ++ step.asks.given }) told)
+          → (said : List ℕ) × Turn state t limit s0 advertise before tail said
+          (record p.h { asked = p.h.asked ++ asked_of request ∷ []; given = p.h.given ++ step.asks.given }) told)
           → AnswersTo state (Err fault) (spelled tail) old new request next after (flow o1 o2) (flow p1 p2)
           → PlayEnds t (MayFail state s0) limit s0 requests (Err fault) (flow o0 o2) (flow p0 p2)
       answer_stopped fault {new} {after = after} split turns (inl a) =

@@ -3,9 +3,8 @@ use Rattle.std.proofs.Common.{arith, ◌≡◌, ◌≢◌, ℕ, suc, ◌+◌, �
 use Rattle.std.proofs.Common.{cond, length, take, drop, min, List, [], ◌∷◌, ◌++◌, Some}
 use Rattle.std.proofs.Common.{refl, sym, ap, ◌∙◌, append_assoc, append-nil, length-drop, take-append-drop, inl, inr}
 use Rattle.std.proofs.Math.Seq.{take-add}
-use Rattle.std.proofs.lemmas.List.{drop_all, length-take}
+use Rattle.std.proofs.lemmas.List.{drop_all, length-take, take-take}
 use Rattle.std.proofs.lemmas.Bool.{cases_lt}
-use Rattle.std.proofs.lemmas.Grind.{common_steps}
 use Rattle.git_pkt.specs.declared.fault.Fault.{Fault}
 use Rattle.git_pkt.specs.declared.fault.Kind.TheVariants.{StreamTooLong}
 use Rattle.git_pkt.proofs.Pieces.{left_of}
@@ -18,11 +17,6 @@ use Rattle.git_server.specs.declared.server.Server.{Server}
 use Rattle.git2show_lib.specs.PlaySteps.{Stands}
 
 -- ---- the next piece of a packet
-
-pub front_of_front : (u k : ℕ) (xs : List ℕ) → u ≤ length (take k xs) → take u (take k xs) ≡ take u xs
-front_of_front u k xs few =
-    let size = length-take k xs in
-    grind (arith, common_steps)
 
 -- what is left of a packet after so many bytes, and the next piece of it
 abbrev pub left_after : List ℕ → ℕ → List ℕ
@@ -37,7 +31,8 @@ module _ (packet : List ℕ) (done k u : ℕ) (within : done ≤ length packet) 
 
   pub piece_joined : take done packet ++ take u (next_piece packet done k) ≡ take (done + u) packet
   piece_joined =
-      ap (λ (l : List ℕ). take done packet ++ l) (front_of_front u k (left_after packet done) few ∙ ap (take u) (left_of packet done within))
+      let front = take-take u k (left_after packet done) (omega (arith, few, length-take k (left_after packet done))) in
+      ap (λ (l : List ℕ). take done packet ++ l) (front ∙ ap (take u) (left_of packet done within))
       ∙ sym (take-add done u packet)
 
 -- a piece of some bytes is there while some are left

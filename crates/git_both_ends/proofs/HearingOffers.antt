@@ -108,7 +108,8 @@ module _ (format : Format) (ending : Ending) where
         record {
           place = place;
           is_place = line_due format ending line before none;
-          gives = rw (text_of-line_end text) (record { no_error = no_error text (other_byte (slice_index text 0) parts.0); says = capability_of key value parts.1 });
+          gives = rw (text_of-line_end text)
+              (record { no_error = no_error text (other_byte (slice_index text 0) parts.0); says = capability_of key value parts.1 });
         },
         capabilities_give lines (text ++ 10 ∷ []) (payload line ∷ before) ps later none is.1 others,
       )
