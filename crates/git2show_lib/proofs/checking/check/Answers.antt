@@ -68,8 +68,8 @@ returns-in_err-left-2-clause-checked g c =
     let met = err_from_is_err_and c.from_residual-in_err-left-2.result c.from_residual-in_err-left-2.ensures.1 in
     rw (met.1, met.2)
     (hearing_stopped _ _ _ c.next_request.new.reader c.hear-in-Some.new.reader _ _ _
-    (response_due at.invariant.checking step c.in_ok-ask_next.ensures.asked.0) c.in_ok-ask_next.ensures.asked.1 c.in_err-left-2.field-0.0 c.hear-in-Some.new.piece
-    _ _ _ _ c.in_err-left-2.ensures.heard c.in_err-left-2.ensures.told c.in_err-left-2.ensures.fault)
+    (response_due at.invariant.checking step c.in_ok-ask_next.ensures.asked.0) c.in_ok-ask_next.ensures.asked.1 c.in_err-left-2.field-0.0
+    c.hear-in-Some.new.piece _ _ _ _ c.in_err-left-2.ensures.heard c.in_err-left-2.ensures.told c.in_err-left-2.ensures.fault)
 
 pub loop-asking-smaller : goal.loop-asking-smaller
 loop-asking-smaller g c =
