@@ -1,16 +1,13 @@
 -- A check so far: what was read of both streams, what was asked and received; and what it results in at each of its ends.
 use Rattle.std.proofs.Common.{arith, ◌≡◌, inl, inr, ◌⊎◌, ℕ, ◌-◌, ◌<◌, Bool, true, false, List, [], ◌∷◌, ◌++◌, length, map, Option, None}
-use Rattle.std.proofs.Common.{Result, Ok, Err, IfErr, IsErrAnd, refl, sym, ap, ◌∙◌, subst, append_assoc, append-nil, length-append}
+use Rattle.std.proofs.Common.{Result, Ok, Err, IfErr, refl, sym, ap, ◌∙◌, append_assoc, append-nil, length-append}
 use Rattle.std.proofs.lemmas.List.{map-append}
-use Rattle.std.proofs.lemmas.Result.{err_from_is_err_and}
 use Rattle.std.proofs.KnownBytes.{Consumes-nil, Consumes-trans}
 use Rattle.std.specs.Io.KnownBytes.{Consumes}
 use Rattle.git_pkt.specs.Engine.{FailsAs, IsShownBy, IsSpent}
 use Rattle.git_pkt.specs.Faults.{IsOpen, last_position}
 use Rattle.git_pkt.specs.Splits.{Given}
 use Rattle.git_pkt.specs.Streams.{Flow, flow, Moves, is_broken}
-use Rattle.git_pkt.specs.declared.fault.Fault.{Fault}
-use Rattle.git_pkt.specs.declared.fault.Kind.TheVariants.{UnexpectedPacket}
 use Rattle.git_pkt.specs.declared.fault.RunFault.{RunFault}
 use Rattle.git_pkt.specs.declared.fault.RunFault.TheVariants.{ReadFault, WriteFault, ReadLimit, Refused}
 use Rattle.git_pkt.specs.Told.{has_ended, has_failed}
@@ -27,7 +24,6 @@ use Rattle.git_msg.specs.declared.requests.Request.{Request}
 use Rattle.git_msg.specs.declared.streams.RequestStream.{RequestStream}
 use Rattle.git_client.specs.Client.{History, Converses, nothing_yet, bytes_used as client_bytes, can_ask, caps_of}
 use Rattle.git_client.specs.Client.{wants_input}
-use Rattle.git_client.specs.Conversation.{IsConversation, HasNoted}
 use Rattle.git_client.specs.Parts.{Terms}
 use Rattle.git_client.specs.RunSteps.{AsksNext, AsksTo, HearsFrom, HearsTo, HearsWhole, no_counts, window_of}
 use Rattle.git_client.specs.Transcript.{transcript_of}
@@ -68,19 +64,14 @@ offered_on t bytes more offer o = record {
 
 -- the same offer of the same bytes
 still_offered : (t : Terms) {bytes all : List ℕ} {offer other : Offer} → other ≡ offer → all ≡ bytes → IsOffered t bytes offer → IsOffered t all other
-still_offered t {bytes} {all} {offer} {other} same grown offered =
-    subst (IsOffered t all) (sym same) (subst (λ (l : List ℕ). IsOffered t l offer) (sym grown) offered)
+still_offered t same grown offered = rw (same, grown) offered
 
 -- the same where perhaps no request was read yet
 known_on : (t : Terms) (bytes more all : List ℕ) (offer : Offer) (found : Found) → all ≡ bytes ++ more → IsOffered t bytes offer ⊎ AreUnread found
     → IsOffered t all offer ⊎ AreUnread found
 known_on t bytes more all offer found grown (inl offered) =
-    inl (subst (λ (l : List ℕ). IsOffered t l offer) (sym grown) (offered_on t bytes more offer offered))
+    inl (rw grown (offered_on t bytes more offer offered))
 known_on t bytes more all offer found grown (inr unread) = inr unread
-
--- a byte is left over at this place
-abbrev the_fault : ℕ → Fault
-the_fault at = record { kind = UnexpectedPacket; offset = at }
 
 -- before the first request: nothing
 abbrev nothing_found : Found
@@ -123,100 +114,94 @@ module _ {A : Type 0} (t : Terms) where
       pub offered : IsOffered t h.used (offer_of stream)
       pub ready : can_ask client ≡ true
 
-    -- ---- the requests
+module _ {A : Type 0} {t : Terms} {limit : ℕ} where
+  -- ---- the requests
 
-    -- they were read on
-    reads_on : {asked more : List Asked} {old new : RequestStream A} {waiting unused : List ℕ} {before held after : Option (List ℕ)}
-        → Reading asked old waiting (flow before held) → ReadsOn old new more waiting unused (flow held after)
-        → Reading (asked ++ more) new unused (flow before after)
-    reads_on {asked} {more} {old} {new} {waiting} {unused} {before} {held} {after} r step = record {
-      used = r.used ++ step.used;
-      has_read = step.reads r.used asked r.has_read;
-      read = read_on before held after r.used waiting step.came step.used unused r.read step.read step.parts;
-      limit_is = step.limit ∙ r.limit_is;
-    }
+  -- they were read on
+  reads_on : {asked more : List Asked} {old new : RequestStream A} {waiting unused : List ℕ} {before held after : Option (List ℕ)}
+      → Reading t limit asked old waiting (flow before held) → ReadsOn old new more waiting unused (flow held after)
+      → Reading t limit (asked ++ more) new unused (flow before after)
+  reads_on {asked} {waiting = waiting} {unused} {before} {held} {after} r step = record {
+    used = r.used ++ step.used;
+    has_read = step.reads r.used asked r.has_read;
+    read = read_on before held after r.used waiting step.came step.used unused r.read step.read step.parts;
+    limit_is = step.limit ∙ r.limit_is;
+  }
 
-    -- they were read on, but no request was whole
-    reads_none : {asked : List Asked} {old new : RequestStream A} {waiting unused : List ℕ} {before held after : Option (List ℕ)}
-        → Reading asked old waiting (flow before held) → ReadsOn old new [] waiting unused (flow held after) → Reading asked new unused (flow before after)
-    reads_none {asked} {old} {new} {waiting} {unused} {before} {held} {after} r step =
-        subst (λ (qs : List Asked). Reading qs new unused (flow before after)) (append-nil asked) (reads_on r step)
-
+  module _ {asked : List Asked} {stream : RequestStream A} {waiting : List ℕ} {requests : Flow} (r : Reading t limit asked stream waiting requests)
+      (left : List Given) (rest : List ℕ) where
     -- what is found in them, where this comes after the last whole request
-    abbrev found_in : {asked : List Asked} {stream : RequestStream A} {waiting : List ℕ} {requests : Flow} → Reading asked stream waiting requests
-        → List Given → List ℕ → Found
-    found_in {asked} {stream} {waiting} r left rest = record { used = r.used; unused = waiting; asked = asked; left = left; rest = rest }
+    abbrev found_in : Found
+    found_in = record { used = r.used; unused = waiting; asked = asked; left = left; rest = rest }
 
     -- that is what the requests ask within this limit
-    asks_within : {asked : List Asked} {stream : RequestStream A} {waiting : List ℕ} {requests : Flow} (r : Reading asked stream waiting requests)
-        (left : List Given) (rest : List ℕ) → AreAsked (offer_of stream) (limit_of stream) r.used asked left rest
-        → AreAsked (offer_of stream) limit r.used asked left rest
-    asks_within {asked} {stream} r left rest are_asked =
-        subst (λ (l : ℕ). AreAsked (offer_of stream) l r.used asked left rest) r.limit_is are_asked
+    asks_within : AreAsked (offer_of stream) (limit_of stream) r.used asked left rest → AreAsked (offer_of stream) limit r.used asked left rest
+    asks_within are_asked = rw r.limit_is at are_asked
 
-    -- a request takes the reader a byte on, or more
-    pub comes_nearer : {asked : List Asked} {old new : RequestStream A} {request : Request A} {ended : Bool} {waiting unused : List ℕ}
-        {before held after : Option (List ℕ)} → Reading asked old waiting (flow before held)
-        → ReadsRequest ended old new request waiting unused (flow held after) → last_position - bytes_used new < last_position - bytes_used old
-    comes_nearer {asked} r step =
-        let on = step.reads.reads r.used asked r.has_read in
-        omega (arith, step.some, r.has_read.reads.position, on.reads.position, on.reads.within, length-append r.used step.reads.used)
+  -- a request takes the reader a byte on, or more
+  pub comes_nearer : {asked : List Asked} {old new : RequestStream A} {request : Request A} {ended : Bool} {waiting unused : List ℕ}
+      {before held after : Option (List ℕ)} → Reading t limit asked old waiting (flow before held)
+      → ReadsRequest ended old new request waiting unused (flow held after) → last_position - bytes_used new < last_position - bytes_used old
+  comes_nearer {asked} r step =
+      let on = step.reads.reads r.used asked r.has_read in
+      omega (arith, step.some, r.has_read.reads.position, on.reads.position, on.reads.within, length-append r.used step.reads.used)
 
-    -- ---- the client
+  -- ---- the client
 
-    -- before the first byte
-    pub advertisement_due : (client : Client A) (offer : Offer) (requests responses out : Option (List ℕ)) → wants_input client ≡ true
-        → Converses t nothing_yet client → Awaiting false [] client [] (flow requests requests) (flow responses responses) (flow out out)
-    advertisement_due client offer requests responses out due stands = record {
-      found = nothing_found;
-      offer = offer;
-      h = nothing_yet;
-      runs = begins t client responses None None out None None due stands tt;
-      read = Consumes-nil requests;
-      asks = none_asked offer limit;
-      asked = refl;
-      nothing_left = refl;
-      no_rest = refl;
-      offered = inr (record { nothing_used = refl; nothing_waits = refl });
-    }
+  -- before the first byte
+  pub advertisement_due : (client : Client A) (offer : Offer) (requests responses out : Option (List ℕ)) → wants_input client ≡ true
+      → Converses t nothing_yet client → Awaiting t limit false [] client [] (flow requests requests) (flow responses responses) (flow out out)
+  advertisement_due client offer requests responses out due stands = record {
+    found = nothing_found;
+    offer = offer;
+    h = nothing_yet;
+    runs = begins t client responses None None out None None due stands tt;
+    read = Consumes-nil requests;
+    asks = none_asked offer limit;
+    asked = refl;
+    nothing_left = refl;
+    no_rest = refl;
+    offered = inr (record { nothing_used = refl; nothing_waits = refl });
+  }
 
-    -- the advertisement was received whole, and a reader of requests was made of what it offers
-    pub advertised : (old new : Client A) (stream : RequestStream A) (window : Window) (piece : List ℕ) {requests : Option (List ℕ)}
-        {before held after out_before out_held out_after : Option (List ℕ)}
-        → Awaiting false [] old [] (flow requests requests) (flow before held) (flow out_before out_held)
-        → wants_input old ≡ true → HearsWhole window old new [] piece (flow held after) (flow out_held out_after) silent silent
-        → HasRead [] [] stream → offer_of stream ≡ noted_offer (caps_of new) t.format → limit_of stream ≡ limit
-        → Checking new stream [] (window_of window piece) (flow requests requests) (flow before after) (flow out_before out_after)
-    advertised old new stream window piece {requests} a due heard reads offers kept =
-        let on = hears_whole t [] old new [] window piece a.runs due heard in
-        let stands = on.along.stands in
-        let now : History = record a.h { used = a.h.used ++ heard.hears.used; events = a.h.events ++ heard.hears.bytes.events } in
-        record {
-          front = [];
-          h = now;
-          runs = on;
-          reading = record { used = []; has_read = reads; read = Consumes-nil requests; limit_is = kept };
-          offered = record {
-            advertised = now.used;
-            more = [];
-            events = now.events;
-            caps = caps_of new;
-            cut = sym (append-nil now.used);
-            whole = subst (λ (asked : List Asked). IsConversation t asked now.used now.events) on.in_turn.are (is_whole t now new stands heard.can_ask_on);
-            noted = subst (λ (asked : List Asked). HasNoted t asked now.used (caps_of new)) on.in_turn.are (has_noted t now new stands);
-            offers = offers;
-          };
-          ready = heard.can_ask_on;
-        }
+  -- the advertisement was received whole, and a reader of requests was made of what it offers
+  pub advertised : {old new : Client A} {stream : RequestStream A} {window : Window} {piece : List ℕ} {requests : Option (List ℕ)}
+      {before held after out_before out_held out_after : Option (List ℕ)}
+      → Awaiting t limit false [] old [] (flow requests requests) (flow before held) (flow out_before out_held)
+      → wants_input old ≡ true → HearsWhole window old new [] piece (flow held after) (flow out_held out_after) silent silent
+      → HasRead [] [] stream → offer_of stream ≡ noted_offer (caps_of new) t.format → limit_of stream ≡ limit
+      → Checking t limit new stream [] (window_of window piece) (flow requests requests) (flow before after) (flow out_before out_after)
+  advertised {old} {new} {window = window} {piece} {requests} a due heard reads offers kept =
+      let on = hears_whole t [] old new [] window piece a.runs due heard in
+      let stands = on.along.stands in
+      let now : History = record a.h { used = a.h.used ++ heard.hears.used; events = a.h.events ++ heard.hears.bytes.events } in
+      record {
+        front = [];
+        h = now;
+        runs = on;
+        reading = record { used = []; has_read = reads; read = Consumes-nil requests; limit_is = kept };
+        offered = record {
+          advertised = now.used;
+          more = [];
+          events = now.events;
+          caps = caps_of new;
+          cut = sym (append-nil now.used);
+          whole = rw on.in_turn.are at (is_whole t now new stands heard.can_ask_on);
+          noted = rw on.in_turn.are at (has_noted t now new stands);
+          offers = offers;
+        };
+        ready = heard.can_ask_on;
+      }
 
-    -- a request was read, and asked, or a write failed while it was
-    pub response_due : (broken : Bool) (old new : Client A) (stream next : RequestStream A) (request : Request A) (ended : Bool)
-        (held later waiting : List ℕ) {responses : Flow} {before left after out_before out_held out_after : Option (List ℕ)}
-        → (c : Checking old stream held waiting (flow before left) responses (flow out_before out_held))
-        → ReadsRequest ended stream next request held later (flow left after)
-        → AsksNext broken old new request silent (flow out_held out_after)
-        → Awaiting broken (c.front ++ request ∷ []) new waiting (flow before after) responses (flow out_before out_after)
-    response_due broken old new stream next request ended held later waiting c step asks =
+  -- a request was read
+  module _ {old : Client A} {stream next : RequestStream A} {request : Request A} {ended : Bool} {held later waiting : List ℕ} {responses : Flow}
+      {before left after out_before out_held : Option (List ℕ)}
+      (c : Checking t limit old stream held waiting (flow before left) responses (flow out_before out_held))
+      (step : ReadsRequest ended stream next request held later (flow left after)) where
+    -- and asked, or a write failed while it was
+    pub response_due : {broken : Bool} {new : Client A} {out_after : Option (List ℕ)} → AsksNext broken old new request silent (flow out_held out_after)
+        → Awaiting t limit broken (c.front ++ request ∷ []) new waiting (flow before after) responses (flow out_before out_after)
+    response_due {broken} {new} asks =
         let asked = map asked_of c.front ++ asked_of request ∷ [] in
         let reading = reads_on c.reading step.reads in
         let (left, rest, are_asked, (nothing, none)) = step.alone reading.used asked reading.has_read in
@@ -233,29 +218,23 @@ module _ {A : Type 0} (t : Terms) where
           offered = inl (still_offered t step.reads.offer refl c.offered);
         }
 
-    -- a request was read and asked, and the response to it was received whole
-    pub response_heard : (old middle new : Client A) (stream next : RequestStream A) (request : Request A) (ended : Bool)
-        (held later waiting : List ℕ) (window : Window) (piece : List ℕ)
-        {before left after heard_before heard heard_after out_before out_held out_asked out_after : Option (List ℕ)}
-        → Checking old stream held waiting (flow before left) (flow heard_before heard) (flow out_before out_held)
-        → ReadsRequest ended stream next request held later (flow left after)
-        → AsksNext false old middle request silent (flow out_held out_asked)
-        → wants_input middle ≡ true → HearsWhole window middle new waiting piece (flow heard heard_after) (flow out_asked out_after) silent silent
-        → Checking new next later (window_of window piece) (flow before after) (flow heard_before heard_after) (flow out_before out_after)
-    response_heard old middle new stream next request ended held later waiting window piece {before} {left} {after} c step asks due heard =
-        record {
-          front = c.front ++ request ∷ [];
-          h = _;
-          runs =
-              hears_whole t (c.front ++ request ∷ []) middle new waiting window piece
-              (asks_on t false c.front old middle request no_counts waiting c.runs c.ready asks) due heard;
-          reading =
-              subst (λ (asks : List Asked). Reading asks next later (flow before after)) (sym (map-append asked_of c.front (request ∷ [])))
-              (reads_on c.reading step.reads);
-          offered =
-              still_offered t step.reads.offer refl (offered_on t c.h.used heard.hears.used (offer_of stream) c.offered);
-          ready = heard.can_ask_on;
-        }
+  -- a request was read and asked, and the response to it was received whole
+  pub response_heard : {old middle new : Client A} {stream next : RequestStream A} {request : Request A} {ended : Bool}
+      {held later waiting : List ℕ} {window : Window} {piece : List ℕ}
+      {before left after heard_before heard heard_after out_before out_held out_asked out_after : Option (List ℕ)}
+      → Checking t limit old stream held waiting (flow before left) (flow heard_before heard) (flow out_before out_held)
+      → ReadsRequest ended stream next request held later (flow left after) → AsksNext false old middle request silent (flow out_held out_asked)
+      → wants_input middle ≡ true → HearsWhole window middle new waiting piece (flow heard heard_after) (flow out_asked out_after) silent silent
+      → Checking t limit new next later (window_of window piece) (flow before after) (flow heard_before heard_after) (flow out_before out_after)
+  response_heard {old} {middle} {new} {stream} {request = request} {waiting = waiting} {window = window} {piece} c step asks due heard = record {
+    front = c.front ++ request ∷ [];
+    h = _;
+    runs = hears_whole t (c.front ++ request ∷ []) middle new waiting window piece
+        (asks_on t false c.front old middle request no_counts waiting c.runs c.ready asks) due heard;
+    reading = rw (map-append asked_of c.front (request ∷ [])) (reads_on c.reading step.reads);
+    offered = still_offered t step.reads.offer refl (offered_on t c.h.used heard.hears.used (offer_of stream) c.offered);
+    ready = heard.can_ask_on;
+  }
 
 -- ---- how a check ends
 
@@ -265,13 +244,6 @@ module _ (A : Type 0) (t : Terms) (limit : ℕ) {Q R : Type 0} (of_requests : To
   CheckEnds result requests responses out =
       Moves (is_broken (run_result result)) (Checked A t limit result (standing_of of_requests) (standing_of of_responses))
       (requests ∷ responses ∷ []) (out ∷ [])
-
-  -- what a `?` answers is the fault that it met
-  pub ends_at : (result : Result (Unit {0}) CheckFault) (fault : CheckFault) (requests responses out : Flow) → IsErrAnd result (λ e. e ≡ fault)
-      → CheckEnds (Err fault) requests responses out → CheckEnds result requests responses out
-  ends_at result fault requests responses out met ends =
-      let (e, is, same) = err_from_is_err_and result met in
-      subst (λ (r : Result (Unit {0}) CheckFault). CheckEnds r requests responses out) (sym (is ∙ ap Err same)) ends
 
   -- what the run of the client and the requests mean for a check that ends here
   ends : (result : Result (Unit {0}) CheckFault) (found : Found) (offer : Offer) (h : History) (front : List (Request A)) (client : Client A)
@@ -302,7 +274,7 @@ module _ (A : Type 0) (t : Terms) (limit : ℕ) {Q R : Type 0} (of_requests : To
 
   -- ---- a response, or the advertisement, is due
 
-  module _ (front : List (Request A)) (old new : Client A) (waiting : List ℕ) {requests : Flow}
+  module _ {front : List (Request A)} {old : Client A} (new : Client A) {waiting : List ℕ} {requests : Flow}
       {before held out_before out_held : Option (List ℕ)} (after out_after : Option (List ℕ))
       (a : Awaiting t limit false front old waiting requests (flow before held) (flow out_before out_held)) (due : wants_input old ≡ true) where
     -- all that came of it was received, and then this was reported
@@ -336,24 +308,24 @@ module _ (A : Type 0) (t : Terms) (limit : ℕ) {Q R : Type 0} (of_requests : To
   -- ---- a request was not asked
 
   -- the client refuses it, or a write failed
-  pub asking_stopped : (fault : RunFault) (old new : Client A) (stream next : RequestStream A) (request : Request A) (ended : Bool)
-      (held later waiting : List ℕ) {responses : Flow} {before left after out_before out_held : Option (List ℕ)} (out_after : Option (List ℕ))
+  pub asking_stopped : (fault : RunFault) {old : Client A} (new : Client A) {stream next : RequestStream A} {request : Request A} {ended : Bool}
+      {held later waiting : List ℕ} {responses : Flow} {before left after out_before out_held : Option (List ℕ)} (out_after : Option (List ℕ))
       → Checking t limit old stream held waiting (flow before left) responses (flow out_before out_held)
       → ReadsRequest ended stream next request held later (flow left after)
       → AsksTo (Err fault) old new request silent (flow out_held out_after)
       → CheckEnds (Err (fault_of_responses fault)) (flow before after) responses (flow out_before out_after)
-  asking_stopped ReadFault old new stream next request ended held later waiting out_after c step asks = absurd asks
-  asking_stopped ReadLimit old new stream next request ended held later waiting out_after c step asks = absurd asks
-  asking_stopped WriteFault old new stream next request ended held later waiting out_after c step asks =
-      let a = response_due t limit true old new stream next request ended held later waiting c step asks in
+  asking_stopped ReadFault new out_after c step asks = absurd asks
+  asking_stopped ReadLimit new out_after c step asks = absurd asks
+  asking_stopped WriteFault new {request = request} {waiting = waiting} out_after c step asks =
+      let a = response_due c step asks in
       ends (Err CheckWriteFault) a.found a.offer a.h (c.front ++ request ∷ []) new waiting _ _ _ a.read (ran a.runs) a.offered a.asks
       (record { asked = a.asked ∙ sym a.runs.in_turn.are; nothing_left = a.nothing_left; no_rest = a.no_rest })
-  asking_stopped (Refused fault) old new stream next request ended held later waiting out_after c step asks =
+  asking_stopped (Refused fault) {old} new {next = next} {request} {waiting = waiting} out_after c step asks =
       let asked = map asked_of c.front ++ asked_of request ∷ [] in
-      let reading = reads_on t limit c.reading step.reads in
+      let reading = reads_on c.reading step.reads in
       let (remaining, rest, are_asked, (nothing, none)) = step.alone reading.used asked reading.has_read in
-      ends (Err (Responses fault)) (found_in t limit reading remaining rest) (offer_of next) c.h c.front old waiting _ _ _ reading.read
-      (ran_unasked t c.runs asks) (inl (still_offered t step.reads.offer refl c.offered)) (asks_within t limit reading remaining rest are_asked)
+      ends (Err (Responses fault)) (found_in reading remaining rest) (offer_of next) c.h c.front old waiting _ _ _ reading.read
+      (ran_unasked t c.runs asks) (inl (still_offered t step.reads.offer refl c.offered)) (asks_within reading remaining rest are_asked)
       (inr (inl (record {
         request = request;
         format = step.format;
@@ -365,7 +337,8 @@ module _ (A : Type 0) (t : Terms) (limit : ℕ) {Q R : Type 0} (of_requests : To
 
   -- ---- no further request was read
 
-  module _ (client : Client A) (stream next : RequestStream A) (held waiting : List ℕ) {before left heard_before heard : Option (List ℕ)} {out : Flow}
+  module _ {client : Client A} {stream : RequestStream A} (next : RequestStream A) {held waiting : List ℕ} {before left heard_before heard : Option (List ℕ)}
+      {out : Flow}
       (after : Option (List ℕ)) (c : Checking t limit client stream held waiting (flow before left) (flow heard_before heard) out) where
     -- what is found in the requests: those that were asked, and this after them
     abbrev found_after : (used unused : List ℕ) → List Given → List ℕ → Found
@@ -382,14 +355,15 @@ module _ (A : Type 0) (t : Terms) (limit : ℕ) {Q R : Type 0} (of_requests : To
     told_then result sound came heard_after read unused step Stands asking ended =
         let h = c.h in
         let at = ran c.runs in
-        let reading = reads_none t limit c.reading step in
+        let reading : Reading t limit (map asked_of c.front) next unused (flow before after) =
+        rw (append-nil (map asked_of c.front)) at (reads_on c.reading step) in
         let (remaining, rest, are_asked, stands) = asking reading.used (map asked_of c.front) reading.has_read in
         let so : Ran false t h c.front client (waiting ++ came) (flow heard_before heard_after) silent out silent silent =
-        ran_as at (subst (Consumes heard_before heard_after) (append_assoc h.used waiting came)
-        (Consumes-trans heard_before heard heard_after (h.used ++ waiting) came at.read read)) at.said at.told at.sent at.reported in
+        ran_as at (rw (append_assoc h.used waiting came) at (Consumes-trans heard_before heard heard_after (h.used ++ waiting) came at.read read))
+        at.said at.told at.sent at.reported in
         ends result (found_after reading.used unused remaining rest) (offer_of next) h c.front client (waiting ++ came) _ _ _ reading.read
-        (subst (λ (broken : Bool). Ran broken t h c.front client (waiting ++ came) (flow heard_before heard_after) silent out silent silent) (sym sound) so)
-        (inl (still_offered t step.offer refl c.offered)) (asks_within t limit reading remaining rest are_asked)
+        (rw sound so)
+        (inl (still_offered t step.offer refl c.offered)) (asks_within reading remaining rest are_asked)
         (ended reading.used remaining rest stands (record { asked = sym c.runs.in_turn.are; whole = is_whole t h client at.stands c.ready }))
 
     -- all bytes of the requests were read, and more can come
@@ -403,7 +377,7 @@ module _ (A : Type 0) (t : Terms) (limit : ℕ) {Q R : Type 0} (of_requests : To
         (λ used remaining rest. AreBegun (offer_of next) (limit_of next) remaining × IsOpen rest) step.begun
         (λ used remaining rest (begun, still_open) answered. ended (found_after used [] remaining rest) (record {
           answered = answered;
-          begun = subst (λ (l : ℕ). AreBegun (offer_of next) l remaining) (step.reads.limit ∙ c.reading.limit_is) begun;
+          begun = rw (step.reads.limit ∙ c.reading.limit_is) at begun;
           still_open = still_open;
           all_used = refl;
           can_come = step.can_come;
@@ -420,8 +394,7 @@ module _ (A : Type 0) (t : Terms) (limit : ℕ) {Q R : Type 0} (of_requests : To
         (λ used remaining rest. IsRefusedAs (offer_of next) (limit_of next) remaining rest (length used) fault) step.refused
         (λ used remaining rest refused answered. record {
           answered = answered;
-          refused =
-              subst (λ (l : ℕ). IsRefusedAs (offer_of next) l remaining rest (length used) fault) (step.reads.limit ∙ c.reading.limit_is) refused;
+          refused = rw (step.reads.limit ∙ c.reading.limit_is) at refused;
           timely = step.timely;
           more_can_come = more;
         })
@@ -443,10 +416,6 @@ module _ (A : Type 0) (t : Terms) (limit : ℕ) {Q R : Type 0} (of_requests : To
           (λ used remaining rest. (rest ≡ []) × (IsStop remaining ⊎ ((remaining ≡ []) × (step.unused ≡ []) × (has_ended of_requests ≡ true)))) step.over
           (λ used remaining rest over answered. ended (found_after used step.unused remaining rest) answered over)
 
-      -- nothing waits, and nothing came
-      none_over : waiting ≡ [] → waiting ++ [] ≡ []
-      none_over none = append-nil waiting ∙ none
-
       pub seen_the_end : (result : Result (Unit {0}) CheckFault) (position turns : ℕ) (F W : Type 0) (heard_after : Option (List ℕ))
           → position ≡ client_bytes client → SeesEnd result (has_ended of_responses) position waiting (flow heard heard_after)
           → FailsAs (run_result result) (has_failed of_responses) false
@@ -454,20 +423,22 @@ module _ (A : Type 0) (t : Terms) (limit : ℕ) {Q R : Type 0} (of_requests : To
           → CheckEnds result (flow before after) (flow heard_before heard_after) out
       seen_the_end (Ok done) position turns F W heard_after place (seen, ended) told shown =
           seen_then (Ok done) refl [] heard_after seen.read
-          (λ found answered over. record { answered = answered; over = over; nothing_left = none_over seen.none_waits; ended = ended })
+          (λ found answered over. record { answered = answered; over = over; nothing_left = append-nil waiting ∙ seen.none_waits; ended = ended })
       seen_the_end (Err (Requests fault)) position turns F W heard_after place seen told shown = absurd seen
       seen_the_end (Err (Responses fault)) position turns F W heard_after place (seen, fault_is) told shown =
           seen_then (Err (Responses fault)) refl seen.came heard_after seen.read (λ found answered over. inr (inr (record {
             answered = answered;
             over = over;
             more = seen.some;
-            fault_is =
-                fault_is ∙ ap (λ (at : ℕ). the_fault at) (place ∙ position_is t c.h client c.runs.along.stands);
+            fault_is = rw (place, position_is t c.h client c.runs.along.stands) at fault_is;
           })))
       seen_the_end (Err CheckReadFault) position turns F W heard_after place seen told shown =
           seen_then (Err CheckReadFault) refl [] heard_after seen.read
-          (λ found answered over. inr (inr (record { answered = answered; over = over; nothing_left = none_over seen.none_waits }, told.0)))
+          (λ found answered over. inr (inr (record { answered = answered; over = over; nothing_left = append-nil waiting ∙ seen.none_waits }, told.0)))
       seen_the_end (Err CheckWriteFault) position turns F W heard_after place seen told shown = absurd seen
       seen_the_end (Err CheckReadLimit) position turns F W heard_after place seen told shown =
           seen_then (Err CheckReadLimit) refl [] heard_after seen.read
-          (λ found answered over. inr (inr (record { answered = answered; over = over; nothing_left = none_over seen.none_waits }, shown.open_ended)))
+          (λ found answered over. inr (inr (
+            record { answered = answered; over = over; nothing_left = append-nil waiting ∙ seen.none_waits },
+            shown.open_ended,
+          )))

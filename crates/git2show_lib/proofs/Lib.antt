@@ -6,15 +6,6 @@ pub mod Scripting
 pub mod ScriptReading
 pub mod ScriptLaws
 pub mod RequestsRead
-pub mod Hearing
-pub mod HearingAnswers
-pub mod HearingSessions
-pub mod HearingOffers
-pub mod ValuesRead
-pub mod RequestsHeard
-pub mod SpelledPackets
-pub mod PacksTold
-pub mod PlaysTold
 pub mod PlayFlushes
 pub mod PlayTalks
 pub mod PlayRuns

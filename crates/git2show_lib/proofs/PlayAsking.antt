@@ -1,10 +1,10 @@
 -- What a client owes is sent to a server, one packet after another.
-use Rattle.std.proofs.Common.{◌≡◌, ℕ, false, List, [], ◌++◌, None, sym, ◌∙◌, subst, append_assoc, append-nil, refl}
+use Rattle.std.proofs.Common.{◌≡◌, ℕ, false, List, [], ◌++◌, None, ◌∙◌, append_assoc, append-nil, refl}
 use Rattle.git_pkt.specs.Streams.{Flow, WrittenAs}
 use Rattle.git_msg.specs.Asked.{command_asked}
 use Rattle.git_msg.specs.HeldRequest.{asked_of}
 use Rattle.git_msg.specs.declared.requests.Request.{Request}
-use Rattle.git_client.specs.Client.{Asks, Pulls, SaysOn, TellsSent, can_ask, fault_of, given_by, has_left}
+use Rattle.git_client.specs.Client.{Asks, Pulls, SaysOn, TellsSent, can_ask, fault_of, has_left}
 use Rattle.git_client.specs.Transcript.{asked_line}
 use Rattle.git_client.specs.declared.client.Client.{Client}
 use Rattle.git_client.specs.declared.events.Sent.{Sent}
@@ -12,21 +12,17 @@ use Rattle.git_client.specs.declared.events.Sent.TheVariants.{Packet}
 use Rattle.git_client.proofs.SayingSteps.{asks_whole, gives_no_packet, hears_next, says_nothing, says_then}
 use Rattle.git_server.specs.Repository.{RepoState}
 use Rattle.git_server.specs.declared.server.Server.{Server}
-use Rattle.git2show_lib.specs.PlaySteps.{AsksServer, Stands, StandsOn, TellsAll, silent}
+use Rattle.git2show_lib.specs.PlaySteps.{AsksServer, StandsOn, TellsAll, silent}
 use denote.Ref.{Bor}
 
 module _ {R A : Type 0} (state : R → RepoState) where
   pub stands_still : (server : Server R A) → StandsOn state server [] [] server
-  stands_still server s said given h =
-      subst (λ (l : List ℕ). Stands state s (said ++ []) l server) (sym (append-nil given))
-      (subst (λ (l : List ℕ). Stands state s l given server) (sym (append-nil said)) h)
+  stands_still server s said given h = rw (append-nil given, append-nil said) h
 
   pub stands_then : (old middle new : Server R A) (u v g k : List ℕ) → StandsOn state old u g middle → StandsOn state middle v k new
       → StandsOn state old (u ++ v) (g ++ k) new
   stands_then old middle new u v g k first second s said given h =
-      subst (λ (l : List ℕ). Stands state s (said ++ (u ++ v)) l new) (append_assoc given g k)
-      (subst (λ (l : List ℕ). Stands state s l ((given ++ g) ++ k) new) (append_assoc said u v)
-      (second s (said ++ u) (given ++ g) (first s said given h)))
+      rw (append_assoc given g k, append_assoc said u v) at (second s (said ++ u) (given ++ g) (first s said given h))
 
   -- some of the packets that were owed were sent
   pub record TellsSome (old new : Client A) (server after : Server R A) : Type 0 where
@@ -53,8 +49,8 @@ module _ {R A : Type 0} (state : R → RepoState) where
     pub tells_packet : (after : Server R A) (bytes : Bor (List ℕ)) → sent ≡ Packet bytes → StandsOn state held bytes.now [] after
         → TellsSome old new server after
     tells_packet after bytes is goes =
-        let tells : TellsSent (Packet bytes) middle new = subst (λ (s : Sent). TellsSent s middle new) is pulls.tells in
-        let says : SaysOn middle bytes.now new = subst (λ (s : Sent). SaysOn middle (given_by s) new) is pulls.says in
+        let tells : TellsSent (Packet bytes) middle new = rw is at pulls.tells in
+        let says : SaysOn middle bytes.now new = rw is at pulls.says in
         record {
           given = so_far.given ++ bytes.now;
           says = says_then old middle new so_far.given bytes.now so_far.says says;
@@ -68,7 +64,7 @@ module _ {R A : Type 0} (state : R → RepoState) where
     pub tells_all : ((bytes : Bor (List ℕ)) → sent ≡ Packet bytes → ⊥) → TellsAll state old new server held
     tells_all none =
         let (stays, all) = gives_no_packet sent middle new pulls.tells so_far.not_ready so_far.sound none in
-        subst (λ (client : Client A). TellsAll state old client server held) (sym stays) (record {
+        rw stays (record {
           says = record {
             given = so_far.given;
             written = tt;
@@ -91,5 +87,5 @@ module _ {R A : Type 0} (state : R → RepoState) where
       record {
         asks = step;
         waits = hears_next old middle new request silent asks tells.says;
-        server_goes = subst (λ (l : List ℕ). StandsOn state server l [] after) (sym same) tells.server_goes;
+        server_goes = rw same tells.server_goes;
       }

@@ -1,12 +1,11 @@
 -- Messages end with their flushes, the requests of a client as well as what a server gives.
 use Rattle.std.proofs.Common.{arith, if◌then◌else◌, ◌≡◌, ℕ, ◌+◌, Bool, true, false, map, List, [], ◌∷◌}
-use Rattle.std.proofs.Common.{◌++◌, length, codes, inl, inr, ◌⊎◌, refl, sym, ap, ◌∙◌, subst, append_assoc, append-nil}
+use Rattle.std.proofs.Common.{◌++◌, length, codes, inl, inr, ◌⊎◌, refl, sym, ap, ◌∙◌, append_assoc, append-nil}
 use Rattle.git_names.specs.declared.object_format.Format.{Format}
 use Rattle.git_pkt.specs.Packets.{Pkt, flush, flushes}
 use Rattle.git_pkt.specs.Splits.{Given}
-use Rattle.git_msg.specs.Arguments.{Arg, written_text}
-use Rattle.git_msg.specs.Asked.{Asked, arguments_in, ls_refs, fetch, object_info}
-use Rattle.git_msg.specs.WrittenRequest.{text_line, where_set, agent_line, format_line, argument_lines, argument_part, lines_written}
+use Rattle.git_msg.specs.Asked.{Asked, ls_refs, fetch, object_info}
+use Rattle.git_msg.specs.WrittenRequest.{text_line, agent_line, format_line, lines_written}
 use Rattle.git_msg.specs.declared.offers.Caps.{Caps}
 use Rattle.git_msg.specs.declared.offers.Offer.{Offer}
 use Rattle.git_client.specs.Client.{questions_of}
@@ -20,6 +19,7 @@ use Rattle.git_server.specs.Sessions.{Setting, AreAnswers, advertised}
 use Rattle.git_server.proofs.AtRest.{EndsWithFlush, packets_of}
 use Rattle.git_server.proofs.Flushes.{flushes-append}
 use Rattle.git_server.proofs.OneSession.{line_owes}
+use Rattle.git_both_ends.proofs.RequestsHeard.{lines_clear, lines_end, lines_of}
 use Rattle.git_server.specs.declared.advertisement.AdvertisementLine.TheVariants.{Version}
 
 -- ---- lists whose last packet is a flush
@@ -62,38 +62,21 @@ ends_closed qs (inr h) front back e zero = nothing_behind h.front front back (sy
 
 -- ---- requests
 
-arguments_none : (args : List Arg) → flushes (map (λ arg. text_line (written_text arg)) args) ≡ 0
-arguments_none [] = refl
-arguments_none (arg ∷ args) = arguments_none args
-
-where_set_last : (b : Bool) (p : Pkt) (others : List Pkt) → LastFlush others → LastFlush (where_set b p others)
-where_set_last true p others h = last_more p others h
-where_set_last false p others h = h
-
-arguments_last : (q : Asked) → LastFlush (argument_part q)
-arguments_last q = last_more _ (argument_lines (arguments_in q)) (record { front = map (λ arg. text_line (written_text arg)) (arguments_in q); is = refl })
-
-arguments_once : (q : Asked) → flushes (argument_part q) ≡ 1
-arguments_once q =
-    omega (arith, flushes-append (map (λ arg. text_line (written_text arg)) (arguments_in q)) (flush ∷ []), arguments_none (arguments_in q))
-
-question_last : (agent object_format : Bool) (format : Format) (q : Asked) → LastFlush (lines_written agent object_format format q)
-question_last agent object_format format q =
-    last_more _ (where_set agent agent_line (where_set object_format (format_line format) (argument_part q)))
-    (where_set_last agent agent_line (where_set object_format (format_line format) (argument_part q))
-    (where_set_last object_format (format_line format) (argument_part q) (arguments_last q)))
-
 question_once : (agent object_format : Bool) (format : Format) (q : Asked) → flushes (lines_written agent object_format format q) ≡ 1
-question_once true true format q = arguments_once q
-question_once true false format q = arguments_once q
-question_once false true format q = arguments_once q
-question_once false false format q = arguments_once q
+question_once agent object_format format q =
+    omega (
+      arith,
+      ap flushes (lines_end agent object_format format q),
+      flushes-append (lines_of agent object_format format q) (flush ∷ []),
+      lines_clear agent object_format format q,
+    )
 
 pub questions_close : (format : Format) (caps : Caps) (asked : List Asked) → Closes (questions_of format caps asked)
 questions_close format caps [] = inl refl
 questions_close format caps (q ∷ qs) =
     closes_both (lines_written caps.agent caps.object_format format q) (questions_of format caps qs)
-    (inr (question_last caps.agent caps.object_format format q)) (questions_close format caps qs)
+    (inr (record { front = lines_of caps.agent caps.object_format format q; is = lines_end caps.agent caps.object_format format q }))
+    (questions_close format caps qs)
 
 pub questions_count : (format : Format) (caps : Caps) (asked : List Asked) → flushes (questions_of format caps asked) ≡ length asked
 questions_count format caps [] = refl
@@ -141,18 +124,15 @@ answer_last repo (fetch q) packets h = fetch_last repo q (negotiates q) packets 
 answers_close : (repo : Repository) (asked : List Asked) (packets : List Pkt) → AreAnswers repo asked packets → Closes packets
 answers_close repo [] packets h = inl h
 answers_close repo (q ∷ qs) packets (answer, more, e, is, later) =
-    subst Closes (sym e) (closes_both answer more (inr (answer_last repo q answer is)) (answers_close repo qs more later))
+    rw e (closes_both answer more (inr (answer_last repo q answer is)) (answers_close repo qs more later))
 
 offered_last : (offer : Offer) → LastFlush (advertisement_of offer)
-offered_last offer =
-    let ends : List Pkt = offered_line offer.object_info (codes "object-info") ++ flush ∷ [] in
-    let format : List Pkt = format_line offer.format ∷ ends in
-    let option : List Pkt = offered_line offer.server_option (codes "server-option") ++ format in
-    let last = last_after (offered_line offer.object_info (codes "object-info")) (flush ∷ []) (record { front = []; is = refl }) in
-    last_more (text_line (codes "version 2")) (agent_line ∷ ls_refs_line offer ∷ fetch_line offer ∷ option)
-    (last_more agent_line (ls_refs_line offer ∷ fetch_line offer ∷ option) (last_more (ls_refs_line offer) (fetch_line offer ∷ option)
-    (last_more (fetch_line offer) option
-    (last_after (offered_line offer.server_option (codes "server-option")) format (last_more (format_line offer.format) ends last)))))
+offered_last offer = record {
+  front = text_line (codes "version 2") ∷ agent_line ∷ ls_refs_line offer ∷ fetch_line offer
+      ∷ (offered_line offer.server_option (codes "server-option")
+      ++ format_line offer.format ∷ offered_line offer.object_info (codes "object-info"));
+  is = simp append_assoc;
+}
 
 advertised_close : (b : Bool) (offer : Offer) → Closes (if b then advertisement_of offer else [])
 advertised_close true offer = inr (offered_last offer)
@@ -163,7 +143,7 @@ given_close s asked answers h = closes_both (advertised s) answers (advertised_c
 
 -- an advertisement has one flush
 pub advertises_once : (s : Setting) → s.advertise ≡ true → flushes (advertised s) ≡ 1
-advertises_once s is = subst (λ (b : Bool). flushes (if b then advertisement_of s.offer else []) ≡ 1) (sym is) (line_owes s.offer Version)
+advertises_once s is = rw is (line_owes s.offer Version)
 
 -- ---- packets, the nearest first
 

@@ -1,8 +1,8 @@
 -- A packet received by a client, piece by piece.
 use Rattle.std.proofs.Common.{arith, ◌≡◌, ℕ, ◌+◌, ◌≤◌, Bool, true, false, length, take, min, List, Option}
-use Rattle.std.proofs.Common.{Err, sym, ap, subst, length-drop}
+use Rattle.std.proofs.Common.{Err, ap, length-drop}
 use Rattle.std.proofs.lemmas.List.{length-take, take_min}
-use Rattle.git_pkt.specs.Streams.{Flow, flow}
+use Rattle.git_pkt.specs.Streams.{flow}
 use Rattle.git_pkt.specs.PacketReader.{ShownByFeed}
 use Rattle.git_pkt.specs.declared.fault.Fault.{Fault}
 use Rattle.git_pkt.specs.declared.fault.RunFault.{RunFault}
@@ -18,13 +18,6 @@ use Rattle.git2show_lib.specs.PlaySteps.{silent}
 use Rattle.git2show_lib.proofs.PlayTelling.{next_piece, left_after, piece_joined}
 
 module _ {A : Type 0} where
-  -- no more bytes of a piece were received than it has
-  within_piece : (broken : Bool) (old new : Client A) (counts after : Counts) (piece : List ℕ) (used : ℕ) (out packs : Flow)
-      → HearsBytes broken old new counts after (take used piece) out packs silent
-      → HearsBytes broken old new counts after (take (min used (length piece)) piece) out packs silent
-  within_piece broken old new counts after piece used out packs h =
-      subst (λ (l : List ℕ). HearsBytes broken old new counts after l out packs silent) (sym (take_min used piece)) h
-
   module _ (packet : List ℕ) (done k : ℕ) (within : done ≤ length packet) (old b c : Client A) (counts now after : Counts)
       {out_before out pack_before pack : Option (List ℕ)} (waits : wants_input b ≡ true)
       (so_far : HearsBytes false old b counts now (take done packet) (flow out_before out) (flow pack_before pack) silent) where
@@ -32,8 +25,7 @@ module _ {A : Type 0} where
         → HearsBytes broken b c now after (take u (next_piece packet done k)) (flow out out_after) (flow pack pack_after) silent
         → HearsBytes broken old c counts after (take (done + u) packet) (flow out_before out_after) (flow pack_before pack_after) silent
     heard_on {out_after} {pack_after} broken u few step =
-        subst (λ (l : List ℕ). HearsBytes broken old c counts after l (flow out_before out_after) (flow pack_before pack_after) silent)
-        (piece_joined packet done k u within few) (heard_then (not_ready_where_due (phase_of b) waits) so_far step)
+        rw (piece_joined packet done k u within few) at (heard_then (not_ready_where_due (phase_of b) waits) so_far step)
 
     -- a fault that a piece shows is one that the packet shows
     shown_on : (fault : Fault) (u : ℕ) → ShownByFeed fault u (next_piece packet done k)
@@ -57,12 +49,12 @@ module _ {A : Type 0} where
     hearing_stopped out_after pack_after ReadLimit step = absurd step
     hearing_stopped out_after pack_after WriteFault step = record {
       used = done + min step.used (length (next_piece packet done k));
-      hears = heard_on true (min step.used (length (next_piece packet done k))) (omega arith) (within_piece true b c now after _ step.used _ _ step.hears);
+      hears = heard_on true (min step.used (length (next_piece packet done k))) (omega arith) (rw (take_min step.used (next_piece packet done k)) step.hears);
       shown = λ fault failed. shown_on fault step.used (step.shown fault failed);
     }
     hearing_stopped out_after pack_after (Refused fault) step = record {
       used = done + min step.used (length (next_piece packet done k));
-      hears = heard_on false (min step.used (length (next_piece packet done k))) (omega arith) (within_piece false b c now after _ step.used _ _ step.hears);
+      hears = heard_on false (min step.used (length (next_piece packet done k))) (omega arith) (rw (take_min step.used (next_piece packet done k)) step.hears);
       told = step.told;
       shown = shown_on fault step.used step.shown;
     }

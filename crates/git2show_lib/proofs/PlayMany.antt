@@ -1,11 +1,10 @@
 -- A play in which each request is answered by a server of its own.
-use Rattle.std.proofs.Common.{arith, ◌≡◌, ℕ, Bool, true, false, flat_map, List, [], ◌∷◌, ◌++◌, Option, Some, None}
-use Rattle.std.proofs.Common.{Ok, Err, refl, sym, ap, ◌∙◌, subst, append_assoc, append-nil, length-append}
+use Rattle.std.proofs.Common.{arith, ◌≡◌, ℕ, Bool, true, false, List, [], ◌∷◌, ◌++◌, Option, Some, None}
+use Rattle.std.proofs.Common.{Ok, Err, refl, sym, ap, ◌∙◌, append_assoc, append-nil, length-append}
 use Rattle.std.proofs.lemmas.Grind.{flat_map-append}
 use Rattle.std.proofs.lemmas.List.{map-append}
 use Rattle.std.proofs.lemmas.List.Elements.{All-append, All-cons, All-nil}
 use Rattle.git_names.specs.Digits.{lower_digit}
-use Rattle.git_names.specs.declared.object_format.Format.{Format}
 use Rattle.git_pkt.specs.Packets.{Pkt, resp_end}
 use Rattle.git_pkt.specs.Streams.{flow}
 use Rattle.git_pkt.specs.declared.fault.RunFault.{RunFault}
@@ -21,19 +20,18 @@ use Rattle.git_client.specs.Parts.{Terms, terms_of}
 use Rattle.git_client.specs.RunSteps.{no_counts}
 use Rattle.git_client.specs.Runs.{leaves_last}
 use Rattle.git_client.specs.declared.client.Client.{Client}
-use Rattle.git_client.specs.declared.events.Ending.{Ending}
 use Rattle.git_client.specs.declared.events.Ending.TheVariants.{FlushOnly, ResponseEnd}
 use Rattle.git_client.proofs.ClientRuns.{asks_on, quietly_said, ran}
 use Rattle.git_client.proofs.EventsHeard.{has_noted, is_whole}
 use Rattle.git_client.proofs.Notes.{noted_same}
 use Rattle.git_client.proofs.Phases.{quiet_where_due, quiet_where_ready}
-use Rattle.git_server.specs.Repository.{RepoState, Repository}
+use Rattle.git_server.specs.Repository.{RepoState}
 use Rattle.git_server.specs.Server.{repo_of, wants_input as waits_for_input}
 use Rattle.git_server.specs.Sessions.{Setting, IsAnswered}
 use Rattle.git_server.specs.declared.server.Server.{Server}
 use Rattle.git_server.proofs.Going.{no_outcome}
 use Rattle.git2show_lib.specs.PlaySteps.{Answers, AnswersTo, AsksServer, HearsMessage, Settled, Stands}
-use Rattle.git2show_lib.specs.Plays.{AreAll, AreSaid, AreWholeSessions, CanFail, IsDone, IsTalk, Talk, said_each, setting_of, with_end}
+use Rattle.git_both_ends.specs.Plays.{AreAll, AreSaid, CanFail, IsDone, IsTalk, Talk, said_each, setting_of, with_end}
 use Rattle.git2show_lib.proofs.PlayFlushes.{questions_close, questions_count}
 use Rattle.git2show_lib.proofs.PlayRuns.{PlayEnds, Plays, Runs, Turn, answer_stopped, begun, first_turn, given_is, heard, now_whole, play_ends, settled, waits}
 use Rattle.git2show_lib.proofs.PlayTalks.{spelled-append, talk_of}
@@ -46,14 +44,14 @@ end_is : end_bytes ≡ spelled (resp_end ∷ [])
 unfolding lower_digit
 end_is = refl
 
--- a server's repository is as it was at the beginning
-pub record KeepsRepo {R A : Type 0} (state : R → RepoState) (s0 : RepoState) (server : Server R A) : Type 0 where
+-- the repository of the last server is as it was at the beginning, so it can be handed on
+pub record KeepsRepo {R A : Type 0} (state : R → RepoState) (s0 : RepoState) (h : History) (server : Server R A) : Type 0 where
   pub answers : (state (repo_of server)).answers ≡ s0.answers
   pub failures : (state (repo_of server)).failures ≡ s0.failures
 
 -- a server that waits has failed at nothing
-keeps_repo : {R A : Type 0} (state : R → RepoState) (t : Terms) (limit : ℕ) (s0 : RepoState) {advertise : Bool} {said given : List ℕ} (server : Server R A)
-    → Settled state (setting_of t limit s0 advertise) said given server → waits_for_input server ≡ true → KeepsRepo state s0 server
+keeps_repo : {R A : Type 0} (state : R → RepoState) (t : Terms) (limit : ℕ) (s0 : RepoState) {h : History} {advertise : Bool} {said given : List ℕ}
+    (server : Server R A) → Settled state (setting_of t limit s0 advertise) said given server → waits_for_input server ≡ true → KeepsRepo state s0 h server
 keeps_repo state t limit s0 server st waits =
     let none = no_outcome server.phase waits in
     record {
@@ -89,51 +87,38 @@ module _ {A : Type 0} (t : Terms) (h : History) (old new : Client A) (request : 
       let second = questions_of t.format (caps_of old) (q ∷ []) in
       let all : h.given ++ u ≡ spelled first ++ spelled second =
       given_is t now new after (quiet_where_due (phase_of new) due)
-      ∙ ap (λ (c : Caps). spelled (questions_of t.format c (h.asked ++ q ∷ []))) same_caps
-      ∙ ap spelled (flat_map-append (lines_written (caps_of old).agent (caps_of old).object_format t.format) h.asked (q ∷ []))
-      ∙ spelled-append first second in
-      (append_cancel_length h.given h.given u (spelled second) refl (all ∙ ap (λ (l : List ℕ). l ++ spelled second) (sym before))).1
+      ∙ rw (same_caps, flat_map-append (lines_written (caps_of old).agent (caps_of old).object_format t.format) h.asked (q ∷ [])) (spelled-append first second)
+      in
+      (append_cancel_length h.given h.given u (spelled second) refl (all ∙ rw before refl)).1
 
 module _ {R A : Type 0} (state : R → RepoState) (t : Terms) (limit : ℕ) (s0 : RepoState) where
-  -- the last server can hand its repository on
-  abbrev pub Kept : History → Server R A → Type 0
-  Kept h server = KeepsRepo state s0 server
-
   -- the next server of the same repository
-  pub next_server : (server new : Server R A) {repo : R} → t.format ≡ s0.answers.format → KeepsRepo state s0 server → repo ≡ repo_of server
+  pub next_server : {h : History} (server new : Server R A) {repo : R} → t.format ≡ s0.answers.format → KeepsRepo state s0 h server → repo ≡ repo_of server
       → Stands state (setting_of (terms_of (state repo).answers.format FlushOnly) limit (state repo) false) [] [] new
       → Stands state (setting_of t limit s0 false) [] [] new
   next_server server new {repo} format keeps same st =
-      subst (λ (f : Format). Stands state (setting_of (terms_of f FlushOnly) limit s0 false) [] [] new) (sym format)
-      (subst (λ (n : ℕ). Stands state (setting_of (terms_of s0.answers.format FlushOnly) limit (record { answers = s0.answers; failures = n }) false) [] []
-      new) (ap (λ (r : R). (state r).failures) same ∙ keeps.failures)
-      (subst (λ (r : Repository). Stands state (setting_of (terms_of r.format FlushOnly) limit
-      (record { answers = r; failures = (state repo).failures }) false) [] [] new) (ap (λ (r : R). (state r).answers) same ∙ keeps.answers) st))
+      rw format (rw (same, keeps.answers, keeps.failures) at st)
 
-  module _ {advertise : Bool} {before tail : List Pkt} {said : List ℕ} {h : History} {server : Server R A}
-      (turn : Turn state t limit s0 advertise before tail said h server) (front : List (Request A)) (old new : Client A) (after : Server R A)
-      {o0 o1 o2 p0 p1 p2 : Option (List ℕ)} (due : wants_input old ≡ true) (r : Runs t false h front old no_counts (flow o0 o1) (flow p0 p1))
-      (step : HearsMessage state (spelled tail) old new server after (flow o1 o2) (flow p1 p2)) where
-    heard_kept : Plays state t limit s0 Kept front new after (flow o0 o2) (flow p0 p2)
-    heard_kept =
-        let hears = step.hears in
-        let whole = now_whole state t limit s0 turn front old new after due r step in
-        heard state t limit s0 turn front old new after due r step {StandsBy = Kept}
-        (keeps_repo state t limit s0 after
-        (settled state t limit s0 turn after hears.given hears.used step.unheard hears.server_goes hears.parts)
-        (waits state t limit s0 turn after hears.given hears.used step.unheard hears.server_goes hears.parts (h.events ++ hears.heard.events) whole))
+module _ {R A : Type 0} {state : R → RepoState} {t : Terms} {limit : ℕ} {s0 : RepoState} where
+  heard_kept : {advertise : Bool} {before tail : List Pkt} {said : List ℕ} {h : History} {server after : Server R A} {front : List (Request A)}
+      {old new : Client A} {o0 o1 o2 p0 p1 p2 : Option (List ℕ)} → Turn state t limit s0 advertise before tail said h server → wants_input old ≡ true
+      → Runs t false h front old no_counts (flow o0 o1) (flow p0 p1) → HearsMessage state (spelled tail) old new server after (flow o1 o2) (flow p1 p2)
+      → Plays state t limit s0 (KeepsRepo state s0) front new after (flow o0 o2) (flow p0 p2)
+  heard_kept {after = after} turn due r step =
+      heard turn due r step {StandsBy = KeepsRepo state s0}
+      (keeps_repo state t limit s0 after (settled turn step.hears) (waits turn step.hears (now_whole turn due r step)))
 
-  pub advertised_many : (old new : Client A) (server after : Server R A) {o1 o2 p1 p2 : Option (List ℕ)} → wants_input old ≡ true
+  pub advertised_many : {old new : Client A} {server after : Server R A} {o1 o2 p1 p2 : Option (List ℕ)} → wants_input old ≡ true
       → Converses t nothing_yet old → Stands state (setting_of t limit s0 true) [] [] server
-      → HearsMessage state [] old new server after (flow o1 o2) (flow p1 p2) → Plays state t limit s0 Kept [] new after (flow o1 o2) (flow p1 p2)
-  advertised_many old new server after {o1} {o2} {p1} {p2} due stands st step =
-      heard_kept (first_turn state t limit s0 server st) [] old new after due (begun t old o1 p1 due stands) step
+      → HearsMessage state [] old new server after (flow o1 o2) (flow p1 p2)
+      → Plays state t limit s0 (KeepsRepo state s0) [] new after (flow o1 o2) (flow p1 p2)
+  advertised_many {old} {server = server} {o1 = o1} {p1 = p1} due stands st step =
+      heard_kept (first_turn server st) due (begun t old o1 p1 due stands) step
 
   module _ {front : List (Request A)} {old : Client A} {server : Server R A} {o0 o1 p0 p1 : Option (List ℕ)}
-      (p : Plays state t limit s0 Kept front old server (flow o0 o1) (flow p0 p1)) (ending : t.ending ≡ ResponseEnd) where
+      (p : Plays state t limit s0 (KeepsRepo state s0) front old server (flow o0 o1) (flow p0 p1)) (ending : t.ending ≡ ResponseEnd) where
     sessions_said : (caps : Caps) → HasNoted t p.h.asked p.h.used caps → AreSaid ResponseEnd p.rest.first p.rest.later p.h.given (said_each t caps p.h.asked)
-    sessions_said caps noted =
-        subst (λ (e : Ending). AreSaid e p.rest.first p.rest.later p.h.given (said_each t caps p.h.asked)) ending (p.rest.said caps noted)
+    sessions_said caps noted = rw ending at (p.rest.said caps noted)
 
     -- a request was asked of the next server
     pub next_turn : (request : Request A) (new : Client A) (next told : Server R A) {o2 : Option (List ℕ)}
@@ -166,48 +151,40 @@ module _ {R A : Type 0} (state : R → RepoState) (t : Terms) (limit : ℕ) (s0 
           later = λ all. later ++ talk_of question all ∷ [];
           all_said = λ all caps x has.
               let same = noted_same t h.asked h.used h.events whole (q ∷ []) (h.asked ++ q ∷ []) x (h.used ++ x) caps (caps_of old) refl refl has noted in
-              subst (λ (e : Ending). AreSaid e first (later ++ talk_of question all ∷ []) (h.given ++ question) (said_each t caps (h.asked ++ q ∷ [])))
-              (sym ending) (
+              rw ending (
                 (sessions_said (caps_of old) noted).0,
-                map-append (λ (talk : Talk). talk.said) later (talk_of question all ∷ [])
-                    ∙ ap (λ (l : List (List ℕ)). l ++ question ∷ []) (sessions_said (caps_of old) noted).1
-                    ∙ ap (λ (b : List ℕ). said_each t (caps_of old) h.asked ++ b ∷ []) is
-                    ∙ sym (map-append (λ (a : Asked). spelled (questions_of t.format (caps_of old) (a ∷ []))) h.asked (q ∷ []))
-                    ∙ ap (λ (c : Caps). said_each t c (h.asked ++ q ∷ [])) (sym same),
+                rw (map-append (λ (talk : Talk). talk.said) later (talk_of question all ∷ []), (sessions_said (caps_of old) noted).1, is, same)
+                    (sym (map-append (λ (a : Asked). spelled (questions_of t.format (caps_of old) (a ∷ []))) h.asked (q ∷ []))),
               );
           gave = λ all.
-              let end = all ++ spelled (resp_end ∷ []) in
-              ap (λ (l : List ℕ). l ++ end) (sym p.rest.packets_are ∙ p.rest.gave) ∙ append_assoc first.given (flat_map with_end later) end
-              ∙ ap (λ (l : List ℕ). first.given ++ l) (ap (λ (l : List ℕ). flat_map with_end later ++ l) (sym (append-nil end))
-              ∙ sym (flat_map-append with_end later (talk_of question all ∷ [])));
+              rw (sym p.rest.packets_are ∙ p.rest.gave, flat_map-append with_end later (talk_of question all ∷ [])) (simp (append_assoc, append-nil));
           talks = λ all. with_one (IsTalk (CanFail state s0.failures)) t limit s0 first later (talk_of question all) p.rest.talks;
           done = λ all. with_one (IsDone (CanFail state s0.failures)) t limit s0 first later (talk_of question all) p.rest.done;
           answered = λ all. with_one (λ s talk. IsAnswered s talk.said talk.given) t limit s0 first later (talk_of question all) p.rest.answered;
         }
 
-    module _ (request : Request A) (new : Client A) (next after : Server R A) {o2 p2 : Option (List ℕ)}
+    module _ (request : Request A) {new : Client A} {next after : Server R A} {o2 p2 : Option (List ℕ)}
         (st : Stands state (setting_of t limit s0 false) [] [] next) where
       -- and not answered
       pub many_stopped : (requests later : List (Request A)) (fault : RunFault) → requests ≡ front ++ request ∷ later
           → AnswersTo state (Err fault) end_bytes old new request next after (flow o1 o2) (flow p1 p2)
           → PlayEnds t (CanFail state s0.failures) limit s0 requests (Err fault) (flow o0 o2) (flow p0 p2)
       many_stopped requests later fault split step =
-          answer_stopped state t limit s0 requests front later request old new server after p fault next split
-          (λ asking told written step. (_, next_turn request asking next told st step))
-          (subst (λ (end : List ℕ). AnswersTo state (Err fault) end old new request next after (flow o1 o2) (flow p1 p2)) end_is step)
+          answer_stopped requests p later request fault split (λ asking told written step. (_, next_turn request asking next told st step))
+          (rw end_is at step)
 
       -- or answered
-      pub answered_many : (done : Unit {0}) → Answers state (Ok done) end_bytes old new request next after (flow o1 o2) (flow p1 p2)
-          → Plays state t limit s0 Kept (front ++ request ∷ []) new after (flow o0 o2) (flow p0 p2)
-      answered_many done a =
-          heard_kept (next_turn request a.asking next a.told st a.asks) (front ++ request ∷ []) a.asking new after a.asks.waits
+      pub answered_many : {done : Unit {0}} → Answers state (Ok done) end_bytes old new request next after (flow o1 o2) (flow p1 p2)
+          → Plays state t limit s0 (KeepsRepo state s0) (front ++ request ∷ []) new after (flow o0 o2) (flow p0 p2)
+      answered_many a =
+          heard_kept (next_turn request a.asking next a.told st a.asks) a.asks.waits
           (asks_on t false front old a.asking request no_counts [] p.runs p.ready a.asks.asks)
-          (subst (λ (end : List ℕ). HearsMessage state end a.asking new a.told after (flow a.written o2) (flow p1 p2)) end_is a.hears)
+          (rw end_is at a.hears)
 
     -- all requests were answered
-    pub many_end : (requests : List (Request A)) → requests ≡ front ++ []
+    pub many_end : {requests : List (Request A)} → requests ≡ front ++ []
         → PlayEnds t (CanFail state s0.failures) limit s0 requests (Ok tt) (flow o0 o1) (flow p0 p1)
-    many_end requests split =
+    many_end {requests} split =
         let h = p.h in
         let stands = p.runs.along.stands in
         play_ends t (CanFail state s0.failures) limit s0 requests (Ok tt) h front [] old split (ran p.runs) (record {
@@ -220,5 +197,5 @@ module _ {R A : Type 0} (state : R → RepoState) (t : Terms) (limit : ℕ) (s0 
             said = quietly_said t h old stands (quiet_where_ready (phase_of old) p.ready);
           };
           served = record { said = p.rest.said; gave = append-nil h.used ∙ p.rest.gave };
-          sessions = subst (λ (x : Ending). AreWholeSessions (CanFail state s0.failures) x t limit s0 p.rest.first p.rest.later) (sym ending) p.rest.answered;
+          sessions = rw ending p.rest.answered;
         })

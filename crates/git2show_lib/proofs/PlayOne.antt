@@ -1,19 +1,16 @@
 -- A play in which one server answers all requests.
 use Rattle.std.proofs.Common.{arith, ◌≡◌, inr, ℕ, suc, ◌≤◌, true, false, List, [], ◌∷◌, ◌++◌, length, Option}
-use Rattle.std.proofs.Common.{Ok, Err, refl, sym, ap, ◌∙◌, subst, append-nil, length-append}
+use Rattle.std.proofs.Common.{Ok, Err, refl, sym, ap, ◌∙◌, append-nil, length-append}
 use Rattle.git_pkt.specs.Packets.{Pkt, flush, flushes}
 use Rattle.git_pkt.specs.Streams.{flow}
 use Rattle.git_pkt.specs.declared.fault.RunFault.{RunFault}
 use Rattle.git_msg.specs.HeldRequest.{asked_of}
-use Rattle.git_msg.specs.declared.offers.Caps.{Caps}
 use Rattle.git_msg.specs.declared.requests.Request.{Request}
 use Rattle.git_client.specs.Client.{History, Converses, Leaves, caps_of, nothing_yet, phase_of, questions_of, spelled, wants_input}
-use Rattle.git_client.specs.Conversation.{IsConversation}
 use Rattle.git_client.specs.Parts.{Terms}
 use Rattle.git_client.specs.RunSteps.{no_counts}
 use Rattle.git_client.specs.Runs.{leaves_last}
 use Rattle.git_client.specs.declared.client.Client.{Client}
-use Rattle.git_client.specs.declared.events.Ending.{Ending}
 use Rattle.git_client.specs.declared.events.Ending.TheVariants.{FlushOnly}
 use Rattle.git_client.proofs.ClientRuns.{asks_on, has_said, leaves_on}
 use Rattle.git_client.proofs.Determined.{one_note}
@@ -26,18 +23,11 @@ use Rattle.git_server.proofs.AtRest.{front_of, packets_of}
 use Rattle.git_server.proofs.Flushes.{flushes-append}
 use Rattle.git_server.proofs.Going.{no_outcome}
 use Rattle.git2show_lib.specs.PlaySteps.{Answers, AnswersTo, AsksServer, HearsMessage, Settled, Stands, StandsOn, TellsAll}
-use Rattle.git2show_lib.specs.Plays.{AreSaid, AreWholeSessions, CanFail, said_each, setting_of}
+use Rattle.git_both_ends.specs.Plays.{AreSaid, CanFail, said_each, setting_of}
 use Rattle.git2show_lib.proofs.PlayFlushes.{Closes, advertises_once, closes_both, flushes_nearest, questions_close, questions_count}
 use Rattle.git2show_lib.proofs.PlayRuns.{PlayEnds, Plays, Runs, Turn, answer_stopped, begun, first_turn, given_is, sole_turn, heard, now_whole, play_ends}
 use Rattle.git2show_lib.proofs.PlayRuns.{rested, settled, used_all}
 use Rattle.git2show_lib.proofs.PlayTalks.{settle, talk, talk_of}
-
--- one message more was received than requests were asked
-messages_heard : (t : Terms) (h : History) (whole : IsConversation t h.asked h.used h.events) (ps : List Pkt) → h.used ≡ spelled ps
-    → suc (length h.asked) ≤ flushes ps
-messages_heard t h whole ps e =
-    let front = front_of 0 h.used [] [] whole.given ps whole.splits.spelled (append-nil h.used ∙ e) in
-    omega (arith, whole.all_flushes, flushes_nearest whole.given [], ap flushes front.parts, flushes-append (packets_of whole.given) front.more)
 
 module _ {R A : Type 0} (state : R → RepoState) (t : Terms) (limit : ℕ) (s0 : RepoState) where
   -- the server was sent all, and gave all, that the client sent and received
@@ -45,34 +35,29 @@ module _ {R A : Type 0} (state : R → RepoState) (t : Terms) (limit : ℕ) (s0 
     pub settled : Settled state (setting_of t limit s0 true) h.given h.used server
     pub answered : IsAnswered (setting_of t limit s0 true) h.given h.used
 
+module _ {R A : Type 0} {state : R → RepoState} {t : Terms} {limit : ℕ} {s0 : RepoState} where
   -- a message was received whole
-  pub heard_alone : {h : History} {server : Server R A} (turn : Turn state t limit s0 true [] [] h.given h server) (front : List (Request A))
-      (old new : Client A) (after : Server R A) {o0 o1 o2 p0 p1 p2 : Option (List ℕ)} → wants_input old ≡ true
-      → Runs t false h front old no_counts (flow o0 o1) (flow p0 p1) → HearsMessage state [] old new server after (flow o1 o2) (flow p1 p2)
-      → Plays state t limit s0 Alone front new after (flow o0 o2) (flow p0 p2)
-  heard_alone {h} turn front old new after due r step =
-      let hears = step.hears in
-      let whole = now_whole state t limit s0 turn front old new after due r step in
-      let events = h.events ++ hears.heard.events in
-      let given = turn.given ++ hears.given in
-      let same : given ≡ h.used ++ hears.used =
-      sym (append-nil given)
-      ∙ sym (used_all state t limit s0 turn after hears.given hears.used step.unheard hears.server_goes hears.parts events whole) in
-      let rest = rested state t limit s0 turn after hears.given hears.used step.unheard hears.server_goes hears.parts events whole in
-      heard state t limit s0 turn front old new after due r step {StandsBy = Alone} (record {
-        settled = subst (λ (l : List ℕ). Settled state (setting_of t limit s0 true) h.given l after) same
-            (settled state t limit s0 turn after hears.given hears.used step.unheard hears.server_goes hears.parts);
-        answered = subst (IsAnswered (setting_of t limit s0 true) h.given) same rest.done;
+  heard_alone : {h : History} {server after : Server R A} {front : List (Request A)} {old new : Client A} {o0 o1 o2 p0 p1 p2 : Option (List ℕ)}
+      → Turn state t limit s0 true [] [] h.given h server → wants_input old ≡ true → Runs t false h front old no_counts (flow o0 o1) (flow p0 p1)
+      → HearsMessage state [] old new server after (flow o1 o2) (flow p1 p2)
+      → Plays state t limit s0 (Alone state t limit s0) front new after (flow o0 o2) (flow p0 p2)
+  heard_alone {h} {after = after} turn due r step =
+      let whole = now_whole turn due r step in
+      let same = sym (append-nil (turn.given ++ step.hears.given)) ∙ sym (used_all turn step.hears whole) in
+      heard turn due r step {StandsBy = Alone state t limit s0} (record {
+        settled = rw same at (settled turn step.hears);
+        answered = rw same at (rested turn step.hears whole).done;
       })
 
-  pub advertised_alone : (old new : Client A) (server after : Server R A) {o1 o2 p1 p2 : Option (List ℕ)} → wants_input old ≡ true
+  pub advertised_alone : {old new : Client A} {server after : Server R A} {o1 o2 p1 p2 : Option (List ℕ)} → wants_input old ≡ true
       → Converses t nothing_yet old → Stands state (setting_of t limit s0 true) [] [] server
-      → HearsMessage state [] old new server after (flow o1 o2) (flow p1 p2) → Plays state t limit s0 Alone [] new after (flow o1 o2) (flow p1 p2)
-  advertised_alone old new server after {o1} {o2} {p1} {p2} due stands st step =
-      heard_alone (first_turn state t limit s0 server st) [] old new after due (begun t old o1 p1 due stands) step
+      → HearsMessage state [] old new server after (flow o1 o2) (flow p1 p2)
+      → Plays state t limit s0 (Alone state t limit s0) [] new after (flow o1 o2) (flow p1 p2)
+  advertised_alone {old} {server = server} {o1 = o1} {p1 = p1} due stands st step =
+      heard_alone (first_turn server st) due (begun t old o1 p1 due stands) step
 
   -- what was given is settled, so the server's relation holds of it
-  still_stands : (h : History) (server : Server R A) → Alone h server → Stands state (setting_of t limit s0 true) h.given h.used server
+  still_stands : (h : History) (server : Server R A) → Alone state t limit s0 h server → Stands state (setting_of t limit s0 true) h.given h.used server
   still_stands h server a = record {
     used = a.settled.used;
     unused = a.settled.unused;
@@ -83,19 +68,22 @@ module _ {R A : Type 0} (state : R → RepoState) (t : Terms) (limit : ℕ) (s0 
   }
 
   module _ {front : List (Request A)} {old : Client A} {server : Server R A} {o0 o1 p0 p1 : Option (List ℕ)}
-      (p : Plays state t limit s0 Alone front old server (flow o0 o1) (flow p0 p1)) (ending : t.ending ≡ FlushOnly) where
+      (p : Plays state t limit s0 (Alone state t limit s0) front old server (flow o0 o1) (flow p0 p1)) (ending : t.ending ≡ FlushOnly) where
     -- the server goes on from where it is
     goes_on : (u : List ℕ) (after : Server R A) → StandsOn state server u [] after
         → Stands state (setting_of t limit s0 true) (p.h.given ++ u) p.h.used after
     goes_on u after goes =
-        subst (λ (l : List ℕ). Stands state (setting_of t limit s0 true) (p.h.given ++ u) l after) (append-nil p.h.used)
-        (goes (setting_of t limit s0 true) p.h.given p.h.used (still_stands p.h server p.stands))
+        rw (append-nil p.h.used) at (goes (setting_of t limit s0 true) p.h.given p.h.used (still_stands p.h server p.stands))
 
+    -- one message more was received than requests were asked
     many_heard : (ps : List Pkt) → p.h.used ≡ spelled ps → suc (length p.h.asked) ≤ flushes ps
-    many_heard = messages_heard t p.h (is_whole t p.h old p.runs.along.stands p.ready)
+    many_heard ps e =
+        let whole = is_whole t p.h old p.runs.along.stands p.ready in
+        let front = front_of 0 p.h.used [] [] whole.given ps whole.splits.spelled (append-nil p.h.used ∙ e) in
+        omega (arith, whole.all_flushes, flushes_nearest whole.given [], ap flushes front.parts, flushes-append (packets_of whole.given) front.more)
 
     all_said : (said all : List ℕ) (each : List (List ℕ)) → AreSaid t.ending (talk_of said all) [] said each
-    all_said said all each = subst (λ (e : Ending). AreSaid e (talk_of said all) [] said each) (sym ending) (refl, refl)
+    all_said said all each = rw ending (refl, refl)
 
     -- a request was asked of it
     pub next_turn : (request : Request A) (new : Client A) (after : Server R A) {o2 : Option (List ℕ)}
@@ -107,32 +95,31 @@ module _ {R A : Type 0} (state : R → RepoState) (t : Terms) (limit : ℕ) (s0 
         let said = p.h.given ++ step.asks.given in
         let now : History = record p.h { asked = asked; given = said } in
         let more = length-append p.h.asked (asked_of request ∷ []) in
-        sole_turn state t limit s0 now (questions_of t.format (caps_of new) asked) after (questions_close t.format (caps_of new) asked)
+        sole_turn now (questions_of t.format (caps_of new) asked) after (questions_close t.format (caps_of new) asked)
         (given_is t now new (step.asks.goes t p.h p.runs.along.stands) (quiet_where_due (phase_of new) step.waits))
         (questions_count t.format (caps_of new) asked) (goes_on step.asks.given after step.server_goes)
         (λ ps e. omega (arith, many_heard ps e, more)) (λ all caps. all_said said all (said_each t caps asked))
 
     -- and not answered
-    pub one_stopped : (requests later : List (Request A)) (request : Request A) (fault : RunFault) (new : Client A) (after : Server R A)
+    pub one_stopped : (requests later : List (Request A)) (request : Request A) (fault : RunFault) {new : Client A} {after : Server R A}
         {o2 p2 : Option (List ℕ)} → requests ≡ front ++ request ∷ later
         → AnswersTo state (Err fault) [] old new request server after (flow o1 o2) (flow p1 p2)
         → PlayEnds t (CanFail state s0.failures) limit s0 requests (Err fault) (flow o0 o2) (flow p0 p2)
-    one_stopped requests later request fault new after split step =
-        answer_stopped state t limit s0 requests front later request old new server after p fault server split
-        (λ asking told written step. (_, next_turn request asking told step)) step
+    one_stopped requests later request fault split step =
+        answer_stopped requests p later request fault split (λ asking told written step. (_, next_turn request asking told step)) step
 
     -- or answered
-    pub answered_alone : (request : Request A) (new : Client A) (after : Server R A) {o2 p2 : Option (List ℕ)} (done : Unit {0})
+    pub answered_alone : (request : Request A) {new : Client A} {after : Server R A} {o2 p2 : Option (List ℕ)} {done : Unit {0}}
         → Answers state (Ok done) [] old new request server after (flow o1 o2) (flow p1 p2)
-        → Plays state t limit s0 Alone (front ++ request ∷ []) new after (flow o0 o2) (flow p0 p2)
-    answered_alone request new after done a =
-        heard_alone (next_turn request a.asking a.told a.asks) (front ++ request ∷ []) a.asking new after a.asks.waits
+        → Plays state t limit s0 (Alone state t limit s0) (front ++ request ∷ []) new after (flow o0 o2) (flow p0 p2)
+    answered_alone request a =
+        heard_alone (next_turn request a.asking a.told a.asks) a.asks.waits
         (asks_on t false front old a.asking request no_counts [] p.runs p.ready a.asks.asks) a.hears
 
     -- all requests were answered, and the client left the server
-    pub one_end : (requests : List (Request A)) (mid new : Client A) (after : Server R A) → requests ≡ front ++ [] → Leaves old mid
+    pub one_end : {requests : List (Request A)} {mid new : Client A} {after : Server R A} → requests ≡ front ++ [] → Leaves old mid
         → TellsAll state mid new server after → PlayEnds t (CanFail state s0.failures) limit s0 requests (Ok tt) (flow o0 o1) (flow p0 p1)
-    one_end requests mid new after split leaving tells =
+    one_end {requests} {mid} {new} {after} split leaving tells =
         let h = p.h in
         let s = setting_of t limit s0 true in
         let given = h.given ++ tells.says.given in
@@ -143,13 +130,12 @@ module _ {R A : Type 0} (state : R → RepoState) (t : Terms) (limit : ℕ) (s0 
         let same : all.caps ≡ caps_of mid =
         one_note t h.asked h.used all.caps (caps_of mid) all.noted (has_noted t (record h { left = true }) mid leaves) in
         let parts : given ≡ h.given ++ spelled (flush ∷ []) =
-        all.said ∙ ap (λ (caps : Caps). spelled (questions_of t.format caps h.asked ++ flush ∷ [])) same ∙ sym leaves.spoken
-        ∙ ap (λ (owed : List Pkt). h.given ++ spelled owed) leaving.owes in
+        all.said ∙ rw same (rw leaving.owes at (sym leaves.spoken)) in
         let asks = questions_of t.format all.caps h.asked ++ flush ∷ [] in
         let closes : Closes asks =
         closes_both (questions_of t.format all.caps h.asked) (flush ∷ []) (questions_close t.format all.caps h.asked)
         (inr (record { front = []; is = refl })) in
-        let rest = settle state s asks closes given h.used after (goes_on tells.says.given after tells.server_goes) all.said (λ ps fit e. omega (
+        let rest = settle closes (goes_on tells.says.given after tells.server_goes) all.said (λ ps fit e. omega (
           arith,
           many_heard ps e,
           flushes-append (questions_of t.format all.caps h.asked) (flush ∷ []),
@@ -161,10 +147,10 @@ module _ {R A : Type 0} (state : R → RepoState) (t : Terms) (limit : ℕ) (s0 
           later = [];
           run = record { all = refl; whole = is_whole t h old p.runs.along.stands p.ready; leaves = ap leaves_last (sym ending); said = all };
           served = record { said = λ caps noted. all_said given h.used (said_each t caps h.asked); gave = refl };
-          sessions = subst (λ (x : Ending). AreWholeSessions (CanFail state s0.failures) x t limit s0 (talk_of given h.used) []) (sym ending) (record {
+          sessions = rw ending (record {
             questions = h.given;
             parts = parts;
             answered = p.stands.answered;
-            talks = talk state s asks closes given h.used after rest all.said;
+            talks = talk closes rest all.said;
           });
         })

@@ -1,5 +1,5 @@
 -- A server of a play before its first byte.
-use Rattle.std.proofs.Common.{◌≡◌, ℕ, Bool, false, [], None, refl, ◌∙◌, ap, subst}
+use Rattle.std.proofs.Common.{◌≡◌, ℕ, Bool, false, [], None, refl}
 use Rattle.git_names.specs.declared.object_format.Format.{Format}
 use Rattle.git_msg.specs.Advertisement.{everything}
 use Rattle.git_msg.specs.declared.offers.Offer.{Offer}
@@ -10,7 +10,7 @@ use Rattle.git_server.specs.Server.{Running, outcome_of}
 use Rattle.git_server.specs.Sessions.{Setting}
 use Rattle.git_server.specs.declared.server.Server.{Server}
 use Rattle.git_server.proofs.AtRest.{open_at_first}
-use Rattle.git2show_lib.specs.Plays.{setting_of}
+use Rattle.git_both_ends.specs.Plays.{setting_of}
 use Rattle.git2show_lib.specs.PlaySteps.{Stands}
 
 -- the setting of a server with this offer
@@ -34,7 +34,7 @@ module _ {R A : Type 0} (state : R → RepoState) (server : Server R A) (repo : 
     used = [];
     unused = [];
     parts = refl;
-    runs = subst (λ (o : Offer). Running state (setting_with o limit advertise repo) [] false [] server) (all ∙ ap everything same) runs;
+    runs = rw (all, same) at runs;
     keeps = λ _. refl;
     in_time = λ fault ended late. let none = goes_on in absurd (cc);
   }

@@ -1,14 +1,11 @@
 -- A play so far: what the client asked and received, and the servers, from one of which it receives.
 use Rattle.std.proofs.Common.{arith, ◌≡◌, inl, inr, ℕ, suc, ◌+◌, ◌≤◌, ◌<◌, Bool, true, false, flat_map, List, [], ◌∷◌, ◌++◌, length, Option, None}
-use Rattle.std.proofs.Common.{Result, Err, IsErrAnd, refl, sym, ap, ◌∙◌, subst, append_assoc, append-nil}
+use Rattle.std.proofs.Common.{Result, Err, refl, sym, ap, ◌∙◌, subst, append_assoc, append-nil}
 use Rattle.std.proofs.lemmas.List.Elements.{All-nil}
 use Rattle.git_pkt.specs.Packets.{Pkt, flushes, resp_end}
-use Rattle.git_pkt.specs.Streams.{Flow, flow, IsTimely, Moves, is_broken}
-use Rattle.git_pkt.specs.declared.fault.Kind.{Kind}
-use Rattle.git_pkt.specs.declared.fault.Kind.TheVariants.{Truncated, StreamTooLong}
+use Rattle.git_pkt.specs.Streams.{Flow, flow, Moves, is_broken}
 use Rattle.git_pkt.specs.declared.fault.RunFault.{RunFault}
 use Rattle.git_pkt.specs.declared.fault.RunFault.TheVariants.{ReadFault, WriteFault, ReadLimit, Refused}
-use Rattle.git_pkt.proofs.EngineLemmas.{at_fault}
 use Rattle.git_msg.specs.HeldRequest.{asked_of}
 use Rattle.git_msg.specs.declared.offers.Caps.{Caps}
 use Rattle.git_msg.specs.declared.requests.Request.{Request}
@@ -28,32 +25,18 @@ use Rattle.git_client.proofs.ClientRuns.{Ran, Running, anew, asks_on, begins, he
 use Rattle.git_client.proofs.EventsHeard.{all_is_said, has_events, is_whole}
 use Rattle.git_client.proofs.Faults.{first_fault}
 use Rattle.git_client.proofs.Phases.{quiet_where_due, quiet_where_failed, quiet_where_ready}
-use Rattle.git_server.specs.Answers.{AllFit}
 use Rattle.git_server.specs.Repository.{RepoState}
 use Rattle.git_server.specs.Server.{wants_input as waits_for_input}
 use Rattle.git_server.specs.Sessions.{IsAnswered, advertised}
 use Rattle.git_server.specs.declared.server.Server.{Server}
 use Rattle.git_server.proofs.AtRest.{packets_of}
 use Rattle.git_server.proofs.Flushes.{flushes-append}
-use Rattle.git2show_lib.specs.PlaySteps.{AnswersTo, AsksServer, AsksServerTo, GivesOn, Hears, HearsMessage, HearsMessageTo, IsSpent}
+use Rattle.git2show_lib.specs.PlaySteps.{AnswersTo, AsksServer, AsksServerTo, Hears, HearsMessage, HearsMessageTo, IsSpent}
 use Rattle.git2show_lib.specs.PlaySteps.{Settled, Stands, silent}
-use Rattle.git2show_lib.specs.Plays.{AreAll, AreSaid, AreServed, CanFail, EndsAs, IsDone, IsServed, IsTalk, Played, Talk, said_each, setting_of, with_end}
+use Rattle.git_both_ends.specs.Plays.{AreAll, AreSaid, AreServed, CanFail, EndsAs, IsDone, IsServed, IsTalk, Played, Talk, said_each, setting_of, with_end}
 use Rattle.git2show_lib.proofs.PlayFlushes.{Closes, advertises_once, flushes_nearest}
-use Rattle.git2show_lib.proofs.PlayTalks.{Enough, Rests, behind, done, enough_heard, last_of_closed, no_end_unheard, nothing_unheard}
-use Rattle.git2show_lib.proofs.PlayTalks.{rests, settle, spelled-append, talk, talk_of, waits_on}
-
--- ---- faults in time
-
--- a fault is reported in time: truncated alone where nothing more is given
-record IsLate (kind : Kind) (unheard : List ℕ) (D : Type 0) : Type 0 where
-  ended : Bool
-  timely : IsTimely kind ended unheard
-  at_end : ended ≡ true → (unheard ≡ []) × D
-
-late : (kind : Kind) (ended : Bool) (unheard : List ℕ) (D : Type 0) → IsTimely kind ended unheard → (ended ≡ true → D) → IsLate kind unheard D
-late Truncated ended unheard D timely spent = record { ended = true; timely = (timely.0, refl); at_end = λ _. (timely.0, spent timely.1) }
-late StreamTooLong ended unheard D timely spent = record { ended = false; timely = timely; at_end = λ no. absurd (cc) }
-late kind ended unheard D timely spent = record { ended = false; timely = tt; at_end = λ no. absurd (cc) }
+use Rattle.git2show_lib.proofs.PlayTalks.{Enough, Quota, Rests, done, enough_heard, last_of_closed, no_end_unheard, nothing_unheard}
+use Rattle.git2show_lib.proofs.PlayTalks.{rests, settle, spelled-append, talk, talk_of, unheard_packets, waits_on}
 
 -- ---- the client's run
 
@@ -78,12 +61,6 @@ module _ {A : Type 0} (t : Terms) where
     -- how a play with this answer moved its streams
     abbrev pub PlayEnds : Result (Unit {0}) RunFault → Flow → Flow → Type 0
     PlayEnds result out pack = Moves (is_broken result) (Played Fails t limit s0 requests result) [] (out ∷ pack ∷ [])
-
-    -- what `?` answers is the fault that it met
-    pub ends_at : (result : Result (Unit {0}) RunFault) (fault : RunFault) {out pack : Flow} → IsErrAnd result (λ e. e ≡ fault)
-        → PlayEnds (Err fault) out pack → PlayEnds result out pack
-    ends_at result fault {out} {pack} met ends =
-        at_fault result fault fault (λ (r : Result (Unit {0}) RunFault). PlayEnds r out pack) refl met ends
 
     pub play_ends : (result : Result (Unit {0}) RunFault) (h : History) (front rest : List (Request A)) (client : Client A) {out pack : Flow}
         → requests ≡ front ++ rest → Ran (is_broken result) t h front client [] silent silent out pack silent → EndsAs Fails t limit s0 result rest h
@@ -143,7 +120,7 @@ module _ {R A : Type 0} (state : R → RepoState) (t : Terms) (limit : ℕ) (s0 
     pub given : List ℕ
     pub used_is : h.used ≡ spelled before ++ given
     pub stands : Stands state (setting_of t limit s0 advertise) said given server
-    pub quota : (ps : List Pkt) → AllFit ps → given ≡ spelled ps → flushes asks + flushes (advertised (setting_of t limit s0 advertise)) ≤ flushes ps + 1
+    pub quota : Quota (setting_of t limit s0 advertise) asks given
     pub counted : flushes before + (flushes asks + flushes (advertised (setting_of t limit s0 advertise))) ≡ suc (length h.asked)
     pub ends : IsTail t tail before asks
     pub first : List ℕ → Talk
@@ -158,10 +135,31 @@ module _ {R A : Type 0} (state : R → RepoState) (t : Terms) (limit : ℕ) (s0 
     pub answered : (all : List ℕ) → IsAnswered (setting_of t limit s0 advertise) said all
         → AreAll (λ s talk. IsAnswered s talk.said talk.given) t limit s0 (first all) (later all)
 
+  -- a play so far, where this holds of the server
+  pub record Plays (StandsBy : History → Server R A → Type 0) (front : List (Request A)) (client : Client A) (server : Server R A) (out pack : Flow)
+      : Type 0 where
+    pub h : History
+    pub runs : Runs t false h front client no_counts out pack
+    pub ready : can_ask client ≡ true
+    pub rest : AtRest (MayFail state s0) t limit s0 h
+    pub stands : StandsBy h server
+
+-- a message was received, as far as that went
+module _ {R A : Type 0} {state : R → RepoState} {t : Terms} where
+  heard_runs : {broken : Bool} {h : History} {front : List (Request A)} {old new : Client A} {counts : Counts} {server after : Server R A}
+      {end unheard : List ℕ} {o0 o1 o2 p0 p1 p2 : Option (List ℕ)} → Runs t false h front old no_counts (flow o0 o1) (flow p0 p1) → wants_input old ≡ true
+      → (hears : Hears state broken old new no_counts counts server after end unheard (flow o1 o2) (flow p1 p2))
+      → Runs t broken (record h { used = h.used ++ hears.used; events = h.events ++ hears.heard.events }) front new counts (flow o0 o2) (flow p0 p2)
+  heard_runs {broken} {h} {front} {old} {new} {counts} r due hears =
+      hears_on t broken front old new [] [] r due
+      (record { came = hears.used; used = hears.used; counts = counts; read = tt; parts = sym (append-nil hears.used); bytes = hears.heard })
+
+module _ {R A : Type 0} {state : R → RepoState} {t : Terms} {limit : ℕ} {s0 : RepoState} where
   -- a message of the first server is due, and no other answered before
   pub sole_turn : (h : History) (asks : List Pkt) (server : Server R A) → Closes asks → h.given ≡ spelled asks → flushes asks ≡ length h.asked
       → Stands state (setting_of t limit s0 true) h.given h.used server → ((ps : List Pkt) → h.used ≡ spelled ps → length h.asked ≤ flushes ps)
-      → ((all : List ℕ) (caps : Caps) → AreSaid t.ending (talk_of h.given all) [] h.given (said_each t caps h.asked)) → Turn true [] [] h.given h server
+      → ((all : List ℕ) (caps : Caps) → AreSaid t.ending (talk_of h.given all) [] h.given (said_each t caps h.asked))
+      → Turn state t limit s0 true [] [] h.given h server
   sole_turn h asks server closes said count st heard all_said =
       let once = advertises_once (setting_of t limit s0 true) refl in
       record {
@@ -183,46 +181,39 @@ module _ {R A : Type 0} (state : R → RepoState) (t : Terms) (limit : ℕ) (s0 
         answered = λ all answered. (answered, All-nil (λ (talk : Talk). IsAnswered (setting_of t limit s0 false) talk.said talk.given));
       }
 
-  pub first_turn : (server : Server R A) → Stands state (setting_of t limit s0 true) [] [] server → Turn true [] [] [] nothing_yet server
+  pub first_turn : (server : Server R A) → Stands state (setting_of t limit s0 true) [] [] server → Turn state t limit s0 true [] [] [] nothing_yet server
   first_turn server st =
       sole_turn nothing_yet [] server (inl refl) refl refl st (λ ps e. omega arith) (λ all caps. no_questions t.ending all)
 
-  module _ {advertise : Bool} {before tail : List Pkt} {said : List ℕ} {h : History} {server : Server R A}
-      (turn : Turn advertise before tail said h server) (after : Server R A) (given used unheard : List ℕ) (goes : GivesOn state server given after)
-      (parts : given ++ spelled tail ≡ used ++ unheard) where
-    pub settled : Settled state (setting_of t limit s0 advertise) said (turn.given ++ given) after
+  module _ {advertise : Bool} {before tail : List Pkt} {said : List ℕ} {h : History} {server after : Server R A} {broken : Bool} {old new : Client A}
+      {counts : Counts} {unheard : List ℕ} {out packs : Flow} (turn : Turn state t limit s0 advertise before tail said h server)
+      (hears : Hears state broken old new no_counts counts server after (spelled tail) unheard out packs) where
+    pub settled : Settled state (setting_of t limit s0 advertise) said (turn.given ++ hears.given) after
     settled =
-        goes (setting_of t limit s0 advertise) said turn.given
-        (settle state (setting_of t limit s0 advertise) turn.asks turn.closes said turn.given server turn.stands turn.said_is turn.quota)
+        hears.server_goes (setting_of t limit s0 advertise) said turn.given (settle turn.closes turn.stands turn.said_is turn.quota)
 
-    gave_all : (h.used ++ used) ++ unheard ≡ spelled before ++ ((turn.given ++ given) ++ spelled tail)
-    gave_all =
-        append_assoc h.used used unheard ∙ ap (λ (l : List ℕ). l ++ (used ++ unheard)) turn.used_is
-        ∙ ap (λ (l : List ℕ). (spelled before ++ turn.given) ++ l) (sym parts) ∙ append_assoc (spelled before) turn.given (given ++ spelled tail)
-        ∙ ap (λ (l : List ℕ). spelled before ++ l) (sym (append_assoc turn.given given (spelled tail)))
+    gave_all : (h.used ++ hears.used) ++ unheard ≡ spelled before ++ ((turn.given ++ hears.given) ++ spelled tail)
+    gave_all = simp (turn.used_is, append_assoc, hears.parts)
 
     -- what was received comes of the servers
-    served : (events : List EventValue) → IsServed (MayFail state s0) t limit s0 (record h { used = h.used ++ used; events = events })
-    served events = record {
-      first = turn.first (turn.given ++ given);
-      later = turn.later (turn.given ++ given);
-      unheard = unheard;
-      served = record {
-        said = λ caps noted. turn.all_said (turn.given ++ given) caps used noted;
-        gave = gave_all ∙ turn.gave (turn.given ++ given);
-      };
-      sessions = turn.talks (turn.given ++ given) (talk state (setting_of t limit s0 advertise) turn.asks turn.closes said (turn.given ++ given) after settled
-          turn.said_is);
-    }
+    served : (events : List EventValue) → IsServed (MayFail state s0) t limit s0 (record h { used = h.used ++ hears.used; events = events })
+    served events =
+        let all = turn.given ++ hears.given in
+        record {
+          first = turn.first all;
+          later = turn.later all;
+          unheard = unheard;
+          served = record { said = λ caps noted. turn.all_said all caps hears.used noted; gave = gave_all ∙ turn.gave all };
+          sessions = turn.talks all (talk turn.closes settled turn.said_is);
+        }
 
     -- nothing more is given
-    all_done : IsSpent state after → AreAll (IsDone (MayFail state s0)) t limit s0 (turn.first (turn.given ++ given)) (turn.later (turn.given ++ given))
-    all_done spent =
-        turn.done (turn.given ++ given)
-        (done state (setting_of t limit s0 advertise) turn.asks turn.closes said (turn.given ++ given) after settled turn.said_is spent)
+    all_done : IsSpent state after
+        → AreAll (IsDone (MayFail state s0)) t limit s0 (turn.first (turn.given ++ hears.given)) (turn.later (turn.given ++ hears.given))
+    all_done spent = turn.done (turn.given ++ hears.given) (done turn.closes settled turn.said_is spent)
 
     -- a message was received whole
-    module _ (events : List EventValue) (whole : IsConversation t h.asked (h.used ++ used) events) where
+    module _ {events : List EventValue} (whole : IsConversation t h.asked (h.used ++ hears.used) events) where
       no_flush : (tail : List Pkt) → IsTail t tail before turn.asks → flushes tail ≡ 0
       no_flush [] ends = refl
       no_flush (p ∷ ps) ends = ap flushes ends.0
@@ -230,17 +221,17 @@ module _ {R A : Type 0} (state : R → RepoState) (t : Terms) (limit : ℕ) (s0 
       count : flushes (packets_of whole.given) ≡ flushes before + (flushes turn.asks + flushes (advertised (setting_of t limit s0 advertise)))
       count = omega (arith, whole.all_flushes, flushes_nearest whole.given [], turn.counted)
 
-      enough : Enough state (setting_of t limit s0 advertise) turn.asks turn.closes said (turn.given ++ given) after settled turn.said_is
+      enough : Enough (setting_of t limit s0 advertise) turn.asks (turn.given ++ hears.given)
       enough =
-          enough_heard state (setting_of t limit s0 advertise) turn.asks turn.closes said (turn.given ++ given) after settled turn.said_is
-          (h.used ++ used) unheard whole.given before tail whole.splits.spelled (no_flush tail turn.ends) gave_all count
+          enough_heard turn.closes settled turn.said_is (h.used ++ hears.used) unheard whole.given before tail whole.splits.spelled
+          (no_flush tail turn.ends) gave_all count
 
       pub waits : waits_for_input after ≡ true
-      waits = waits_on state (setting_of t limit s0 advertise) turn.asks turn.closes said (turn.given ++ given) after settled turn.said_is enough
+      waits = waits_on turn.closes settled turn.said_is enough
 
       pub rested : Rests (MayFail state s0) (setting_of t limit s0 advertise) (flushes turn.asks + flushes (advertised (setting_of t limit s0 advertise))) said
-          (turn.given ++ given)
-      rested = rests state (setting_of t limit s0 advertise) turn.asks turn.closes said (turn.given ++ given) after settled turn.said_is enough
+          (turn.given ++ hears.given)
+      rested = rests turn.closes settled turn.said_is enough
 
       left_by : (tail : List Pkt) → IsTail t tail before turn.asks → (more : List Pkt) → before ++ (rested.packets ++ tail) ≡ packets_of whole.given ++ more
           → unheard ≡ spelled more → flushes more ≡ 0 → unheard ≡ []
@@ -253,29 +244,26 @@ module _ {R A : Type 0} (state : R → RepoState) (t : Terms) (limit : ℕ) (s0 
 
       none_unheard : unheard ≡ []
       none_unheard =
-          let left = behind state (setting_of t limit s0 advertise) turn.asks turn.closes said (turn.given ++ given) after settled turn.said_is
-          (h.used ++ used) unheard whole.given before tail whole.splits.spelled (no_flush tail turn.ends) gave_all count rested in
-          left_by tail turn.ends left.more left.all left.unheard_is left.none
+          let (more, all, unheard_is, in_more) = unheard_packets turn.closes settled turn.said_is (h.used ++ hears.used) unheard whole.given before tail
+          whole.splits.spelled (no_flush tail turn.ends) gave_all count rested.packets rested.given_is in
+          left_by tail turn.ends more all unheard_is (omega (arith, in_more, rested.counted))
 
-      pub used_all : h.used ++ used ≡ spelled before ++ ((turn.given ++ given) ++ spelled tail)
-      used_all = sym (append-nil (h.used ++ used)) ∙ ap (λ (l : List ℕ). (h.used ++ used) ++ l) (sym none_unheard) ∙ gave_all
+      pub used_all : h.used ++ hears.used ≡ spelled before ++ ((turn.given ++ hears.given) ++ spelled tail)
+      used_all = sym (append-nil (h.used ++ hears.used)) ∙ ap (λ (l : List ℕ). (h.used ++ hears.used) ++ l) (sym none_unheard) ∙ gave_all
 
-      pub at_rest : (more : List EventValue) → AtRest (MayFail state s0) t limit s0 (record h { used = h.used ++ used; events = more })
-      at_rest more =
-          let all = turn.given ++ given in
+      pub at_rest : AtRest (MayFail state s0) t limit s0 (record h { used = h.used ++ hears.used; events = events })
+      at_rest =
+          let all = turn.given ++ hears.given in
           record {
             first = turn.first all;
             later = turn.later all;
-            said = λ caps noted. turn.all_said all caps used noted;
+            said = λ caps noted. turn.all_said all caps hears.used noted;
             gave = used_all ∙ turn.gave all;
             talks = turn.talks all rested.talk;
             done = all_done (inl waits);
             answered = turn.answered all rested.done;
             packets = before ++ (rested.packets ++ tail);
-            packets_are =
-                used_all ∙ ap (λ (l : List ℕ). spelled before ++ (l ++ spelled tail)) rested.given_is
-                ∙ ap (λ (l : List ℕ). spelled before ++ l) (sym (spelled-append rested.packets tail))
-                ∙ sym (spelled-append before (rested.packets ++ tail));
+            packets_are = used_all ∙ simp (spelled-append, rested.given_is);
             counted = omega (
               arith,
               flushes-append before (rested.packets ++ tail),
@@ -288,58 +276,42 @@ module _ {R A : Type 0} (state : R → RepoState) (t : Terms) (limit : ℕ) (s0 
 
   -- ---- a message that was received
 
-  heard_runs : (broken : Bool) {h : History} (front : List (Request A)) (old new : Client A) {counts : Counts} {server after : Server R A}
-      {end unheard : List ℕ} {o0 o1 o2 p0 p1 p2 : Option (List ℕ)} → Runs t false h front old no_counts (flow o0 o1) (flow p0 p1) → wants_input old ≡ true
-      → (hears : Hears state broken old new no_counts counts server after end unheard (flow o1 o2) (flow p1 p2))
-      → Runs t broken (record h { used = h.used ++ hears.used; events = h.events ++ hears.heard.events }) front new counts (flow o0 o2) (flow p0 p2)
-  heard_runs broken front old new {counts} r due hears =
-      hears_on t broken front old new [] [] r due
-      (record { came = hears.used; used = hears.used; counts = counts; read = tt; parts = sym (append-nil hears.used); bytes = hears.heard })
-
-  -- a play so far, where this holds of the server
-  pub record Plays (StandsBy : History → Server R A → Type 0) (front : List (Request A)) (client : Client A) (server : Server R A) (out pack : Flow)
-      : Type 0 where
-    pub h : History
-    pub runs : Runs t false h front client no_counts out pack
-    pub ready : can_ask client ≡ true
-    pub rest : AtRest (MayFail state s0) t limit s0 h
-    pub stands : StandsBy h server
-
   -- a message was received whole
-  module _ {advertise : Bool} {before tail : List Pkt} {said : List ℕ} {h : History} {server : Server R A}
-      (turn : Turn advertise before tail said h server) (front : List (Request A)) (old new : Client A) (after : Server R A)
-      {o0 o1 o2 p0 p1 p2 : Option (List ℕ)} (due : wants_input old ≡ true) (r : Runs t false h front old no_counts (flow o0 o1) (flow p0 p1))
+  module _ {advertise : Bool} {before tail : List Pkt} {said : List ℕ} {h : History} {server after : Server R A} {front : List (Request A)}
+      {old new : Client A} {o0 o1 o2 p0 p1 p2 : Option (List ℕ)} (turn : Turn state t limit s0 advertise before tail said h server)
+      (due : wants_input old ≡ true) (r : Runs t false h front old no_counts (flow o0 o1) (flow p0 p1))
       (step : HearsMessage state (spelled tail) old new server after (flow o1 o2) (flow p1 p2)) where
     abbrev now : History
     now = record h { used = h.used ++ step.hears.used; events = h.events ++ step.hears.heard.events }
 
     pub now_whole : IsConversation t h.asked (h.used ++ step.hears.used) (h.events ++ step.hears.heard.events)
-    now_whole = is_whole t now new (heard_runs false front old new r due step.hears).along.stands step.asks
+    now_whole = is_whole t now new (heard_runs r due step.hears).along.stands step.asks
 
-    pub heard : {StandsBy : History → Server R A → Type 0} → StandsBy now after → Plays StandsBy front new after (flow o0 o2) (flow p0 p2)
+    pub heard : {StandsBy : History → Server R A → Type 0} → StandsBy now after
+        → Plays state t limit s0 StandsBy front new after (flow o0 o2) (flow p0 p2)
     heard stands = record {
       h = now;
-      runs = anew t step.asks (heard_runs false front old new r due step.hears);
+      runs = anew t step.asks (heard_runs r due step.hears);
       ready = step.asks;
-      rest =
-          at_rest turn after step.hears.given step.hears.used step.unheard step.hears.server_goes step.hears.parts now.events now_whole now.events;
+      rest = at_rest turn step.hears now_whole;
       stands = stands;
     }
 
   module _ (requests : List (Request A)) where
     -- a message was not received to its end
-    stopped : (fault : RunFault) {advertise : Bool} {before tail : List Pkt} {said : List ℕ} {h : History} (front rest : List (Request A)) (old new : Client A)
-        {server : Server R A} (after : Server R A) {o0 o1 o2 p0 p1 p2 : Option (List ℕ)} → requests ≡ front ++ rest → wants_input old ≡ true
-        → Turn advertise before tail said h server → Runs t false h front old no_counts (flow o0 o1) (flow p0 p1)
+    stopped : (fault : RunFault) {advertise : Bool} {before tail : List Pkt} {said : List ℕ} {h : History} (front rest : List (Request A))
+        {old : Client A} (new : Client A) {server : Server R A} (after : Server R A) {o0 o1 o2 p0 p1 p2 : Option (List ℕ)} → requests ≡ front ++ rest
+        → wants_input old ≡ true
+        → Turn state t limit s0 advertise before tail said h server → Runs t false h front old no_counts (flow o0 o1) (flow p0 p1)
         → HearsMessageTo state (Err fault) (spelled tail) old new server after (flow o1 o2) (flow p1 p2)
         → PlayEnds t (MayFail state s0) limit s0 requests (Err fault) (flow o0 o2) (flow p0 p2)
     unfolding served
-    stopped ReadFault front rest old new after split due turn r (ended, counts, none) = absurd none
-    stopped ReadLimit front rest old new after split due turn r (ended, counts, none) = absurd none
-    stopped WriteFault {h = h} front rest old new after split due turn r (ended, counts, (unheard, hears)) =
+    stopped ReadFault front rest new after split due turn r (ended, counts, none) = absurd none
+    stopped ReadLimit front rest new after split due turn r (ended, counts, none) = absurd none
+    stopped WriteFault {h = h} front rest {old} new after split due turn r (ended, counts, (unheard, hears)) =
         let all = quietly_said t h old r.along.stands (quiet_where_due (phase_of old) due) in
         let now : History = record h { used = h.used ++ hears.used; events = h.events ++ hears.heard.events } in
-        play_ends t (MayFail state s0) limit s0 requests (Err WriteFault) now front rest new split (ran (heard_runs true front old new r due hears)) (record {
+        play_ends t (MayFail state s0) limit s0 requests (Err WriteFault) now front rest new split (ran (heard_runs r due hears)) (record {
           said = now;
           same_used = refl;
           asked = inl refl;
@@ -347,53 +319,50 @@ module _ {R A : Type 0} (state : R → RepoState) (t : Terms) (limit : ℕ) (s0 
           heard = hears.used;
           cut = refl;
           all_said = record { caps = all.caps; noted = all.noted; said = all.said };
-          is_served = served turn after hears.given hears.used unheard hears.server_goes hears.parts now.events;
+          is_served = served turn hears now.events;
         })
-    stopped (Refused fault) {h = h} front rest old new after split due turn r (ended, counts, (unheard, step)) =
+    stopped (Refused fault) {h = h} front rest new after split due turn r (ended, counts, (unheard, step)) =
         let hears = step.hears in
         let now : History = record h { used = h.used ++ hears.used; events = h.events ++ hears.heard.events } in
-        let on = heard_runs false front old new r due hears in
+        let on = heard_runs r due hears in
         let quietly = quiet_where_failed (phase_of new) fault step.told in
-        let in_time = late fault.kind ended unheard (IsSpent state after) step.timely step.done in
-        let given = served turn after hears.given hears.used unheard hears.server_goes hears.parts now.events in
+        let given = served turn hears now.events in
         play_ends t (MayFail state s0) limit s0 requests (Err (Refused fault)) now front rest new split (ran on) (record {
           first = turn.first (turn.given ++ hears.given);
           later = turn.later (turn.given ++ hears.given);
           unheard = unheard;
-          ended = in_time.ended;
-          fault_is = inl (record { first = first_fault t now new fault on.along.stands step.told; timely = in_time.timely });
+          ended = ended;
+          fault_is = inl (record { first = first_fault t now new fault on.along.stands step.told; timely = step.timely });
           stays = on.stays;
           said = quietly_said t now new on.along.stands quietly;
           served = given.served;
           sessions = given.sessions;
-          done = λ over. (
-            (in_time.at_end over).0,
-            all_done turn after hears.given hears.used unheard hears.server_goes hears.parts (in_time.at_end over).1,
-          );
+          done = λ over. ((step.done over).0, all_done turn hears (step.done over).1);
         })
 
     -- the advertisement was not
-    pub advertising_stopped : (fault : RunFault) (old new : Client A) (server after : Server R A) {o1 o2 p1 p2 : Option (List ℕ)}
+    pub advertising_stopped : (fault : RunFault) {old : Client A} (new : Client A) {server : Server R A} (after : Server R A) {o1 o2 p1 p2 : Option (List ℕ)}
         → wants_input old ≡ true → Converses t nothing_yet old → Stands state (setting_of t limit s0 true) [] [] server
         → HearsMessageTo state (Err fault) [] old new server after (flow o1 o2) (flow p1 p2)
         → PlayEnds t (MayFail state s0) limit s0 requests (Err fault) (flow o1 o2) (flow p1 p2)
-    advertising_stopped fault old new server after {o1} {o2} {p1} {p2} due stands st step =
-        stopped fault [] requests old new after refl due (first_turn server st) (begun t old o1 p1 due stands) step
+    advertising_stopped fault {old} new {server} after {o1} {p1 = p1} due stands st step =
+        stopped fault [] requests new after refl due (first_turn server st) (begun t old o1 p1 due stands) step
 
     -- ---- a request
 
-    module _ {StandsBy : History → Server R A → Type 0} (front later : List (Request A)) (request : Request A) (old new : Client A)
-        (server after : Server R A) {o0 o1 p0 p1 : Option (List ℕ)} (p : Plays StandsBy front old server (flow o0 o1) (flow p0 p1)) where
+    module _ {StandsBy : History → Server R A → Type 0} {front : List (Request A)} {old : Client A} {server : Server R A}
+        {o0 o1 p0 p1 : Option (List ℕ)} (p : Plays state t limit s0 StandsBy front old server (flow o0 o1) (flow p0 p1)) (later : List (Request A))
+        (request : Request A) where
       still_served : AreServed t p.h [] p.rest.first p.rest.later
       still_served = record { said = p.rest.said; gave = append-nil p.h.used ∙ p.rest.gave }
 
       -- it was refused, or its line could not be written
-      asking_stopped : (fault : RunFault) (next : Server R A) {o2 : Option (List ℕ)} → requests ≡ front ++ request ∷ later
+      asking_stopped : (fault : RunFault) (new : Client A) (next after : Server R A) {o2 : Option (List ℕ)} → requests ≡ front ++ request ∷ later
           → AsksServerTo state (Err fault) old new request next after (flow o1 o2)
           → PlayEnds t (MayFail state s0) limit s0 requests (Err fault) (flow o0 o2) (flow p0 p1)
-      asking_stopped ReadFault next split step = absurd step
-      asking_stopped ReadLimit next split step = absurd step
-      asking_stopped WriteFault next split step =
+      asking_stopped ReadFault new next after split step = absurd step
+      asking_stopped ReadLimit new next after split step = absurd step
+      asking_stopped WriteFault new next after split step =
           let all = quietly_said t p.h old p.runs.along.stands (quiet_where_ready (phase_of old) p.ready) in
           play_ends t (MayFail state s0) limit s0 requests (Err WriteFault) _ (front ++ request ∷ []) later new
           (split ∙ sym (append_assoc front (request ∷ []) later)) (ran (asks_on t true front old new request no_counts [] p.runs p.ready step)) (record {
@@ -406,7 +375,7 @@ module _ {R A : Type 0} (state : R → RepoState) (t : Terms) (limit : ℕ) (s0 
             all_said = record { caps = all.caps; noted = all.noted; said = all.said };
             is_served = record { first = p.rest.first; later = p.rest.later; unheard = []; served = still_served; sessions = p.rest.talks };
           })
-      asking_stopped (Refused fault) next split (step, same) =
+      asking_stopped (Refused fault) new next after split (step, same) =
           let stands = p.runs.along.stands in
           play_ends t (MayFail state s0) limit s0 requests (Err (Refused fault)) p.h front (request ∷ later) old split (ran_unasked t p.runs step) (record {
             first = p.rest.first;
@@ -422,17 +391,17 @@ module _ {R A : Type 0} (state : R → RepoState) (t : Terms) (limit : ℕ) (s0 
           })
 
       -- it was not answered
-      pub answer_stopped : (fault : RunFault) (next : Server R A) {advertise : Bool} {before tail : List Pkt} {o2 p2 : Option (List ℕ)}
-          → requests ≡ front ++ request ∷ later
+      pub answer_stopped : (fault : RunFault) {new : Client A} {next after : Server R A} {advertise : Bool} {before tail : List Pkt}
+          {o2 p2 : Option (List ℕ)} → requests ≡ front ++ request ∷ later
           → ((asking : Client A) (told : Server R A) (written : Option (List ℕ)) (step : AsksServer state old asking request next told (flow o1 written))
-          → (said : List ℕ)
-          × Turn advertise before tail said (record p.h { asked = p.h.asked ++ asked_of request ∷ []; given = p.h.given ++ step.asks.given }) told)
+          → (said : List ℕ) × Turn state t limit s0 advertise before tail said
+          (record p.h { asked = p.h.asked ++ asked_of request ∷ []; given = p.h.given ++ step.asks.given }) told)
           → AnswersTo state (Err fault) (spelled tail) old new request next after (flow o1 o2) (flow p1 p2)
           → PlayEnds t (MayFail state s0) limit s0 requests (Err fault) (flow o0 o2) (flow p0 p2)
-      answer_stopped fault next split turns (inl a) =
+      answer_stopped fault {new} {after = after} split turns (inl a) =
           let (said, turn) = turns a.asking a.told a.written a.asks in
-          stopped fault (front ++ request ∷ []) later a.asking new after (split ∙ sym (append_assoc front (request ∷ []) later)) a.asks.waits turn
+          stopped fault (front ++ request ∷ []) later new after (split ∙ sym (append_assoc front (request ∷ []) later)) a.asks.waits turn
           (asks_on t false front old a.asking request no_counts [] p.runs p.ready a.asks.asks) a.hears
-      answer_stopped fault next {o2 = o2} split turns (inr (step, same)) =
+      answer_stopped fault {new} {next} {after} {o2 = o2} split turns (inr (step, same)) =
           subst (λ (p2 : Option (List ℕ)). PlayEnds t (MayFail state s0) limit s0 requests (Err fault) (flow o0 o2) (flow p0 p2)) (sym same)
-          (asking_stopped fault next split step)
+          (asking_stopped fault new next after split step)

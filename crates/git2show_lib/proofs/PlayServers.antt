@@ -1,6 +1,6 @@
 -- A message of a server, and the packet after it, received whole or up to a fault.
-use Rattle.std.proofs.Common.{arith, ◌≡◌, inl, ℕ, Bool, true, false, List, [], ◌++◌, take, drop, Option, Some, None}
-use Rattle.std.proofs.Common.{Result, Ok, Err, refl, sym, ap, ◌∙◌, subst, append_assoc, append-nil, length-append}
+use Rattle.std.proofs.Common.{arith, ◌≡◌, inl, ℕ, Bool, true, false, List, [], ◌++◌, drop, Option, None}
+use Rattle.std.proofs.Common.{Result, Ok, Err, refl, sym, ap, ◌∙◌, append_assoc, append-nil, length-append}
 use Rattle.std.proofs.lemmas.List.{drop_all}
 use Rattle.std.specs.Io.KnownBytes.{Keeps}
 use Rattle.git_pkt.specs.Streams.{Flow, flow, IsTimely}
@@ -11,21 +11,16 @@ use Rattle.git_pkt.specs.declared.fault.RunFault.TheVariants.{ReadFault, WriteFa
 use Rattle.git_pkt.proofs.EngineLemmas.{written_flushed, written_nothing}
 use Rattle.git_msg.specs.declared.requests.Request.{Request}
 use Rattle.git_client.specs.Client.{can_ask, phase_of, wants_input}
-use Rattle.git_client.specs.RunSteps.{HearsBytes, HearsInPiece, HearsPieceTo, no_counts}
+use Rattle.git_client.specs.RunSteps.{HearsInPiece, HearsPieceTo, no_counts}
 use Rattle.git_client.specs.declared.client.Client.{Client}
 use Rattle.git_client.specs.declared.hearing.Counts.{Counts}
 use Rattle.git_client.proofs.HeardBytes.{heard_flushed, heard_quietly, heard_then}
 use Rattle.git_client.proofs.Phases.{not_ready_where_due, not_ready_where_failed}
 use Rattle.git_server.specs.Repository.{RepoState}
 use Rattle.git_server.specs.declared.server.Server.{Server}
-use Rattle.git2show_lib.specs.PlaySteps.{AnswersTo, AsksServer, EndsMessageTo, Hears, HearsMessage, HearsMessageTo, HearsOut, HearsServerTo}
+use Rattle.git2show_lib.specs.PlaySteps.{AnswersTo, AsksServer, EndsMessageTo, Hears, HearsMessageTo, HearsOut, HearsServerTo}
 use Rattle.git2show_lib.specs.PlaySteps.{IsSpent, silent}
 use Rattle.git2show_lib.proofs.PlayMeeting.{hears_more, stops_in}
-
--- a stream that nobody called holds what it held
-pub keeps_same : (held : Option (List ℕ)) → Keeps held held
-keeps_same None = tt
-keeps_same (Some bytes) = refl
 
 -- more bytes that nobody used change nothing where the input goes on
 timely_more : (kind : Kind) (unheard more : List ℕ) → IsTimely kind false unheard → IsTimely kind false (unheard ++ more)
@@ -43,7 +38,7 @@ module _ {R A : Type 0} (state : R → RepoState) where
   hears_with {unheard = unheard} end h = record {
     given = h.given;
     used = h.used;
-    parts = ap (λ (l : List ℕ). l ++ end) (sym (append-nil h.given) ∙ h.parts) ∙ append_assoc h.used unheard end;
+    parts = rw (sym (append-nil h.given) ∙ h.parts) (append_assoc h.used unheard end);
     heard = h.heard;
     server_goes = h.server_goes;
   }
@@ -68,27 +63,6 @@ module _ {R A : Type 0} (state : R → RepoState) where
     ),
   )
 
-  module _ (end : List ℕ) (old middle new : Client A) (counts now : Counts) (server after : Server R A)
-      (told_before told told_after sent_before sent sent_after : Option (List ℕ))
-      (heard : HearsOut state old middle no_counts counts server after (flow told_before told) (flow sent_before sent))
-      (waits : wants_input middle ≡ true) where
-    -- of what comes after the message some was received, as far as that went
-    end_heard : (n : ℕ) → HearsBytes false middle new counts now (take n end) (flow told told_after) (flow sent sent_after) silent
-        → Hears state false old new no_counts now server after end (drop n end) (flow told_before told_after) (flow sent_before sent_after)
-    end_heard n step =
-        hears_more state old middle new no_counts counts now server after after told_after sent_after heard.hears waits (heard.due waits).0 end
-        heard.hears.given end refl heard.hears.server_goes false n step
-
-    -- a fault was met in it
-    pub end_stopped : (fault : RunFault) → HearsPieceTo (Err fault) middle new counts now end (flow told told_after) (flow sent sent_after) silent
-        → HearsMessageTo state (Err fault) end old new server after (flow told_before told_after) (flow sent_before sent_after)
-    end_stopped fault step = (
-      false,
-      now,
-      stops_in state old middle new no_counts counts now server after after told_after sent_after heard.hears waits (heard.due waits).0 end
-          heard.hears.given end refl heard.hears.server_goes fault step,
-    )
-
   -- ---- before the flushes
 
   -- a message was received, and the packet after it, up to where the client can ask or nothing more comes
@@ -110,19 +84,30 @@ module _ {R A : Type 0} (state : R → RepoState) where
     asks = h.asks;
   }
 
-  -- what comes after it was received
-  pub heard_with : (end : List ℕ) (old middle new : Client A) (counts now : Counts) (server after : Server R A)
-      (told_before told told_after sent_before sent sent_after : Option (List ℕ)) (n : ℕ)
-      → HearsOut state old middle no_counts counts server after (flow told_before told) (flow sent_before sent) → wants_input middle ≡ true
-      → HearsInPiece middle new counts now end n (flow told told_after) (flow sent sent_after) silent
-      → MessageHeard end old new server after (flow told_before told_after) (flow sent_before sent_after)
-  heard_with end old middle new counts now server after told_before told told_after sent_before sent sent_after n h waits step = record {
-    counts = now;
-    unheard = drop n end;
-    hears = end_heard end old middle new counts now server after told_before told told_after sent_before sent sent_after h waits n step.hears;
-    due = λ wants. (drop_all n end (omega (arith, step.all wants)), (h.due waits).1);
-    asks = step.whole;
-  }
+  -- what comes after it was received, or a fault met in it
+  module _ (end : List ℕ) {old middle : Client A} {counts : Counts} {server after : Server R A} {told_before told sent_before sent : Option (List ℕ)}
+      (heard : HearsOut state old middle no_counts counts server after (flow told_before told) (flow sent_before sent))
+      (waits : wants_input middle ≡ true) where
+    pub heard_with : {new : Client A} {now : Counts} {told_after sent_after : Option (List ℕ)} (n : ℕ)
+        → HearsInPiece middle new counts now end n (flow told told_after) (flow sent sent_after) silent
+        → MessageHeard end old new server after (flow told_before told_after) (flow sent_before sent_after)
+    heard_with {now = now} n step = record {
+      counts = now;
+      unheard = drop n end;
+      hears = hears_more state after heard.hears waits (heard.due waits).0 end heard.hears.given end refl heard.hears.server_goes n step.hears;
+      due = λ wants. (drop_all n end (omega (arith, step.all wants)), (heard.due waits).1);
+      asks = step.whole;
+    }
+
+    pub end_stopped : (fault : RunFault) (new : Client A) (now : Counts) (told_after sent_after : Option (List ℕ))
+        → HearsPieceTo (Err fault) middle new counts now end (flow told told_after) (flow sent sent_after) silent
+        → HearsMessageTo state (Err fault) end old new server after (flow told_before told_after) (flow sent_before sent_after)
+    end_stopped fault new now told_after sent_after step = (
+      false,
+      now,
+      stops_in state after heard.hears waits (heard.due waits).0 end heard.hears.given end refl heard.hears.server_goes fault new now told_after sent_after
+          step,
+    )
 
   -- ---- after the flushes
 
@@ -145,13 +130,11 @@ module _ {R A : Type 0} (state : R → RepoState) where
     pub message_ended : (result : Result (Unit {0}) RunFault) (closed : Client A) → EndsMessageTo result new closed
         → HearsMessageTo state result end old closed server after (flow told_before told_after) (flow sent_before sent_after)
     message_ended (Ok done) closed (same, none) =
-        subst (λ (c : Client A). HearsMessage state end old c server after (flow told_before told_after) (flow sent_before sent_after)) (sym same)
-        (record { counts = heard.counts; unheard = heard.unheard; hears = hears_flushed false; asks = heard.asks none })
+        rw same (record { counts = heard.counts; unheard = heard.unheard; hears = hears_flushed false; asks = heard.asks none })
     message_ended (Err ReadFault) closed ends = absurd ends
     message_ended (Err ReadLimit) closed ends = absurd ends
     message_ended (Err WriteFault) closed same =
-        subst (λ (c : Client A). HearsMessageTo state (Err WriteFault) end old c server after (flow told_before told_after) (flow sent_before sent_after))
-        (sym same) (false, heard.counts, (heard.unheard, hears_flushed true))
+        rw same (false, heard.counts, (heard.unheard, hears_flushed true))
     message_ended (Err (RefusedRun fault)) closed (waits, hears, failed, kind) =
         let flushed = hears_flushed false in
         let (all, spent) = heard.due waits in
@@ -170,8 +153,8 @@ module _ {R A : Type 0} (state : R → RepoState) where
                 server_goes = flushed.server_goes;
               };
               told = failed;
-              timely = subst (λ (k : Kind). IsTimely k true []) (sym kind) (refl, refl);
-              done = λ _. spent;
+              timely = rw kind (refl, refl);
+              done = λ _. (refl, spent);
             },
           ),
         )

@@ -11,17 +11,17 @@ use Rattle.git_client.specs.declared.events.Ending.TheVariants.{ResponseEnd}
 use Rattle.git_server.specs.Answers.{AllFit}
 use Rattle.git_server.specs.Repository.{RepoState}
 use Rattle.git_server.specs.Server.{IsPackLost, StandsBy, outcome_of, repo_of, wants_input as waits_for_input}
-use Rattle.git_server.specs.Sessions.{Setting, IsAnswered, IsEnding, Stream, advertised}
+use Rattle.git_server.specs.Sessions.{Setting, IsAnswered, Stream, advertised}
 use Rattle.git_server.specs.declared.outcome.Outcome.{Outcome}
 use Rattle.git_server.specs.declared.server.Server.{Server}
-use Rattle.git_server.proofs.AtRest.{at_rest, all_used, few_asked, front_of, packets_of, tail_flushes}
+use Rattle.git_server.proofs.AtRest.{at_rest, all_used, few_asked, front_of, packets_of}
 use Rattle.git_server.proofs.Flushes.{flushes-append}
 use Rattle.git_server.proofs.Going.{no_outcome, owes_some}
-use Rattle.git_server.proofs.OneSession.{answers_end, one_spelling, owes_flush}
+use Rattle.git_server.proofs.OneSession.{answers_end, owes_flush}
 use Rattle.git_server.proofs.Sent.{is_whole}
 use Rattle.git_server.proofs.SessionLaws.{all_answered, going}
 use Rattle.git2show_lib.specs.PlaySteps.{IsSpent, Settled, Stands}
-use Rattle.git2show_lib.specs.Plays.{CanFail, IsDone, IsLostFor, IsTalk, Talk}
+use Rattle.git_both_ends.specs.Plays.{CanFail, IsDone, IsLostFor, IsTalk, Talk}
 use Rattle.git2show_lib.proofs.PlayFlushes.{Closes, LastFlush, closes_both, ends_closed, flushes_nearest, given_close}
 
 pub spelled-append : (ps qs : List Pkt) → spelled (ps ++ qs) ≡ spelled ps ++ spelled qs
@@ -36,18 +36,21 @@ pub record Rests (Fails : Type 0) (s : Setting) (count : ℕ) (said given : List
   pub done : IsAnswered s said given
   pub packets : List Pkt
   pub given_is : given ≡ spelled packets
-  pub fit : AllFit packets
   pub closed : Closes packets
   pub counted : flushes packets ≡ count
 
-module _ {R A : Type 0} (state : R → RepoState) (s : Setting) (qs : List Pkt) (closes : Closes qs) (said given : List ℕ) (server : Server R A)
-    (st : Stands state s said given server) (is : said ≡ spelled qs) where
-  -- all messages but the last one were given
-  abbrev pub Quota : Type 0
-  Quota = (ps : List Pkt) → AllFit ps → given ≡ spelled ps → flushes qs + flushes (advertised s) ≤ flushes ps + 1
+-- of the messages that are due for these packets all were given
+abbrev pub Enough : Setting → List Pkt → List ℕ → Type 0
+Enough s qs given = (ps : List Pkt) → AllFit ps → given ≡ spelled ps → flushes qs + flushes (advertised s) ≤ flushes ps
 
-  quiet_by : Quota → (o : Option Outcome) → outcome_of server ≡ o → StandsBy o s st.used false given server → o ≡ None → st.unused ≡ []
-  quiet_by quota None none (_, h) same =
+-- or all but the last one
+abbrev pub Quota : Setting → List Pkt → List ℕ → Type 0
+Quota s qs given = (ps : List Pkt) → AllFit ps → given ≡ spelled ps → flushes qs + flushes (advertised s) ≤ flushes ps + 1
+
+module _ {R A : Type 0} {state : R → RepoState} {s : Setting} {qs : List Pkt} {said given : List ℕ} {server : Server R A} (closes : Closes qs)
+    (st : Stands state s said given server) (is : said ≡ spelled qs) (quota : Quota s qs given) where
+  quiet_by : (o : Option Outcome) → outcome_of server ≡ o → StandsBy o s st.used false given server → o ≡ None → st.unused ≡ []
+  quiet_by None none (_, h) same =
       let (owed, owes) = owes_some server.offer s.repo server.phase in
       let whole = is_whole s h.asked h.sent owed (h.is_sent owed owes) in
       let stream : Stream s st.used h.asked h.left h.rest = record { packets = h.packets; splits = h.reads.splits; requests = h.requests } in
@@ -59,60 +62,21 @@ module _ {R A : Type 0} (state : R → RepoState) (s : Setting) (qs : List Pkt) 
         | inr some ↦ (all_used s qs st.used st.unused (sym is ∙ st.parts) (ends_closed qs closes) h.asked h.left h.rest stream
             (omega (arith, some, parts, count, many))).none_unused
       ]
-  quiet_by quota (Some outcome) some h same = absurd (cc)
+  quiet_by (Some outcome) some h same = absurd (cc)
 
-  -- a server that goes on has thrown nothing away
-  pub quiet : Quota → outcome_of server ≡ None → st.unused ≡ []
-  quiet quota none = quiet_by quota (outcome_of server) refl st.runs.stands none
-
-  -- so it is settled
-  pub settle : Quota → Settled state s said given server
-  settle quota = record {
+  -- a server that goes on has thrown nothing away: so it is settled
+  pub settle : Settled state s said given server
+  settle = record {
     used = st.used;
     unused = st.unused;
     parts = st.parts;
     runs = st.runs;
-    settled = quiet quota;
+    settled = quiet_by (outcome_of server) refl st.runs.stands;
     in_time = st.in_time;
   }
 
-module _ {R A : Type 0} (state : R → RepoState) (s : Setting) (qs : List Pkt) (closes : Closes qs) (said given : List ℕ) (server : Server R A)
+module _ {R A : Type 0} {state : R → RepoState} {s : Setting} {qs : List Pkt} {said given : List ℕ} {server : Server R A} (closes : Closes qs)
     (st : Settled state s said given server) (is : said ≡ spelled qs) where
-  -- what was given so far: no more messages than are due
-  pub record Gave : Type 0 where
-    pub packets : List Pkt
-    pub fit : AllFit packets
-    pub given_is : given ≡ spelled packets
-    pub few : flushes packets ≤ flushes qs + flushes (advertised s)
-
-  gave_by : (o : Option Outcome) → outcome_of server ≡ o → StandsBy o s st.used false given server → Gave
-  gave_by None none (_, h) =
-      let (owed, owes) = owes_some server.offer s.repo server.phase in
-      let whole = is_whole s h.asked h.sent owed (h.is_sent owed owes) in
-      let stream : Stream s st.used h.asked h.left h.rest = record { packets = h.packets; splits = h.reads.splits; requests = h.requests } in
-      let few = few_asked s qs st.used st.unused (sym is ∙ st.parts) (ends_closed qs closes) h.asked h.left h.rest stream in
-      let parts = sym (flushes-append h.sent owed) ∙ ap flushes whole.parts ∙ flushes-append (advertised s) whole.answers in
-      let count = answers_end s.repo h.asked whole.answers whole.answered in
-      record { packets = h.sent; fit = h.fit; given_is = h.given_is; few = omega (arith, few, parts, count) }
-  gave_by (Some outcome) some h =
-      let (owed, owes) = owes_some server.offer s.repo server.phase in
-      let e : IsEnding s st.used false given outcome owed = h owed owes in
-      let few = few_asked s qs st.used st.unused (sym is ∙ st.parts) (ends_closed qs closes) e.asked e.left e.rest e.stream in
-      let tail = tail_flushes s e.left outcome (e.sent ++ owed) e.parts in
-      let tail_parts = flushes-append e.sent owed in
-      let parts = flushes-append (advertised s ++ e.answers) e.sent in
-      let answer_parts = flushes-append (advertised s) e.answers in
-      let count = answers_end s.repo e.asked e.answers e.answered in
-      record {
-        packets = (advertised s ++ e.answers) ++ e.sent;
-        fit = e.fit;
-        given_is = e.given_is;
-        few = omega (arith, few, tail, tail_parts, parts, answer_parts, count);
-      }
-
-  pub gave : Gave
-  gave = gave_by (outcome_of server) refl st.runs.stands
-
   -- a pack was lost after a read that failed
   lost_for : (outcome : Outcome) → outcome_of server ≡ Some outcome → IsLostFor (CanFail state s.failures) outcome
   lost_for outcome some lost = (repo_of server, st.runs.failures.risen (subst IsPackLost (sym some) lost))
@@ -144,32 +108,25 @@ module _ {R A : Type 0} (state : R → RepoState) (s : Setting) (qs : List Pkt) 
     done = inr (outcome, ends s st.used false given st.runs, lost_for outcome some);
   }
 
-  -- all messages were given
-  abbrev pub Enough : Type 0
-  Enough = (ps : List Pkt) → AllFit ps → given ≡ spelled ps → flushes qs + flushes (advertised s) ≤ flushes ps
-
-  pub waits_on : Enough → waits_for_input server ≡ true
+  -- where all messages were given it waits for more, and nothing is due
+  pub waits_on : Enough s qs given → waits_for_input server ≡ true
   waits_on enough =
       (at_rest state server s qs st.used st.unused given st.runs (sym is ∙ st.parts) (ends_closed qs closes) enough st.in_time).waits
 
-  pub rests : Enough → Rests (CanFail state s.failures) s (flushes qs + flushes (advertised s)) said given
+  pub rests : Enough s qs given → Rests (CanFail state s.failures) s (flushes qs + flushes (advertised s)) said given
   rests enough =
       let rest = at_rest state server s qs st.used st.unused given st.runs (sym is ∙ st.parts) (ends_closed qs closes) enough st.in_time in
-      let used_all : st.used ≡ said = sym (st.parts ∙ ap (λ (l : List ℕ). st.used ++ l) rest.all ∙ append-nil st.used) in
-      let all : IsAnswered s said given =
-      subst (λ (l : List ℕ). IsAnswered s l given) used_all (all_answered state server s st.used false given st.runs rest.waits) in
-      let so_far = gave in
-      let same : so_far.packets ≡ advertised s ++ all.answers =
-      one_spelling so_far.packets (advertised s ++ all.answers) so_far.fit all.fit (sym so_far.given_is ∙ all.given_is) in
+      let used_all : said ≡ st.used = rw (rest.all, append-nil st.used) at st.parts in
+      let all : IsAnswered s said given = rw used_all (all_answered state server s st.used false given st.runs rest.waits) in
+      let few = few_asked s qs said [] (sym is ∙ sym (append-nil said)) (ends_closed qs closes) all.asked all.left all.rest all.stream in
       let many = enough (advertised s ++ all.answers) all.fit all.given_is in
       record {
         talk = talk;
         done = all;
         packets = advertised s ++ all.answers;
         given_is = all.given_is;
-        fit = all.fit;
         closed = given_close s all.asked all.answers all.answered;
-        counted = omega (arith, many, so_far.few, ap flushes same);
+        counted = omega (arith, many, few, flushes-append (advertised s) all.answers, answers_end s.repo all.asked all.answers all.answered);
       }
 
   -- ---- as far as a client received it: after whole messages, with a packet after them
@@ -178,48 +135,30 @@ module _ {R A : Type 0} (state : R → RepoState) (s : Setting) (qs : List Pkt) 
       (parts : heard ++ unheard ≡ spelled before ++ (given ++ spelled tail))
       (counted : flushes (packets_of gs) ≡ flushes before + (flushes qs + flushes (advertised s))) where
     in_all : (ps : List Pkt) → given ≡ spelled ps → heard ++ unheard ≡ spelled (before ++ (ps ++ tail))
-    in_all ps given_is =
-        parts ∙ ap (λ (l : List ℕ). spelled before ++ (l ++ spelled tail)) given_is
-        ∙ ap (λ (l : List ℕ). spelled before ++ l) (sym (spelled-append ps tail)) ∙ sym (spelled-append before (ps ++ tail))
+    in_all ps given_is = parts ∙ simp (spelled-append, given_is)
 
-    pub enough_heard : Enough
-    enough_heard ps fit given_is =
-        let front = front_of 0 heard unheard [] gs (before ++ (ps ++ tail)) spells (in_all ps given_is) in
-        omega (
-          arith,
-          counted,
-          no_flush,
-          ap flushes front.parts,
-          flushes-append before (ps ++ tail),
-          flushes-append ps tail,
-          flushes-append (packets_of gs) front.more,
-        )
-
-    -- what is unheard is packets without a flush
-    pub record IsBehind (ps : List Pkt) : Type 0 where
-      pub more : List Pkt
-      pub all : before ++ (ps ++ tail) ≡ packets_of gs ++ more
-      pub unheard_is : unheard ≡ spelled more
-      pub none : flushes more ≡ 0
-
-    pub behind : (r : Rests (CanFail state s.failures) s (flushes qs + flushes (advertised s)) said given) → IsBehind r.packets
-    behind r =
-        let front = front_of 0 heard unheard [] gs (before ++ (r.packets ++ tail)) spells (in_all r.packets r.given_is) in
-        record {
-          more = front.more;
-          all = front.parts;
-          unheard_is = front.left_is;
-          none = omega (
+    -- what is unheard is packets, with as many flushes as were given too many
+    pub unheard_packets : (ps : List Pkt) → given ≡ spelled ps
+        → (more : List Pkt) × (before ++ (ps ++ tail) ≡ packets_of gs ++ more) × (unheard ≡ spelled more)
+        × (flushes ps ≡ flushes qs + flushes (advertised s) + flushes more)
+    unheard_packets ps given_is =
+        let front = front_of 0 heard unheard [] gs (before ++ (ps ++ tail)) spells (in_all ps given_is) in (
+          front.more,
+          front.parts,
+          front.left_is,
+          omega (
             arith,
             counted,
             no_flush,
-            r.counted,
             ap flushes front.parts,
-            flushes-append before (r.packets ++ tail),
-            flushes-append r.packets tail,
+            flushes-append before (ps ++ tail),
+            flushes-append ps tail,
             flushes-append (packets_of gs) front.more,
-          );
-        }
+          ),
+        )
+
+    pub enough_heard : Enough s qs given
+    enough_heard ps fit given_is = omega (arith, (unheard_packets ps given_is).3)
 
 -- where all messages end with a flush, nothing is unheard
 pub nothing_unheard : (before ps front more : List Pkt) (unheard : List ℕ) → Closes before → Closes ps → before ++ (ps ++ []) ≡ front ++ more
@@ -243,7 +182,7 @@ end_or_nothing (y ∷ f) (x ∷ front) more e none =
     let heads : y ≡ x = cc in
     elim (end_or_nothing f front more tails none) [
       | inl nothing ↦ inl nothing
-      | inr same ↦ inr (ap (λ (l : List Pkt). x ∷ l) same ∙ ap (λ (p : Pkt). p ∷ (f ++ flush ∷ [])) (sym heads))
+      | inr same ↦ inr (rw (same, heads) refl)
     ]
 
 nearest_last : (gs : List Given) (before f : List Pkt) (p : Pkt) → packets_of gs ≡ f ++ p ∷ [] → (r : List Pkt) × (nearest gs before ≡ p ∷ r)
@@ -268,8 +207,7 @@ pub no_end_unheard : (before ps : List Pkt) (gs : List Given) (more : List Pkt) 
     → is_end_due ResponseEnd (nearest gs []) ≡ false → unheard ≡ []
 no_end_unheard before ps gs more unheard last all is none many not_due =
     let joined : ((before ++ last.front) ++ flush ∷ []) ++ resp_end ∷ [] ≡ packets_of gs ++ more =
-    ap (λ (l : List Pkt). l ++ resp_end ∷ []) (append_assoc before last.front (flush ∷ []) ∙ ap (λ (l : List Pkt). before ++ l) (sym last.is))
-    ∙ append_assoc before ps (resp_end ∷ []) ∙ all in
+    simp append_assoc (rw (last.is, append_assoc last.front (flush ∷ []) (resp_end ∷ [])) at all) in
     elim (end_or_nothing (before ++ last.front) (packets_of gs) more joined none) [
       | inl nothing ↦ is ∙ ap spelled nothing
       | inr same ↦ absurd (let due = ends_due gs (before ++ last.front) same many in let no : true ≡ false = sym due ∙ not_due in cc)

@@ -1,11 +1,10 @@
 -- A packet sent to a server, piece by piece.
 use Rattle.std.proofs.Common.{arith, ◌≡◌, ◌≢◌, ℕ, suc, ◌+◌, ◌-◌, ◌<◌, ◌≤◌, Bool, true, false}
 use Rattle.std.proofs.Common.{cond, length, take, drop, min, List, [], ◌∷◌, ◌++◌, Some}
-use Rattle.std.proofs.Common.{refl, sym, ap, ◌∙◌, subst, append_assoc, append-nil, length-drop, take-append-drop, inl, inr}
+use Rattle.std.proofs.Common.{refl, sym, ap, ◌∙◌, append_assoc, append-nil, length-drop, take-append-drop, inl, inr}
 use Rattle.std.proofs.Math.Seq.{take-add}
-use Rattle.std.proofs.lemmas.List.{drop_all, length-take}
+use Rattle.std.proofs.lemmas.List.{drop_all, length-take, take-take}
 use Rattle.std.proofs.lemmas.Bool.{cases_lt}
-use Rattle.std.proofs.lemmas.Grind.{common_steps}
 use Rattle.git_pkt.specs.declared.fault.Fault.{Fault}
 use Rattle.git_pkt.specs.declared.fault.Kind.TheVariants.{StreamTooLong}
 use Rattle.git_pkt.proofs.Pieces.{left_of}
@@ -18,11 +17,6 @@ use Rattle.git_server.specs.declared.server.Server.{Server}
 use Rattle.git2show_lib.specs.PlaySteps.{Stands}
 
 -- ---- the next piece of a packet
-
-pub front_of_front : (u k : ℕ) (xs : List ℕ) → u ≤ length (take k xs) → take u (take k xs) ≡ take u xs
-front_of_front u k xs few =
-    let size = length-take k xs in
-    grind (arith, common_steps)
 
 -- what is left of a packet after so many bytes, and the next piece of it
 abbrev pub left_after : List ℕ → ℕ → List ℕ
@@ -37,7 +31,8 @@ module _ (packet : List ℕ) (done k u : ℕ) (within : done ≤ length packet) 
 
   pub piece_joined : take done packet ++ take u (next_piece packet done k) ≡ take (done + u) packet
   piece_joined =
-      ap (λ (l : List ℕ). take done packet ++ l) (front_of_front u k (left_after packet done) few ∙ ap (take u) (left_of packet done within))
+      let front = take-take u k (left_after packet done) (omega (arith, few, length-take k (left_after packet done))) in
+      ap (λ (l : List ℕ). take done packet ++ l) (front ∙ ap (take u) (left_of packet done within))
       ∙ sym (take-add done u packet)
 
 -- a piece of some bytes is there while some are left
@@ -86,15 +81,13 @@ module _ {R A : Type 0} (state : R → RepoState) where
     telling_on wants goes in_time s said given h =
         let piece = next_piece packet done k in
         let none : h.unused ≡ [] = h.keeps wants in
-        let all : said ++ take done packet ≡ h.used = h.parts ∙ ap (λ (l : List ℕ). h.used ++ l) none ∙ append-nil h.used in
-        let on : Running state s (h.used ++ take u piece) false given new =
-        subst (λ (l : List ℕ). Running state s (h.used ++ take u piece) false l new) (append-nil given) (goes s h.used false given h.runs) in
+        let all : said ++ take done packet ≡ h.used = h.parts ∙ rw none (append-nil h.used) in
         record {
           used = h.used ++ take u piece;
           unused = [];
-          parts = ap (λ (l : List ℕ). said ++ l) (sym (piece_joined packet done k u within few)) ∙ sym (append_assoc said (take done packet) (take u piece))
-              ∙ ap (λ (l : List ℕ). l ++ take u piece) all ∙ sym (append-nil (h.used ++ take u piece));
-          runs = on;
+          parts = rw (← piece_joined packet done k u within few, ← append_assoc said (take done packet) (take u piece), all)
+              (sym (append-nil (h.used ++ take u piece)));
+          runs = rw (append-nil given) at (goes s h.used false given h.runs);
           keeps = λ _. refl;
           in_time = λ fault is late nothing.
               let less = in_time s h.used false given h.runs wants fault is late in
@@ -112,18 +105,16 @@ module _ {R A : Type 0} (state : R → RepoState) where
   pub telling_ends : (s : Setting) (said given packet : List ℕ) (done : ℕ) (server : Server R A) → (done < length packet → wants_input server ≡ false)
       → Telling s (said ++ take done packet) given (drop done packet) server → Stands state s (said ++ packet) (given ++ []) server
   telling_ends s said given packet done server stops h =
-      let whole : said ++ packet ≡ h.used ++ (h.unused ++ drop done packet) =
-      ap (λ (l : List ℕ). said ++ l) (sym (take-append-drop done packet)) ∙ sym (append_assoc said (take done packet) (drop done packet))
-      ∙ ap (λ (l : List ℕ). l ++ drop done packet) h.parts ∙ append_assoc h.used h.unused (drop done packet) in
+      let whole : said ++ (take done packet ++ drop done packet) ≡ h.used ++ (h.unused ++ drop done packet) =
+      rw (← append_assoc said (take done packet) (drop done packet), h.parts) (append_assoc h.used h.unused (drop done packet)) in
       record {
         used = h.used;
         unused = h.unused ++ drop done packet;
-        parts = whole;
-        runs = subst (λ (l : List ℕ). Running state s h.used false l server) (sym (append-nil given)) h.runs;
-        keeps = λ wants. ap (λ (l : List ℕ). l ++ drop done packet) (h.keeps wants)
-            ∙ drop_all done packet (elim (cases_lt done (length packet)) [
-              | inl less ↦ absurd (let no = stops less in cc)
-              | inr all ↦ all
-            ]);
+        parts = rw (take-append-drop done packet) at whole;
+        runs = rw (append-nil given) h.runs;
+        keeps = λ wants. rw (h.keeps wants) (drop_all done packet (elim (cases_lt done (length packet)) [
+          | inl less ↦ absurd (let no = stops less in cc)
+          | inr all ↦ all
+        ]));
         in_time = h.in_time;
       }

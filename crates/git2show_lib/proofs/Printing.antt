@@ -1,6 +1,6 @@
 -- Packets printed one after another, and what that results in.
 use Rattle.std.proofs.Common.{◌≡◌, ℕ, ◌+◌, ◌-◌, ◌<◌, ◌≤◌, Bool, true, false, List, [], ◌∷◌, ◌++◌, length, take, drop, Option, Some, None}
-use Rattle.std.proofs.Common.{Result, Ok, Err, IfErr, IsErrAnd, MatchResult, OnOk, arith, ap, sym, ◌∙◌, refl, subst, append_assoc, append-nil}
+use Rattle.std.proofs.Common.{Result, Ok, Err, IfErr, IsErrAnd, MatchResult, OnOk, arith, ap, sym, ◌∙◌, refl, append_assoc, append-nil}
 use Rattle.std.proofs.Common.{length-drop, take-append-drop, zero-add}
 use Rattle.std.proofs.Math.Seq.{take-length}
 use Rattle.std.proofs.lemmas.Grind.{flat_map-append}
@@ -16,8 +16,7 @@ use Rattle.git_pkt.specs.declared.reader.Got.{Got}
 use Rattle.git_pkt.specs.declared.reader.Got.TheVariants.{More, Failed, Packet as GotPacket}
 use Rattle.git_pkt.proofs.Pieces.{take_joined, left_of}
 use Rattle.git_pkt.specs.Told.{AppendsFront}
-use Rattle.git_pkt.specs.Streams.{Flow, flow, WrittenAs, Moves, IsTimely, is_broken}
-use Rattle.git_pkt.specs.declared.fault.Kind.{Kind}
+use Rattle.git_pkt.specs.Streams.{Flow, flow, WrittenAs, Moves, is_broken}
 use Rattle.git_pkt.specs.declared.fault.Kind.TheVariants.{Truncated}
 use Rattle.git_pkt.specs.declared.fault.Fault.{Fault}
 use Rattle.git_pkt.specs.declared.fault.RunFault.{RunFault}
@@ -39,56 +38,49 @@ lines-one gs g = lines-append gs (g ∷ []) ∙ ap (λ (l : List ℕ). lines_of 
 pub none_read : (r : PacketReader) → ReadsOn r [] [] r
 none_read r start bytes given rest h = (
   rest,
-  subst (λ (l : List ℕ). Reads r start l (given ++ []) rest) (sym (append-nil bytes))
-      (subst (λ (l : List Given). Reads r start bytes l rest) (sym (append-nil given)) h),
+  rw (append-nil bytes, append-nil given) h,
 )
 
 pub reads_on_then : (a b c : PacketReader) (u v : List ℕ) (gs hs : List Given) → ReadsOn a u gs b → ReadsOn b v hs c → ReadsOn a (u ++ v) (gs ++ hs) c
 reads_on_then a b c u v gs hs one two start bytes given rest reads =
     let (middle, first) = one start bytes given rest reads in
-    let (last, second) = two start (bytes ++ u) (given ++ gs) middle first in (
-      last,
-      subst (λ (l : List ℕ). Reads c start l (given ++ (gs ++ hs)) last) (append_assoc bytes u v)
-          (subst (λ (l : List Given). Reads c start ((bytes ++ u) ++ v) l last) (append_assoc given gs hs) second),
-    )
+    let (last, second) = two start (bytes ++ u) (given ++ gs) middle first in
+    (last, rw (append_assoc bytes u v, append_assoc given gs hs) at second)
 
--- one more packet was read, and its line was put after the others
-pub prints_packet : (a b c : PacketReader) (u v : List ℕ) (before held after : Option (List ℕ)) (w x : List ℕ) (g : Given) → Prints a b u w (flow before held)
-    → ReadsOn b v (g ∷ []) c → Emits held after w (line_of g) x → Prints a c (u ++ v) x (flow before after)
-prints_packet a b c u v before held after w x g so_far reads line = record {
-  packets = so_far.packets ++ g ∷ [];
-  reads = reads_on_then a b c u v so_far.packets (g ∷ []) so_far.reads reads;
-  emits = subst (λ (l : List ℕ). Emits before after [] l x) (sym (lines-one so_far.packets g))
-      (emits_then before held after [] (lines_of so_far.packets) w (line_of g) x so_far.emits line);
-}
+module _ {a b : PacketReader} {u w : List ℕ} {before held : Option (List ℕ)} (so_far : Prints a b u w (flow before held)) where
+  -- one more packet was read, and its line was put after the others
+  prints_packet : (c : PacketReader) (v : List ℕ) {after : Option (List ℕ)} {x : List ℕ} (g : Given) → ReadsOn b v (g ∷ []) c → Emits held after w (line_of g) x
+      → Prints a c (u ++ v) x (flow before after)
+  prints_packet c v {after} {x} g reads line = record {
+    packets = so_far.packets ++ g ∷ [];
+    reads = reads_on_then a b c u v so_far.packets (g ∷ []) so_far.reads reads;
+    emits = rw (lines-one so_far.packets g) (emits_then before held after [] (lines_of so_far.packets) w (line_of g) x so_far.emits line);
+  }
 
--- one more packet was read, and a write failed at its line
-pub prints_packet_front : (a b c : PacketReader) (u v : List ℕ) (before held after : Option (List ℕ)) (w : List ℕ) (g : Given)
-    → Prints a b u w (flow before held) → ReadsOn b v (g ∷ []) c → EmitsFront held after w (line_of g) → Writes true a c (u ++ v) (flow before after)
-prints_packet_front a b c u v before held after w g so_far reads line = record {
-  packets = so_far.packets ++ g ∷ [];
-  reads = reads_on_then a b c u v so_far.packets (g ∷ []) so_far.reads reads;
-  written = subst (λ (l : List ℕ). AppendsFront before after l) (sym (lines-one so_far.packets g))
-      (front_after before held after [] (lines_of so_far.packets) w (line_of g) so_far.emits line);
-}
+  -- one more packet was read, and a write failed at its line
+  prints_packet_front : (c : PacketReader) (v : List ℕ) (after : Option (List ℕ)) (g : Given) → ReadsOn b v (g ∷ []) c → EmitsFront held after w (line_of g)
+      → Writes true a c (u ++ v) (flow before after)
+  prints_packet_front c v after g reads line = record {
+    packets = so_far.packets ++ g ∷ [];
+    reads = reads_on_then a b c u v so_far.packets (g ∷ []) so_far.reads reads;
+    written = rw (lines-one so_far.packets g) (front_after before held after [] (lines_of so_far.packets) w (line_of g) so_far.emits line);
+  }
 
--- bytes were read that make no packet whole
-pub prints_quiet : (a b c : PacketReader) (u v w : List ℕ) (writer : Flow) → Prints a b u w writer → ReadsOn b v [] c → Prints a c (u ++ v) w writer
-prints_quiet a b c u v w writer so_far reads = record {
-  packets = so_far.packets;
-  reads = subst (λ (l : List Given). ReadsOn a (u ++ v) l c) (append-nil so_far.packets) (reads_on_then a b c u v so_far.packets [] so_far.reads reads);
-  emits = so_far.emits;
-}
+  -- bytes were read that make no packet whole
+  prints_quiet : (c : PacketReader) (v : List ℕ) → ReadsOn b v [] c → Prints a c (u ++ v) w (flow before held)
+  prints_quiet c v reads = record {
+    packets = so_far.packets;
+    reads = rw (append-nil so_far.packets) at (reads_on_then a b c u v so_far.packets [] so_far.reads reads);
+    emits = so_far.emits;
+  }
 
--- what waited was sent, as far as that went
-pub sent_on : (broken : Bool) (old new : PacketReader) (bytes w : List ℕ) (before held after : Option (List ℕ)) → Prints old new bytes w (flow before held)
-    → WrittenAs broken (flow held after) w → Writes broken old new bytes (flow before after)
-sent_on broken old new bytes w before held after prints sent = record {
-  packets = prints.packets;
-  reads = prints.reads;
-  written = subst (λ (l : List ℕ). WrittenAs broken (flow before after) l) (sym prints.emits.all)
-      (written_then broken before held after prints.emits.sent w prints.emits.written sent);
-}
+  -- what waited was sent, as far as that went
+  sent_on : (broken : Bool) (after : Option (List ℕ)) → WrittenAs broken (flow held after) w → Writes broken a b u (flow before after)
+  sent_on broken after sent = record {
+    packets = so_far.packets;
+    reads = so_far.reads;
+    written = rw so_far.emits.all (written_then broken before held after so_far.emits.sent w so_far.emits.written sent);
+  }
 
 -- ---- one call of `feed` over what is left of a piece
 
@@ -96,13 +88,13 @@ sent_on broken old new bytes w before held after prints sent = record {
 abbrev pub left : List ℕ → ℕ → List ℕ
 left piece done = take (length piece - done) (drop done piece)
 
-module _ (old b c : PacketReader) (piece : List ℕ) (done : ℕ) (before held : Option (List ℕ)) (w : List ℕ) (fed : Fed) (within : done ≤ length piece)
+module _ {old b c : PacketReader} (piece : List ℕ) (done : ℕ) {before held : Option (List ℕ)} {w : List ℕ} {fed : Fed} (within : done ≤ length piece)
     (so_far : Prints old b (take done piece) w (flow before held)) (feeds : Feeds b (left piece done) fed c) where
   reads_by : (got : Got) → fed.got ≡ got → ReadsOn b (take fed.used (left piece done)) (given_by got) c
-  reads_by got is = subst (λ (x : Got). ReadsOn b (take fed.used (left piece done)) (given_by x) c) is feeds.reads
+  reads_by got is = rw is at feeds.reads
 
   pub tells_by : (got : Got) → fed.got ≡ got → Tells got fed.used (left piece done) c
-  tells_by got is = subst (λ (x : Got). Tells x fed.used (left piece done) c) is feeds.tells
+  tells_by got is = rw is at feeds.tells
 
   pub left_length : length (left piece done) ≡ length piece - done
   left_length = ap length (left_of piece done within) ∙ length-drop done piece
@@ -111,8 +103,7 @@ module _ (old b c : PacketReader) (piece : List ℕ) (done : ℕ) (before held :
   fed_failed f sound is =
       let shown = feeds.news f sound is in (
         done + fed.used,
-        subst (λ (l : List ℕ). Prints old c l w (flow before held)) (take_joined piece done fed.used within)
-            (prints_quiet old b c (take done piece) (take fed.used (left piece done)) w (flow before held) so_far (reads_by (Failed f) is)),
+        rw (take_joined piece done fed.used within) at (prints_quiet so_far c (take fed.used (left piece done)) (reads_by (Failed f) is)),
         record {
           told = tells_by (Failed f) is;
           shown = record {
@@ -127,35 +118,27 @@ module _ (old b c : PacketReader) (piece : List ℕ) (done : ℕ) (before held :
       let tells = tells_by More is in
       let all : take (done + fed.used) piece ≡ piece =
       ap (λ (n : ℕ). take n piece) (omega (arith, tells.0, left_length, within)) ∙ take-length piece in
-      subst (λ (l : List ℕ). Prints old c l w (flow before held)) (take_joined piece done fed.used within ∙ all)
-      (prints_quiet old b c (take done piece) (take fed.used (left piece done)) w (flow before held) so_far (reads_by More is))
+      rw (take_joined piece done fed.used within, all) at (prints_quiet so_far c (take fed.used (left piece done)) (reads_by More is))
 
-  pub fed_packet : (p : Packet) (offset : ℕ) (after : Option (List ℕ)) (x : List ℕ) → fed.got ≡ GotPacket p offset
+  pub fed_packet : (p : Packet) (offset : ℕ) {after : Option (List ℕ)} {x : List ℕ} → fed.got ≡ GotPacket p offset
       → Emits held after w (line_of (record { packet = seen p; offset = offset })) x → Prints old c (take (done + fed.used) piece) x (flow before after)
-  fed_packet p offset after x is line =
-      subst (λ (l : List ℕ). Prints old c l x (flow before after)) (take_joined piece done fed.used within)
-      (prints_packet old b c (take done piece) (take fed.used (left piece done)) before held after w x (record { packet = seen p; offset = offset }) so_far
-      (reads_by (GotPacket p offset) is) line)
+  fed_packet p offset is line =
+      rw (take_joined piece done fed.used within) at
+      (prints_packet so_far c (take fed.used (left piece done)) (record { packet = seen p; offset = offset }) (reads_by (GotPacket p offset) is) line)
 
   pub fed_packet_front : (p : Packet) (offset : ℕ) (after : Option (List ℕ)) → fed.got ≡ GotPacket p offset
       → EmitsFront held after w (line_of (record { packet = seen p; offset = offset })) → WritesFront old c piece (flow before after)
   fed_packet_front p offset after is line = (
     done + fed.used,
-    subst (λ (l : List ℕ). Writes true old c l (flow before after)) (take_joined piece done fed.used within)
-        (prints_packet_front old b c (take done piece) (take fed.used (left piece done)) before held after w
-        (record { packet = seen p; offset = offset }) so_far (reads_by (GotPacket p offset) is) line),
+    rw (take_joined piece done fed.used within) at (prints_packet_front so_far c (take fed.used (left piece done)) after
+        (record { packet = seen p; offset = offset }) (reads_by (GotPacket p offset) is) line),
   )
 
-module _ (old new : PacketReader) (piece w : List ℕ) (before held after : Option (List ℕ)) where
-  -- the write of what waited failed, whether or not the piece had a fault
-  pub sent_in_part : (stopped : Option Fault) → PrintsPiece stopped old new piece w (flow before held) → AppendsFront held after w
-      → WritesFront old new piece (flow before after)
-  sent_in_part None prints front = (
-    length piece,
-    subst (λ (l : List ℕ). Writes true old new l (flow before after)) (sym (take-length piece))
-        (sent_on true old new piece w before held after prints.0 front),
-  )
-  sent_in_part (Some f) (used, prints, meets) front = (used, sent_on true old new (take used piece) w before held after prints front)
+-- the write of what waited failed, whether or not the piece had a fault
+pub sent_in_part : (old new : PacketReader) (piece w : List ℕ) (before held after : Option (List ℕ)) (stopped : Option Fault)
+    → PrintsPiece stopped old new piece w (flow before held) → AppendsFront held after w → WritesFront old new piece (flow before after)
+sent_in_part old new piece w before held after None prints front = (length piece, rw (take-length piece) (sent_on prints.0 true after front))
+sent_in_part old new piece w before held after (Some f) (used, prints, meets) front = (used, sent_on prints true after front)
 
 -- ---- the run
 
@@ -175,8 +158,7 @@ RunEnds result ended turns reader writer = Moves (is_broken result) (Shows resul
 state_of : (reader : PacketReader) (fault : Option Fault) (bytes : List ℕ) (packets : List Given) (rest : List ℕ) → fault_of reader ≡ fault
     → Reads reader 0 bytes packets rest → StandsAt fault (length bytes - length rest) (length bytes) rest reader
 state_of reader fault bytes packets rest told reads =
-    subst (λ (n : ℕ). StandsAt fault (n - length rest) n rest reader) (zero-add (length bytes))
-    (subst (λ (o : Option Fault). StandsAt o (0 + length bytes - length rest) (0 + length bytes) rest reader) told reads.state)
+    rw (zero-add (length bytes), told) at reads.state
 
 -- the lines of a piece were written, and reading goes on
 pub shows_more : (old new : PacketReader) (count n : ℕ) (piece : List ℕ) {left_before left left_after held_before held held_after : Option (List ℕ)}
@@ -190,7 +172,7 @@ shows_more old new count n piece so_far read writes within some =
       packets = shows.packets ++ writes.packets;
       rest = rest;
       reads = reads;
-      lines = ap (λ (l : List ℕ). l ++ lines_of writes.packets) shows.lines ∙ sym (lines-append shows.packets writes.packets);
+      lines = rw (shows.lines, lines-append shows.packets writes.packets) refl;
       brought = brings_more count n came piece shows.brought within some;
     }) so_far read writes.written
 
@@ -211,11 +193,9 @@ module _ (ended : Bool) (turns count : ℕ) (old new : PacketReader) (bytes : Li
         unused = drop used bytes;
         packets = shows.packets ++ writes.packets;
         rest = rest;
-        cut = ap (λ (l : List ℕ). (came ++ l) ∷ []) (sym (take-append-drop used bytes))
-            ∙ ap (λ (l : List ℕ). l ∷ []) (sym (append_assoc came (take used bytes) (drop used bytes)));
+        cut = simp (append_assoc, take-append-drop);
         splits = reads.splits;
-        lines = ap (λ (l : List ℕ). (l ++ lines_of writes.packets) ∷ []) shows.lines
-            ∙ ap (λ (l : List ℕ). l ∷ []) (sym (lines-append shows.packets writes.packets));
+        lines = rw (shows.lines, lines-append shows.packets writes.packets) refl;
         ends = ends came (shows.packets ++ writes.packets) rest reads;
       }) so_far read writes.written)
 
@@ -276,16 +256,14 @@ module _ (ended : Bool) (turns count : ℕ) (old new : PacketReader) {left_befor
       → IfErr closed (λ f. (is_open old ≡ true) × (f.kind ≡ Truncated) × (f.offset + open_length old ≡ position_of old))
       → RunEnds result ended turns (flow left_before left_after) (flow held_before held)
   ends_closed (Ok done) result is between fails cut =
-      subst (λ (r : Result (Unit {0}) RunFault). RunEnds r ended turns (flow left_before left_after) (flow held_before held)) (sym is)
-      (stops_in ended turns count old new [] (Ok done) 0 so_far read (all_read old new held carries) (λ came packets rest reads. (
+      rw is (stops_in ended turns count old new [] (Ok done) 0 so_far read (all_read old new held carries) (λ came packets rest reads. (
         none_between new rest (state_of new None (came ++ []) packets rest (ap fault_of between.0 ∙ between.1) reads).0 (ap is_open between.0 ∙ between.2),
         refl,
         told,
       )))
   ends_closed (Err f) result is between fails cut =
       let (fault, was, named) = err_from_is_err_and result is in
-      subst (λ (r : Result (Unit {0}) RunFault). RunEnds r ended turns (flow left_before left_after) (flow held_before held)) (sym (was ∙ ap Err named))
-      (stops_in ended turns count old new [] (Err (Refused f)) 0 so_far read (all_read old new held carries) (λ came packets rest reads. (
+      rw (was, named) (stops_in ended turns count old new [] (Err (Refused f)) 0 so_far read (all_read old new held carries) (λ came packets rest reads. (
         (state_of new (Some f) (came ++ []) packets rest fails reads).1,
-        subst (λ (kind : Kind). IsTimely kind ended []) (sym cut.1) (refl, told),
+        rw cut.1 (refl, told),
       )))

@@ -1,17 +1,15 @@
 -- The next request, read a piece at a time: what all pieces so far result in, and what each end of the reading states of them.
 use Rattle.std.proofs.Common.{arith, ◌≡◌, ℕ, ◌-◌, ◌≤◌, Bool, true, false, List, [], ◌++◌, length, take, drop, Option, None, Result, Ok, Err}
-use Rattle.std.proofs.Common.{IsErrAnd, inl, inr, refl, sym, ap, ◌∙◌, subst, append_assoc, append-nil, length-append, length-drop, take-append-drop}
+use Rattle.std.proofs.Common.{IsErrAnd, inl, inr, refl, sym, ap, ◌∙◌, append_assoc, append-nil, length-append, length-drop, take-append-drop}
 use Rattle.std.proofs.Math.Seq.{drop-length}
 use Rattle.std.proofs.lemmas.List.{length-take-le}
 use Rattle.std.proofs.lemmas.Result.{err_from_is_err_and}
 use Rattle.std.specs.Io.KnownBytes.{Consumes, Keeps}
 use Rattle.std.proofs.KnownBytes.{Consumes-nil, Consumes-trans, Consumes-kept}
 use Rattle.git_pkt.specs.declared.fault.Fault.{Fault}
-use Rattle.git_pkt.specs.declared.fault.Kind.{Kind}
-use Rattle.git_pkt.specs.Streams.{Flow, flow, IsTimely}
+use Rattle.git_pkt.specs.Streams.{Flow, flow}
 use Rattle.git_pkt.proofs.EngineLemmas.{timely}
-use Rattle.git_msg.specs.Asked.{Asked}
-use Rattle.git_msg.specs.RequestStreams.{Closes, Feeds, HasRead, asked_by, fault_of, wants_input}
+use Rattle.git_msg.specs.RequestStreams.{Closes, Feeds, asked_by, fault_of, wants_input}
 use Rattle.git_msg.specs.StreamStages.{fault_in}
 use Rattle.git_msg.specs.declared.requests.Request.{Request as HeldRequest}
 use Rattle.git_msg.specs.declared.streams.RequestStream.{RequestStream}
@@ -36,7 +34,7 @@ module _ {A : Type 0} where
   feeds_with : {old new : RequestStream A} {piece : List ℕ} (read : ReadRequest A) {got : ReadGot A} → read.got ≡ got → Feeds old piece read new
       → Feeds old piece (record { used = read.used; got = got }) new
   feeds_with {old = old} {new = new} {piece = piece} read is feeds =
-      subst (λ (o : ReadGot A). Feeds old piece (record { used = read.used; got = o }) new) is feeds
+      rw is at feeds
 
   -- before the first byte all that waits is left
   pub reads_nothing : (s : RequestStream A) (waiting : List ℕ) (left : Option (List ℕ)) → ReadsOn s s [] waiting waiting (flow left left)
@@ -45,9 +43,7 @@ module _ {A : Type 0} where
     used = [];
     read = Consumes-nil left;
     parts = append-nil waiting;
-    reads = λ before known h.
-        subst (λ (bytes : List ℕ). HasRead bytes (known ++ []) s) (sym (append-nil before))
-        (subst (λ (qs : List Asked). HasRead before qs s) (sym (append-nil known)) h);
+    reads = λ before known h. rw (append-nil before, append-nil known) h;
     offer = refl;
     limit = refl;
   }
@@ -60,8 +56,7 @@ module _ {A : Type 0} where
       came = so_far.came ++ came;
       used = so_far.used;
       read = Consumes-trans before left after so_far.came came so_far.read read;
-      parts =
-          sym (append_assoc waiting so_far.came came) ∙ ap (λ (l : List ℕ). l ++ came) so_far.parts ∙ append_assoc so_far.used unused came;
+      parts = sym (append_assoc waiting so_far.came came) ∙ rw so_far.parts (append_assoc so_far.used unused came);
       reads = so_far.reads;
       offer = so_far.offer;
       limit = so_far.limit;
@@ -86,13 +81,10 @@ module _ {A : Type 0} where
         came = so_far.came;
         used = so_far.used ++ take used unused;
         read = so_far.read;
-        parts =
-            so_far.parts ∙ ap (λ (l : List ℕ). so_far.used ++ l) (sym (take-append-drop used unused))
-            ∙ sym (append_assoc so_far.used (take used unused) (drop used unused));
+        parts = so_far.parts ∙ simp (append_assoc, take-append-drop);
         reads = λ bytes known h.
-            subst (λ (all : List ℕ). HasRead all (known ++ asked_by got) new) (append_assoc bytes so_far.used (take used unused))
-            (subst (λ (qs : List Asked). HasRead ((bytes ++ so_far.used) ++ take used unused) (qs ++ asked_by got) new) (append-nil known)
-            (feeds.reads (bytes ++ so_far.used) (known ++ []) (so_far.reads bytes known h)));
+            rw (append_assoc bytes so_far.used (take used unused), append-nil known) at
+            (feeds.reads (bytes ++ so_far.used) (known ++ []) (so_far.reads bytes known h));
         offer = feeds.offer ∙ so_far.offer;
         limit = feeds.limit ∙ so_far.limit;
       }
@@ -105,7 +97,7 @@ module _ {A : Type 0} where
       fed_request {ended = ended} {request = request} is feeds within rest_is open_ended =
           let news = feeds_with read is feeds in
           let (some, between, shut, format, kept, limit) = news.leaves in
-          subst (λ (l : List ℕ). ReadsRequest ended old new request waiting l (flow before left)) rest_is (record {
+          rw (← rest_is) (record {
             reads = fed news;
             onward = reads_between new.stage between;
             can_come = open_ended;
@@ -146,8 +138,8 @@ module _ {A : Type 0} where
       fed_more is feeds wants =
           let news = feeds_with read is feeds in
           let (all, onward) = news.leaves wants in
-          let none : drop read.used unused ≡ [] = subst (λ (n : ℕ). drop n unused ≡ []) (sym all) (drop-length unused) in
-          (onward, subst (λ (l : List ℕ). ReadsOn old new [] waiting l (flow before left)) none (fed news))
+          let none : drop read.used unused ≡ [] = rw all (drop-length unused) in
+          (onward, rw none at (fed news))
 
   module _ {old middle : RequestStream A} {waiting : List ℕ} {before left : Option (List ℕ)}
       (so_far : ReadsOn old middle [] waiting [] (flow before left)) where
@@ -163,18 +155,18 @@ module _ {A : Type 0} where
     pub came_in_front : {after : Option (List ℕ)} (end : ℕ) (piece : List ℕ) → Consumes left after (take end piece)
         → ReadsOn old middle [] waiting (window_of (record { start = 0; end = end }) piece) (flow before after)
     came_in_front {after = after} end piece read =
-        subst (λ (l : List ℕ). ReadsOn old middle [] waiting l (flow before after)) (front_window end piece) (came_more so_far (take end piece) read)
+        rw (front_window end piece) at (came_more so_far (take end piece) read)
 
     -- a read gave no bytes
     module _ {after : Option (List ℕ)} (end : ℕ) (piece : List ℕ) (none : end ≡ 0) (read : Consumes left after (take end piece)) where
       read_nothing : ReadsOn old middle [] waiting [] (flow before after)
-      read_nothing = came_more so_far [] (subst (λ (n : ℕ). Consumes left after (take n piece)) none read)
+      read_nothing = came_more so_far [] (rw none at read)
 
       -- the input ended after a whole request, or before the first one
       pub ended_whole : {ended : Bool} {new : RequestStream A} {done : Unit {0}} → ended ≡ true → Closes (Ok done) middle new
           → ReadsNoMore ended old new waiting (flow before after)
       ended_whole {ended = ended} at_end (same, whole) =
-          subst (λ (s : RequestStream A). ReadsNoMore ended old s waiting (flow before after)) (sym same) (record {
+          rw same (record {
             unused = [];
             reads = read_nothing;
             over = λ bytes known h. ([], [], whole bytes known h, (refl, inr (refl, refl, at_end)));
@@ -197,7 +189,7 @@ module _ {A : Type 0} where
               limit = limit ∙ so_far.limit;
             };
             refused = λ bytes known h. (h.left, h.rest, asked_so_far h, refused_as h told);
-            timely = subst (λ (k : Kind). IsTimely k ended []) (sym kind) (refl, at_end);
+            timely = rw kind (refl, at_end);
           }
 
   -- a read failed, and a `?` answers the fault that it met
@@ -205,5 +197,4 @@ module _ {A : Type 0} where
       (waiting : List ℕ) (window : Window) (piece : List ℕ) (reader : Flow) → IsErrAnd result (λ e. e ≡ fault) → fault ≡ ReadFault
       → ReadsAll ended old new waiting reader → ReadsTo result ended old new waiting window piece reader
   read_fault result fault ended old new waiting window piece reader answered named all =
-      let (e, is, same) = err_from_is_err_and result answered in
-      subst (λ (r : Result (Option (HeldRequest A)) CheckFault). ReadsTo r ended old new waiting window piece reader) (sym (is ∙ ap Err (same ∙ named))) all
+      let (e, is, same) = err_from_is_err_and result answered in rw (is, same, named) all

@@ -1,6 +1,6 @@
 -- A text is one script, or has one first bad line.
-use Rattle.std.proofs.Common.{arith, ◌≡◌, ℕ, ◌<◌, List, [], ◌∷◌, ◌++◌, refl, ap, sym, ◌∙◌, subst, length, inl, inr}
-use Rattle.std.proofs.lemmas.Bool.{cases_lt}
+use Rattle.std.proofs.Common.{rules, arith, ◌≡◌, ℕ, ◌<◌, List, [], ◌∷◌, ◌++◌, refl, ap, sym, ◌∙◌, subst, length, inl, inr}
+use Rattle.std.proofs.lemmas.Bool.{cases_order}
 use Rattle.git_pkt.specs.declared.fault.Kind.TheVariants.{UnknownArgument}
 use Rattle.git_msg.specs.declared.offers.Offer.{Offer}
 use Rattle.git_msg.specs.declared.arguments.Command.{Command}
@@ -18,12 +18,7 @@ one_command : (c d : Command) → name_of c ≡ name_of d → c ≡ d
 one_command LsRefs LsRefs e = refl
 one_command Fetch Fetch e = refl
 one_command ObjectInfo ObjectInfo e = refl
-one_command LsRefs Fetch e = let h : length (name_of LsRefs) ≡ length (name_of Fetch) = ap (λ (t : List ℕ). length t) e in absurd (omega (arith, h))
-one_command LsRefs ObjectInfo e = let h : length (name_of LsRefs) ≡ length (name_of ObjectInfo) = ap (λ (t : List ℕ). length t) e in absurd (omega (arith, h))
-one_command Fetch LsRefs e = let h : length (name_of Fetch) ≡ length (name_of LsRefs) = ap (λ (t : List ℕ). length t) e in absurd (omega (arith, h))
-one_command Fetch ObjectInfo e = let h : length (name_of Fetch) ≡ length (name_of ObjectInfo) = ap (λ (t : List ℕ). length t) e in absurd (omega (arith, h))
-one_command ObjectInfo LsRefs e = let h : length (name_of ObjectInfo) ≡ length (name_of LsRefs) = ap (λ (t : List ℕ). length t) e in absurd (omega (arith, h))
-one_command ObjectInfo Fetch e = let h : length (name_of ObjectInfo) ≡ length (name_of Fetch) = ap (λ (t : List ℕ). length t) e in absurd (omega (arith, h))
+one_command c d e = absurd (omega (arith, ap (λ (t : List ℕ). length t) e))
 
 -- an empty text names no command
 no_command : (c : Command) → name_of c ≡ [] → ⊥
@@ -33,12 +28,9 @@ no_command ObjectInfo e = cc
 
 -- and is no argument
 nothing : (c : Command) → IsNoArgument c []
-nothing LsRefs = (((λ e. cc), ((λ e. cc), ((λ e. cc), tt))), ((λ rest e. cc), tt))
-nothing Fetch = (
-  ((λ e. cc), ((λ e. cc), ((λ e. cc), ((λ e. cc), ((λ e. cc), ((λ e. cc), ((λ e. cc), tt))))))),
-  ((λ rest e. cc), ((λ rest e. cc), ((λ rest e. cc), ((λ rest e. cc), ((λ rest e. cc), ((λ rest e. cc), ((λ rest e. cc), ((λ rest e. cc), tt)))))))),
-)
-nothing ObjectInfo = (((λ e. cc), tt), ((λ rest e. cc), tt))
+nothing LsRefs = search rules
+nothing Fetch = search rules
+nothing ObjectInfo = search rules
 
 no_argument : (c : Command) (offer : Offer) (arg : Arg) → ReadsAs c offer [] arg → ⊥
 no_argument c offer arg h = argument_or_fault c offer [] arg UnknownArgument h (inl (nothing c, refl))
@@ -49,12 +41,12 @@ one_line : (offer : Offer) (limit : ℕ) (before : List ScriptLine) (text : List
 one_line offer limit before text blank blank h k = refl
 one_line offer limit before text blank (command c) h k = absurd (no_command c (sym k.1 ∙ h))
 one_line offer limit before text blank (argument arg) h k =
-    absurd (no_argument k.of offer arg (subst (λ (t : List ℕ). ReadsAs k.of offer t arg) h k.reads))
+    absurd (no_argument k.of offer arg (rw h at k.reads))
 one_line offer limit before text (command c) blank h k = absurd (no_command c (sym h.1 ∙ k))
 one_line offer limit before text (command c) (command d) h k = ap command (one_command c d (sym h.1 ∙ k.1))
 one_line offer limit before text (command c) (argument arg) h k = let none = h.0 in let some = k.is_open in absurd (cc)
 one_line offer limit before text (argument arg) blank h k =
-    absurd (no_argument h.of offer arg (subst (λ (t : List ℕ). ReadsAs h.of offer t arg) k h.reads))
+    absurd (no_argument h.of offer arg (rw k at h.reads))
 one_line offer limit before text (argument arg) (command c) h k = let none = k.0 in let some = h.is_open in absurd (cc)
 one_line offer limit before text (argument a) (argument b) h k =
     let first = h.is_open in
@@ -69,9 +61,7 @@ one_list : (offer : Offer) (limit : ℕ) (before : List ScriptLine) (texts : Lis
 one_list offer limit before [] [] [] h k = refl
 one_list offer limit before (t ∷ ts) (x ∷ xs) (y ∷ ys) h k =
     let same = one_line offer limit before t x y h.0 k.0 in
-    ap (λ (l : ScriptLine). l ∷ xs) same
-    ∙ ap (λ (ls : List ScriptLine). y ∷ ls) (one_list offer limit (y ∷ before) ts xs ys
-    (subst (λ (l : ScriptLine). FollowAll offer limit (l ∷ before) ts xs) same h.1) k.1)
+    rw (same, one_list offer limit (y ∷ before) ts xs ys (rw same at h.1) k.1) refl
 one_list offer limit before [] [] (y ∷ ys) h k = absurd k
 one_list offer limit before [] (x ∷ xs) b h k = absurd h
 one_list offer limit before (t ∷ ts) [] b h k = absurd h
@@ -102,9 +92,9 @@ split_at offer limit before (t ∷ ts) text others [] h = absurd h
 lines_or_bad : (offer : Offer) (limit : ℕ) (texts : List (List ℕ)) (lines : List ScriptLine) (number : ℕ) → FollowAll offer limit [] texts lines
     → HasBadScriptLine offer limit texts number → ⊥
 lines_or_bad offer limit texts lines number h bad =
-    let split = split_at offer limit [] bad.before bad.bad bad.others lines (subst (λ (ts : List (List ℕ)). FollowAll offer limit [] ts lines) bad.whole h) in
+    let split = split_at offer limit [] bad.before bad.bad bad.others lines (rw bad.whole at h) in
     let same = one_list offer limit [] bad.before split.front bad.lines split.follow bad.follow in
-    bad.refused split.next (subst (λ (ls : List ScriptLine). MayFollow offer limit (nearest ls []) bad.bad split.next) same split.may_follow)
+    bad.refused split.next (rw same at split.may_follow)
 
 pub script_or_bad : (offer : Offer) (limit : ℕ) (text : List ℕ) (requests : List (Kept Asked)) (number : ℕ) → IsScript offer limit text requests
     → HasBadScriptLine offer limit (lines_of text) number → ⊥
@@ -129,12 +119,10 @@ not_earlier offer limit texts n m h k low =
 
 one_bad : (offer : Offer) (limit : ℕ) (texts : List (List ℕ)) (n m : ℕ) → HasBadScriptLine offer limit texts n → HasBadScriptLine offer limit texts m → n ≡ m
 one_bad offer limit texts n m h k =
-    elim (cases_lt n m) [
-      | inl low ↦ absurd (not_earlier offer limit texts n m h k low)
-      | inr high ↦ elim (cases_lt m n) [
-        | inl below ↦ absurd (not_earlier offer limit texts m n k h below)
-        | inr above ↦ omega (arith, high, above)
-      ]
+    elim (cases_order n m) [
+      | inl same ↦ same
+      | inr (inl low) ↦ absurd (not_earlier offer limit texts n m h k low)
+      | inr (inr low) ↦ absurd (not_earlier offer limit texts m n k h low)
     ]
 
 pub one_bad_line : (offer : Offer) (limit : ℕ) (text : List ℕ) (number other : ℕ) → HasBadScriptLine offer limit (lines_of text) number

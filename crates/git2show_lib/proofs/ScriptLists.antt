@@ -1,11 +1,9 @@
 -- The lines of a script with one more after them.
-use Rattle.std.proofs.Common.{◌≡◌, ◌⊎◌, ℕ, List, [], ◌∷◌, ◌++◌, Some, refl, ap, ◌∙◌, inl, inr, map}
+use Rattle.std.proofs.Common.{◌≡◌, ◌⊎◌, ℕ, List, [], ◌∷◌, ◌++◌, Some, refl, ap, inl, inr, map}
 use Rattle.git_names.specs.declared.object_format.Format.{Format}
 use Rattle.git_msg.specs.declared.offers.Offer.{Offer}
 use Rattle.git_msg.specs.declared.arguments.Command.{Command}
 use Rattle.git_msg.specs.Arguments.{Arg}
-use Rattle.git_msg.specs.Asked.{Asked}
-use Rattle.git_msg.specs.Kept.{Kept}
 use Rattle.git2show_lib.specs.Scripts.{ScriptLine, blank, command, argument, FollowAll, MayFollow, arguments_upto, nearest, open_after}
 use Rattle.git2show_lib.specs.Scripts.{request_of, requests_in}
 
@@ -32,8 +30,7 @@ pub requests_blank : (format : Format) (limit : ℕ) (lines : List ScriptLine) �
 requests_blank format limit [] = refl
 requests_blank format limit (blank ∷ lines) = requests_blank format limit lines
 requests_blank format limit (command c ∷ lines) =
-    ap (λ (args : List Arg). request_of format limit c args ∷ requests_in format limit (lines ++ blank ∷ [])) (upto_blank lines)
-    ∙ ap (λ (qs : List (Kept Asked)). request_of format limit c (arguments_upto lines) ∷ qs) (requests_blank format limit lines)
+    rw (upto_blank lines, requests_blank format limit lines) refl
 requests_blank format limit (argument arg ∷ lines) = requests_blank format limit lines
 
 upto_command : (lines : List ScriptLine) (c : Command) (more : List ScriptLine) → arguments_upto (lines ++ command c ∷ more) ≡ arguments_upto lines
@@ -49,8 +46,7 @@ pub requests_cut : (format : Format) (limit : ℕ) (lines : List ScriptLine) (c 
 requests_cut format limit [] c more = refl
 requests_cut format limit (blank ∷ lines) c more = requests_cut format limit lines c more
 requests_cut format limit (command d ∷ lines) c more =
-    ap (λ (args : List Arg). request_of format limit d args ∷ requests_in format limit (lines ++ command c ∷ more)) (upto_command lines c more)
-    ∙ ap (λ (qs : List (Kept Asked)). request_of format limit d (arguments_upto lines) ∷ qs) (requests_cut format limit lines c more)
+    rw (upto_command lines c more, requests_cut format limit lines c more) refl
 requests_cut format limit (argument arg ∷ lines) c more = requests_cut format limit lines c more
 
 upto_all : (args : List Arg) → arguments_upto (map argument args) ≡ args
@@ -90,7 +86,7 @@ cut_or_arguments before (command d ∷ lines) c e = elim (cut_or_arguments (comm
       inr (record {
         front = [];
         args = all.args;
-        whole = ap (λ (x : Command). command x ∷ lines) same ∙ ap (λ (ls : List ScriptLine). command c ∷ ls) all.whole;
+        whole = rw (same, all.whole) refl;
       })
   | inr cut ↦ inr (cut_behind (command d) lines c cut)
 ]
@@ -110,8 +106,9 @@ cut_of lines c e = elim (cut_or_arguments [] lines c e) [
 pub requests_of_cut : (format : Format) (limit : ℕ) (lines : List ScriptLine) (c : Command) (cut : Cut lines c)
     → requests_in format limit lines ≡ requests_in format limit cut.front ++ request_of format limit c cut.args ∷ []
 requests_of_cut format limit lines c cut =
-    ap (requests_in format limit) cut.whole ∙ requests_cut format limit cut.front c (map argument cut.args)
-    ∙ ap (λ (args : List Arg). requests_in format limit cut.front ++ request_of format limit c args ∷ requests_in format limit (map argument cut.args))
-    (upto_all cut.args)
-    ∙ ap (λ (qs : List (Kept Asked)). requests_in format limit cut.front ++ request_of format limit c cut.args ∷ qs)
-    (none_in_arguments format limit cut.args)
+    rw (
+      cut.whole,
+      requests_cut format limit cut.front c (map argument cut.args),
+      upto_all cut.args,
+      none_in_arguments format limit cut.args,
+    ) refl

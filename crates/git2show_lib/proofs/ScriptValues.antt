@@ -1,5 +1,5 @@
 -- Each request of a script has values that are allowed in it.
-use Rattle.std.proofs.Common.{◌≡◌, ℕ, List, [], ◌∷◌, Option, Some, refl, sym, subst, All}
+use Rattle.std.proofs.Common.{◌≡◌, ℕ, List, [], ◌∷◌, Some, refl, All}
 use Rattle.std.proofs.lemmas.List.Elements.{All-cons, All-nil}
 use Rattle.git_msg.specs.declared.offers.Offer.{Offer}
 use Rattle.git_msg.specs.declared.arguments.Command.{Command}
@@ -9,10 +9,6 @@ use Rattle.git_msg.specs.Kept.{Kept}
 use Rattle.git_msg.proofs.AskedValues.{asked_has_values, says_value}
 use Rattle.git_repository.specs.RepositoryLines.{lines_of}
 use Rattle.git2show_lib.specs.Scripts.{ScriptLine, blank, command, argument, FollowAll, IsArgumentAfter, IsScript, arguments_upto, open_after, requests_in}
-
--- the same command is open
-one_open : (c d : Command) (asked : Option Command) → asked ≡ Some c → asked ≡ Some d → c ≡ d
-one_open c d asked h k = cc
 
 module _ (offer : Offer) (limit : ℕ) where
   abbrev Has : Kept Asked → Type 0
@@ -28,9 +24,9 @@ module _ (offer : Offer) (limit : ℕ) where
   values_upto c before (text ∷ texts) (command d ∷ lines) h is = All-nil (IsValue c offer.format)
   values_upto c before (text ∷ texts) (argument arg ∷ lines) h is =
       let after : IsArgumentAfter offer limit before text arg = h.0 in
-      let same : after.of ≡ c = one_open after.of c (open_after before) after.is_open is in
-      let value = says_value after.of offer.format text arg after.reads.is_argument in
-      All-cons (IsValue c offer.format) arg (arguments_upto lines) (subst (λ (d : Command). IsValue d offer.format arg) same value)
+      let is_open = after.is_open in
+      let same : after.of ≡ c = cc in
+      All-cons (IsValue c offer.format) arg (arguments_upto lines) (rw same at (says_value after.of offer.format text arg after.reads.is_argument))
       (values_upto c (argument arg ∷ before) texts lines h.1 is)
 
   requests_have : (before : List ScriptLine) (texts : List (List ℕ)) (lines : List ScriptLine) → FollowAll offer limit before texts lines
@@ -48,4 +44,4 @@ module _ (offer : Offer) (limit : ℕ) where
 pub script_values : (offer : Offer) (limit : ℕ) (text : List ℕ) (requests : List (Kept Asked)) → IsScript offer limit text requests
     → All (λ q. HasValues q.format q.asked) requests
 script_values offer limit text requests h =
-    subst (All (Has offer limit)) (sym h.requests_are) (requests_have offer limit [] (lines_of text) h.lines h.follow)
+    rw h.requests_are (requests_have offer limit [] (lines_of text) h.lines h.follow)

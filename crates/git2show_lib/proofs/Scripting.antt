@@ -1,11 +1,11 @@
 -- What one more line adds to what is held of a script.
-use Rattle.std.proofs.Common.{arith, ◌≡◌, ℕ, ◌+◌, ◌-◌, ◌==◌, Bool, true, false, Result, Ok, Err, List}
+use Rattle.std.proofs.Common.{arith, ◌≡◌, ℕ, ◌+◌, ◌-◌, ◌==◌, true, false, Result, Ok, Err, List}
 use Rattle.std.proofs.Common.{[], ◌∷◌, ◌++◌, Some, None, refl, ap, sym, ◌∙◌, subst, length, map, get_or, set}
 use Rattle.std.proofs.Common.{append_assoc, length-append}
 use Rattle.std.specs.Prelude.{MatchResult}
 use Rattle.std.proofs.Math.Seq.{get_or-append_seam}
 use Rattle.std.proofs.lemmas.Bool.Decides.{nat_tests}
-use Rattle.std.proofs.lemmas.List.{map-append, set_at}
+use Rattle.std.proofs.lemmas.List.{map-append, nil_from_length, same_from_push, set_at}
 use Rattle.std.proofs.lemmas.List.Sums.{sum_by-append}
 use Rattle.std.proofs.lemmas.List.Elements.{All-nil, All-pop, All-push}
 use Rattle.git_names.specs.declared.object_format.Format.{Format}
@@ -26,7 +26,7 @@ use Rattle.git_msg.proofs.Values.{added_or_refused}
 use Rattle.git_repository.specs.declared.text_faults.LineFault.{LineFault}
 use Rattle.git_repository.specs.declared.text_faults.LineFault.TheVariants.{Refused, OutOfMemory}
 use Rattle.git2show_lib.specs.Scripts.{ScriptLine, blank, command, argument, MayFollow, kept_after, nearest, open_after, request_of, requests_in}
-use Rattle.git2show_lib.specs.HeldScripts.{Held, AddsArgument, Begins, FitsIn, GoesOn, HasOpen, Holds, IsBeginFault, IsLineFault, IsOpenAs, TakesLine}
+use Rattle.git2show_lib.specs.HeldScripts.{Held, AddsArgument, Begins, FitsIn, GoesOn, HasOpen, Holds, IsBeginFault, IsLineFault, TakesLine}
 use Rattle.git2show_lib.specs.HeldScripts.{nothing_held, with_requests}
 use Rattle.git2show_lib.proofs.ScriptLists.{Cut, cut_of, nearest_more, requests_blank, requests_cut, requests_of_cut}
 
@@ -40,19 +40,6 @@ module _ {X : Type 0} where
   last_set items others last x is =
       let long : length items - 1 ≡ length others = omega (arith, ap length is, length-append others (last ∷ [])) in
       rw long (rw is (set_at others last [] x (length others) refl))
-
-  -- lists that end in one element are equal in their parts
-  same_ends : (xs ys : List X) (x y : X) → xs ++ x ∷ [] ≡ ys ++ y ∷ [] → (xs ≡ ys) × (x ≡ y)
-  same_ends [] [] x y e = (refl, cc)
-  same_ends (a ∷ xs) (b ∷ ys) x y e =
-      let tails : xs ++ x ∷ [] ≡ ys ++ y ∷ [] = cc in
-      let heads : a ≡ b = cc in
-      let more = same_ends xs ys x y tails in
-      (ap (λ (z : X). z ∷ xs) heads ∙ ap (λ (zs : List X). b ∷ zs) more.0, more.1)
-  same_ends [] (b ∷ []) x y e = absurd (cc)
-  same_ends [] (b ∷ c ∷ ys) x y e = absurd (cc)
-  same_ends (a ∷ []) [] x y e = absurd (cc)
-  same_ends (a ∷ c ∷ xs) [] x y e = absurd (cc)
 
 open_more : (lines : List ScriptLine) (line : ScriptLine) → open_after (nearest (lines ++ line ∷ []) []) ≡ open_after (line ∷ nearest lines [])
 open_more lines line = ap open_after (nearest_more lines [] line)
@@ -127,10 +114,10 @@ module _ {A : Type 0} where
   }
 
   none_open : (lines : List ScriptLine) (held : Held A) → held.is_open ≡ false → Holds lines held → open_after (nearest lines []) ≡ None
-  none_open lines held shut h = subst (λ (is_open : Bool). IsOpenAs is_open lines held.requests) shut h.open_as
+  none_open lines held shut h = rw shut at h.open_as
 
   the_open : (lines : List ScriptLine) (held : Held A) → held.is_open ≡ true → Holds lines held → HasOpen lines held.requests
-  the_open lines held opened h = subst (λ (is_open : Bool). IsOpenAs is_open lines held.requests) opened h.open_as
+  the_open lines held opened h = rw opened at h.open_as
 
   -- a command, where no request is open
   begun : (old : Held A) (text : List ℕ) (of : Command) (request : Request A) → old.is_open ≡ false → text ≡ name_of of
@@ -139,11 +126,9 @@ module _ {A : Type 0} where
     line = command of;
     may_follow = (none_open lines old shut h, spelled);
     holds = record {
-      requests_are = map-append holding_of old.requests (request ∷ [])
-          ∙ ap (λ (qs : List (Kept Asked)). qs ++ holding_of request ∷ []) h.requests_are
-          ∙ ap (λ (q : Kept Asked). requests_in old.offer.format old.limit lines ++ q ∷ [])
-          (new_request of old.offer.format old.limit (holding_of request) empty)
-          ∙ sym (requests_cut old.offer.format old.limit lines of []);
+      requests_are =
+          rw (map-append holding_of old.requests (request ∷ []), h.requests_are, new_request of old.offer.format old.limit (holding_of request) empty)
+          (sym (requests_cut old.offer.format old.limit lines of []));
       of_format = All-push (λ (q : Request A). format_of q ≡ old.offer.format) old.requests request h.of_format empty.format_is;
       of_limit = All-push (λ (q : Request A). limit_of q ≡ old.limit) old.requests request h.of_limit empty.limit_is;
       open_as = record {
@@ -158,9 +143,6 @@ module _ {A : Type 0} where
     same_limit = refl;
   }
 
-  pub takes_command : (old new : Held A) (text : List ℕ) → old.is_open ≡ false → Begins old text new → TakesLine old text new
-  takes_command old new text shut b = subst (TakesLine old text) (sym b.new_is) (begun old text b.of b.request shut b.spelled b.is_empty)
-
   -- why a command is not taken
   command_refused : (old : Held A) (text : List ℕ) → old.is_open ≡ false → (text ≡ [] → ⊥) → IsBeginFault text Refused → IsLineFault old text Refused
   command_refused old text shut some none lines h blank may = some may
@@ -168,10 +150,12 @@ module _ {A : Type 0} where
   command_refused old text shut some none lines h (argument arg) may =
       let shut_is = none_open lines old shut h in let open_is = may.is_open in absurd (cc)
 
-  pub command_fault : (old : Held A) (text : List ℕ) (fault : LineFault) → old.is_open ≡ false → (text ≡ [] → ⊥) → IsBeginFault text fault
-      → IsLineFault old text fault
-  command_fault old text Refused shut some none = command_refused old text shut some none
-  command_fault old text OutOfMemory shut some is = λ lines h. (command is.0, (none_open lines old shut h, is.1), tt)
+  -- the answer on a command, as one on a line
+  pub said_command : (old new : Held A) (text : List ℕ) (result : Result (Unit {0}) LineFault) → old.is_open ≡ false → (text ≡ [] → ⊥)
+      → MatchResult result (λ _. Begins old text new) (IsBeginFault text) → MatchResult result (λ _. TakesLine old text new) (IsLineFault old text)
+  said_command old new text (Ok u) shut some b = rw b.new_is (begun old text b.of b.request shut b.spelled b.is_empty)
+  said_command old new text (Err Refused) shut some none = command_refused old text shut some none
+  said_command old new text (Err OutOfMemory) shut some is = λ lines h. (command is.0, (none_open lines old shut h, is.1), tt)
 
   -- the last request has the format and the limit of them all
   last_format : (lines : List ScriptLine) (held : Held A) (h : Holds lines held) (o : HasOpen lines held.requests) → format_of o.last ≡ held.offer.format
@@ -212,7 +196,7 @@ module _ {A : Type 0} where
       let limit = held.limit in
       let c = command_of o.last in
       let cut : Cut lines c = cut_of lines c o.open_is in
-      let same = same_ends (map holding_of o.others) (requests_in format limit cut.front) (holding_of o.last) (request_of format limit c cut.args)
+      let same = same_from_push (map holding_of o.others) (requests_in format limit cut.front) (holding_of o.last) (request_of format limit c cut.args)
       (sym (map-append holding_of o.others (o.last ∷ [])) ∙ ap (map holding_of) (sym o.requests_are) ∙ h.requests_are
       ∙ requests_of_cut format limit lines c cut) in
       let more : Cut (lines ++ argument arg ∷ []) c = record {
@@ -254,12 +238,6 @@ module _ {A : Type 0} where
         same_limit = refl;
       }
 
-  pub takes_argument : (old new : Held A) (text : List ℕ) → old.is_open ≡ true → AddsArgument old text new (Ok tt) → TakesLine old text new
-  takes_argument old new text opened adds lines h =
-      let o = the_open lines old opened h in
-      let a = adds o.others o.last o.requests_are (last_format lines old h o) opened in
-      subst (GoesOn lines old text) (sym a.new_is) (added lines old text h o a.arg a.request a.fits_in a.keeps)
-
   -- why an argument is not taken
   argument_refused : (old new : Held A) (text : List ℕ) → old.is_open ≡ true → (text ≡ [] → ⊥) → AddsArgument old text new (Err Refused)
       → IsLineFault old text Refused
@@ -270,10 +248,15 @@ module _ {A : Type 0} where
       let o = the_open lines old opened h in
       adds o.others o.last o.requests_are (last_format lines old h o) opened arg (fits_of_may_follow lines old text arg h o may)
 
-  pub argument_fault : (old new : Held A) (text : List ℕ) (fault : LineFault) → old.is_open ≡ true → (text ≡ [] → ⊥) → AddsArgument old text new (Err fault)
-      → IsLineFault old text fault
-  argument_fault old new text Refused opened some adds = argument_refused old new text opened some adds
-  argument_fault old new text OutOfMemory opened some adds = λ lines h.
+  -- the answer on an argument, as one on a line
+  pub said_argument : (old new : Held A) (text : List ℕ) (result : Result (Unit {0}) LineFault) → old.is_open ≡ true → (text ≡ [] → ⊥)
+      → AddsArgument old text new result → MatchResult result (λ _. TakesLine old text new) (IsLineFault old text)
+  said_argument old new text (Ok u) opened some adds = λ lines h.
+      let o = the_open lines old opened h in
+      let a = adds o.others o.last o.requests_are (last_format lines old h o) opened in
+      rw a.new_is (added lines old text h o a.arg a.request a.fits_in a.keeps)
+  said_argument old new text (Err Refused) opened some adds = argument_refused old new text opened some adds
+  said_argument old new text (Err OutOfMemory) opened some adds = λ lines h.
       let o = the_open lines old opened h in
       let a = adds o.others o.last o.requests_are (last_format lines old h o) opened in
       (argument a.0, may_follow lines old text a.0 h o a.1, a.2)
@@ -282,38 +265,21 @@ module _ {A : Type 0} where
   pub last_now : (items others : List (Request A)) (last now : Request A) (n : ℕ) → n ≡ length items → now ≡ get_or items (n - 1) now
       → items ≡ others ++ last ∷ [] → now ≡ last
   last_now items others last now n long at is =
-      at ∙ ap (λ (k : ℕ). get_or items (k - 1) now) long ∙ last_item items others last now is
+      at ∙ rw long (last_item items others last now is)
 
   pub same_held : (old : Held A) (others : List (Request A)) (last request : Request A) (n : ℕ) → n ≡ length old.requests
       → old.requests ≡ others ++ last ∷ [] → old.is_open ≡ true
       → with_requests old (set old.requests (n - 1) request) old.is_open ≡ with_requests old (others ++ request ∷ []) true
   same_held old others last request n long is opened =
-      ap (λ (k : ℕ). with_requests old (set old.requests (k - 1) request) old.is_open) long
-      ∙ ap (λ (qs : List (Request A)). with_requests old qs old.is_open) (last_set old.requests others last request is)
-      ∙ ap (with_requests old (others ++ request ∷ [])) opened
+      rw (long, last_set old.requests others last request is, opened) refl
 
   -- a text that is no argument of the request is none that fits
   pub none_reads : (offer : Offer) (last : Request A) (text : List ℕ) (kind : Kind) → IsArgumentFault (command_of last) offer text kind → (arg : Arg)
       → FitsIn offer last text arg → ⊥
   none_reads offer last text kind fault arg fits = argument_or_fault (command_of last) offer text arg kind fits.reads fault
 
-  -- the answers of the parts, as answers of the whole
-  pub said_command : (old new : Held A) (text : List ℕ) (result : Result (Unit {0}) LineFault) → old.is_open ≡ false → (text ≡ [] → ⊥)
-      → MatchResult result (λ _. Begins old text new) (IsBeginFault text) → MatchResult result (λ _. TakesLine old text new) (IsLineFault old text)
-  said_command old new text (Ok u) shut some h = takes_command old new text shut h
-  said_command old new text (Err fault) shut some h = command_fault old text fault shut some h
-
-  pub said_argument : (old new : Held A) (text : List ℕ) (result : Result (Unit {0}) LineFault) → old.is_open ≡ true → (text ≡ [] → ⊥)
-      → AddsArgument old text new result → MatchResult result (λ _. TakesLine old text new) (IsLineFault old text)
-  said_argument old new text (Ok u) opened some h = takes_argument old new text opened h
-  said_argument old new text (Err fault) opened some h = argument_fault old new text fault opened some h
-
-is_zero : (n : ℕ) → (n == 0) ≡ true → n ≡ 0
-is_zero n e = grind (arith, nat_tests)
-
 pub no_bytes : (text : List ℕ) → (length text == 0) ≡ true → text ≡ []
-no_bytes [] e = refl
-no_bytes (x ∷ text) e = let long = is_zero (length (x ∷ text)) e in absurd (omega arith)
+no_bytes text e = nil_from_length text (let n = length text in grind (arith, nat_tests))
 
 pub some_bytes : (text : List ℕ) → (length text == 0) ≡ false → text ≡ [] → ⊥
 some_bytes text e none = let long : length text ≡ 0 = ap length none in grind (arith, nat_tests)

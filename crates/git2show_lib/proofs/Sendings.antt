@@ -1,7 +1,7 @@
 -- One thing after another goes through a buffer.
 use Rattle.std.proofs.Common.{length, ◌≡◌, ℕ, List, [], ◌++◌, Option, Result, Ok, Err, IsErrAnd, ap, sym, ◌∙◌, subst, append_assoc, append-nil}
 use Rattle.std.proofs.lemmas.List.{nil_from_length}
-use Rattle.git_pkt.specs.Told.{AppendsFront, inner_of}
+use Rattle.git_pkt.specs.Told.{inner_of}
 use Rattle.git_pkt.specs.Escape.{escaped_of}
 use Rattle.git_pkt.specs.Sends.{Puts}
 use Rattle.git_pkt.specs.declared.fault.RunFault.{RunFault}
@@ -16,16 +16,14 @@ pub emits_then : (a b c : Option (List ℕ)) (x bytes y more z : List ℕ) → E
 emits_then a b c x bytes y more z one two = record {
   sent = one.sent ++ two.sent;
   written = Appends-trans a b c one.sent two.sent one.written two.written;
-  all =
-      sym (append_assoc x bytes more) ∙ ap (λ (l : List ℕ). l ++ more) one.all ∙ append_assoc one.sent y more
-      ∙ ap (λ (l : List ℕ). one.sent ++ l) two.all ∙ sym (append_assoc one.sent two.sent z);
+  all = sym (append_assoc x bytes more) ∙ simp (one.all, append_assoc, two.all);
 }
 
 pub front_after : (a b c : Option (List ℕ)) (x bytes y more : List ℕ) → Emits a b x bytes y → EmitsFront b c y more → EmitsFront a c x (bytes ++ more)
 front_after a b c x bytes y more one two =
     let same : one.sent ++ (y ++ more) ≡ x ++ (bytes ++ more) =
-    sym (append_assoc one.sent y more) ∙ ap (λ (l : List ℕ). l ++ more) (sym one.all) ∙ append_assoc x bytes more in
-    subst (λ (l : List ℕ). AppendsFront a c l) same (AppendsFront-after a b c one.sent (y ++ more) one.written two)
+    sym (append_assoc one.sent y more) ∙ rw (← one.all) (append_assoc x bytes more) in
+    rw same at (AppendsFront-after a b c one.sent (y ++ more) one.written two)
 
 module _ {W : Type 0} {contents : W → Option (List ℕ)} where
   -- what was put into the buffer, and what was sent of it
@@ -40,14 +38,13 @@ module _ {W : Type 0} {contents : W → Option (List ℕ)} where
   pub front_by : {T : Type 0} {a c : Told W} {s u t : List ℕ} {fault : RunFault} → Puts {T = T} contents a s u (Err fault) c t
       → EmitsFront (contents (inner_of a)) (contents (inner_of c)) s u
   front_by {a = a} {c = c} puts =
-      subst (λ (l : List ℕ). AppendsFront (contents (inner_of a)) (contents (inner_of c)) l) (sym puts.all)
-      (AppendsFront-longer (contents (inner_of a)) (contents (inner_of c)) puts.sent puts.rest puts.sends.err)
+      rw puts.all (AppendsFront-longer (contents (inner_of a)) (contents (inner_of c)) puts.sent puts.rest puts.sends.err)
 
   -- a head, and the escapes of a body
   pub head_and_body : {S T : Type 0} {a b c : Told W} {s t x head shown body : List ℕ} {y : S} {result : Result T RunFault} → shown ≡ body
       → Puts contents a s head (Ok y) b t → Puts contents b t (escaped_of shown) result c x → Puts contents a s (head ++ escaped_of body) result c x
-  head_and_body {a = a} {c = c} {s = s} {x = x} {head = head} {result = result} e began went =
-      subst (λ (l : List ℕ). Puts contents a s (head ++ escaped_of l) result c x) e (puts_then began went)
+  head_and_body e began went =
+      rw e at (puts_then began went)
 
 -- ---- a loop over the pieces of bytes: those that came so far have gone through the buffer, escaped, and the rest has not
 
@@ -65,21 +62,17 @@ module _ {W : Type 0} {contents : W → Option (List ℕ)} where
     pub escapes_on : Puts {T = Unit {0}} contents b y (escaped_of piece) (Ok tt) c z → EscapesTo contents a c x bytes z rest
     escapes_on next = record {
       done = so_far.done ++ piece;
-      parts = append_assoc so_far.done piece rest ∙ ap (λ (l : List ℕ). so_far.done ++ l) (sym cut) ∙ so_far.parts;
-      puts = subst (λ (l : List ℕ). Puts {T = Unit {0}} contents a x l (Ok tt) c z) (sym (escaped-append so_far.done piece)) (puts_then so_far.puts next);
+      parts = append_assoc so_far.done piece rest ∙ rw cut at so_far.parts;
+      puts = rw (escaped-append so_far.done piece) (puts_then so_far.puts next);
     }
 
     pub escapes_front : {S : Type 0} {met : RunFault} {result : Result (Unit {0}) RunFault}
         → Puts {T = S} contents b y (escaped_of piece) (Err met) c z → IsErrAnd result (λ e. e ≡ met) → Puts contents a x (escaped_of bytes) result c z
     escapes_front {result = result} next answered =
         let whole : escaped_of so_far.done ++ (escaped_of piece ++ escaped_of rest) ≡ escaped_of bytes =
-        ap (λ (l : List ℕ). escaped_of so_far.done ++ l) (sym (escaped-append piece rest) ∙ ap escaped_of (sym cut))
-        ∙ sym (escaped-append so_far.done left) ∙ ap escaped_of so_far.parts in
+        simp (← so_far.parts, cut, escaped-append) in
         subst (λ (l : List ℕ). Puts contents a x l result c z) whole (puts_then so_far.puts (puts_front (escaped_of rest) next answered))
 
   pub escapes_end : {a b : Told W} {x bytes y rest : List ℕ} → EscapesTo contents a b x bytes y rest → length rest ≡ 0
       → Puts {T = Unit {0}} contents a x (escaped_of bytes) (Ok tt) b y
-  escapes_end {a = a} {b = b} {x = x} {bytes = bytes} {y = y} {rest = rest} so_far none =
-      let all : so_far.done ≡ bytes =
-      sym (append-nil so_far.done) ∙ ap (λ (l : List ℕ). so_far.done ++ l) (sym (nil_from_length rest none)) ∙ so_far.parts in
-      subst (λ (l : List ℕ). Puts {T = Unit {0}} contents a x (escaped_of l) (Ok tt) b y) all so_far.puts
+  escapes_end {rest = rest} so_far none = rw (rw (nil_from_length rest none, append-nil so_far.done) at so_far.parts) at so_far.puts

@@ -9,6 +9,4 @@ pub mod Scripts
 pub mod HeldScripts
 pub mod ScriptLines
 pub mod ScriptFaults
-pub mod ToldAnswers
-pub mod Plays
 pub mod PlaySteps

@@ -85,7 +85,7 @@ module _ {R A : Type 0} (state : R → RepoState) where
     pub hears : Hears false old new counts counts_after server after end unheard out packs
     pub told : fault_of new ≡ Some fault
     pub timely : IsTimely fault.kind ended unheard
-    pub done : ended ≡ true → IsSpent after
+    pub done : ended ≡ true → (unheard ≡ []) × IsSpent after
 
   -- what was met before all was received: a failing write, or a fault
   abbrev pub StopsAt : RunFault → Bool → Client A → Client A → Counts → Counts → Server R A → Server R A → List ℕ → Flow → Flow → Type 0

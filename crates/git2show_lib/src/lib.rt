@@ -1,11 +1,9 @@
 //! What the program `git2show` does, over any reader and writer.
 #![tactic(auto)]
 
-pub mod answer_laws;
 mod checking;
 mod left_over;
 mod lines;
-pub mod play_laws;
 mod playing;
 mod reports;
 mod requests_read;

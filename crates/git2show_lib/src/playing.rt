@@ -9,7 +9,7 @@ ghost use Rattle.git_client.specs.Client.{can_ask, fault_of, wants_input};
 ghost use Rattle.git_client.specs.Parts.{terms_of};
 ghost use Rattle.git_client.specs.RunSteps.{HearsPieceTo};
 ghost use Rattle.git_server.specs.Server.{outcome_of};
-ghost use Rattle.git2show_lib.specs.Plays.{CanFail, Played, setting_of};
+ghost use Rattle.git_both_ends.specs.Plays.{CanFail, Played, setting_of};
 ghost use Rattle.git2show_lib.specs.PlaySteps.{AnswersTo, AsksServerTo, EndsMessageTo, HearsMessageTo, HearsServerTo, Stands, StandsOn, TellsAll, silent};
 
 use git_client::{Client, Counts, Ending, Sent, hear_piece, write_asked};

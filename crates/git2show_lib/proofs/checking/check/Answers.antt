@@ -1,20 +1,19 @@
-use Rattle.std.proofs.Common.{rules, arith, false, [], ◌∷◌, ◌++◌, ap, ◌∙◌}
+use Rattle.std.proofs.Common.{rules, arith, ap, ◌∙◌}
 use Rattle.std.proofs.lemmas.Bool.{or_parts}
+use Rattle.std.proofs.lemmas.Result.{err_from_is_err_and}
 use Rattle.git_msg.specs.Advertisement.{noted_offer}
-use Rattle.git_msg.specs.declared.limits.TheConstants.Limits.{USUAL}
 use Rattle.git_msg.specs.declared.offers.Caps.{Caps}
 use Rattle.git_client.specs.Client.{caps_of}
-use Rattle.git_client.specs.Parts.{terms_of}
-use Rattle.git2show_lib.specs.CheckedStreams.{of_responses}
-use Rattle.git2show_lib.proofs.CheckRuns.{advertisement_due, advertised, response_due, response_heard, comes_nearer, ends_at}
+use Rattle.git2show_lib.proofs.CheckRuns.{advertisement_due, advertised, response_due, response_heard, comes_nearer}
 use Rattle.git2show_lib.proofs.CheckRuns.{hearing_stopped, asking_stopped, reading_stopped, seen_the_end}
 use Rattle.git2show_lib.proofs.checking.check.Goals as goal
 
 pub returns-in_err-left-clause-checked : goal.returns-in_err-left-clause-checked
 returns-in_err-left-clause-checked g c =
-    ends_at _ _ _ c.args.requests.now c.hear.new.reader _ (of_responses c.in_err-left.field-0.0) _ _ _ c.from_residual.ensures.1
-    (hearing_stopped _ _ _ c.args.requests.now c.hear.new.reader [] _ _ [] _ _
-    (advertisement_due _ _ c.new-client.result (noted_offer (caps_of c.new-client.result) c.args.format) _ _ _ c.new-client.ensures.waits
+    let met = err_from_is_err_and c.from_residual.result c.from_residual.ensures.1 in
+    rw (met.1, met.2)
+    (hearing_stopped _ _ _ c.args.requests.now c.hear.new.reader _ _ _
+    (advertisement_due c.new-client.result (noted_offer (caps_of c.new-client.result) c.args.format) _ _ _ c.new-client.ensures.waits
     c.new-client.ensures.converses) c.new-client.ensures.waits c.in_err-left.field-0.0 c.hear.new.piece c.args.turns _ _ _
     c.in_err-left.ensures.heard c.in_err-left.ensures.told c.in_err-left.ensures.fault)
 
@@ -23,8 +22,8 @@ loop-asking-init g c =
     let heard = c.in_ok-left.ensures.heard in
     record {
       checking =
-          advertised _ _ c.new-client.result c.hear.new.client c.new-asking.result c.in_ok-left.left c.hear.new.piece
-          (advertisement_due _ _ c.new-client.result (noted_offer (caps_of c.new-client.result) c.args.format) _ _ _ c.new-client.ensures.waits
+          advertised
+          (advertisement_due c.new-client.result (noted_offer (caps_of c.new-client.result) c.args.format) _ _ _ c.new-client.ensures.waits
           c.new-client.ensures.converses) c.new-client.ensures.waits heard c.new-asking.ensures.reads
           (c.new-asking.ensures.offer ∙ c.offer.ensures ∙ ap (λ (caps : Caps). noted_offer caps c.args.format) c.caps.ensures.value)
           c.new-asking.ensures.limit;
@@ -48,34 +47,34 @@ loop-asking-init g c =
 pub returns-in_err-request-clause-checked : goal.returns-in_err-request-clause-checked
 returns-in_err-request-clause-checked g c =
     let at = c.loop-asking in
-    ends_at _ _ _ c.next_request.new.reader at.responses _ c.in_err-request.field-0.0 _ _ _ c.from_residual-in_err-request.ensures.1
-    (reading_stopped _ _ _ c.next_request.new.reader at.responses _ _ c.next_request.new.stream _ _ _ at.invariant.checking c.in_err-request.field-0.0
+    let met = err_from_is_err_and c.from_residual-in_err-request.result c.from_residual-in_err-request.ensures.1 in
+    rw (met.1, met.2)
+    (reading_stopped _ _ _ c.next_request.new.reader at.responses c.next_request.new.stream _ at.invariant.checking c.in_err-request.field-0.0
     c.next_request.new.waiting c.next_request.new.piece at.invariant.open_responses c.in_err-request.ensures.asked c.in_err-request.ensures.told)
 
 pub returns-in_err-ask_next-clause-checked : goal.returns-in_err-ask_next-clause-checked
 returns-in_err-ask_next-clause-checked g c =
     let at = c.loop-asking in
     let step = rw c.in-Some.is at c.in_ok-request.ensures.asked in
-    ends_at _ _ _ c.next_request.new.reader at.responses _ (of_responses c.in_err-ask_next.field-0.0) _ _ _ c.from_residual-in_err-ask_next.ensures.1
-    (asking_stopped _ _ _ c.next_request.new.reader at.responses c.in_err-ask_next.field-0.0 _ c.ask_next.new.client _ c.next_request.new.stream
-    c.in-Some.request _ _ _ _ _ at.invariant.checking step c.in_err-ask_next.ensures.asked)
+    let met = err_from_is_err_and c.from_residual-in_err-ask_next.result c.from_residual-in_err-ask_next.ensures.1 in
+    rw (met.1, met.2)
+    (asking_stopped _ _ _ c.next_request.new.reader at.responses c.in_err-ask_next.field-0.0 c.ask_next.new.client _ at.invariant.checking step
+    c.in_err-ask_next.ensures.asked)
 
 pub returns-in_err-left-2-clause-checked : goal.returns-in_err-left-2-clause-checked
 returns-in_err-left-2-clause-checked g c =
     let at = c.loop-asking in
-    let request = c.in-Some.request in
     let step = rw c.in-Some.is at c.in_ok-request.ensures.asked in
-    ends_at _ _ _ c.next_request.new.reader c.hear-in-Some.new.reader _ (of_responses c.in_err-left-2.field-0.0) _ _ _
-    c.from_residual-in_err-left-2.ensures.1
-    (hearing_stopped _ _ _ c.next_request.new.reader c.hear-in-Some.new.reader (at.invariant.checking.front ++ request ∷ []) _ _ _ _ _
-    (response_due _ _ false at.client c.ask_next.new.client at.asking c.next_request.new.stream request _ _ _ _ at.invariant.checking step
-    c.in_ok-ask_next.ensures.asked.0) c.in_ok-ask_next.ensures.asked.1 c.in_err-left-2.field-0.0 c.hear-in-Some.new.piece _ _ _ _
-    c.in_err-left-2.ensures.heard c.in_err-left-2.ensures.told c.in_err-left-2.ensures.fault)
+    let met = err_from_is_err_and c.from_residual-in_err-left-2.result c.from_residual-in_err-left-2.ensures.1 in
+    rw (met.1, met.2)
+    (hearing_stopped _ _ _ c.next_request.new.reader c.hear-in-Some.new.reader _ _ _
+    (response_due at.invariant.checking step c.in_ok-ask_next.ensures.asked.0) c.in_ok-ask_next.ensures.asked.1 c.in_err-left-2.field-0.0
+    c.hear-in-Some.new.piece _ _ _ _ c.in_err-left-2.ensures.heard c.in_err-left-2.ensures.told c.in_err-left-2.ensures.fault)
 
 pub loop-asking-smaller : goal.loop-asking-smaller
 loop-asking-smaller g c =
     let step = rw c.in-Some.is at c.in_ok-request.ensures.asked in
-    comes_nearer (terms_of c.args.format c.args.ending) USUAL c.loop-asking.invariant.checking.reading step
+    comes_nearer c.loop-asking.invariant.checking.reading step
 
 pub loop-asking-preserved : goal.loop-asking-preserved
 loop-asking-preserved g c =
@@ -84,9 +83,7 @@ loop-asking-preserved g c =
     let step = rw c.in-Some.is at c.in_ok-request.ensures.asked in
     record {
       checking =
-          response_heard _ _ at.client c.ask_next.new.client c.hear-in-Some.new.client at.asking c.next_request.new.stream c.in-Some.request _ _ _ _
-          c.in_ok-left-2.left c.hear-in-Some.new.piece at.invariant.checking step c.in_ok-ask_next.ensures.asked.0
-          c.in_ok-ask_next.ensures.asked.1 heard;
+          response_heard at.invariant.checking step c.in_ok-ask_next.ensures.asked.0 c.in_ok-ask_next.ensures.asked.1 heard;
       wants = step.onward;
       room = omega (arith, at.invariant.room, c.in_ok-request.ensures.room);
       ordered = c.in_ok-request.ensures.ordered;
@@ -108,6 +105,6 @@ pub returns-clause-checked : goal.returns-clause-checked
 returns-clause-checked g c =
     let at = c.loop-asking in
     let step = rw c.in_default.is at c.in_ok-request.ensures.asked in
-    seen_the_end _ _ _ c.next_request.new.reader c.see_the_end.new.reader at.client at.asking c.next_request.new.stream _ _ _ at.invariant.checking step
+    seen_the_end _ _ _ c.next_request.new.reader c.see_the_end.new.reader c.next_request.new.stream _ at.invariant.checking step
     c.see_the_end.result c.position.result _ _ _ _ c.position.ensures.value c.see_the_end.ensures.seen c.see_the_end.ensures.told
     c.see_the_end.ensures.fault

@@ -1,11 +1,8 @@
-use Rattle.std.proofs.Common.{Bool, ◌||◌, ◌≡◌, inr, Result, false, refl, sym, ap, ◌∙◌}
+use Rattle.std.proofs.Common.{Bool, ◌||◌, ◌≡◌, inr, false, refl, sym, ap, ◌∙◌}
+use Rattle.std.proofs.lemmas.Result.{err_from_is_err_and}
 use Rattle.std.proofs.Math.Bool.{or-false}
-use Rattle.git_pkt.specs.Streams.{flow}
-use Rattle.git_pkt.specs.Told.{inner_of, has_failed}
-use Rattle.git_pkt.specs.declared.fault.RunFault.{RunFault}
-use Rattle.git_pkt.proofs.EngineLemmas.{at_fault}
+use Rattle.git_pkt.specs.Told.{has_failed}
 use Rattle.git_client.proofs.ClientRuns.{fails_at, shown_at}
-use Rattle.git2show_lib.specs.PlaySteps.{AnswersTo}
 use Rattle.git2show_lib.proofs.PlayServers.{answers}
 use Rattle.git2show_lib.proofs.playing.answer_request.Goals as goal
 
@@ -15,11 +12,7 @@ sound_pack a b sound = sym (or-false a) ∙ ap (λ (x : Bool). a || x) (sym soun
 
 pub returns-in_err-ask_server-clause-answered : goal.returns-in_err-ask_server-clause-answered
 returns-in_err-ask_server-clause-answered g c =
-    at_fault c.from_residual.result c.in_err-ask_server.field-0.0 _
-    (λ (result : Result (Unit {0}) RunFault). AnswersTo g.R.Repo.state result c.args.end.now c.args.client.now c.ask_server.new.client c.args.request
-    c.args.server.now c.ask_server.new.server (flow (g.O.Write.contents (inner_of c.args.out.now)) (g.O.Write.contents (inner_of c.ask_server.new.out)))
-    (flow (g.P.Output.contents c.args.pack.now) (g.P.Output.contents c.args.pack.now)))
-    refl c.from_residual.ensures.1 (inr (c.in_err-ask_server.ensures.asked, refl))
+    let met = err_from_is_err_and c.from_residual.result c.from_residual.ensures.1 in rw (met.1, met.2) (inr (c.in_err-ask_server.ensures.asked, refl))
 
 pub returns-in_err-ask_server-clause-fault : goal.returns-in_err-ask_server-clause-fault
 returns-in_err-ask_server-clause-fault g c =

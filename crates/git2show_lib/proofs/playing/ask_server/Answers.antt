@@ -1,20 +1,18 @@
-use Rattle.std.proofs.Common.{Result, true, false, None, subst}
+use Rattle.std.proofs.Common.{true, false, None, subst}
+use Rattle.std.proofs.lemmas.Result.{err_from_is_err_and}
 use Rattle.git_pkt.specs.Told.{inner_of}
-use Rattle.git_pkt.specs.declared.fault.RunFault.{RunFault}
 use Rattle.git_pkt.specs.Streams.{flow, WrittenAs}
 use Rattle.git_msg.specs.declared.arguments.Command.{Command}
 use Rattle.git_client.specs.Transcript.{asked_line}
-use Rattle.git_pkt.proofs.EngineLemmas.{at_fault}
 use Rattle.git_client.proofs.SayingSteps.{asks_unsaid}
-use Rattle.git2show_lib.specs.PlaySteps.{AsksServerTo}
 use Rattle.git2show_lib.proofs.PlayAsking.{asks_server}
 use Rattle.git2show_lib.proofs.playing.ask_server.Goals as goal
 
 pub returns-in_err-write_asked-clause-asked : goal.returns-in_err-write_asked-clause-asked
 returns-in_err-write_asked-clause-asked g c =
     let told = flow (g.O.Write.contents (inner_of c.args.out.now)) (g.O.Write.contents (inner_of c.write_asked.new.out)) in
-    at_fault c.from_residual.result _ _ (λ (result : Result (Unit {0}) RunFault). AsksServerTo g.R.Repo.state result c.args.client.now c.ask.new.self
-    c.args.request c.args.server.now c.args.server.now told) c.in_err-write_asked.ensures.fault c.from_residual.ensures.1
+    let met = err_from_is_err_and c.from_residual.result c.from_residual.ensures.1 in
+    rw (met.1, met.2, c.in_err-write_asked.ensures.fault)
     (asks_unsaid _ _ _ None told c.in_default.ensures.asked
     (subst (λ (command : Command). WrittenAs true told (asked_line command)) c.command-command.ensures c.in_err-write_asked.ensures.err))
 

@@ -1,34 +1,26 @@
-use Rattle.std.proofs.Common.{◌≡◌, Result, true, refl, sym, ◌∙◌}
+use Rattle.std.proofs.Common.{◌≡◌, true, sym, ◌∙◌}
+use Rattle.std.proofs.lemmas.Result.{err_from_is_err_and}
 use Rattle.git_pkt.specs.Told.{inner_of}
 use Rattle.git_pkt.specs.Streams.{flow}
-use Rattle.git_pkt.specs.declared.fault.RunFault.{RunFault}
-use Rattle.git_pkt.proofs.EngineLemmas.{at_fault}
 use Rattle.git_client.specs.Client.{wants_input}
-use Rattle.git2show_lib.specs.PlaySteps.{HearsMessageTo}
 use Rattle.git2show_lib.proofs.PlayServers.{MessageHeard, end_stopped, heard_before, heard_with, message_ended, message_stopped}
 use Rattle.git2show_lib.proofs.playing.hear_message.Goals as goal
 use Rattle.git2show_lib.proofs.playing.hear_message.Goals.{then-wants_input+in_ok-hear_packet, else-wants_input}
 
 pub returns-in_err-hear_server-clause-heard : goal.returns-in_err-hear_server-clause-heard
 returns-in_err-hear_server-clause-heard g c =
-    at_fault c.from_residual.result c.in_err-hear_server.field-0.0 _
-    (λ (result : Result (Unit {0}) RunFault). HearsMessageTo g.R.Repo.state result c.args.end.now c.args.client.now c.hear_server.new.client
-    c.args.server.now c.hear_server.new.server (flow (g.O.Write.contents (inner_of c.args.out.now)) (g.O.Write.contents (inner_of c.hear_server.new.out)))
-    (flow (g.P.Output.contents c.args.pack.now) (g.P.Output.contents c.hear_server.new.pack)))
-    refl c.from_residual.ensures.1
+    let met = err_from_is_err_and c.from_residual.result c.from_residual.ensures.1 in
+    rw (met.1, met.2)
     (message_stopped g.R.Repo.state c.args.end.now _ _ c.hear_server.new.counts _ _ _ _ c.in_err-hear_server.field-0.0
     c.in_err-hear_server.ensures.heard)
 
 pub returns-in_err-hear_packet-clause-heard : goal.returns-in_err-hear_packet-clause-heard
 returns-in_err-hear_packet-clause-heard g c =
     let waits : wants_input c.hear_server.new.client ≡ true = sym c.wants_input.ensures.value ∙ c.if-wants_input.true in
-    at_fault c.from_residual-in_err-hear_packet.result c.in_err-hear_packet.field-0.0 _
-    (λ (result : Result (Unit {0}) RunFault). HearsMessageTo g.R.Repo.state result c.args.end.now c.args.client.now c.hear_packet.new.client
-    c.args.server.now c.hear_server.new.server (flow (g.O.Write.contents (inner_of c.args.out.now)) (g.O.Write.contents (inner_of c.hear_packet.new.out)))
-    (flow (g.P.Output.contents c.args.pack.now) (g.P.Output.contents c.hear_packet.new.pack)))
-    refl c.from_residual-in_err-hear_packet.ensures.1
-    (end_stopped g.R.Repo.state c.args.end.now _ _ _ c.hear_server.new.counts c.hear_packet.new.counts _ _ _ _ _ _ _ _
-    c.in_ok-hear_server.ensures.heard waits c.in_err-hear_packet.field-0.0 c.in_err-hear_packet.ensures.heard)
+    let met = err_from_is_err_and c.from_residual-in_err-hear_packet.result c.from_residual-in_err-hear_packet.ensures.1 in
+    rw (met.1, met.2)
+    (end_stopped g.R.Repo.state c.args.end.now c.in_ok-hear_server.ensures.heard waits c.in_err-hear_packet.field-0.0 _ _ _ _
+    c.in_err-hear_packet.ensures.heard)
 
 pub returns-clause-heard : goal.returns-clause-heard
 returns-clause-heard g c =
@@ -37,8 +29,8 @@ returns-clause-heard g c =
     (flow (g.O.Write.contents (inner_of c.args.out.now)) (g.O.Write.contents (inner_of c.if-wants_input.out)))
     (flow (g.P.Output.contents c.args.pack.now) (g.P.Output.contents c.if-wants_input.pack)) = elim c.if-wants_input.branch [
       | then-wants_input+in_ok-hear_packet w ↦
-          rw (w.client-is, w.out-is, w.pack-is) (heard_with g.R.Repo.state c.args.end.now _ _ _ _ _ _ _ _ _ _ _ _ _ _ step
-          (sym c.wants_input.ensures.value ∙ w.if-wants_input.true) w.in_ok-hear_packet.ensures.heard)
+          rw (w.client-is, w.out-is, w.pack-is)
+          (heard_with g.R.Repo.state c.args.end.now step (sym c.wants_input.ensures.value ∙ w.if-wants_input.true) _ w.in_ok-hear_packet.ensures.heard)
       | else-wants_input w ↦
           rw (w.client-is, w.out-is, w.pack-is)
           (heard_before g.R.Repo.state c.args.end.now _ _ _ _ _ _ _ (sym c.wants_input.ensures.value ∙ w.if-wants_input.false) step)

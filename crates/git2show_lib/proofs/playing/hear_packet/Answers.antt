@@ -1,13 +1,9 @@
-use Rattle.std.proofs.Common.{rules, arith, ◌≡◌, ◌<◌, ◌≤◌, true, false, length, sym, ◌∙◌, refl}
+use Rattle.std.proofs.Common.{rules, arith, ◌≡◌, ◌<◌, ◌≤◌, true, false, length, sym, ◌∙◌}
 use Rattle.std.proofs.lemmas.Bool.{or_parts}
-use Rattle.git_pkt.specs.Told.{inner_of}
-use Rattle.git_pkt.specs.Streams.{flow}
+use Rattle.std.proofs.lemmas.Result.{err_from_is_err_and}
 use Rattle.git_client.specs.Client.{wants_input}
-use Rattle.git_client.specs.RunSteps.{HearsPieceTo}
-use Rattle.git_pkt.proofs.EngineLemmas.{at_fault}
 use Rattle.git_client.proofs.HeardBytes.{nothing_heard}
 use Rattle.git_client.proofs.Phases.{not_ready_where_due, sound_where_due}
-use Rattle.git2show_lib.specs.PlaySteps.{silent}
 use Rattle.git2show_lib.proofs.PlayHearing.{heard_on, hearing_stopped}
 use Rattle.git2show_lib.proofs.PlayTelling.{piece_fits, piece_some}
 use Rattle.git2show_lib.proofs.playing.hear_packet.Goals as goal
@@ -36,10 +32,8 @@ pub returns-in_err-used-clause-heard : goal.returns-in_err-used-clause-heard
 returns-in_err-used-clause-heard g c =
     let at = c.loop-used in
     let waits : wants_input at.client ≡ true = search rules in
-    at_fault c.from_residual.result _ c.in_err-used.field-0.0 (λ result. HearsPieceTo result c.args.client.now c.hear_piece.new.client c.args.counts.now
-    c.hear_piece.new.counts c.args.packet.now
-    (flow (g.O.Write.contents (inner_of c.args.out.now)) (g.O.Write.contents (inner_of c.hear_piece.new.out)))
-    (flow (g.P.Output.contents c.args.pack.now) (g.P.Output.contents c.hear_piece.new.pack)) silent) refl c.from_residual.ensures.1
+    let met = err_from_is_err_and c.from_residual.result c.from_residual.ensures.1 in
+    rw (met.1, met.2)
     (hearing_stopped c.args.packet.now at.used c.min.result at.invariant.within c.args.client.now at.client c.hear_piece.new.client c.args.counts.now
     at.counts c.hear_piece.new.counts waits at.invariant.hears _ _ c.in_err-used.field-0.0 c.in_err-used.ensures.heard)
 

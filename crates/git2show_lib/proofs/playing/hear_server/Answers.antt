@@ -1,14 +1,10 @@
-use Rattle.std.proofs.Common.{rules, ◌≡◌, true, false, sym, ◌∙◌, refl, subst, Result}
+use Rattle.std.proofs.Common.{rules, ◌≡◌, true, false, sym, ◌∙◌, subst}
+use Rattle.std.proofs.lemmas.Result.{err_from_is_err_and}
 use Rattle.std.proofs.lemmas.Bool.{or_parts}
-use Rattle.git_pkt.specs.Told.{inner_of}
-use Rattle.git_pkt.specs.Streams.{flow}
-use Rattle.git_pkt.specs.declared.fault.RunFault.{RunFault}
 use Rattle.git_client.specs.Client.{wants_input}
-use Rattle.git_pkt.proofs.EngineLemmas.{at_fault}
 use Rattle.git_server.specs.ServerCalls.{TellsPulled}
 use Rattle.git_server.specs.declared.server.Pulled.{Pulled}
-use Rattle.git2show_lib.specs.PlaySteps.{HearsServerTo}
-use Rattle.git2show_lib.proofs.PlayMeeting.{Hearing, hearing_begins, hearing_on, heard_out, meeting_stopped, spent_ended, spent_waiting}
+use Rattle.git2show_lib.proofs.PlayMeeting.{hearing_begins, hearing_on, heard_out, meeting_stopped, spent_ended, spent_waiting}
 use Rattle.git2show_lib.proofs.playing.hear_server.Goals as goal
 
 pub loop-server-init : goal.loop-server-init
@@ -31,8 +27,7 @@ loop-server-preserved g c =
     record {
       sound_out = (or_parts _ _ c.in_ok-hear_packet-in-Packet.ensures.told.1).0;
       sound_pack = (or_parts _ _ c.in_ok-hear_packet-in-Packet.ensures.told.1).1;
-      hears = hearing_on g.R.Repo.state _ at.client _ _ at.counts _ _ at.server c.pull.follows.lender-at-none c.pull.result c.in-Packet.packet
-          _ _ _ _ _ _ at.invariant.hears waits c.pull.follows.holds-at-none c.in-Packet.is _ c.in_ok-hear_packet-in-Packet.ensures.heard;
+      hears = hearing_on g.R.Repo.state at.invariant.hears waits c.pull.follows.holds-at-none c.in-Packet.is _ c.in_ok-hear_packet-in-Packet.ensures.heard;
     }
 
 pub returns-in_err-hear_packet-in-Packet-clause-heard :
@@ -40,32 +35,23 @@ pub returns-in_err-hear_packet-in-Packet-clause-heard :
 returns-in_err-hear_packet-in-Packet-clause-heard g c =
     let at = c.loop-server in
     let waits : wants_input at.client ≡ true = sym c.wants_input.ensures.value ∙ c.loop-server-test.true in
-    at_fault c.from_residual.result _ c.in_err-hear_packet-in-Packet.field-0.0 (λ (result : Result (Unit {0}) RunFault). HearsServerTo g.R.Repo.state result
-    c.args.client.now c.hear_packet.new.client c.args.counts.now c.hear_packet.new.counts c.args.server.now c.pull.follows.lender-at-none
-    (flow (g.O.Write.contents (inner_of c.args.out.now)) (g.O.Write.contents (inner_of c.hear_packet.new.out)))
-    (flow (g.P.Output.contents c.args.pack.now) (g.P.Output.contents c.hear_packet.new.pack))) refl c.from_residual.ensures.1
-    (meeting_stopped g.R.Repo.state _ at.client _ _ at.counts _ _ at.server c.pull.follows.lender-at-none c.pull.result c.in-Packet.packet
-    _ _ _ _ _ _ at.invariant.hears waits c.pull.follows.holds-at-none c.in-Packet.is c.in_err-hear_packet-in-Packet.field-0.0
+    let met = err_from_is_err_and c.from_residual.result c.from_residual.ensures.1 in
+    rw (met.1, met.2)
+    (meeting_stopped g.R.Repo.state at.invariant.hears waits c.pull.follows.holds-at-none c.in-Packet.is c.in_err-hear_packet-in-Packet.field-0.0 _ _ _ _
     c.in_err-hear_packet-in-Packet.ensures.heard)
 
 pub returns-in-NeedInput-clause-heard : goal.returns-in-NeedInput-clause-heard
 returns-in-NeedInput-clause-heard g c =
     let at = c.loop-server in
     let (same, spent) = spent_waiting g.R.Repo.state at.server c.pull.follows.lender-at-none c.pull.result c.pull.follows.holds-at-none c.in-NeedInput.is in
-    heard_out g.R.Repo.state _ _ _ _ _ _ _ _
-    (subst (λ server. Hearing g.R.Repo.state c.args.client.now at.client c.args.counts.now at.counts c.args.server.now server
-    (flow (g.O.Write.contents (inner_of c.args.out.now)) (g.O.Write.contents (inner_of at.out)))
-    (flow (g.P.Output.contents c.args.pack.now) (g.P.Output.contents at.pack))) (sym same) at.invariant.hears) (λ _. spent)
+    rw same (heard_out g.R.Repo.state _ _ _ _ _ _ _ _ at.invariant.hears (λ _. spent))
 
 pub returns-in-Finished-clause-heard : goal.returns-in-Finished-clause-heard
 returns-in-Finished-clause-heard g c =
     let at = c.loop-server in
     let (same, spent) =
     spent_ended g.R.Repo.state at.server c.pull.follows.lender-at-none c.pull.result _ c.pull.follows.holds-at-none c.in-Finished.is in
-    heard_out g.R.Repo.state _ _ _ _ _ _ _ _
-    (subst (λ server. Hearing g.R.Repo.state c.args.client.now at.client c.args.counts.now at.counts c.args.server.now server
-    (flow (g.O.Write.contents (inner_of c.args.out.now)) (g.O.Write.contents (inner_of at.out)))
-    (flow (g.P.Output.contents c.args.pack.now) (g.P.Output.contents at.pack))) (sym same) at.invariant.hears) (λ _. spent)
+    rw same (heard_out g.R.Repo.state _ _ _ _ _ _ _ _ at.invariant.hears (λ _. spent))
 
 pub returns-clause-heard : goal.returns-clause-heard
 returns-clause-heard g c =

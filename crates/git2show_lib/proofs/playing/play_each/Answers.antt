@@ -1,25 +1,23 @@
-use Rattle.std.proofs.Common.{rules, refl, sym, subst}
-use Rattle.std.proofs.lemmas.Bool.{or_parts, or_from}
-use Rattle.git_names.specs.declared.object_format.Format.{Format}
-use Rattle.git_client.specs.Client.{Converses, nothing_yet}
+use Rattle.std.proofs.Common.{rules, refl, sym}
+use Rattle.std.proofs.lemmas.Bool.{or_parts}
+use Rattle.std.proofs.lemmas.Result.{err_from_is_err_and}
 use Rattle.git_client.specs.Parts.{terms_of}
 use Rattle.git_client.specs.declared.events.Ending.TheVariants.{ResponseEnd}
 use Rattle.git_client.proofs.AskedInTurn.{next_is, none_more, one_more}
 use Rattle.git2show_lib.proofs.PlayMany.{advertised_many, answered_many, many_end, many_stopped, next_server}
-use Rattle.git2show_lib.proofs.PlayRuns.{advertising_stopped, ends_at}
+use Rattle.git2show_lib.proofs.PlayRuns.{advertising_stopped}
 use Rattle.git2show_lib.proofs.playing.play_each.Goals as goal
 
 pub returns-in_err-hear_message-clause-played : goal.returns-in_err-hear_message-clause-played
 returns-in_err-hear_message-clause-played g c =
-    ends_at _ _ _ _ _ _ _ c.from_residual.ensures.1
-    (advertising_stopped g.R.Repo.state _ _ _ _ _ _ _ _ _ c.new-client.ensures.waits
-    (subst (λ (f : Format). Converses (terms_of f ResponseEnd) nothing_yet c.new-client.result) c.format.ensures c.new-client.ensures.converses)
+    let met = err_from_is_err_and c.from_residual.result c.from_residual.ensures.1 in
+    rw (met.1, met.2)
+    (advertising_stopped _ _ _ _ c.new-client.ensures.waits (rw c.format.ensures at c.new-client.ensures.converses)
     c.new_server-server.ensures.begins c.in_err-hear_message.ensures.heard)
 
 pub loop-request-init : goal.loop-request-init
 loop-request-init g c = record {
-  plays = advertised_many g.R.Repo.state _ _ _ _ _ _ _ c.new-client.ensures.waits
-      (subst (λ (f : Format). Converses (terms_of f ResponseEnd) nothing_yet c.new-client.result) c.format.ensures c.new-client.ensures.converses)
+  plays = advertised_many c.new-client.ensures.waits (rw c.format.ensures at c.new-client.ensures.converses)
       c.new_server-server.ensures.begins c.in_ok-hear_message.ensures.heard;
   left_to_ask = sym c.into_iter-request-iterator.ensures.into_iter_gives.0;
   counted = search rules;
@@ -28,20 +26,12 @@ loop-request-init g c = record {
   sound_pack = (or_parts _ _ c.in_ok-hear_message.ensures.told.1).1;
 }
 
-pub answer_request-requires-clause-ready : goal.answer_request-requires-clause-ready
-answer_request-requires-clause-ready g c = c.loop-request.invariant.plays.ready
-
-pub answer_request-requires-clause-sound_out : goal.answer_request-requires-clause-sound_out
-answer_request-requires-clause-sound_out g c = c.loop-request.invariant.sound_out
-
-pub answer_request-requires-clause-sound_pack : goal.answer_request-requires-clause-sound_pack
-answer_request-requires-clause-sound_pack g c = c.loop-request.invariant.sound_pack
-
 pub returns-in_err-answer_request-clause-played : goal.returns-in_err-answer_request-clause-played
 returns-in_err-answer_request-clause-played g c =
     let at = c.loop-request in
-    ends_at _ _ _ _ _ _ _ c.from_residual-in_err-answer_request.ensures.1
-    (many_stopped g.R.Repo.state _ _ _ at.invariant.plays refl c.in-Some.request _ _ _
+    let met = err_from_is_err_and c.from_residual-in_err-answer_request.result c.from_residual-in_err-answer_request.ensures.1 in
+    rw (met.1, met.2)
+    (many_stopped at.invariant.plays refl c.in-Some.request
     (next_server g.R.Repo.state (terms_of _ ResponseEnd) _ _ at.server _ refl at.invariant.plays.stands c.into_repo.ensures
     c.new_server-server-in-loop-request.ensures.begins) _ _ _
     (next_is _ at.yielded _ _ c.in-Some.request at.invariant.left_to_ask c.in-Some.ensures.steps.0) c.in_err-answer_request.ensures.answered)
@@ -50,9 +40,9 @@ pub loop-request-preserved : goal.loop-request-preserved
 loop-request-preserved g c =
     let at = c.loop-request in
     record {
-      plays = answered_many g.R.Repo.state _ _ _ at.invariant.plays refl c.in-Some.request _ _ _
+      plays = answered_many at.invariant.plays refl c.in-Some.request
           (next_server g.R.Repo.state (terms_of _ ResponseEnd) _ _ at.server _ refl at.invariant.plays.stands c.into_repo.ensures
-          c.new_server-server-in-loop-request.ensures.begins) _ c.in_ok-answer_request.ensures.answered;
+          c.new_server-server-in-loop-request.ensures.begins) c.in_ok-answer_request.ensures.answered;
       left_to_ask = one_more _ at.yielded _ _ c.in-Some.request at.invariant.left_to_ask c.in-Some.ensures.steps.0;
       counted = search rules;
       cut = at.invariant.cut;
@@ -63,7 +53,4 @@ loop-request-preserved g c =
 pub returns-clause-played : goal.returns-clause-played
 returns-clause-played g c =
     let at = c.loop-request in
-    many_end g.R.Repo.state _ _ _ at.invariant.plays refl _ (none_more _ at.yielded _ at.invariant.left_to_ask (search rules))
-
-pub returns-clause-told : goal.returns-clause-told
-returns-clause-told g c = (refl, or_from _ _ c.loop-request.invariant.sound_out c.loop-request.invariant.sound_pack)
+    many_end at.invariant.plays refl (none_more _ at.yielded _ at.invariant.left_to_ask (search rules))

@@ -5,7 +5,7 @@ use Rattle.git_pkt.specs.Told.{inner_of, has_failed}
 use Rattle.git_pkt.specs.Streams.{flow}
 use Rattle.git_client.specs.Parts.{terms_of}
 use Rattle.git_client.specs.declared.events.Ending.TheVariants.{ResponseEnd}
-use Rattle.git2show_lib.proofs.PlayMany.{Kept}
+use Rattle.git2show_lib.proofs.PlayMany.{KeepsRepo}
 use Rattle.git2show_lib.proofs.PlayRuns.{Plays}
 use Rattle.git2show_lib.proofs.playing.play_each.Given as goal
 
@@ -13,7 +13,7 @@ use Rattle.git2show_lib.proofs.playing.play_each.Given as goal
 abbrev pub invariant-loop-request : goal.invariant-loop-request
 invariant-loop-request g l = record {
   plays : Plays g.R.Repo.state (terms_of (g.R.Repo.state l.fn.repo).answers.format ResponseEnd) USUAL (g.R.Repo.state l.fn.repo)
-      (Kept g.R.Repo.state (terms_of (g.R.Repo.state l.fn.repo).answers.format ResponseEnd) USUAL (g.R.Repo.state l.fn.repo)) l.yielded l.client l.server
+      (KeepsRepo g.R.Repo.state (g.R.Repo.state l.fn.repo)) l.yielded l.client l.server
       (flow (g.O.Write.contents (inner_of l.fn.out)) (g.O.Write.contents (inner_of l.out)))
       (flow (g.P.Output.contents l.fn.pack) (g.P.Output.contents l.pack));
   left_to_ask : l.fn.requests.items ≡ l.yielded ++ into_iter_items l.request-iterator;

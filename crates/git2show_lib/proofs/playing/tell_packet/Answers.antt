@@ -1,6 +1,6 @@
-use Rattle.std.proofs.Common.{rules, arith, ◌≡◌, ◌<◌, ◌≤◌, ◌-◌, ◌+◌, true, false, length, sym, ◌∙◌, subst, Bool}
+use Rattle.std.proofs.Common.{rules, arith, ◌≡◌, ◌<◌, ◌≤◌, true, false, length, sym, ◌∙◌}
 use Rattle.git_server.specs.Server.{wants_input}
-use Rattle.git2show_lib.proofs.PlayTelling.{telling_begins, telling_on, telling_ends, piece_fits, piece_some, turns_left, fewer_turns}
+use Rattle.git2show_lib.proofs.PlayTelling.{telling_begins, telling_on, telling_ends, piece_fits, piece_some, fewer_turns}
 use Rattle.git2show_lib.proofs.playing.tell_packet.Goals as goal
 
 pub loop-used-init : goal.loop-used-init
@@ -15,9 +15,7 @@ loop-used-smaller g c =
     let less : c.loop-used.used < length c.args.packet.now = search rules in
     let some = piece_some c.args.packet.now c.loop-used.used c.min.result c.args.cut less c.requires.cut c.min.ensures in
     let fits = piece_fits c.args.packet.now c.loop-used.used c.min.result c.feed-used.result c.loop-used.invariant.within c.feed-used.ensures.used in
-    subst (λ (b : Bool). turns_left (wants_input c.feed-used.new.self) (length c.args.packet.now - (c.loop-used.used + c.feed-used.result))
-    < turns_left b (length c.args.packet.now - c.loop-used.used)) (sym wants)
-    (fewer_turns (wants_input c.feed-used.new.self) _ _ (λ on. omega (arith, some, fits, less, c.feed-used.ensures.whole on)))
+    rw wants (fewer_turns (wants_input c.feed-used.new.self) _ _ (λ on. omega (arith, some, fits, less, c.feed-used.ensures.whole on)))
 
 pub loop-used-preserved : goal.loop-used-preserved
 loop-used-preserved g c =

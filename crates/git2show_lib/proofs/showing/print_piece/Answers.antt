@@ -8,14 +8,14 @@ use Rattle.git2show_lib.proofs.showing.print_piece.Goals as goal
 
 pub returns-in-Failed-clause-ok : goal.returns-in-Failed-clause-ok
 returns-in-Failed-clause-ok g c =
-    fed_failed _ _ _ _ _ _ _ _ _ c.loop-done.invariant.within c.loop-done.invariant.prints c.feed-fed.follows.holds-at-none _ c.loop-done.invariant.sound
-    c.in-Failed.is
+    let at = c.loop-done.invariant in
+    fed_failed _ c.loop-done.done at.within at.prints c.feed-fed.follows.holds-at-none _ at.sound c.in-Failed.is
 
 pub returns-in_err-put-in-Packet-clause-front : goal.returns-in_err-put-in-Packet-clause-front
 returns-in_err-put-in-Packet-clause-front g c =
     let front : WritesFront c.args.packets.now c.feed-fed.follows.lender-at-none c.args.piece.now (flow (g.W.Write.contents (inner_of c.args.writer.now))
     (g.W.Write.contents (inner_of c.put.new.writer))) =
-    fed_packet_front _ _ _ _ _ _ _ _ _ c.loop-done.invariant.within c.loop-done.invariant.prints c.feed-fed.follows.holds-at-none _ _ _ c.in-Packet.is
+    fed_packet_front _ c.loop-done.done c.loop-done.invariant.within c.loop-done.invariant.prints c.feed-fed.follows.holds-at-none _ _ _ c.in-Packet.is
     (front_by c.in_err-put-in-Packet.ensures) in
     search rules
 
@@ -30,15 +30,14 @@ loop-done-init g c = record {
 
 pub loop-done-preserved : goal.loop-done-preserved
 loop-done-preserved g c =
-    let rest =
-    left_length c.args.packets.now c.loop-done.packets c.feed-fed.follows.lender-at-none c.args.piece.now c.loop-done.done _ _ _ c.feed-fed.result
-    c.loop-done.invariant.within c.loop-done.invariant.prints c.feed-fed.follows.holds-at-none in
-    let tells = tells_by _ _ _ _ _ _ _ _ _ c.loop-done.invariant.within c.loop-done.invariant.prints c.feed-fed.follows.holds-at-none _ c.in-Packet.is in
+    let at = c.loop-done.invariant in
+    let feeds = c.feed-fed.follows.holds-at-none in
+    let rest = left_length c.args.piece.now c.loop-done.done at.within at.prints feeds in
+    let tells = tells_by c.args.piece.now c.loop-done.done at.within at.prints feeds _ c.in-Packet.is in
     record {
-      within = omega (arith, c.feed-fed.ensures.used, rest, c.loop-done.invariant.within);
+      within = omega (arith, c.feed-fed.ensures.used, rest, at.within);
       sound = tells.1;
-      gathers = c.feed-fed.follows.holds-at-none.gathers;
+      gathers = feeds.gathers;
       writer_sound = search rules;
-      prints = fed_packet _ _ _ _ _ _ _ _ _ c.loop-done.invariant.within c.loop-done.invariant.prints c.feed-fed.follows.holds-at-none _ _ _ _
-          c.in-Packet.is (emits_by c.in_ok-put-in-Packet.ensures);
+      prints = fed_packet _ c.loop-done.done at.within at.prints feeds _ _ c.in-Packet.is (emits_by c.in_ok-put-in-Packet.ensures);
     }

@@ -1,20 +1,15 @@
-use Rattle.std.proofs.Common.{rules, arith, Result, [], take, ℕ, subst, refl}
+use Rattle.std.proofs.Common.{rules, arith, [], take, ℕ, subst}
 use Rattle.std.proofs.lemmas.Grind.{common_steps}
+use Rattle.std.proofs.lemmas.Result.{err_from_is_err_and}
 use Rattle.std.specs.Io.KnownBytes.{Consumes}
-use Rattle.git_pkt.specs.Told.{inner_of, has_ended}
-use Rattle.git_pkt.specs.Streams.{flow}
-use Rattle.git_pkt.specs.declared.fault.RunFault.{RunFault}
-use Rattle.git_pkt.specs.declared.fault.RunFault.TheVariants.{ReadFault}
-use Rattle.git_pkt.proofs.EngineLemmas.{at_fault}
-use Rattle.git2show_lib.proofs.Printing.{RunEnds, shows_more, stops_by, ends_unread, ends_spent, ends_closed}
+use Rattle.git_pkt.specs.Told.{inner_of}
+use Rattle.git2show_lib.proofs.Printing.{shows_more, stops_by, ends_unread, ends_spent, ends_closed}
 use Rattle.git2show_lib.proofs.showing.show.Goals as goal
 
 pub returns-in_err-count-clause-shown : goal.returns-in_err-count-clause-shown
 returns-in_err-count-clause-shown g c =
-    at_fault c.from_residual.result _ ReadFault (λ (r : Result (Unit {0}) RunFault). RunEnds r (has_ended c.receive.new.reader) c.args.turns
-    (flow (g.R.Read.remaining (inner_of c.args.reader.now)) (g.R.Read.remaining (inner_of c.receive.new.reader)))
-    (flow (g.W.Write.contents (inner_of c.args.writer.now)) (g.W.Write.contents (inner_of c.loop.writer))))
-    c.in_err-count.ensures.fault c.from_residual.ensures.1
+    let met = err_from_is_err_and c.from_residual.result c.from_residual.ensures.1 in
+    rw (met.1, met.2, c.in_err-count.ensures.fault)
     (ends_unread _ _ _ c.loop.packets c.loop.invariant.sound c.loop.invariant.shows c.in_err-count.ensures.bytes)
 
 pub returns-then-count-eq0-clause-shown : goal.returns-then-count-eq0-clause-shown
@@ -28,10 +23,8 @@ returns-then-count-eq0-clause-shown g c =
 
 pub returns-in_err-show_piece-clause-shown : goal.returns-in_err-show_piece-clause-shown
 returns-in_err-show_piece-clause-shown g c =
-    at_fault c.from_residual-in_err-show_piece.result _ _ (λ (r : Result (Unit {0}) RunFault). RunEnds r (has_ended c.receive.new.reader) c.args.turns
-    (flow (g.R.Read.remaining (inner_of c.args.reader.now)) (g.R.Read.remaining (inner_of c.receive.new.reader)))
-    (flow (g.W.Write.contents (inner_of c.args.writer.now)) (g.W.Write.contents (inner_of c.show_piece.new.writer))))
-    refl c.from_residual-in_err-show_piece.ensures.1
+    let met = err_from_is_err_and c.from_residual-in_err-show_piece.result c.from_residual-in_err-show_piece.ensures.1 in
+    rw (met.1, met.2)
     (stops_by _ _ _ _ _ _ _ c.loop.invariant.shows c.in_ok-count.ensures.bytes.0 c.in_err-show_piece.ensures.shown)
 
 pub loop-preserved : goal.loop-preserved

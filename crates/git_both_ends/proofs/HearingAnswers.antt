@@ -1,10 +1,11 @@
 -- Each answer, section by section, as a client receives it.
-use Rattle.std.proofs.Common.{arith, ◌≡◌, ℕ, ◌<◌, Bool, true, false, not, ◌&&◌, ◌||◌, All, length, map, List, [], ◌∷◌, ◌++◌, Option, Some, None}
+use Rattle.std.proofs.Common.{arith, ◌≡◌, ℕ, ◌<◌, Bool, true, false, not, ◌&&◌, ◌||◌, All, length, map, List, [], ◌∷◌, ◌++◌, Option, Some, None, IfSome}
 use Rattle.std.proofs.Common.{codes, refl, ap}
 use Rattle.std.proofs.Common.{sym, ◌∙◌, subst, append_assoc, slice_index, cond}
 use Rattle.std.specs.List.{filter_map, cons_option}
 use Rattle.std.specs.Option.{ForSome, option_map}
 use Rattle.std.specs.Str.{bytes_eq}
+use Rattle.std.proofs.lemmas.Bool.{and_from, and_parts, cond_both}
 use Rattle.std.proofs.lemmas.List.{get_or_append_left}
 use Rattle.std.proofs.lemmas.List.Elements.{All-cons, All-filter, All-head, All-nil, All-tail}
 use Rattle.std.proofs.lemmas.Slice.Eq.{bytes_eq-Decides}
@@ -27,6 +28,7 @@ use Rattle.git_msg.specs.References.{IsWritable, reference_of, reference_text}
 use Rattle.git_msg.specs.ResponseLines.{IsSize, Wanted, ack_text, boundary_text, info_text, object_of, wanted_of, wanted_text}
 use Rattle.git_msg.specs.Texts.{IsErrorText}
 use Rattle.git_msg.specs.WrittenRequest.{text_line}
+use Rattle.git_msg.proofs.FoundParts.{All-filter_map}
 use Rattle.git_msg.proofs.ReferenceLaws.{reference_reads_back}
 use Rattle.git_msg.proofs.ResponseLines.{ack_reads_back, boundary_reads_back, info_reads_back, wanted_reads_back}
 use Rattle.git_msg.proofs.WrittenNames.{hex_of-reads_back, length-hex_of}
@@ -50,10 +52,10 @@ use Rattle.git_server.specs.Objects.{object_of as boundary_object}
 use Rattle.git_server.specs.Packs.{IsPackfile, whole}
 use Rattle.git_server.specs.Repository.{Entry, IsNamed, IsOfFormat, IsSound, IsUnbornHead, Repository, found_ref}
 use Rattle.git_server.proofs.UnbornHead.{unborn_is_writable}
-use Rattle.git2show_lib.specs.ToldAnswers.{AsksIn, CanBeWritten, IsEntryOfNames, end_packets, found_refs, packets_of}
-use Rattle.git2show_lib.specs.ToldAnswers.{told_boundary, told_by, told_common, told_fetch, told_pack, told_ready, told_refs, told_sizes, told_unborn}
-use Rattle.git2show_lib.proofs.Hearing.{AnswerGives, bands_give, caps_at, end_gives, given_give, given_whole, header_gives}
-use Rattle.git2show_lib.proofs.Hearing.{lines_give, no_error, of_text, packet_gives}
+use Rattle.git_both_ends.specs.ToldAnswers.{AsksIn, CanBeWritten, IsEntryOfNames, end_packets, found_refs, packets_of}
+use Rattle.git_both_ends.specs.ToldAnswers.{told_boundary, told_by, told_common, told_fetch, told_pack, told_ready, told_refs, told_sizes, told_unborn}
+use Rattle.git_both_ends.proofs.Hearing.{AnswerGives, bands_give, caps_at, end_gives, given_give, given_whole, header_gives}
+use Rattle.git_both_ends.proofs.Hearing.{lines_give, no_error, of_text, packet_gives}
 
 -- ---- lines that are no error packets
 
@@ -152,14 +154,11 @@ found_holds : (P : List ℕ → ObjectName → Type 0) (refs : List Entry) (name
     → found_ref refs name ≡ Some id → P name id
 found_holds P [] name id all h = absurd (cc)
 found_holds P (ref ∷ refs) name id all h =
-    go (found_holds P refs name id (All-tail (λ (r : Entry). P r.name r.id) ref refs all)) (bytes_eq ref.name name) refl h where
-      go : (found_ref refs name ≡ Some id → P name id) → (b : Bool) → bytes_eq ref.name name ≡ b → cond b (Some ref.id) (found_ref refs name) ≡ Some id
-          → P name id
-      go behind true same here =
-          let there : ref.id ≡ id = cc in
-          subst (λ (n : List ℕ). P n id) ((bytes_eq-Decides ref.name name).0 same)
-          (subst (λ (i : ObjectName). P ref.name i) there (All-head (λ (r : Entry). P r.name r.id) ref refs all))
-      go behind false other later = behind later
+    cond_both (bytes_eq ref.name name) (Some ref.id) (found_ref refs name) (λ (found : Option ObjectName). found ≡ Some id → P name id)
+    (λ same here.
+    let there : ref.id ≡ id = cc in
+    rw ((bytes_eq-Decides ref.name name).0 same, there) at (All-head (λ (r : Entry). P r.name r.id) ref refs all))
+    (λ other. found_holds P refs name id (All-tail (λ (r : Entry). P r.name r.id) ref refs all)) h
 
 -- the packets of the wanted references are those of the references that are found
 wanted_packets : (repo : Repository) (names : List (List ℕ))
@@ -175,26 +174,17 @@ wanted_packets repo (name ∷ names) = go (wanted_packets repo names) (found_ref
 -- what holds of each that can be found holds of all that are
 all_found : (P : Wanted → Type 0) (repo : Repository) → ((name : List ℕ) (id : ObjectName) → found_ref repo.refs name ≡ Some id → P (wanted_of id name))
     → (names : List (List ℕ)) → All P (found_refs repo names)
-all_found P repo each [] = All-nil P
-all_found P repo each (name ∷ names) = go (all_found P repo each names) (found_ref repo.refs name) refl where
-  go : All P (found_refs repo names) → (found : Option ObjectName) → found_ref repo.refs name ≡ found
-      → All P (cons_option (option_map (λ id. wanted_of id name) found) (found_refs repo names))
-  go others None is = others
-  go others (Some id) is = All-cons P (wanted_of id name) (found_refs repo names) (each name id is) others
+all_found P repo each names =
+    All-filter_map P (λ name. option_map (λ id. wanted_of id name) (found_ref repo.refs name)) names (λ k d within. one _ (found_ref repo.refs _) refl) where
+      one : (name : List ℕ) (found : Option ObjectName) → found_ref repo.refs name ≡ found → IfSome (option_map (λ id. wanted_of id name) found) P
+      one name None is = tt
+      one name (Some id) is = each name id is
 
 -- a request that negotiates has no `done`
 not_done : (some done : Bool) → (some && not done) ≡ true → (not done && true) ≡ true
-not_done some true h = absurd (no_both some h) where
-  no_both : (b : Bool) → (b && false) ≡ true → ⊥
-  no_both true h = cc
-  no_both false h = cc
-not_done some false h = refl
+not_done some done h = and_from (not done) true (and_parts some (not done) h).1 refl
 
 module _ (t : Terms) (asked : List Asked) (repo : Repository) (sound : IsSound repo) (written : CanBeWritten repo) (same : repo.format ≡ t.format) where
-  -- the client's format is that of the repository
-  of_format : (entry : Entry) → IsOfFormat repo.format entry → IsOfFormat t.format entry
-  of_format entry is = subst (λ (format : Format). IsOfFormat format entry) same is
-
   -- ---- the pack
 
   -- the section of the pack, and the end of the answer
@@ -203,19 +193,12 @@ module _ (t : Terms) (asked : List Asked) (repo : Repository) (sound : IsSound r
   pack_gives bytes allowed before packets file is =
       let bands = file.ends.bands in
       let parts : packets ++ end_packets t.ending ≡ text_line (codes "packfile") ∷ (bands ++ (flush ∷ end_packets t.ending)) =
-      ap (λ (ps : List Pkt). ps ++ end_packets t.ending) file.packets_are
-      ∙ ap (λ (ps : List Pkt). text_line (codes "packfile") ∷ (ps ++ end_packets t.ending)) file.ends.packets_are
-      ∙ ap (λ (ps : List Pkt). text_line (codes "packfile") ∷ ps) (append_assoc bands (flush ∷ []) (end_packets t.ending)) in
-      subst (λ (ps : List Pkt). AnswerGives t asked before ps (map pack bytes ++ ended ∷ [])) (sym parts)
-      (header_gives t asked (codes "packfile") allowed Packfile before _ _ is (no_error (codes "packfile") (λ e. omega arith)) refl refl
+      simp (file.packets_are, file.ends.packets_are, append_assoc) in
+      rw parts (header_gives t asked (codes "packfile") allowed Packfile before _ _ is (no_error (codes "packfile") (λ e. omega arith)) refl refl
       (λ is. bands_give t asked bands bytes _ (flush ∷ end_packets t.ending) (ended ∷ []) file.ends.are_bands is
       (λ behind is. end_gives t.format t.ending asked behind Packfile tt is)))
 
   -- ---- the wanted references
-
-  -- the end of a section, and all after it
-  section_end : (lines others last : List Pkt) → ((lines ++ delim ∷ []) ++ others) ++ last ≡ lines ++ (delim ∷ (others ++ last))
-  section_end lines others last = append_assoc (lines ++ delim ∷ []) others last ∙ append_assoc lines (delim ∷ []) (others ++ last)
 
   -- what each line gives
   wanted_lines : (names : List (List ℕ)) → All (λ wanted. GivesLine wanted_place t.format (wanted_text wanted) (wanted_ref wanted ∷ [])) (found_refs repo names)
@@ -236,13 +219,9 @@ module _ (t : Terms) (asked : List Asked) (repo : Repository) (sound : IsSound r
       let wanteds = found_refs repo (name ∷ names) in
       let lines = map (λ wanted. text_line (wanted_text wanted)) wanteds in
       let left : Allowed = record { acknowledgments = false; shallow_info = allowed.shallow_info; wanted_refs = false } in
-      let events = map wanted_ref wanteds ++ (map pack bytes ++ ended ∷ []) in
       let parts : ((filter_map (wanted_packet repo) (name ∷ names) ++ delim ∷ []) ++ others) ++ end_packets t.ending
-      ≡ lines ++ (delim ∷ (others ++ end_packets t.ending)) =
-      ap (λ (ps : List Pkt). ((ps ++ delim ∷ []) ++ others) ++ end_packets t.ending) (wanted_packets repo (name ∷ names))
-      ∙ section_end lines others (end_packets t.ending) in
-      subst (λ (ps : List Pkt). AnswerGives t asked before (text_line (codes "wanted-refs") ∷ ps) events) (sym parts)
-      (header_gives t asked (codes "wanted-refs") allowed (WantedRefs left) before _ _ is (no_error (codes "wanted-refs") (λ e. omega arith)) may refl
+      ≡ lines ++ (delim ∷ (others ++ end_packets t.ending)) = rw (wanted_packets repo (name ∷ names)) (simp append_assoc) in
+      rw parts (header_gives t asked (codes "wanted-refs") allowed (WantedRefs left) before _ _ is (no_error (codes "wanted-refs") (λ e. omega arith)) may refl
       (λ is. lines_give t asked wanted_text wanted_ref (WantedRefs left) tt wanteds _ (delim ∷ (others ++ end_packets t.ending)) _ is
       (λ caps. wanted_lines (name ∷ names))
       (λ behind is. packet_gives t asked behind (WantedRefs left) delim [] (others ++ end_packets t.ending) _ is refl refl
@@ -262,8 +241,7 @@ module _ (t : Terms) (asked : List Asked) (repo : Repository) (sound : IsSound r
 
   later_gives : (q : FetchAsked) (packets : List Pkt) → EndsWithRefs whole repo q packets → LaterGives q packets
   later_gives q packets h allowed before may is =
-      subst (λ (ps : List Pkt). AnswerGives t asked before (ps ++ end_packets t.ending) (map wanted_ref (found_refs repo q.want_refs)
-      ++ (map pack (repo.pack q) ++ ended ∷ []))) (sym h.packets_are) (refs_give q.want_refs (repo.pack q) allowed before h.others may h.holds is)
+      rw h.packets_are (refs_give q.want_refs (repo.pack q) allowed before h.others may h.holds is)
 
   -- the section of the shallow boundary, which is there where the boundary has commits, and then the others
   boundary_gives : (lines : List Boundary) (allowed : Allowed) (before others : List Pkt) (later : List EventValue)
@@ -277,9 +255,8 @@ module _ (t : Terms) (asked : List Asked) (repo : Repository) (sound : IsSound r
       let left : Allowed = record { acknowledgments = false; shallow_info = false; wanted_refs = allowed.wanted_refs } in
       let all_lines = line ∷ lines in
       let behind = delim ∷ (others ++ end_packets t.ending) in
-      subst (λ (ps : List Pkt). AnswerGives t asked before (text_line (codes "shallow-info") ∷ ps) (map told_boundary all_lines ++ later))
-      (sym (section_end (map boundary_packet all_lines) others (end_packets t.ending)))
-      (header_gives t asked (codes "shallow-info") allowed (ShallowInfo left) before (map boundary_packet all_lines ++ behind)
+      let parts : ((map boundary_packet lines ++ delim ∷ []) ++ others) ++ end_packets t.ending ≡ map boundary_packet lines ++ behind = simp append_assoc in
+      rw parts (header_gives t asked (codes "shallow-info") allowed (ShallowInfo left) before (map boundary_packet all_lines ++ behind)
       (map told_boundary all_lines ++ later) is (no_error (codes "shallow-info") (λ e. omega arith)) may refl
       (λ is. lines_give t asked boundary_text told_boundary (ShallowInfo left) tt all_lines _ behind later is
       (λ caps. all)
@@ -291,15 +268,10 @@ module _ (t : Terms) (asked : List Asked) (repo : Repository) (sound : IsSound r
       → allowed.wanted_refs ≡ true → IsDue t asked before (Header allowed)
       → AnswerGives t asked before (packets ++ end_packets t.ending) (told_pack repo q ++ ended ∷ [])
   rest_gives q allowed before packets h may may_refs is =
-      let lines = map told_boundary (repo.boundaries q) in
-      let refs = map wanted_ref (found_refs repo q.want_refs) in
-      let bytes = map pack (repo.pack q) in
-      let events : ((lines ++ refs) ++ bytes) ++ ended ∷ [] ≡ lines ++ (refs ++ (bytes ++ ended ∷ [])) =
-      append_assoc (lines ++ refs) bytes (ended ∷ []) ∙ append_assoc lines refs (bytes ++ ended ∷ []) in
-      subst (λ (ps : List Pkt). AnswerGives t asked before (ps ++ end_packets t.ending) (told_pack repo q ++ ended ∷ [])) (sym h.packets_are)
-      (subst (λ (l : List EventValue). AnswerGives t asked before ((shallow_info (repo.boundaries q) ++ h.others) ++ end_packets t.ending) l) (sym events)
-      (boundary_gives (repo.boundaries q) allowed before h.others (refs ++ (bytes ++ ended ∷ [])) (boundary_lines q) may may_refs is
-      (later_gives q h.others h.holds)))
+      let later = map wanted_ref (found_refs repo q.want_refs) ++ (map pack (repo.pack q) ++ ended ∷ []) in
+      let events : told_pack repo q ++ ended ∷ [] ≡ map told_boundary (repo.boundaries q) ++ later = simp append_assoc in
+      rw (h.packets_are, events)
+      (boundary_gives (repo.boundaries q) allowed before h.others later (boundary_lines q) may may_refs is (later_gives q h.others h.holds))
 
   -- ---- the acknowledgments
 
@@ -320,9 +292,7 @@ module _ (t : Terms) (asked : List Asked) (repo : Repository) (sound : IsSound r
       packet_gives t asked before (Acknowledgments (told_acks any)) (ack_packet id) (ack id ∷ []) (map ack_packet ids ++ ps) (map ack ids ++ later) is
       (of_text t asked (Acknowledgments (told_acks any)) (caps_at t asked before) (ack_text id) (ack id ∷ []) gives) refl
       (λ behind. acks_give ids true (ack_packet id ∷ before) ps later (All-tail (IsNameIn t.format) id ids all)
-      (subst (λ (u : List ℕ). IsDue t asked (ack_packet id ∷ before) (Acknowledgments (acks_with (told_acks any) u))) (text_of-line_end (ack_text id))
-      behind)
-      then)
+      (rw (text_of-line_end (ack_text id)) at behind) then)
 
   -- a line for each object that both ends have, or `NAK` where there is none
   common_gives : (ids : List ObjectName) (before ps : List Pkt) (later : List EventValue) → All (IsNameIn t.format) ids
@@ -353,36 +323,28 @@ module _ (t : Terms) (asked : List Asked) (repo : Repository) (sound : IsSound r
       → AnswerGives t asked before (packets ++ end_packets t.ending) ((told_common (common repo.has q.haves) ++ told_ready is_ready repo q) ++ ended ∷ [])
   negotiated_gives true q allowed before packets may is haves answer =
       let ids = common repo.has q.haves in
-      let lines = nak_or_acks ids in
-      let last = end_packets t.ending in
-      let parts : packets ++ last ≡ text_line (codes "acknowledgments") ∷ (lines ++ (ready_lines ++ (answer.others ++ last))) =
-      ap (λ (ps : List Pkt). ps ++ last) answer.packets_are
-      ∙ append_assoc (acknowledgments repo q ++ ready_lines) answer.others last
-      ∙ append_assoc (acknowledgments repo q) ready_lines (answer.others ++ last) in
-      let events : (told_common ids ++ (ready ∷ told_pack repo q)) ++ ended ∷ [] ≡ told_common ids ++ (ready ∷ (told_pack repo q ++ ended ∷ [])) =
-      append_assoc (told_common ids) (ready ∷ told_pack repo q) (ended ∷ []) in
-      subst (λ (l : List EventValue). AnswerGives t asked before (packets ++ last) l) (sym events)
-      (subst (λ (ps : List Pkt). AnswerGives t asked before ps (told_common ids ++ (ready ∷ (told_pack repo q ++ ended ∷ [])))) (sym parts)
-      (header_gives t asked (codes "acknowledgments") allowed (Acknowledgments (told_acks false)) before (lines ++ (ready_lines ++ (answer.others ++ last)))
-      (told_common ids ++ (ready ∷ (told_pack repo q ++ ended ∷ []))) is (no_error (codes "acknowledgments") (λ e. omega arith)) may refl
-      (λ is. common_gives ids (text_line (codes "acknowledgments") ∷ before) (ready_lines ++ (answer.others ++ last))
-      (ready ∷ (told_pack repo q ++ ended ∷ [])) (All-filter repo.has (IsNameIn t.format) q.haves haves) is
-      (λ told behind not_yet is. ready_gives told behind (answer.others ++ last) (told_pack repo q ++ ended ∷ []) not_yet is
-      (λ behind is. rest_gives q after_acknowledgments behind answer.others answer.holds refl refl is)))))
+      let behind = ready_lines ++ (answer.others ++ end_packets t.ending) in
+      let later = told_pack repo q ++ ended ∷ [] in
+      let parts : packets ++ end_packets t.ending ≡ text_line (codes "acknowledgments") ∷ (nak_or_acks ids ++ behind) =
+      rw answer.packets_are (append_assoc (acknowledgments repo q ++ ready_lines) answer.others (end_packets t.ending)
+      ∙ append_assoc (acknowledgments repo q) ready_lines (answer.others ++ end_packets t.ending)) in
+      rw (parts, append_assoc (told_common ids) (ready ∷ told_pack repo q) (ended ∷ []))
+      (header_gives t asked (codes "acknowledgments") allowed (Acknowledgments (told_acks false)) before (nak_or_acks ids ++ behind)
+      (told_common ids ++ (ready ∷ later)) is (no_error (codes "acknowledgments") (λ e. omega arith)) may refl
+      (λ is. common_gives ids (text_line (codes "acknowledgments") ∷ before) behind (ready ∷ later)
+      (All-filter repo.has (IsNameIn t.format) q.haves haves) is
+      (λ told front not_yet is. ready_gives told front (answer.others ++ end_packets t.ending) later not_yet is
+      (λ front is. rest_gives q after_acknowledgments front answer.others answer.holds refl refl is))))
   negotiated_gives false q allowed before packets may is haves answer =
       let ids = common repo.has q.haves in
-      let lines = nak_or_acks ids in
-      let last = end_packets t.ending in
-      let parts : packets ++ last ≡ text_line (codes "acknowledgments") ∷ (lines ++ (flush ∷ last)) =
-      ap (λ (ps : List Pkt). ps ++ last) answer ∙ append_assoc (acknowledgments repo q) (flush ∷ []) last in
-      let events : (told_common ids ++ []) ++ ended ∷ [] ≡ told_common ids ++ (ended ∷ []) = append_assoc (told_common ids) [] (ended ∷ []) in
-      subst (λ (l : List EventValue). AnswerGives t asked before (packets ++ last) l) (sym events)
-      (subst (λ (ps : List Pkt). AnswerGives t asked before ps (told_common ids ++ (ended ∷ []))) (sym parts)
-      (header_gives t asked (codes "acknowledgments") allowed (Acknowledgments (told_acks false)) before (lines ++ (flush ∷ last))
+      let last = flush ∷ end_packets t.ending in
+      let parts : packets ++ end_packets t.ending ≡ text_line (codes "acknowledgments") ∷ (nak_or_acks ids ++ last) =
+      rw answer (append_assoc (acknowledgments repo q) (flush ∷ []) (end_packets t.ending)) in
+      rw (parts, append_assoc (told_common ids) [] (ended ∷ []))
+      (header_gives t asked (codes "acknowledgments") allowed (Acknowledgments (told_acks false)) before (nak_or_acks ids ++ last)
       (told_common ids ++ (ended ∷ [])) is (no_error (codes "acknowledgments") (λ e. omega arith)) may refl
-      (λ is. common_gives ids (text_line (codes "acknowledgments") ∷ before) (flush ∷ last) (ended ∷ [])
-      (All-filter repo.has (IsNameIn t.format) q.haves haves) is
-      (λ told behind not_yet is. end_gives t.format t.ending asked behind (Acknowledgments told) not_yet is))))
+      (λ is. common_gives ids (text_line (codes "acknowledgments") ∷ before) last (ended ∷ []) (All-filter repo.has (IsNameIn t.format) q.haves haves) is
+      (λ told front not_yet is. end_gives t.format t.ending asked front (Acknowledgments told) not_yet is)))
 
   -- the answer to a fetch that negotiates or not
   fetch_gives : (negotiates : Bool) (q : FetchAsked) (allowed : Allowed) (before packets : List Pkt) → (negotiates ≡ true → allowed.acknowledgments ≡ true)
@@ -423,17 +385,13 @@ module _ (t : Terms) (asked : List Asked) (repo : Repository) (sound : IsSound r
       let last = end_packets t.ending in
       let head = unborn_packets q repo.unborn_head in
       let all : All (λ entry. GivesLine references t.format (line entry) (event entry ∷ [])) repo.refs =
-      λ k d within. reference_line t.format q.symrefs q.peel _ (sound.named k d within) (of_format _ (sound.of_format k d within)) (written.refs k d within) in
-      let parts : packets ++ last ≡ head ++ (lines ++ (flush ∷ last)) =
-      ap (λ (ps : List Pkt). ps ++ last) answer ∙ append_assoc head (lines ++ flush ∷ []) last
-      ∙ ap (λ (ps : List Pkt). head ++ ps) (append_assoc lines (flush ∷ []) last) in
-      let told = append_assoc (told_unborn q repo.unborn_head) (map event shown) (ended ∷ []) in
-      subst (λ (ps : List Pkt). AnswerGives t asked before ps (told_refs repo q ++ ended ∷ [])) (sym parts)
-      (subst (λ (l : List EventValue). AnswerGives t asked before (head ++ (lines ++ (flush ∷ last))) l) (sym told)
+      λ k d within. reference_line t.format q.symrefs q.peel _ (sound.named k d within) (rw same at (sound.of_format k d within)) (written.refs k d within) in
+      let parts : packets ++ last ≡ head ++ (lines ++ (flush ∷ last)) = rw answer (simp append_assoc) in
+      rw (parts, append_assoc (told_unborn q repo.unborn_head) (map event shown) (ended ∷ []))
       (unborn_gives q repo.unborn_head before (lines ++ (flush ∷ last)) (map event shown ++ ended ∷ []) sound.unborn is
       (λ behind is. lines_give t asked line event References tt shown behind (flush ∷ last) (ended ∷ []) is
       (λ caps. All-filter (λ entry. is_shown q.ref_prefixes entry.name) (λ entry. GivesLine references t.format (line entry) (event entry ∷ [])) repo.refs all)
-      (λ after is. end_gives t.format t.ending asked after References tt is))))
+      (λ after is. end_gives t.format t.ending asked after References tt is)))
 
   -- ---- sizes
 
@@ -443,11 +401,8 @@ module _ (t : Terms) (asked : List Asked) (repo : Repository) (sound : IsSound r
   sizes_give q before packets is oids answer =
       let told : ObjectName → Info = λ id. record { id = id; size = repo.object_size id } in
       let last = flush ∷ end_packets t.ending in
-      let parts : packets ++ end_packets t.ending ≡ text_line (codes "size") ∷ (map (info_packet repo) q.oids ++ last) =
-      ap (λ (ps : List Pkt). ps ++ end_packets t.ending) answer
-      ∙ ap (λ (ps : List Pkt). text_line (codes "size") ∷ ps) (append_assoc (map (info_packet repo) q.oids) (flush ∷ []) (end_packets t.ending)) in
-      subst (λ (ps : List Pkt). AnswerGives t asked before ps (told_sizes repo q ++ ended ∷ [])) (sym parts)
-      (packet_gives t asked before SizeLine (text_line (codes "size")) [] (map (info_packet repo) q.oids ++ last) (told_sizes repo q ++ ended ∷ []) is
+      let parts : packets ++ end_packets t.ending ≡ text_line (codes "size") ∷ (map (info_packet repo) q.oids ++ last) = rw answer (simp append_assoc) in
+      rw parts (packet_gives t asked before SizeLine (text_line (codes "size")) [] (map (info_packet repo) q.oids ++ last) (told_sizes repo q ++ ended ∷ []) is
       (record { no_error = no_error (codes "size") (λ e. omega arith); says = refl }) refl
       (λ is. lines_give t asked (λ id. info_text (told id)) (λ id. info (told id)) Sizes tt q.oids (text_line (codes "size") ∷ before) last (ended ∷ []) is
       (λ caps k d within. size_line_is t.format _ _ (oids k d within) (written.sizes _))
@@ -473,14 +428,13 @@ module _ (t : Terms) (repo : Repository) (earlier : List Asked) (q : Asked) (bef
   given =
       let asked = earlier ++ q ∷ [] in
       let is = due_said t asked before q (record { earlier = earlier; last = q; asked_is = refl; question_is = refl; whole = before_whole }) in
-      subst (λ (ps : List Pkt). AnswerGives t asked before ps (told_by repo q ++ ended ∷ [])) (sym cut)
-      (answer_gives t asked repo sound written same q before packets is asks answer)
+      rw cut (answer_gives t asked repo sound written same q before packets is asks answer)
 
   -- whatever was asked later
   pub heard : (later : List Asked) → GiveAll t (earlier ++ q ∷ later) before gs (told_by repo q ++ ended ∷ [])
   heard later =
       let events = told_by repo q ++ ended ∷ [] in
-      subst (λ (all : List Asked). GiveAll t all before gs events) (append_assoc earlier (q ∷ []) later)
+      rw (append_assoc earlier (q ∷ []) later) at
       (gives_more t (earlier ++ q ∷ []) later before gs events (given_give t (earlier ++ q ∷ []) before gs events given))
 
   -- the next answer may come

@@ -28,7 +28,7 @@ use Rattle.git_client.specs.declared.sections.Allowed.{Allowed}
 use Rattle.git_client.proofs.Judged.{gives_well, place_is}
 use Rattle.git_client.proofs.PartSteps.{due_after, next_part, part_due, stands}
 use Rattle.git_client.proofs.SectionSteps.{allowed_stays, inside_more}
-use Rattle.git2show_lib.specs.ToldAnswers.{end_packets, packets_of}
+use Rattle.git_both_ends.specs.ToldAnswers.{end_packets, packets_of}
 
 -- a text whose first byte is no `E` is no error packet's
 pub no_error : (text : List ℕ) → slice_index text 0 ≢ 69 → ¬ IsErrorText text
@@ -50,54 +50,28 @@ MayEnd Packfile = Unit {0}
 MayEnd Sizes = Unit {0}
 MayEnd due = ⊥
 
--- where such lines are due no response end is
-lines_open : (due : Due) → IsOfLines due → awaits_end due ≡ 0
-lines_open ResponseEnd is = absurd is
-lines_open due is = refl
+-- where such lines are due no response end is; a line leaves it due, and gives what its text does
+line_stays : (done : Bool) (message : List Pkt) (format : Format) (ending : Ending) (caps : Caps) (due : Due) (line : List ℕ) (now : List EventValue)
+    → IsOfLines due
+    → (awaits_end due ≡ 0) × (IsDueIn (part_due done due) message due → IsDueIn (next_part (part_due done due)) (payload line ∷ message) due)
+    × (GivesLine (place_due caps format due) format (text_of line) now → Gives format ending (place_due caps format due) (payload line) now)
+line_stays done message format ending caps References line now of = (refl, (λ is. tt), (λ gives. gives))
+line_stays done message format ending caps Sizes line now of = (refl, (λ is. refl), (λ gives. gives))
+line_stays done message format ending caps (ShallowInfo allowed) line now of =
+    (refl, (λ is. (inside_more _ message line is.0, is.1 ∙ sym (allowed_stays done (payload line) message is.0.inside))), (λ gives. gives))
+line_stays done message format ending caps (WantedRefs allowed) line now of =
+    (refl, (λ is. (inside_more _ message line is.0, is.1 ∙ sym (allowed_stays done (payload line) message is.0.inside))), (λ gives. gives))
+line_stays done message format ending caps due line now of = absurd of
 
--- a line leaves it due
-line_leaves : (done : Bool) (message : List Pkt) (due : Due) (line : List ℕ) → IsOfLines due → IsDueIn (part_due done due) message due
-    → IsDueIn (next_part (part_due done due)) (payload line ∷ message) due
-line_leaves done message References line of is = tt
-line_leaves done message Sizes line of is = refl
-line_leaves done message (ShallowInfo allowed) line of (inside, is) =
-    (inside_more _ message line inside, is ∙ sym (allowed_stays done (payload line) message inside.inside))
-line_leaves done message (WantedRefs allowed) line of (inside, is) =
-    (inside_more _ message line inside, is ∙ sym (allowed_stays done (payload line) message inside.inside))
-line_leaves done message due line of is = absurd of
-
--- what the line gives
-line_gives : (format : Format) (ending : Ending) (caps : Caps) (due : Due) (bytes : List ℕ) (now : List EventValue) → IsOfLines due
-    → GivesLine (place_due caps format due) format (text_of bytes) now → Gives format ending (place_due caps format due) (payload bytes) now
-line_gives format ending caps References bytes now of gives = gives
-line_gives format ending caps Sizes bytes now of gives = gives
-line_gives format ending caps (ShallowInfo allowed) bytes now of gives = gives
-line_gives format ending caps (WantedRefs allowed) bytes now of gives = gives
-line_gives format ending caps due bytes now of gives = absurd of
-
--- what a flush gives that may come
-flush_is : (ending : Ending) (caps : Caps) (format : Format) (due : Due) → MayEnd due → flush_says ending (place_due caps format due) ≡ Ok (ended_by ending)
-flush_is ending caps format References may = refl
-flush_is ending caps format (Acknowledgments told) may = rw may refl
-flush_is ending caps format Packfile may = refl
-flush_is ending caps format Sizes may = refl
-flush_is ending caps format due may = absurd may
-
--- it notes nothing
-flush_notes : (due : Due) (caps : Caps) → MayEnd due → NotesAfter due caps flush caps
-flush_notes References caps may = refl
-flush_notes (Acknowledgments told) caps may = refl
-flush_notes Packfile caps may = refl
-flush_notes Sizes caps may = refl
-flush_notes due caps may = absurd may
-
--- it ends the response
-after_flush : (ending : Ending) (due : Due) → MayEnd due → phase_after ending due flush ≡ phase_after_response ending
-after_flush ending References may = refl
-after_flush ending (Acknowledgments told) may = refl
-after_flush ending Packfile may = refl
-after_flush ending Sizes may = refl
-after_flush ending due may = absurd may
+-- what a flush gives that may come: it notes nothing, and ends the response
+flush_ends : (ending : Ending) (caps : Caps) (format : Format) (due : Due) → MayEnd due
+    → (flush_says ending (place_due caps format due) ≡ Ok (ended_by ending)) × NotesAfter due caps flush caps
+    × (phase_after ending due flush ≡ phase_after_response ending)
+flush_ends ending caps format References may = (refl, refl, refl)
+flush_ends ending caps format (Acknowledgments told) may = (rw may refl, refl, refl)
+flush_ends ending caps format Packfile may = (refl, refl, refl)
+flush_ends ending caps format Sizes may = (refl, refl, refl)
+flush_ends ending caps format due may = absurd may
 
 module _ (t : Terms) (asked : List Asked) where
   -- the packets of the rest of an answer, after those before them, have no fault and give these events, in order, and then the answer is whole
@@ -126,7 +100,7 @@ module _ (t : Terms) (asked : List Asked) where
   pub of_text : (due : Due) (caps : Caps) (text : List ℕ) (now : List EventValue) → GivesLine (place_due caps t.format due) t.format text now
       → GivesLine (place_due caps t.format due) t.format (text_of (text ++ 10 ∷ [])) now
   of_text due caps text now gives =
-      subst (λ (u : List ℕ). GivesLine (place_due caps t.format due) t.format u now) (sym (text_of-line_end text)) gives
+      rw (text_of-line_end text) gives
 
   -- a packet that has no fault, and then the others
   pub packet_gives : (before : List Pkt) (due : Due) (p : Pkt) (now : List EventValue) (ps : List Pkt) (later : List EventValue) → IsDue t asked before due
@@ -149,15 +123,15 @@ module _ (t : Terms) (asked : List Asked) where
       let s = stands t asked before due is in
       let one : GivesLine (place_due caps t.format due) t.format (text x) (event x ∷ []) =
       All-head (λ y. GivesLine (place_due caps t.format due) t.format (text y) (event y ∷ [])) x xs (gives caps) in
-      let next : IsDue t asked (payload bytes ∷ before) due =
-      due_after t asked before due due (payload bytes) tt (lines_open due of) is s (line_leaves s.done (message_of before) due bytes of s.is_due) in (
+      let (shut, leaves, says) = line_stays s.done (message_of before) t.format t.ending caps due bytes (event x ∷ []) of in
+      let next : IsDue t asked (payload bytes ∷ before) due = due_after t asked before due due (payload bytes) tt shut is s (leaves s.is_due) in (
         event x ∷ [],
         map event xs ++ later,
         refl,
         record {
           place = place_due caps t.format due;
           is_place = place_is t asked before due caps is refl;
-          gives = line_gives t.format t.ending caps due bytes (event x ∷ []) of (of_text due caps (text x) (event x ∷ []) one);
+          gives = says (of_text due caps (text x) (event x ∷ []) one);
         },
         lines_give text event due of xs (payload bytes ∷ before) ps later next
             (λ caps. All-tail (λ y. GivesLine (place_due caps t.format due) t.format (text y) (event y ∷ [])) x xs (gives caps)) others,
@@ -193,15 +167,10 @@ pub end_gives : (format : Format) (ending : Ending) (asked : List Asked) (before
     → IsDue (terms_of format ending) asked before due → AnswerGives (terms_of format ending) asked before (flush ∷ end_packets ending) (ended ∷ [])
 end_gives format FlushOnly asked before due may is =
     let t = terms_of format FlushOnly in
-    packet_gives t asked before due flush (ended ∷ []) [] [] is (flush_is FlushOnly (caps_at t asked before) format due may)
-    (flush_notes due (caps_at t asked before) may)
-    (λ behind.
-    let whole : AreWhole t asked (flush ∷ before) = rw (after_flush FlushOnly due may) at behind in
-    (refl, whole))
+    let (says, notes, after) = flush_ends FlushOnly (caps_at t asked before) format due may in
+    packet_gives t asked before due flush (ended ∷ []) [] [] is says notes (λ behind. (refl, rw after at behind))
 end_gives format WithResponseEnd asked before due may is =
     let t = terms_of format WithResponseEnd in
-    packet_gives t asked before due flush [] (resp_end ∷ []) (ended ∷ []) is (flush_is WithResponseEnd (caps_at t asked before) format due may)
-    (flush_notes due (caps_at t asked before) may)
-    (λ behind.
-    let last : IsDue t asked (flush ∷ before) ResponseEnd = rw (after_flush WithResponseEnd due may) at behind in
-    packet_gives t asked (flush ∷ before) ResponseEnd resp_end (ended ∷ []) [] [] last refl refl (λ behind. (refl, behind)))
+    let (says, notes, after) = flush_ends WithResponseEnd (caps_at t asked before) format due may in
+    packet_gives t asked before due flush [] (resp_end ∷ []) (ended ∷ []) is says notes
+    (λ behind. packet_gives t asked (flush ∷ before) ResponseEnd resp_end (ended ∷ []) [] [] (rw after at behind) refl refl (λ behind. (refl, behind)))

@@ -8,8 +8,8 @@ ghost use Rattle.git_client.specs.Events.{pack_bytes};
 ghost use Rattle.git_client.specs.Parts.{Terms};
 ghost use Rattle.git_client.specs.Transcript.{transcript_of};
 ghost use Rattle.git_server.specs.Repository.{IsSound, Repository, RepoState};
-ghost use Rattle.git2show_lib.specs.Plays.{CanFail, Played};
-ghost use Rattle.git2show_lib.specs.ToldAnswers.{CanBeWritten, answered_pack, told_all, told_play};
+ghost use Rattle.git_both_ends.specs.Plays.{CanFail, Played};
+ghost use Rattle.git_both_ends.specs.ToldAnswers.{CanBeWritten, answered_pack, told_all, told_play};
 
 use git_server::Repo;
 use std::alloc::Allocator;

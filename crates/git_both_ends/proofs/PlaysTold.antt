@@ -1,5 +1,5 @@
 -- What a play gives that ended well.
-use Rattle.std.proofs.Common.{arith, ◌≡◌, inl, ℕ, Bool, true, false, All, flat_map, map, List, [], ◌∷◌, ◌++◌, Option, IfSome, Ok}
+use Rattle.std.proofs.Common.{arith, ◌≡◌, ℕ, Bool, true, false, All, flat_map, map, List, [], ◌∷◌, ◌++◌, Option, IfSome, Ok}
 use Rattle.std.proofs.Common.{refl, ap, sym, ◌∙◌, subst}
 use Rattle.std.specs.List.{filter_map}
 use Rattle.std.proofs.lemmas.List.{append-nil, append_cancel_right}
@@ -7,7 +7,7 @@ use Rattle.std.proofs.lemmas.List.Elements.{All-cons, All-head, All-map, All-nil
 use Rattle.git_names.specs.ObjectName.{ObjectName}
 use Rattle.git_names.specs.declared.object_format.Format.{Format}
 use Rattle.git_pkt.specs.Packets.{Pkt, flush, resp_end}
-use Rattle.git_pkt.specs.Splits.{Given, SpellsAll}
+use Rattle.git_pkt.specs.Splits.{Given}
 use Rattle.git_msg.specs.declared.arguments.Command.{Command}
 use Rattle.git_msg.specs.declared.arguments.Command.TheVariants.{LsRefs, Fetch, ObjectInfo}
 use Rattle.git_msg.specs.declared.offers.Caps.{Caps}
@@ -32,14 +32,14 @@ use Rattle.git_client.proofs.Determined.{one_note, same_sounds}
 use Rattle.git_client.proofs.Sequences.{give_all_append, nearest-append}
 use Rattle.git_server.specs.Answers.{AllFit, advertisement_of as server_says}
 use Rattle.git_server.specs.Repository.{IsSound, Repository, RepoState}
-use Rattle.git_server.specs.Sessions.{AreAnswers, IsAnswered, Setting, Stream}
+use Rattle.git_server.specs.Sessions.{AreAnswers, IsAnswered, Setting}
 use Rattle.git_server.proofs.Sent.{spelled_both}
-use Rattle.git2show_lib.specs.Plays.{IsWholePlay, Played, Talk, said_each, setting_of, with_end}
-use Rattle.git2show_lib.specs.ToldAnswers.{AsksIn, CanBeWritten, told_all, told_offer, told_play}
-use Rattle.git2show_lib.proofs.HearingOffers.{advertisement_stays, format_meant, lines_said, nearest_offer, offer_heard, offer_whole}
-use Rattle.git2show_lib.proofs.HearingSessions.{AreEnded, all_heard, cut_at, ended_by_flush}
-use Rattle.git2show_lib.proofs.RequestsHeard.{HaveValues, IsLeft, IsTail, requests_are, written_all}
-use Rattle.git2show_lib.proofs.SpelledPackets.{are_spelled, fit_both, fit_front, front_are, packets_are, requests_fit}
+use Rattle.git_both_ends.specs.Plays.{IsWholePlay, Played, Talk, said_each, setting_of, with_end}
+use Rattle.git_both_ends.specs.ToldAnswers.{AsksIn, CanBeWritten, told_all, told_offer, told_play}
+use Rattle.git_both_ends.proofs.HearingOffers.{advertisement_stays, format_meant, lines_said, nearest_offer, offer_heard, offer_whole}
+use Rattle.git_both_ends.proofs.HearingSessions.{AreEnded, all_heard, cut_at, ended_by_flush}
+use Rattle.git_both_ends.proofs.RequestsHeard.{HaveValues, requests_are, written_all}
+use Rattle.git_both_ends.proofs.SpelledPackets.{are_spelled, fit_both, fit_front, front_are, packets_are, requests_fit}
 
 -- ---- the object names of a request that an answer repeats
 
@@ -83,21 +83,16 @@ offers_word format word = refl
 offers_all : (format : Format) (arg : Arg) → is_offered (everything format) arg ≡ true
 offers_all format arg = offers_word format arg.word
 
--- the requests that it reads of written requests are those
-stream_asks : (format : Format) (ending : Ending) (limit : ℕ) (state : RepoState) (advertise says_agent says_format : Bool) (asked others : List Asked)
-    (used : List ℕ) (left : List Given) (rest : List ℕ) (tail : List Pkt) → IsFormatMeant format says_format → HaveValues asked
-    → used ≡ spelled (written_all says_agent says_format format asked ++ tail) → AllFit tail → IsTail tail → IsLeft left
-    → Stream (setting_of (terms_of format ending) limit state advertise) used others left rest → (others ≡ asked) × All (HasValues format) asked
-stream_asks format ending limit state advertise says_agent says_format asked others used left rest tail meant values e fit is over stream =
-    let ps = written_all says_agent says_format format asked ++ tail in
-    let spells = are_spelled used ps (fit_both (written_all says_agent says_format format asked) tail
-    (requests_fit says_agent says_format format asked values) fit) e in
+-- the requests that it has read and answered, of written requests, are those
+stream_asks : (format : Format) (ending : Ending) (limit : ℕ) (state : RepoState) (advertise says_agent says_format : Bool) (asked : List Asked)
+    {used given : List ℕ} → IsFormatMeant format says_format → HaveValues asked → used ≡ spelled (written_all says_agent says_format format asked)
+    → (a : IsAnswered (setting_of (terms_of format ending) limit state advertise) used given) → (a.asked ≡ asked) × All (HasValues format) asked
+stream_asks format ending limit state advertise says_agent says_format asked {used} meant values e a =
+    let ps = written_all says_agent says_format format asked in
+    let spells = are_spelled used ps (requests_fit says_agent says_format format asked values) e in
     requests_are (setting_of (terms_of format ending) limit state advertise) says_agent says_format meant (takes_all format) (offers_all format)
-    asked others stream.packets left tail values (packets_are used ps stream.packets rest spells stream.splits) is over stream.requests
-
--- packets and nothing after them
-spelled_alone : (bytes : List ℕ) (ps : List Pkt) → bytes ≡ spelled ps → bytes ≡ spelled (ps ++ [])
-spelled_alone bytes ps e = e ∙ ap spelled (sym (append-nil ps))
+    asked a.asked a.stream.packets a.left values (packets_are used ps a.stream.packets a.rest spells a.stream.splits)
+    (lines_have_no_flush (everything format) limit [] a.left a.begins.lines a.begins.taken) a.stream.requests
 
 -- ---- what a client notes and receives
 
@@ -121,7 +116,7 @@ meant_after : (t : Terms) (asked : List Asked) (used more : List ℕ) (events : 
 meant_after t asked used more events caps c noted fit e =
     let (front, back, whole, are) =
     front_are 0 (server_says (everything t.format)) more c.given [] fit
-    (subst (λ (bytes : List ℕ). SpellsAll 0 bytes c.given []) e c.splits.spelled) c.splits.ends in
+    (rw e at c.splits.spelled) c.splits.ends in
     let own : HasNoted t asked used (noted_of (advertisement_of (nearest c.given []))) = (c.given, events, heard_so t asked used events c, refl) in
     let said = flush ∷ lines_said t.format in
     let order : nearest c.given [] ≡ nearest back said =
@@ -145,11 +140,8 @@ events_told t repo asked answers used events sound written same values are fit e
     let asks : All (AsksIn t.format) asked = λ k d within. asks_in t.format _ (values k d within) in
     let answered = (all_heard t repo sound written same asked [] [] (nearest c.first []) answers c.second asks are
     (offer_whole t c.first c.first_are) c.second_are).0 in
-    let later : GiveAll t asked (nearest c.first []) c.second (told_all repo asked) =
-    subst (λ (l : List Asked). GiveAll t l (nearest c.first []) c.second (told_all repo asked)) (append-nil asked) answered in
     let all : GiveAll t asked [] s.given (first_events ++ told_all repo asked) =
-    subst (λ (l : List Given). GiveAll t asked [] l (first_events ++ told_all repo asked)) (sym c.whole)
-    (give_all_append t asked [] c.first c.second first_events (told_all repo asked) heard later) in
+    rw c.whole (give_all_append t asked [] c.first c.second first_events (told_all repo asked) heard (rw (append-nil asked) at answered)) in
     (same_sounds t asked used conversation.given s.given events (first_events ++ told_all repo asked) (heard_so t asked used events conversation)
     (record { given = s.given; rest = []; more = []; splits = s.splits; cut = sym (append-nil s.given); gives = all; stops = tt })).events_are
 
@@ -178,25 +170,20 @@ module _ (format : Format) (limit : ℕ) (state : RepoState) where
   each_told caps meant [] (q ∷ asked) said all values = absurd (cc)
   each_told caps meant (talk ∷ later) [] said all values = absurd (cc)
   each_told caps meant (talk ∷ later) (q ∷ asked) said all values =
-      let question = questions_of format caps (q ∷ []) in
-      let now : talk.said ≡ spelled question = cc in
+      let now : talk.said ≡ spelled (questions_of format caps (q ∷ [])) = cc in
       let behind : map (λ talk. talk.said) later ≡ said_each (terms_of format ResponseEnd) caps asked = cc in
       let a = All-head (λ (talk : Talk). IsAnswered silent talk.said talk.given) talk later all in
       let one = All-cons HasOwn q [] (All-head HasOwn q asked values) (All-nil HasOwn) in
-      let read = stream_asks format ResponseEnd limit state false caps.agent caps.object_format (q ∷ []) a.asked talk.said a.left a.rest [] meant one
-      (spelled_alone talk.said question now) tt (inl refl)
-      (inl (lines_have_no_flush silent.offer limit [] a.left a.begins.lines a.begins.taken)) a.stream in
+      let read = stream_asks format ResponseEnd limit state false caps.agent caps.object_format (q ∷ []) meant one now a in
       let (answer, more, parts, is, none) = subst (λ (l : List Asked). AreAnswers state.answers l a.answers) read.0 a.answered in
-      let own : a.answers ≡ answer = parts ∙ ap (λ (l : List Pkt). answer ++ l) none ∙ append-nil answer in
+      let own : a.answers ≡ answer = simp (none, append-nil) at parts in
       let then = each_told caps meant later asked behind (All-tail (λ (talk : Talk). IsAnswered silent talk.said talk.given) talk later all)
       (All-tail HasOwn q asked values) in
       let whole = answer ++ resp_end ∷ [] in
       record {
         packets = whole ++ then.packets;
         fit = fit_both whole then.packets (fit_both answer (resp_end ∷ []) (subst AllFit own a.fit) (omega arith, tt)) then.fit;
-        bytes = ap (λ (bytes : List ℕ). (bytes ++ spelled (resp_end ∷ [])) ++ flat_map with_end later) (a.given_is ∙ ap spelled own)
-            ∙ ap (λ (bytes : List ℕ). bytes ++ flat_map with_end later) (sym (spelled_both answer (resp_end ∷ [])))
-            ∙ ap (λ (bytes : List ℕ). spelled whole ++ bytes) then.bytes ∙ sym (spelled_both whole then.packets);
+        bytes = simp (spelled_both, a.given_is, own, then.bytes);
         are = (answer, then.packets, refl, is, then.are);
         in_format = All-cons (HasValues format) q asked (All-head (HasValues format) q [] read.1) then.in_format;
       }
@@ -213,20 +200,16 @@ module _ {A : Type 0} (Fails : Type 0) (format : Format) (limit : ℕ) (state : 
       let a = p.sessions.answered in
       let said = p.served.said caps p.run.said.noted in
       let offer = server_says (everything format) in
-      let used : h.used ≡ spelled (offer ++ a.answers) =
-      sym (append-nil h.used) ∙ p.served.gave ∙ ap (λ (l : List Talk). p.first.given ++ flat_map with_end l) said.0 ∙ append-nil p.first.given
-      ∙ a.given_is in
+      let used : h.used ≡ spelled (offer ++ a.answers) = simp (said.0, append-nil) at p.served.gave ∙ a.given_is in
       let meant = meant_after t h.asked h.used (spelled a.answers) h.events caps p.run.whole p.run.said.noted (fit_front offer a.answers a.fit)
       (used ∙ spelled_both offer a.answers) in
       let messages = written_all caps.agent caps.object_format format h.asked in
-      let wrote : p.first.said ≡ spelled (written_all caps.agent caps.object_format format h.asked ++ flush ∷ []) =
+      let wrote : p.first.said ≡ spelled (messages ++ flush ∷ []) =
       said.1 ∙ p.run.said.said ∙ ap (λ (left : Bool). spelled (said_of format caps h.asked left)) p.run.leaves in
-      let questions : p.sessions.questions ≡ spelled (messages ++ []) =
-      append_cancel_right p.sessions.questions (spelled messages) (spelled (flush ∷ [])) (sym p.sessions.parts ∙ wrote ∙ spelled_both messages (flush ∷ []))
-      ∙ ap spelled (sym (append-nil messages)) in
-      let read = stream_asks format FlushOnly limit state true caps.agent caps.object_format h.asked a.asked p.sessions.questions a.left a.rest []
-      meant values questions tt (inl refl)
-      (inl (lines_have_no_flush (everything format) limit [] a.left a.begins.lines a.begins.taken)) a.stream in
+      let questions : p.sessions.questions ≡ spelled messages =
+      append_cancel_right p.sessions.questions (spelled messages) (spelled (flush ∷ []))
+      (sym p.sessions.parts ∙ wrote ∙ spelled_both messages (flush ∷ [])) in
+      let read = stream_asks format FlushOnly limit state true caps.agent caps.object_format h.asked meant values questions a in
       let answered : AreAnswers repo h.asked a.answers = subst (λ (l : List Asked). AreAnswers repo l a.answers) read.0 a.answered in
       events_told t repo h.asked a.answers h.used h.events sound written same read.1 (ended_by_flush repo h.asked a.answers answered) a.fit used
       p.run.whole
@@ -241,14 +224,12 @@ module _ {A : Type 0} (Fails : Type 0) (format : Format) (limit : ℕ) (state : 
       let said = p.served.said caps p.run.said.noted in
       let offer = server_says (everything format) in
       let first = p.sessions.0 in
-      let none = stream_asks format ResponseEnd limit state true false true [] first.asked p.first.said first.left first.rest []
-      (meant_when_said format) (All-nil HasOwn) said.0 tt (inl refl)
-      (inl (lines_have_no_flush (everything format) limit [] first.left first.begins.lines first.begins.taken)) first.stream in
+      let none = stream_asks format ResponseEnd limit state true false true [] (meant_when_said format) (All-nil HasOwn) said.0 first in
       let silence : first.answers ≡ [] = subst (λ (l : List Asked). AreAnswers repo l first.answers) none.0 first.answered in
-      let only : offer ++ first.answers ≡ offer = ap (λ (l : List Pkt). offer ++ l) silence ∙ append-nil offer in
+      let only : offer ++ first.answers ≡ offer = rw silence (append-nil offer) in
       let fit : AllFit offer = subst AllFit only first.fit in
       let used : h.used ≡ spelled offer ++ flat_map with_end p.later =
-      sym (append-nil h.used) ∙ p.served.gave ∙ ap (λ (bytes : List ℕ). bytes ++ flat_map with_end p.later) (first.given_is ∙ ap spelled only) in
+      rw (append-nil h.used, first.given_is ∙ ap spelled only) at p.served.gave in
       let meant = meant_after t h.asked h.used (flat_map with_end p.later) h.events caps p.run.whole p.run.said.noted fit used in
       let each = each_told format limit state caps meant p.later h.asked said.1 p.sessions.1 values in
       events_told t repo h.asked each.packets h.used h.events sound written same each.in_format each.are (fit_both offer each.packets fit each.fit)

@@ -1,5 +1,5 @@
-use Rattle.git2show_lib.proofs.HearingAnswers.{heard, whole_after}
-use Rattle.git2show_lib.proofs.answer_laws.heard_answer.Goals as goal
+use Rattle.git_both_ends.proofs.HearingAnswers.{heard, whole_after}
+use Rattle.git_both_ends.proofs.answer_laws.heard_answer.Goals as goal
 
 pub returns : goal.returns
 returns c = record {

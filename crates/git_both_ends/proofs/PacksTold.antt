@@ -1,6 +1,7 @@
 -- The packs of the answers.
 use Rattle.std.proofs.Common.{◌≡◌, ℕ, Bool, true, false, not, ◌||◌, cond, flat_map, map, List, [], ◌∷◌, ◌++◌, Option, Some, None}
 use Rattle.std.proofs.Common.{codes, refl, ap, ◌∙◌}
+use Rattle.std.proofs.lemmas.Bool.{cond_both}
 use Rattle.std.proofs.lemmas.List.{append-nil}
 use Rattle.git_names.specs.ObjectName.{ObjectName}
 use Rattle.git_msg.specs.declared.Boundary.{Boundary}
@@ -8,17 +9,12 @@ use Rattle.git_msg.specs.declared.Boundary.TheVariants.{Shallow, Unshallow}
 use Rattle.git_msg.specs.Asked.{Asked, FetchAsked, LsRefsAsked, fetch, ls_refs, object_info}
 use Rattle.git_msg.specs.References.{reference_of}
 use Rattle.git_client.specs.Events.{EventValue, ack, ended, info, pack, pack_bytes, reference, wanted_ref}
+use Rattle.git_client.proofs.Packs.{pack_bytes-append}
 use Rattle.git_server.specs.Answers.{asks_for_unborn, shown_line, shown_refs}
 use Rattle.git_server.specs.FetchAnswers.{common, is_ready_for, negotiates}
 use Rattle.git_server.specs.Repository.{Entry, Repository}
-use Rattle.git2show_lib.specs.ToldAnswers.{answered_pack, found_refs, told_all, told_boundary, told_by, told_common, told_fetch, told_pack, told_ready}
-use Rattle.git2show_lib.specs.ToldAnswers.{told_unborn}
-
--- the pack of two lists of events
-packs-append : (events later : List EventValue) → pack_bytes (events ++ later) ≡ pack_bytes events ++ pack_bytes later
-packs-append [] later = refl
-packs-append (pack byte ∷ events) later = ap (λ (l : List ℕ). byte ∷ l) (packs-append events later)
-packs-append (event ∷ events) later = packs-append events later
+use Rattle.git_both_ends.specs.ToldAnswers.{answered_pack, found_refs, told_all, told_boundary, told_by, told_common, told_fetch, told_pack, told_ready}
+use Rattle.git_both_ends.specs.ToldAnswers.{told_unborn}
 
 -- events of which none is of the pack
 no_pack : {X : Type 0} (event : X → EventValue) → ((x : X) (later : List EventValue) → pack_bytes (event x ∷ later) ≡ pack_bytes later) → (xs : List X)
@@ -37,10 +33,9 @@ no_boundary (Unshallow id) later = refl
 
 no_unborn_pack : (q : LsRefsAsked) (head : Option (List ℕ)) → pack_bytes (told_unborn q head) ≡ []
 no_unborn_pack q None = refl
-no_unborn_pack q (Some target) = go (asks_for_unborn q) where
-  go : (asks : Bool) → pack_bytes (cond asks (reference (reference_of None (codes "HEAD") (Some target) None) ∷ []) []) ≡ []
-  go true = refl
-  go false = refl
+no_unborn_pack q (Some target) =
+    cond_both (asks_for_unborn q) (reference (reference_of None (codes "HEAD") (Some target) None) ∷ []) [] (λ (l : List EventValue). pack_bytes l ≡ [])
+    (λ _. refl) (λ _. refl)
 
 common_packs : (ids : List ObjectName) → pack_bytes (told_common ids) ≡ []
 common_packs [] = refl
@@ -48,7 +43,7 @@ common_packs (id ∷ ids) = no_pack ack (λ x later. refl) (id ∷ ids)
 
 -- after events without a pack
 after_none : (events later : List EventValue) (bytes : List ℕ) → pack_bytes events ≡ [] → pack_bytes later ≡ bytes → pack_bytes (events ++ later) ≡ bytes
-after_none events later bytes none is = packs-append events later ∙ ap (λ (l : List ℕ). l ++ pack_bytes later) none ∙ is
+after_none events later bytes none is = pack_bytes-append events later ∙ rw none is
 
 module _ (repo : Repository) where
   packfile_packs : (q : FetchAsked) → pack_bytes (told_pack repo q) ≡ repo.pack q
@@ -80,12 +75,10 @@ module _ (repo : Repository) where
   one_pack (object_info q) = no_pack (λ id. info (record { id = id; size = repo.object_size id })) (λ x later. refl) q.oids
 
   after_pack : (q : Asked) → pack_bytes (told_by repo q ++ ended ∷ []) ≡ answered_pack repo q
-  after_pack q = packs-append (told_by repo q) (ended ∷ []) ∙ append-nil (pack_bytes (told_by repo q)) ∙ one_pack q
+  after_pack q = pack_bytes-append (told_by repo q) (ended ∷ []) ∙ append-nil (pack_bytes (told_by repo q)) ∙ one_pack q
 
   -- those of all answers, one after the other
   pub all_packs : (asked : List Asked) → pack_bytes (told_all repo asked) ≡ flat_map (answered_pack repo) asked
   all_packs [] = refl
   all_packs (q ∷ asked) =
-      packs-append (told_by repo q ++ ended ∷ []) (told_all repo asked)
-      ∙ ap (λ (l : List ℕ). l ++ pack_bytes (told_all repo asked)) (after_pack q)
-      ∙ ap (λ (l : List ℕ). answered_pack repo q ++ l) (all_packs asked)
+      pack_bytes-append (told_by repo q ++ ended ∷ []) (told_all repo asked) ∙ rw (after_pack q, all_packs asked) refl

@@ -1,5 +1,6 @@
 -- The values of requests that a server reads: object names of its format, whatever the format of the request.
-use Rattle.std.proofs.Common.{arith, ◌≡◌, ℕ, Bool, true, false, ◌||◌, All, map, List, [], ◌∷◌, ◌++◌, refl, ◌∙◌, subst}
+use Rattle.std.proofs.Common.{arith, ◌≡◌, ℕ, Bool, true, false, All, map, List, [], ◌∷◌, ◌++◌, refl, ◌∙◌}
+use Rattle.std.proofs.lemmas.Bool.{or_left, or_right}
 use Rattle.std.proofs.lemmas.List.Elements.{All-cons, All-head, All-nil, All-tail}
 use Rattle.git_names.specs.ObjectName.{IsObjectName, ObjectName, hex_of}
 use Rattle.git_names.specs.declared.object_format.Format.{Format}
@@ -9,9 +10,9 @@ use Rattle.git_pkt.specs.Splits.{Given}
 use Rattle.git_pkt.proofs.Texts.{text_of-line_end}
 use Rattle.git_msg.specs.declared.arguments.Command.{Command}
 use Rattle.git_msg.specs.declared.offers.Offer.{Offer}
-use Rattle.git_msg.specs.Arguments.{Arg, IsInRange, IsNameIn, IsValue, MayFollow, SaysArgument, SaysValue, Shape, Value, Word, id_value, object_name}
+use Rattle.git_msg.specs.Arguments.{Arg, IsInRange, IsNameIn, IsValue, MayFollow, SaysArgument, SaysValue, Shape, Value, id_value, object_name}
 use Rattle.git_msg.specs.Arguments.{row, written_text, written_value}
-use Rattle.git_msg.specs.Lines.{IsLine, IsLineIn, Line, delimiter, has_delimiter, is_delimiter}
+use Rattle.git_msg.specs.Lines.{IsLineIn, Line, delimiter, has_delimiter, is_delimiter}
 use Rattle.git_msg.specs.Requests.{AreLines}
 use Rattle.git_msg.specs.WrittenRequest.{text_line}
 use Rattle.git_msg.proofs.LineLaws.{payload_argument}
@@ -19,7 +20,7 @@ use Rattle.git_msg.proofs.LineLists.{delimiter_snoc}
 use Rattle.git_msg.proofs.RoundTrip.{written_says}
 use Rattle.git_msg.proofs.Rows.{headed, one_value, one_word}
 use Rattle.git_msg.proofs.WrittenNames.{length-hex_of}
-use Rattle.git2show_lib.specs.ToldAnswers.{packets_of}
+use Rattle.git_both_ends.specs.ToldAnswers.{packets_of}
 
 -- ---- an object name that is read has the format of the reader
 
@@ -36,7 +37,7 @@ value_stays : (shape : Shape) (word : List ℕ) (written read : Format) (value o
     → SaysValue shape word read (word ++ written_value value) other → MayFollow shape read value
 value_stays object_name word written read (id_value id) (id_value other) fits says =
     let same : says.value ≡ hex_of id = one_value word (word ++ hex_of id) says.value (hex_of id) says.spelled refl in
-    name_fits written read id fits (other, subst (λ (text : List ℕ). IsObjectName read text other) same says.holds)
+    name_fits written read id fits (other, rw same at says.holds)
 value_stays object_name word written read (id_value id) other fits says = absurd says
 value_stays shape word written read value other fits says = fits
 
@@ -45,18 +46,13 @@ in_range : (written read : Format) (arg other : Arg) → IsInRange written arg �
 in_range written read arg other value says =
     let same = one_word (written_text arg) other.word arg.word (headed read (written_text arg) other says)
     (headed written (written_text arg) arg (written_says written arg value)) in
-    value_stays (row arg.word).shape (row arg.word).keyword written read arg.value other.value value
-    (subst (λ (w : Word). SaysValue (row w).shape (row w).keyword read (written_text arg) other.value) same says)
+    value_stays (row arg.word).shape (row arg.word).keyword written read arg.value other.value value (rw same at says)
 
 -- ---- the lines of a request
 
 -- the packets of arguments, after the delimiter
 abbrev pub argument_packets : List Arg → List Pkt
 argument_packets args = map (λ arg. text_line (written_text arg)) args
-
-stays_behind : (a b : Bool) → b ≡ true → (a || b) ≡ true
-stays_behind true b h = refl
-stays_behind false b h = h
 
 delimiter_line : (part : Bool) (offer : Offer) (limit : ℕ) (before : List Line) (line : Line) → IsLineIn part offer limit before delim line
     → is_delimiter line ≡ true
@@ -75,19 +71,12 @@ arguments_behind offer limit command format (arg ∷ args) before (g ∷ gs) (li
     let first : g.packet ≡ payload bytes = cc in
     let rest : packets_of gs ≡ argument_packets args = cc in
     let value = All-head (IsValue command format) arg args values in
-    let own : IsLineIn true offer limit before (payload bytes) line =
-    subst (λ (b : Bool). IsLineIn b offer limit before (payload bytes) line) behind (subst (λ (p : Pkt). IsLine offer limit before p line) first is) in
-    let read = payload_argument offer limit before bytes line own in
-    let says : SaysArgument offer.format (written_text arg) read.0 =
-    subst (λ (text : List ℕ). SaysArgument offer.format text read.0) (text_of-line_end (written_text arg)) read.2.reads.is_argument.1 in
+    let read = payload_argument offer limit before bytes line (rw (first, behind) at is) in
+    let says : SaysArgument offer.format (written_text arg) read.0 = rw (text_of-line_end (written_text arg)) at read.2.reads.is_argument.1 in
     All-cons (IsValue command offer.format) arg args (value.0, in_range format offer.format arg read.0 value.1 says)
     (arguments_behind offer limit command format args (before ++ line ∷ []) gs lines
-    (delimiter_snoc before line ∙ stays_behind (is_delimiter line) (has_delimiter before) behind) taken rest
+    (delimiter_snoc before line ∙ or_right (is_delimiter line) (has_delimiter before) behind) taken rest
     (All-tail (IsValue command format) arg args values))
-
-before_behind : (a b : Bool) → a ≡ true → (a || b) ≡ true
-before_behind true b h = refl
-before_behind false b h = absurd (cc)
 
 -- so may those of all lines of a request
 pub arguments_fit_in : (offer : Offer) (limit : ℕ) (command : Command) (format : Format) (args : List Arg) (front : List Pkt) (before : List Line)
@@ -99,9 +88,9 @@ arguments_fit_in offer limit command format args front before (g ∷ gs) [] take
 arguments_fit_in offer limit command format args [] before (g ∷ gs) (line ∷ lines) (is, taken) e values =
     let first : g.packet ≡ delim = cc in
     let rest : packets_of gs ≡ argument_packets args = cc in
-    let ends = delimiter_line (has_delimiter before) offer limit before line (subst (λ (p : Pkt). IsLine offer limit before p line) first is) in
+    let ends = delimiter_line (has_delimiter before) offer limit before line (rw first at is) in
     arguments_behind offer limit command format args (before ++ line ∷ []) gs lines
-    (delimiter_snoc before line ∙ before_behind (is_delimiter line) (has_delimiter before) ends) taken rest values
+    (delimiter_snoc before line ∙ or_left (is_delimiter line) (has_delimiter before) ends) taken rest values
 arguments_fit_in offer limit command format args (p ∷ front) before (g ∷ gs) (line ∷ lines) (is, taken) e values =
     let rest : packets_of gs ≡ front ++ delim ∷ argument_packets args = cc in
     arguments_fit_in offer limit command format args front (before ++ line ∷ []) gs lines taken rest values

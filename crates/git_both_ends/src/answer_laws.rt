@@ -17,7 +17,7 @@ ghost use Rattle.git_server.specs.Sessions.{AreAnswers};
 ghost use Rattle.git_server.specs.declared.list_repo.ListRepo.{ListRepo};
 ghost use Rattle.git_repository.specs.Packs.{PackBytes};
 ghost use Rattle.git_repository.specs.RepositoryText.{IsRepositoryText};
-ghost use Rattle.git2show_lib.specs.ToldAnswers.{AsksIn, CanBeWritten, end_packets, packets_of, told_all, told_by, told_offer};
+ghost use Rattle.git_both_ends.specs.ToldAnswers.{AsksIn, CanBeWritten, end_packets, packets_of, told_all, told_by, told_offer};
 
 /// The advertisement of a server that offers everything is received as it was meant, whatever is asked later. Then the first answer may
 /// follow.

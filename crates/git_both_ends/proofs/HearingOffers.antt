@@ -1,6 +1,6 @@
 -- The advertisement of a server that offers everything, as a client receives it.
-use Rattle.std.proofs.Common.{arith, ◌≡◌, ℕ, Bool, true, false, List, [], ◌∷◌, ◌++◌, Option, Some, None, Ok, Err, codes, drop, map, refl, ap, sym, ◌∙◌}
-use Rattle.std.proofs.Common.{subst, cond, eqb, not, unwrap_or, slice_index, tests, ◌&&◌, ◌≢◌}
+use Rattle.std.proofs.Common.{arith, ◌≡◌, ℕ, Bool, true, false, List, [], ◌∷◌, ◌++◌, Option, Some, None, Ok, Err, codes, drop, map, refl, ap, ◌∙◌}
+use Rattle.std.proofs.Common.{cond, eqb, not, unwrap_or, slice_index, tests, ◌&&◌, ◌≢◌}
 use Rattle.std.specs.List.{list_all}
 use Rattle.std.proofs.lemmas.Bool.{and_parts}
 use Rattle.git_names.specs.ObjectFormat.{name_of as format_name}
@@ -18,15 +18,15 @@ use Rattle.git_msg.specs.WrittenRequest.{text_line}
 use Rattle.git_msg.specs.Asked.{Asked}
 use Rattle.git_client.specs.Client.{AreWhole}
 use Rattle.git_client.specs.Conversation.{GiveAll}
-use Rattle.git_client.specs.Events.{EventValue, GivesLine, capability, offered}
+use Rattle.git_client.specs.Events.{EventValue, capability, offered}
 use Rattle.git_client.specs.Parts.{Terms, advertisement_of, is_end_due, is_zero, message_of, nearest, terms_of}
 use Rattle.git_client.specs.Places.{capabilities, place_after, version}
 use Rattle.git_client.specs.declared.events.Ending.{Ending}
 use Rattle.git_client.specs.declared.events.Ending.TheVariants.{FlushOnly, ResponseEnd}
 use Rattle.git_client.proofs.Sequences.{gives_more}
 use Rattle.git_server.specs.Answers.{advertisement_of as server_says}
-use Rattle.git2show_lib.specs.ToldAnswers.{packets_of, told_offer}
-use Rattle.git2show_lib.proofs.Hearing.{AnswerGives, given_give, given_whole, no_error}
+use Rattle.git_both_ends.specs.ToldAnswers.{packets_of, told_offer}
+use Rattle.git_both_ends.proofs.Hearing.{AnswerGives, given_give, given_whole, no_error}
 
 -- ---- the lines
 
@@ -108,7 +108,7 @@ module _ (format : Format) (ending : Ending) where
         record {
           place = place;
           is_place = line_due format ending line before none;
-          gives = subst (λ (u : List ℕ). GivesLine place format u (capability key value ∷ [])) (sym (text_of-line_end text))
+          gives = rw (text_of-line_end text)
               (record { no_error = no_error text (other_byte (slice_index text 0) parts.0); says = capability_of key value parts.1 });
         },
         capabilities_give lines (text ++ 10 ∷ []) (payload line ∷ before) ps later none is.1 others,
@@ -149,12 +149,9 @@ nearest_pushed : (gs : List Given) (before : List Pkt) → nearest gs before ≡
 nearest_pushed [] before = refl
 nearest_pushed (g ∷ gs) before = nearest_pushed gs (g.packet ∷ before)
 
-pushed_lines : (format : Format) → pushed (server_says (everything format)) [] ≡ flush ∷ lines_said format
-pushed_lines format = refl
-
 -- the advertisement, the last packet first
 pub nearest_offer : (format : Format) (gs : List Given) → packets_of gs ≡ server_says (everything format) → nearest gs [] ≡ flush ∷ lines_said format
-nearest_offer format gs e = nearest_pushed gs [] ∙ ap (λ (ps : List Pkt). pushed ps []) e ∙ pushed_lines format
+nearest_offer format gs e = nearest_pushed gs [] ∙ ap (λ (ps : List Pkt). pushed ps []) e
 
 -- one packet more leaves a flush before it
 some_more : (p : Pkt) (before : List Pkt) → is_zero (flushes before) ≡ false → is_zero (flushes (p ∷ before)) ≡ false
@@ -175,7 +172,7 @@ advertisement_stays (g ∷ gs) before some =
 
 module _ (t : Terms) (gs : List Given) (are : packets_of gs ≡ server_says (everything t.format)) where
   given : AnswerGives t [] [] (packets_of gs) (told_offer (everything t.format))
-  given = subst (λ (ps : List Pkt). AnswerGives t [] [] ps (told_offer (everything t.format))) (sym are) (offer_gives t.format t.ending)
+  given = rw are (offer_gives t.format t.ending)
 
   -- the packets give the events of the offer, whatever is asked later
   pub offer_heard : (asked : List Asked) → GiveAll t asked [] gs (told_offer (everything t.format))

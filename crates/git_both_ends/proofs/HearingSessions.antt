@@ -1,6 +1,8 @@
 -- Answers one after the other, and repositories whose answers can be written.
-use Rattle.std.proofs.Common.{◌≡◌, ℕ, Bool, true, false, All, List, [], ◌∷◌, ◌++◌, Option, Some, None, IfSome, refl, ap, sym, ◌∙◌, subst, append_assoc, cond}
-use Rattle.std.proofs.lemmas.List.{append-nil}
+use Rattle.std.proofs.Common.{◌≡◌, ℕ, All, List, [], ◌∷◌, ◌++◌, Option, Some, None, IfSome, refl, ap, sym, ◌∙◌, subst, append_assoc}
+use Rattle.std.proofs.Common.{drop, length, take, take-append-drop}
+use Rattle.std.proofs.lemmas.Bool.{cond_both}
+use Rattle.std.proofs.lemmas.List.{append-nil, drop-map, drop_at, take-map, take_at}
 use Rattle.std.proofs.lemmas.List.Elements.{All-cons, All-head, All-nil, All-tail, All-weaker}
 use Rattle.std.specs.List.{filter_map}
 use Rattle.std.specs.Ordering.{is_eq}
@@ -9,7 +11,6 @@ use Rattle.git_names.specs.declared.object_format.Format.{Format}
 use Rattle.git_names.proofs.ObjectNames.{IsOid-of_text}
 use Rattle.git_pkt.specs.Packets.{Pkt}
 use Rattle.git_pkt.specs.Splits.{Given}
-use Rattle.git_msg.specs.declared.Boundary.{Boundary}
 use Rattle.git_msg.specs.declared.Boundary.TheVariants.{Shallow, Unshallow}
 use Rattle.git_msg.specs.Asked.{Asked}
 use Rattle.git_msg.specs.References.{IsMaybeObjectName, IsReferenceLine}
@@ -32,9 +33,9 @@ use Rattle.git_repository.specs.Packs.{PackBytes}
 use Rattle.git_repository.specs.RepositoryLines.{Said, Says, boundary, object, ref_of, reference}
 use Rattle.git_repository.specs.RepositoryText.{IsRepositoryText, SayAll, boundary_in, object_in, ref_in}
 use Rattle.git_client.proofs.Sequences.{give_all_append, nearest-append}
-use Rattle.git2show_lib.specs.ToldAnswers.{AsksIn, IsEntryOfNames, CanBeWritten, end_packets, packets_of, told_all, told_by}
+use Rattle.git_both_ends.specs.ToldAnswers.{AsksIn, IsEntryOfNames, CanBeWritten, end_packets, packets_of, told_all, told_by}
 use Rattle.git_msg.proofs.FoundParts.{All-filter_map}
-use Rattle.git2show_lib.proofs.HearingAnswers.{heard, whole_after}
+use Rattle.git_both_ends.proofs.HearingAnswers.{heard, whole_after}
 
 -- ---- answers one after the other
 
@@ -48,18 +49,14 @@ pub record Cut (gs : List Given) (front back : List Pkt) : Type 0 where
 
 -- as they do
 pub cut_at : (gs : List Given) (front back : List Pkt) → packets_of gs ≡ front ++ back → Cut gs front back
-cut_at gs [] back e = record { first = []; second = gs; whole = refl; first_are = refl; second_are = e }
-cut_at [] (p ∷ front) back e = absurd (cc)
-cut_at (g ∷ gs) (p ∷ front) back e =
-    let head : g.packet ≡ p = cc in
-    let rest : packets_of gs ≡ front ++ back = cc in
-    let c = cut_at gs front back rest in
+cut_at gs front back e =
+    let packets = λ (g : Given). g.packet in
     record {
-      first = g ∷ c.first;
-      second = c.second;
-      whole = ap (λ (l : List Given). g ∷ l) c.whole;
-      first_are = ap (λ (q : Pkt). q ∷ packets_of c.first) head ∙ ap (λ (l : List Pkt). p ∷ l) c.first_are;
-      second_are = c.second_are;
+      first = take (length front) gs;
+      second = drop (length front) gs;
+      whole = sym (take-append-drop (length front) gs);
+      first_are = rw (← take-map packets (length front) gs, e) (take_at front back (length front) refl);
+      second_are = rw (← drop-map packets (length front) gs, e) (drop_at front back (length front) refl);
     }
 
 -- the packets are an answer to each request, in their order, each with what comes after its flush
@@ -80,7 +77,7 @@ module _ (t : Terms) (repo : Repository) (sound : IsSound repo) (written : CanBe
       → AreEnded t.ending repo asked packets → AreWhole t earlier before → packets_of gs ≡ packets
       → GiveAll t (earlier ++ (asked ++ later)) before gs (told_all repo asked) × AreWhole t (earlier ++ asked) (nearest gs before)
   all_heard [] earlier later before packets [] asks none before_whole e =
-      (refl, subst (λ (l : List Asked). AreWhole t l before) (sym (append-nil earlier)) before_whole)
+      (refl, rw (append-nil earlier) before_whole)
   all_heard [] earlier later before packets (g ∷ gs) asks none before_whole e = absurd (cc)
   all_heard (q ∷ asked) earlier later before packets gs asks (answer, more, parts, is, rest) before_whole e =
       let c = cut_at gs (answer ++ end_packets t.ending) more (e ∙ parts) in
@@ -89,13 +86,10 @@ module _ (t : Terms) (repo : Repository) (sound : IsSound repo) (written : CanBe
       let then = whole_after t repo earlier q before answer c.first sound written same one is before_whole c.first_are in
       let others = all_heard asked (earlier ++ q ∷ []) later (nearest c.first before) more c.second (All-tail (AsksIn t.format) q asked asks) rest then
       c.second_are in
-      let behind = subst (λ (l : List Asked). GiveAll t l (nearest c.first before) c.second (told_all repo asked))
-      (append_assoc earlier (q ∷ []) (asked ++ later)) others.0 in (
-        subst (λ (l : List Given). GiveAll t (earlier ++ (q ∷ (asked ++ later))) before l (told_all repo (q ∷ asked))) (sym c.whole)
-            (give_all_append t (earlier ++ (q ∷ (asked ++ later))) before c.first c.second (told_by repo q ++ ended ∷ []) (told_all repo asked) now behind),
-        subst (λ (l : List Asked). AreWhole t l (nearest gs before)) (append_assoc earlier (q ∷ []) asked)
-            (subst (λ (l : List Pkt). AreWhole t ((earlier ++ q ∷ []) ++ asked) l)
-            (sym (ap (λ (l : List Given). nearest l before) c.whole ∙ nearest-append c.first c.second before)) others.1),
+      let behind = rw (append_assoc earlier (q ∷ []) (asked ++ later)) at others.0 in (
+        rw c.whole (give_all_append t (earlier ++ (q ∷ (asked ++ later))) before c.first c.second (told_by repo q ++ ended ∷ []) (told_all repo asked) now
+            behind),
+        rw (c.whole, nearest-append c.first c.second before, ← append_assoc earlier (q ∷ []) asked) others.1,
       )
 
 -- ---- what a text contains can be written
@@ -150,26 +144,19 @@ found_size : (objects : List (ObjectName × ℕ)) (id : ObjectName) (size : ℕ)
     → IsSize size
 found_size [] id size all found = absurd (cc)
 found_size (first ∷ objects) id size all found =
-    go (found_size objects id size (All-tail (λ (o : ObjectName × ℕ). IsSize o.1) first objects all)) (is_eq (object_cmp first.0 id)) found where
-      go : (size_among objects id ≡ Some size → IsSize size) → (b : Bool) → cond b (Some first.1) (size_among objects id) ≡ Some size → IsSize size
-      go behind true here =
-          let same : first.1 ≡ size = cc in
-          subst IsSize same (All-head (λ (o : ObjectName × ℕ). IsSize o.1) first objects all)
-      go behind false later = behind later
+    cond_both (is_eq (object_cmp first.0 id)) (Some first.1) (size_among objects id) (λ (found : Option ℕ). found ≡ Some size → IsSize size)
+    (λ it here. let same : first.1 ≡ size = cc in rw same at (All-head (λ (o : ObjectName × ℕ). IsSize o.1) first objects all))
+    (λ other. found_size objects id size (All-tail (λ (o : ObjectName × ℕ). IsSize o.1) first objects all)) found
 
 -- what a repository answers that is made of what a text contains can be written
 pub can_be_written : (repo : ListRepo) (text : List ℕ) (packs : PackBytes) → IsRepositoryText text packs (lists_of repo) → CanBeWritten (state_of repo).answers
 can_be_written repo text packs h =
     let lines = h.begins.others in
-    let boundaries = ap (λ (l : Lists). l.boundaries) h.lists_are in
-    let objects = ap (λ (l : Lists). l.objects) h.lists_are in
+    let all = h.begins.say_all in
     record {
-      refs = subst (λ (l : List Entry). All IsEntryOfNames l) (sym (ap (λ (l : Lists). l.refs) h.lists_are))
-          (parts_written h.format IsEntryOfNames ref_in (ref_written h.format) lines h.said h.begins.say_all);
-      boundaries = λ q. told_keep (λ line. IsOid (object_of line)) (lists_of repo).boundaries q
-          (subst (λ (l : List Boundary). All (λ line. IsOid (object_of line)) l) (sym boundaries)
-          (parts_written h.format (λ line. IsOid (object_of line)) boundary_in (boundary_written h.format) lines h.said h.begins.say_all));
-      sizes = λ id size. found_size (lists_of repo).objects id size
-          (subst (λ (l : List (ObjectName × ℕ)). All (λ object. IsSize object.1) l) (sym objects)
-          (parts_written h.format (λ object. IsSize object.1) object_in (size_written h.format) lines h.said h.begins.say_all));
+      refs = rw (ap (λ (l : Lists). l.refs) h.lists_are) (parts_written h.format IsEntryOfNames ref_in (ref_written h.format) lines h.said all);
+      boundaries = λ q. told_keep (λ line. IsOid (object_of line)) (lists_of repo).boundaries q (rw (ap (λ (l : Lists). l.boundaries) h.lists_are)
+          (parts_written h.format (λ line. IsOid (object_of line)) boundary_in (boundary_written h.format) lines h.said all));
+      sizes = λ id size. found_size (lists_of repo).objects id size (rw (ap (λ (l : Lists). l.objects) h.lists_are)
+          (parts_written h.format (λ object. IsSize object.1) object_in (size_written h.format) lines h.said all));
     }

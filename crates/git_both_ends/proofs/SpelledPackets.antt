@@ -1,6 +1,6 @@
 -- Packets as they are written: that they fit, and that bytes fall into them again.
 use Rattle.std.proofs.Common.{arith, ◌≡◌, ◌≤◌, ℕ, ◌+◌, Bool, true, false, All, length, List, [], ◌∷◌, ◌++◌, codes}
-use Rattle.std.proofs.Common.{refl, ap, sym, ◌∙◌, subst, append_assoc, length-append}
+use Rattle.std.proofs.Common.{refl, ap, sym, ◌∙◌, append_assoc, length-append}
 use Rattle.std.proofs.lemmas.List.Elements.{All-head, All-tail}
 use Rattle.git_names.specs.declared.object_format.Format.{Format}
 use Rattle.git_names.specs.declared.object_format.Format.TheVariants.{Sha1, Sha256}
@@ -17,8 +17,8 @@ use Rattle.git_msg.specs.WrittenRequest.{agent_line, argument_lines, format_line
 use Rattle.git_msg.proofs.KeptBytes.{value_fits}
 use Rattle.git_client.specs.Client.{spelled}
 use Rattle.git_server.specs.Answers.{AllFit}
-use Rattle.git2show_lib.specs.ToldAnswers.{packets_of}
-use Rattle.git2show_lib.proofs.RequestsHeard.{HaveValues, written_all}
+use Rattle.git_both_ends.specs.ToldAnswers.{packets_of}
+use Rattle.git_both_ends.proofs.RequestsHeard.{HaveValues, written_all}
 
 -- ---- packets as they are written
 
@@ -50,7 +50,7 @@ are_spelled bytes ps fit e =
     record {
       given = s.given;
       are = s.are;
-      splits = record { spelled = subst (λ (b : List ℕ). SpellsAll 0 b s.given []) (sym e) s.spells; ends = none_begins_nothing };
+      splits = record { spelled = rw e s.spells; ends = none_begins_nothing };
     }
 
 -- and no others
@@ -76,12 +76,11 @@ front_are offset (p ∷ ps) more [] rest (now, fit) e none =
 front_are offset (p ∷ ps) more (g ∷ gs) rest (now, fit) (s, later, e, at, is, tail) none =
     let same = same_start p g.packet (spelling_of p) s (spelled ps ++ more) later (spells_written p now) is
     (sym (append_assoc (spelling_of p) (spelled ps) more) ∙ e) in
-    let others = front_are (offset + length s) ps more gs rest fit
-    (subst (λ (bytes : List ℕ). SpellsAll (offset + length s) bytes gs rest) (sym same.rest) tail) none in (
-      g ∷ others.0,
-      others.1,
-      ap (λ (l : List Given). g ∷ l) others.2,
-      ap (λ (q : Pkt). q ∷ packets_of others.0) (sym same.packet) ∙ ap (λ (l : List Pkt). p ∷ l) others.3,
+    let (front, back, whole, are) = front_are (offset + length s) ps more gs rest fit (rw same.rest tail) none in (
+      g ∷ front,
+      back,
+      ap (λ (l : List Given). g ∷ l) whole,
+      ap (λ (q : Pkt). q ∷ packets_of front) (sym same.packet) ∙ ap (λ (l : List Pkt). p ∷ l) are,
     )
 
 -- ---- the packets of requests fit

@@ -1,5 +1,0 @@
-use Rattle.git2show_lib.proofs.HearingOffers.{offer_heard, offer_whole}
-use Rattle.git2show_lib.proofs.answer_laws.heard_offer.Goals as goal
-
-pub returns : goal.returns
-returns c = record { heard = λ t asked gs are. offer_heard t gs are asked; whole = offer_whole }

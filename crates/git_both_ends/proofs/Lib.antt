@@ -1,0 +1,9 @@
+mod Hearing
+mod HearingAnswers
+mod HearingSessions
+mod HearingOffers
+mod ValuesRead
+pub mod RequestsHeard
+mod SpelledPackets
+mod PacksTold
+mod PlaysTold

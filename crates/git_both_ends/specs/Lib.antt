@@ -1,0 +1,2 @@
+pub mod ToldAnswers
+pub mod Plays
